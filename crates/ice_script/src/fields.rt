@@ -1,7 +1,7 @@
 //! The fields of a script line, each read as the value that it encodes.
 use crate::fault::{Fault, Stop};
 use hex::FromHexError;
-use is::{Duration, IceCreds, Instant, Protocol, SocketText, Text};
+use is::{Duration, IceCreds, Instant, Protocol, Rules, SocketText, Text};
 use serde_json::Value;
 use std::alloc::Global;
 use std::net::SocketAddr;
@@ -57,6 +57,15 @@ impl<'a> Fields<'a> {
             .get(name)
             .and_then(Value::as_bool)
             .ok_or(Fault::Bad(name))
+    }
+
+    /// `original` or `modern`.
+    pub fn rules(&self, name: &'static str) -> Result<Rules, Fault> {
+        match self.line(name)? {
+            "original" => Ok(Rules::original()),
+            "modern" => Ok(Rules::modern()),
+            _ => Err(Fault::Bad(name)),
+        }
     }
 
     /// How many of something.

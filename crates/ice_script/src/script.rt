@@ -34,6 +34,7 @@ pub enum CallName {
     Controlling,
     Lite,
     Renomination,
+    Rules,
     Remote,
     Pairs,
     Retransmits,
@@ -62,7 +63,7 @@ struct Row {
 }
 
 /// The calls of scripts: the word of each, and its fields.
-static CALLS: [Row; 20] = [
+static CALLS: [Row; 21] = [
     Row {
         word: "agent",
         name: CallName::Agent,
@@ -82,6 +83,11 @@ static CALLS: [Row; 20] = [
         word: "renomination",
         name: CallName::Renomination,
         fields: &["flag"],
+    },
+    Row {
+        word: "rules",
+        name: CallName::Rules,
+        fields: &["name"],
     },
     Row {
         word: "remote",
@@ -319,12 +325,13 @@ fn delivery(side: Side, fields: Fields<'_>, sent: &[Sent]) -> Result<ScriptCall,
     }))
 }
 
-/// A call that has only numbers and Boolean values.
+/// A call that has only numbers, Boolean values and names.
 fn plain_call(name: CallName, fields: Fields<'_>) -> Result<Call, Fault> {
     Ok(match name {
         CallName::Controlling => Call::SetControlling(fields.flag("flag")?),
         CallName::Lite => Call::SetIceLite(fields.flag("flag")?),
         CallName::Renomination => Call::SetRenomination(fields.flag("flag")?),
+        CallName::Rules => Call::SetRules(fields.rules("name")?),
         CallName::Pairs => Call::SetMaxCandidatePairs(fields.count("number")?),
         CallName::Retransmits => Call::SetMaxStunRetransmits(fields.positive("number")?),
         CallName::Rto => Call::SetInitialStunRto(fields.duration("number")?),

@@ -1,7 +1,7 @@
 //! The words of a story. Each is one event: a call of an agent, or a packet that is sent or received. docs/SCRIPTS.md lists them.
 use crate::messages::packet;
 use crate::names::{address_of, back, creds, home, other, path_of, side_of, time, ufrag};
-use is::{AgentCall, Call, Candidate, Path, Protocol, Side, WorldEvent};
+use is::{AgentCall, Call, Candidate, Path, Protocol, Rules, Side, WorldEvent};
 use std::alloc::Global;
 use std::net::SocketAddr;
 
@@ -38,6 +38,30 @@ pub fn time_and_path(text: &str, usual: Path) -> Option<(u64, Path)> {
 
 fn host(alloc: Global, address: SocketAddr) -> Option<Candidate> {
     Candidate::host(alloc, address, Protocol::Udp).ok()
+}
+
+/// The addresses of `ADDRESS/BASE`.
+fn based(text: &str) -> Option<(SocketAddr, SocketAddr)> {
+    let (address, base) = text.split_once('/')?;
+    Some((address_of(address)?, address_of(base)?))
+}
+
+fn reflexive(alloc: Global, text: &str) -> Option<Candidate> {
+    let (address, base) = based(text)?;
+    Candidate::server_reflexive(alloc, address, base, Protocol::Udp).ok()
+}
+
+fn relayed(alloc: Global, text: &str) -> Option<Candidate> {
+    let (address, base) = based(text)?;
+    Candidate::relayed(alloc, address, base, Protocol::Udp).ok()
+}
+
+fn rules(text: &str) -> Option<Rules> {
+    match text {
+        "original" => Some(Rules::original()),
+        "modern" => Some(Rules::modern()),
+        _ => None,
+    }
 }
 
 /// The candidate that a line `candidate WORD TEXT` of the file defines.
@@ -82,6 +106,7 @@ fn call_with(alloc: Global, side: Side, name: &str, value: &str) -> Option<Call>
     match name {
         "tie" => Some(AgentCall::SetControlTieBreaker(value.parse::<u64>().ok()?)),
         "renomination" => Some(AgentCall::SetRenomination(value == "on")),
+        "rules" => Some(AgentCall::SetRules(rules(value)?)),
         "pairs" => Some(AgentCall::SetMaxCandidatePairs(count(value)?)),
         "discovered" => Some(AgentCall::SetMaxDiscovered(Some(count(value)?))),
         "retransmits" => Some(AgentCall::SetMaxStunRetransmits(count(value)?)),
@@ -91,6 +116,8 @@ fn call_with(alloc: Global, side: Side, name: &str, value: &str) -> Option<Call>
             Some(AgentCall::SetRemoteCredentials(creds))
         }
         "host" => Some(AgentCall::AddLocalCandidate(host(alloc, address_of(value)?)?)),
+        "srflx" => Some(AgentCall::AddLocalCandidate(reflexive(alloc, value)?)),
+        "relay" => Some(AgentCall::AddLocalCandidate(relayed(alloc, value)?)),
         "peer" => Some(AgentCall::AddRemoteCandidate(host(alloc, address_of(value)?)?)),
         _ => None,
     }

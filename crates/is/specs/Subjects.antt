@@ -1,6 +1,6 @@
 -- Which function of a run makes a call.
 use Rattle.std.specs.Prelude.{Bool, true, false}
-use Rattle.is_rules.specs.Steps.{Call, SetControlTieBreaker, SetMaxCandidatePairs, SetMaxDiscovered, SetIceLite, SetRenomination, SetTimingAdvance}
+use Rattle.is_rules.specs.Steps.{Call, SetControlTieBreaker, SetMaxCandidatePairs, SetMaxDiscovered, SetIceLite, SetRenomination, SetRules, SetTimingAdvance}
 use Rattle.is_rules.specs.Steps.{SetInitialStunRto, SetMaxStunRto, SetLiteTimeout, SetLocalPreference, SetControlling, SkipPairIds, ReceivePacket, HandleTimeout}
 
 -- a setting that takes any value
@@ -10,6 +10,7 @@ is_plain_setting (SetMaxCandidatePairs _) = true
 is_plain_setting (SetMaxDiscovered _) = true
 is_plain_setting (SetIceLite _) = true
 is_plain_setting (SetRenomination _) = true
+is_plain_setting (SetRules _) = true
 is_plain_setting (SetTimingAdvance _) = true
 is_plain_setting (SetInitialStunRto _) = true
 is_plain_setting (SetMaxStunRto _) = true

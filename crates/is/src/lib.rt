@@ -29,6 +29,7 @@ pub use is_proto::{
     SocketText, StunError, TcpType, Text, Transmit,
 };
 pub use is_rules::emitted::{Issued, Path};
+pub use is_rules::rules::Rules;
 pub use runs::{RunLog, run};
 pub use traces::Trace;
 pub use world::{

@@ -147,6 +147,7 @@ fn take_setting<H: Sha1HmacProvider + Drop, P: LocalPreference>(
         AgentCall::SetMaxDiscovered(limit) => agent.set_max_discovered(limit),
         AgentCall::SetIceLite(lite) => agent.set_ice_lite(lite),
         AgentCall::SetRenomination(enabled) => agent.set_renomination(enabled),
+        AgentCall::SetRules(rules) => agent.set_rules(rules),
         AgentCall::SetTimingAdvance(advance) => agent.set_timing_advance(advance),
         AgentCall::SetInitialStunRto(rto) => agent.set_initial_stun_rto(rto),
         AgentCall::SetMaxStunRto(rto) => agent.set_max_stun_rto(rto),

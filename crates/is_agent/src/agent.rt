@@ -17,6 +17,7 @@ use is_rules::credentials::{IceCreds, are_too_long};
 use is_rules::emitted::Emitted;
 use is_rules::event::{IceAgentEvent, IceAgentStats, IceConnectionState};
 use is_rules::request::Waiting;
+use is_rules::rules::Rules;
 use is_stun::stun::StunTiming;
 use std::alloc::Global;
 use std::collections::VecDeque;
@@ -30,6 +31,7 @@ macro_rules! sides {
             remote: &$agent.remote,
             controlling: $agent.controlling,
             lite: $agent.lite,
+            kinds_in_turn: $agent.rules.kinds_in_turn,
         }
     };
 }
@@ -63,6 +65,8 @@ pub struct Agent<H, P> {
     pub(crate) lite: bool,
     /// Each nomination replaces the ones before.
     pub(crate) renominates: bool,
+    /// What the agent does beyond the original's behaviour.
+    pub(crate) rules: Rules,
     /// The greatest length of a packet in bytes.
     pub(crate) mtu: usize,
     /// The length in bytes from which packets cause a warning.
@@ -88,6 +92,10 @@ pub struct Agent<H, P> {
     pub(crate) selected_pair: Option<u64>,
     /// The number of the pair that the peer nominated last.
     pub(crate) last_nominated: Option<u64>,
+    /// With kinds in turn, the next check is of the next kind.
+    pub(crate) kind_turn: bool,
+    /// The kind from which on that is.
+    pub(crate) next_kind: u8,
     /// The early requests: received before the remote credentials.
     pub(crate) queue: VecDeque<Waiting>,
     pub(crate) state: IceConnectionState,
@@ -169,6 +177,7 @@ impl<H: Sha1HmacProvider + Drop, P: LocalPreference> Agent<H, P> {
             timing_advance: Duration(50_000_000),
             lite: false,
             renominates: false,
+            rules: Rules::original(),
             mtu: DEFAULT_MTU,
             mtu_warn: DEFAULT_MTU_WARN,
             local_creds: creds,
@@ -185,6 +194,8 @@ impl<H: Sha1HmacProvider + Drop, P: LocalPreference> Agent<H, P> {
             next_number: 0,
             selected_pair: None,
             last_nominated: None,
+            kind_turn: false,
+            next_kind: 0,
             queue: VecDeque::new(alloc),
             state: IceConnectionState::New,
             last_time: None,

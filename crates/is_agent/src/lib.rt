@@ -13,6 +13,7 @@ pub mod credentials;
 pub mod discarding;
 pub mod emitted;
 pub mod local;
+mod next_check;
 pub mod nomination;
 pub mod pairs;
 mod polls;

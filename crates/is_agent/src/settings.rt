@@ -10,6 +10,7 @@ use crate::agent::Agent;
 use is_candidate::LocalPreference;
 use is_proto::{Duration, IceError, Sha1HmacProvider};
 use is_rules::credentials::USERNAME_LIMIT;
+use is_rules::rules::Rules;
 use std::ops::RangeInclusive;
 
 /// The length of the longest check in bytes: the header, the attributes with the longest USERNAME, MESSAGE-INTEGRITY and
@@ -108,6 +109,21 @@ impl<H: Sha1HmacProvider + Drop, P: LocalPreference> Agent<H, P> {
         ensures { record_of self.new ≡ record (record_of self.old) { renominates = renominates } }
     {
         self.renominates = renominates;
+    }
+
+    /// What the agent does beyond the original's behaviour: `Rules::original()`, nothing, until it is set.
+    pub fn rules(&self) -> Rules
+        ensures { result ≡ (record_of self.now).rules }
+    {
+        self.rules
+    }
+
+    /// Sets what the agent does beyond the original's behaviour. Set it before the session. The peer need not have the same
+    /// rules.
+    pub fn set_rules(&mut self, rules: Rules)
+        ensures { record_of self.new ≡ record (record_of self.old) { rules = rules } }
+    {
+        self.rules = rules;
     }
 
     /// Sets the pacing interval of what the agent sends, Ta in RFC 8445, section 14.2: 50 ms until it is set.

@@ -2,7 +2,7 @@
 //!
 //! Capacity for all of it is reserved before the agent changes; what follows can't fail.
 
-ghost use Rattle.std.specs.Prelude.{◌≡◌, ℕ, Option, Some, true, IfSome, IsSome, option_map, None, IfErr, OnOk, MatchOption};
+ghost use Rattle.std.specs.Prelude.{◌≡◌, ℕ, Option, Some, true, IsSome, None, IfErr, OnOk, MatchOption};
 ghost use Rattle.std.specs.List.{list_any};
 ghost use Rattle.is_stun.specs.Theorems.{IsPut};
 ghost use Rattle.is_stun.specs.Writing.{written};
@@ -11,8 +11,8 @@ ghost use Rattle.is_rules.specs.declared.credentials.IceCreds as model;
 ghost use Rattle.is_agent.specs.View.{record_of, emitted_of};
 ghost use Rattle.is_agent.specs.Room.{HasPacketRoom, HasEventRoom, HasCheckRoom, HasCheckRoomAt, IsPrepared, UsesEvents};
 ghost use Rattle.is_rules.specs.Checking.{check_message, ChecksPair, ChecksNext, MayCheck};
-ghost use Rattle.is_pair.specs.Multiset.{has_number, pair_numbered, rises};
-ghost use Rattle.is_pair.specs.Due.{is_due, IsNextDue};
+ghost use Rattle.is_pair.specs.Multiset.{has_number, pair_numbered};
+ghost use Rattle.is_pair.specs.Due.{is_due};
 ghost use Rattle.is_rules.specs.Agent.{AgentRecord};
 ghost use Rattle.is_rules.specs.Due.{may_fall_due, Drafts, check_counted};
 ghost use Rattle.is_rules.specs.Nominating.{Nominates};
@@ -125,15 +125,19 @@ impl<H: Sha1HmacProvider + Drop, P: LocalPreference> Agent<H, P> {
         Issued::new(path, Class::Request, id)
     }
 
-    /// Checks the pair with this number, with the content of its draft.
+    /// Checks the pair with this number, with the content of its draft. The turn passes to the next kind, or to the pair that
+    /// is due first.
     fn check<R: Rng>(&mut self, number: u64, draft: Draft, now: Instant, rng: &mut R) -> Issued
         requires has { has_number number (record_of self.old).pairs ≡ true }
         requires room { HasCheckRoom self.old }
         ensures emitted { emitted_of self.new ≡ emitted_of self.old }
         ensures checked { (peer : model.IceCreds) (p : PairRecord) → self.old.remote_creds ≡ Some peer → p.number ≡ number
-            → Drafts (record_of self.old) p draft → ChecksPair H.mac now.0 peer p (record_of self.old) (R.stream rng.old) (Some result)
-            (record_of self.new) (R.stream rng.new) }
+            → pair_numbered number (record_of self.old).pairs ≡ Some p → Drafts (record_of self.old) p draft
+            → ChecksPair H.mac now.0 peer p (record_of self.old) (R.stream rng.old) (Some result) (record_of self.new) (R.stream rng.new) }
     {
+        let next_kind = self.next_kind_after(number);
+        self.kind_turn = !self.is_kinds_turn();
+        self.next_kind = next_kind;
         let controlling = self.controlling;
         let id = self
             .pairs
@@ -168,21 +172,7 @@ impl<H: Sha1HmacProvider + Drop, P: LocalPreference> Agent<H, P> {
         self.emitted.issued = Some(issued);
     }
 
-    /// The number of the pair that is due first.
-    fn next_number(&self, now: Instant) -> Option<u64>
-        ensures next { (next : Option PairRecord) × IsNextDue now.0 self.now.timing (record_of self.now).pairs next
-            × (result ≡ option_map (λ p. p.number) next) }
-        ensures has { IfSome result (λ n. has_number n (record_of self.now).pairs ≡ true) }
-        ensures rises { rises (record_of self.now).pairs ≡ true }
-    {
-        self.pairs.numbers_rise();
-        match self.pairs.next_due(now, &self.timing) {
-            None => None,
-            Some(pair) => Some(pair.id().0),
-        }
-    }
-
-    /// Checks the pair that is due first, if there is one, and records the packet.
+    /// Checks the pair that is next, if one is due, and records the packet.
     fn check_next<R: Rng>(&mut self, now: Instant, rng: &mut R)
         requires room { list_any (is_due now.0 self.old.timing) (record_of self.old).pairs ≡ true → HasCheckRoom self.old }
         ensures { (peer : model.IceCreds) (first second : Option Path) → self.old.remote_creds ≡ Some peer
@@ -354,9 +344,9 @@ impl<H: Sha1HmacProvider + Drop, P: LocalPreference> Agent<H, P> {
 
     /// Runs the agent's timers at time `now`. In New it first emits the start event. It evaluates the state. It serves an
     /// early request, once the remote credentials are known. If there is none, it nominates a pair, removes pairs that are no
-    /// longer possible, and checks the pair that is due first (RFC 8445, sections 6.1.4.2, 7.2.4 and 8.1.1). It allocates
-    /// what the events and the packet that it issues need. If a pair may be nominated and its due time is not fixed, it
-    /// reserves capacity for its check too.
+    /// longer possible, and checks the pair that is due first, or in turn one of the next kind (`Rules`; RFC 8445, sections
+    /// 6.1.4.2, 7.2.4 and 8.1.1). It allocates what the events and the packet that it issues need. If a pair may be nominated
+    /// and its due time is not fixed, it reserves capacity for its check too.
     ///
     /// Fails with `PairIdsExhausted` if a request is served, a pair must be added and no number is left, and with
     /// `OutOfMemory`. The agent is then unchanged, and no random words were drawn.

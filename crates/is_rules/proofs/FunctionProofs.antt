@@ -4,4 +4,6 @@ pub mod IndexRanges
 pub mod BestIndex
 pub mod FoundChecks
 pub mod EvictedPairs
+pub mod EvictedPairsByKind
 pub mod DuePairsAfterNomination
+pub mod NextOfKind

@@ -4,3 +4,7 @@ pub mod PairsByNumber
 pub mod ChosenPair
 pub mod PairsInLists
 pub mod CombinationsInLists
+pub mod CountedPairs
+pub mod LeastOfKind
+pub mod PairKinds
+pub mod RemovedInTurn

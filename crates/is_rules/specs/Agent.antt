@@ -13,6 +13,7 @@ use Rattle.is_rules.specs.declared.event.IceAgentEvent.{IceAgentEvent}
 use Rattle.is_rules.specs.declared.event.IceAgentStats.{IceAgentStats}
 use Rattle.is_rules.specs.declared.event.IceConnectionState.{IceConnectionState}
 use Rattle.is_rules.specs.declared.event.IceConnectionState.TheVariants.{New}
+use Rattle.is_rules.specs.declared.rules.Rules.{Rules}
 use Rattle.is_rules.specs.Request.{RequestRecord}
 use Rattle.is_rules.specs.Fitting.{are_too_long}
 
@@ -28,6 +29,8 @@ pub record AgentRecord (H P : Type 0) : Type 0 where
   pub lite : Bool
   -- each nomination replaces the ones before (`Nominating`)
   pub renominates : Bool
+  -- what the agent does beyond the original's behaviour
+  pub rules : Rules
   -- the target MTU, and the packet length from which a warning is due
   pub mtu : ℕ
   pub mtu_warn : ℕ
@@ -46,6 +49,9 @@ pub record AgentRecord (H P : Type 0) : Type 0 where
   pub selected_pair : Option ℕ
   -- the number of the pair that the peer nominated last, as of the last request with USE-CANDIDATE that was served
   pub last_nominated : Option ℕ
+  -- with kinds in turn: whether the next check is of the next kind, and from which kind on that is (`Kinds`, `Checking`)
+  pub kind_turn : Bool
+  pub next_kind : ℕ
   -- the early requests: received before the remote credentials
   pub queue : List RequestRecord
   pub state : IceConnectionState
@@ -57,6 +63,14 @@ pub record AgentRecord (H P : Type 0) : Type 0 where
   -- the discovered sources (`DiscoveredRecv`), and the counters
   pub discovered_sources : List Source
   pub stats : IceAgentStats
+
+-- the original's behaviour
+abbrev pub original_rules : Rules
+original_rules = record { kinds_in_turn = false }
+
+-- what connects fastest
+abbrev pub modern_rules : Rules
+modern_rules = record { kinds_in_turn = true }
 
 abbrev pub no_stats : IceAgentStats
 no_stats = record {
@@ -88,6 +102,7 @@ module _ {H P : Type 0} where
     timing_advance = 50 * MILLISECOND;
     lite = false;
     renominates = false;
+    rules = original_rules;
     mtu = 1150;
     mtu_warn = 1280;
     local_creds = creds;
@@ -100,6 +115,8 @@ module _ {H P : Type 0} where
     next_number = 0;
     selected_pair = None;
     last_nominated = None;
+    kind_turn = false;
+    next_kind = 0;
     queue = [];
     state = New;
     last_time = None;

@@ -1,5 +1,5 @@
 -- Which pair is checked next, and its check (RFC 8445, sections 6.1.4.2 and 7.2.4).
-use Rattle.std.specs.Prelude.{◌≡◌, ℕ, ◌&&◌, List, ◌∷◌, ◌++◌, map, Option, Some, None, MatchBool}
+use Rattle.std.specs.Prelude.{◌≡◌, ℕ, ◌+◌, ◌&&◌, Bool, not, List, ◌∷◌, ◌++◌, map, Option, Some, None, MatchBool, if◌then◌else◌}
 use Rattle.rand_core.specs.Stream.{Stream, fill_bytes}
 use Rattle.is_proto.specs.Times.{counted}
 use Rattle.is_candidate.specs.Candidates.{candidate_at}
@@ -16,6 +16,8 @@ use Rattle.is_rules.specs.declared.emitted.Issued.{Issued}
 use Rattle.is_rules.specs.Emitted.{issued_as}
 use Rattle.is_pair.specs.Multiset.{change_pair}
 use Rattle.is_rules.specs.Agent.{AgentRecord}
+use Rattle.is_rules.specs.Connecting.{is_connected}
+use Rattle.is_rules.specs.Kinds.{kind_of, IsNextOfKind}
 use Rattle.is_rules.specs.Nominating.{stays_nominated}
 use Rattle.is_rules.specs.Sending.{with_packet, path_of}
 
@@ -37,12 +39,27 @@ module _ {H P : Type 0} where
       binding_request (username_between remote a.local_creds) id a.controlling a.tie_breaker
       (check_priority (candidate_at a.local p.local)) (a.controlling && stays_nominated a p)
 
+  -- With kinds in turn, until a path is selected, every second check is of the next kind.
+  abbrev pub is_kinds_turn : AgentRecord H P → Bool
+  is_kinds_turn a = a.rules.kinds_in_turn && a.kind_turn && not (is_connected a.state)
+
+  -- The pair that is checked next. In turn, that is the pair that is due first.
+  abbrev pub IsNextToCheck : ℕ → AgentRecord H P → Option PairRecord → Type 0
+  IsNextToCheck now a next =
+      MatchBool (is_kinds_turn a) (IsNextOfKind a.local a.remote a.next_kind now a.timing a.pairs next) (IsNextDue now a.timing a.pairs next)
+
+  -- the kind from which on the next turn is, after a check of the pair
+  abbrev pub next_kind_after : PairRecord → AgentRecord H P → ℕ
+  next_kind_after p a = if is_kinds_turn a then kind_of a.local a.remote p + 1 else a.next_kind
+
   module _ (mac : H → List ℕ → List ℕ → List ℕ) where
     -- The check is sent on the pair's path, signed with the remote password, and becomes a pending transaction.
     abbrev pub check_sent : ℕ → IceCreds → PairRecord → List ℕ → AgentRecord H P → AgentRecord H P
     check_sent now remote p id a =
         with_packet (path_of a p) (written (mac a.provider) (Some remote.pass) (check_message a remote p id)) (record a {
           pairs = change_pair p.number (checked now a.timing a.controlling id) a.pairs;
+          kind_turn = not (is_kinds_turn a);
+          next_kind = next_kind_after p a;
           stats = record a.stats { bind_request_sent = counted a.stats.bind_request_sent };
         })
 
@@ -57,10 +74,10 @@ module _ {H P : Type 0} where
     ChecksTop now remote None old s issued new t = (issued ≡ None) × (new ≡ old) × (t ≡ s)
     ChecksTop now remote (Some p) old s issued new t = ChecksPair now remote p old s issued new t
 
-    -- the pair that is due first is checked
+    -- one pair is checked, if any is due
     abbrev pub ChecksNext : ℕ → IceCreds → AgentRecord H P → Stream → Option Issued → AgentRecord H P → Stream → Type 0
     ChecksNext now remote old s issued new t =
-        (next : Option PairRecord) × IsNextDue now old.timing old.pairs next × ChecksTop now remote next old s issued new t
+        (next : Option PairRecord) × IsNextToCheck now old next × ChecksTop now remote next old s issued new t
 
     -- Without remote credentials no check is sent, and under lite none is.
     abbrev pub MayCheck : ℕ → Option IceCreds → AgentRecord H P → Stream → Option Issued → AgentRecord H P → Stream → Type 0

@@ -1,5 +1,5 @@
 -- Forming pairs (RFC 8445, section 6.1.2.2).
-use Rattle.std.specs.Prelude.{◌≡◌, ℕ, ◌+◌, ◌<◌, ◌≤◌, ◌&&◌, Bool, not, nat_lt, List, [], ◌∷◌, ◌++◌, All, map, Option, Some, None, if◌then◌else◌}
+use Rattle.std.specs.Prelude.{◌≡◌, ℕ, ◌+◌, ◌<◌, ◌≤◌, ◌&&◌, Bool, not, nat_lt, List, [], ◌∷◌, ◌++◌, All, map, MatchBool, Option, Some, None, if◌then◌else◌}
 use Rattle.std.specs.List.{flat_map}
 use Rattle.is_proto.specs.Lists.{places_where}
 use Rattle.is_proto.specs.Times.{MAX}
@@ -11,6 +11,8 @@ use Rattle.is_pair.specs.Pairs.{PairRecord, new_pair, taking_over}
 use Rattle.is_pair.specs.Priorities.{pair_priority}
 use Rattle.is_rules.specs.Each.{Each}
 use Rattle.is_rules.specs.Agent.{AgentRecord}
+use Rattle.is_rules.specs.Evicting.{EvictsOfMost}
+use Rattle.is_rules.specs.Kinds.{kind_of}
 
 -- ---- the input of forming, and what it changes
 
@@ -19,6 +21,7 @@ pub record SidesRecord : Type 0 where
   pub remote : List CandidateRecord
   pub controlling : Bool
   pub lite : Bool
+  pub kinds_in_turn : Bool
 
 -- the pairs, and the number of the next one
 pub record Formed : Type 0 where
@@ -110,10 +113,14 @@ Tries s at old new = (found : Option PairRecord) × IsGreatest (is_redundant s a
 
 -- ---- forming
 
+-- Pairs are removed until the limit holds: pairs of lowest priority, with kinds in turn of those of the kind with the most pairs.
+abbrev pub EvictsFor : SidesRecord → ℕ → List PairRecord → List PairRecord → Type 0
+EvictsFor s limit old new = MatchBool s.kinds_in_turn (EvictsOfMost (kind_of s.local s.remote) limit old new) (Evicts limit old new)
+
 -- Each combination is tried in turn, and then the limit is applied.
 abbrev pub FormsEach : SidesRecord → ℕ → List Combination → Formed → Formed → Type 0
 FormsEach s limit all old new =
-    (mid : Formed) × Each (Tries s) all old mid × Evicts limit mid.pairs new.pairs × (new.next_number ≡ mid.next_number)
+    (mid : Formed) × Each (Tries s) all old mid × EvictsFor s limit mid.pairs new.pairs × (new.next_number ≡ mid.next_number)
 
 -- numbers run from 0 to one below the greatest counter
 abbrev pub HasNumbers : ℕ → ℕ → Type 0
@@ -121,7 +128,7 @@ HasNumbers next_number many = next_number + many ≤ MAX
 
 module _ {H P : Type 0} where
   abbrev pub sides_of : AgentRecord H P → SidesRecord
-  sides_of a = record { local = a.local; remote = a.remote; controlling = a.controlling; lite = a.lite }
+  sides_of a = record { local = a.local; remote = a.remote; controlling = a.controlling; lite = a.lite; kinds_in_turn = a.rules.kinds_in_turn }
 
   abbrev pub formed_of : AgentRecord H P → Formed
   formed_of a = formed_as a.pairs a.next_number

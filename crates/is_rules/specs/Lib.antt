@@ -11,6 +11,8 @@ pub mod RequestView
 pub mod Places
 pub mod Limit
 pub mod Each
+pub mod Kinds
+pub mod Evicting
 pub mod Forming
 pub mod FormingView
 pub mod Cuts

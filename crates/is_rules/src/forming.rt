@@ -17,6 +17,7 @@ ghost use Rattle.is_rules.specs.Forming.{formed_as, AreIn, Tries, FormsEach, Has
 ghost use Rattle.is_rules.specs.FormingView.{sides_view};
 ghost use Rattle.is_rules.specs.Cuts.{EvictionCuts};
 
+use crate::evicting::evict;
 use crate::places::{address_at, base_at, candidate_at, kind_at, priority_at, proto_at};
 use crate::sides::Sides;
 use is_candidate::Candidate;
@@ -208,7 +209,7 @@ pub fn form_each(
     ensures below { are_below next_number.new (multiset_of pairs.new) ≡ true }
 {
     try_each(alloc, sides, all, pairs, next_number);
-    pairs.evict(limit);
+    evict(sides, limit, pairs);
 }
 
 // ---- combinations

@@ -16,6 +16,8 @@ pub struct Sides<'a> {
     pub controlling: bool,
     /// The agent is ICE-lite.
     pub lite: bool,
+    /// At the limit the kind with the most pairs loses one (`Rules::kinds_in_turn`).
+    pub kinds_in_turn: bool,
     // so that each pair priority fits into 64 bits
     ghost low: { NoneTooHigh local.now },
 }

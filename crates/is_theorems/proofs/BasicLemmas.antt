@@ -1,7 +1,8 @@
--- USERNAMEs, addresses, lists, multisets and greatest pairs.
+-- USERNAMEs, addresses, lists, multisets, greatest pairs and the pair that is checked next.
 pub mod EqualAddresses
 pub mod UsernamesAndFirstMatches
 pub mod GreatestAndLeastPairs
 pub mod MultisetInclusion
 pub mod VacantIndices
 pub mod CandidatesByIndex
+pub mod PairsInTurn

@@ -1,3 +1,4 @@
 -- Worked examples of the rules.
 pub mod ExampleAgents
 pub mod ExampleTransitions
+pub mod ExampleTurns

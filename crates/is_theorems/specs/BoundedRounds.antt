@@ -8,6 +8,7 @@ use Rattle.is_rules.specs.Agent.{AgentRecord}
 use Rattle.is_theorems.specs.Asked.{IsAnsweredIn}
 use Rattle.is_theorems.specs.Bounds.{FormsFew, IsLimited, gathered_count, pair_bound, signal_count}
 use Rattle.is_theorems.specs.Logs.{Logged}
+use Rattle.is_theorems.specs.Progress.{checks_for}
 use Rattle.is_theorems.specs.Reached.{ChecksIn, IsEndedIn, IsInLine, IsPassing}
 use Rattle.is_theorems.specs.Rounds.{LoggedRound, Part, began_at, entries_of}
 use Rattle.is_theorems.specs.Runs.{IsFresh}
@@ -15,14 +16,14 @@ use Rattle.is_rules.specs.Sending.{path_of}
 
 module _ {H P : Type 0} where
   -- The rounds suffice for a pair that is due by the time `by` when they begin. For a bound of n pairs there are at least 2n - 1
-  -- rounds, and one more for each pair that is added in them.
+  -- rounds, and one more for each pair that is added in them; with kinds in turn 4n - 1, and two more.
   pub record SufficeWithin (bound by : ℕ) (start : AgentRecord H P) (rounds : List (LoggedRound P)) (last : AgentRecord H P)
       (p : PairRecord) : Type 0 where
     pub at : ℕ
     pub began : began_at rounds ≡ Some at
     pub line : IsInLine at by start p
     pub passing : (r : LoggedRound P) → Has rounds r → IsPassing by r
-    pub enough : 2 * bound + last.next_number ≤ length rounds + 1 + start.next_number
+    pub enough : checks_for start.rules (2 * bound + last.next_number) ≤ length rounds + 1 + checks_for start.rules start.next_number
 
   module _ (mac : H → List ℕ → List ℕ → List ℕ) (answers : P → CandidateRecord → ℕ → ℕ → Type 0) where
     -- Then a check is sent on the pair's path in one of them, unless a success response is received on the path in one of them, or

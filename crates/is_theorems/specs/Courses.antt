@@ -14,7 +14,7 @@ use Rattle.is_rules.specs.Agent.{AgentRecord}
 use Rattle.is_rules.specs.Brought.{Brings}
 use Rattle.is_rules.specs.Effects.{last_of}
 use Rattle.is_theorems.specs.Exchange.{AreBetween, Course}
-use Rattle.is_theorems.specs.Progress.{Awaits, IsUnanswered}
+use Rattle.is_theorems.specs.Progress.{checks_for, Awaits, IsUnanswered}
 use Rattle.is_theorems.specs.Runs.{IsFresh}
 use Rattle.is_rules.specs.Sending.{path_of}
 use Rattle.is_rules.specs.Steps.{Call, Entry, HandleTimeout, Done, Step}
@@ -59,12 +59,12 @@ module _ {H P : Type 0} (mac : H → List ℕ → List ℕ → List ℕ) (answer
       × (course : Course mac answers r.following mid next) × ControlsAlong r.following mid next course × CourseRounds later next new
 
   -- An execution starts with a newly created agent. At the start of the rounds no pair is valid, and n pairs are due by an
-  -- earlier time `by`, with due times computed at the time of the first round. At least n rounds follow, in which the checks of
-  -- one of these pairs are answered and the agent is controlling. Then it selects a path in one of the rounds.
+  -- earlier time `by`, with due times computed at the time of the first round. At least n rounds follow, or with kinds in turn 2n, in
+  -- which the checks of one of these pairs are answered and the agent is controlling. Then it selects a path in one of the rounds.
   abbrev pub CoursesSelect : Type 0
   CoursesSelect =
       (first start last : AgentRecord H P) (xs : List (Call P × Entry)) (r : CourseRound P) (rounds : List (CourseRound P)) (p : PairRecord) (by : ℕ)
       → IsFresh first → Course mac answers xs first start → start.controlling ≡ true → Awaits r.now by start p → IsUnanswered start p
       → CourseRounds (r ∷ rounds) start last → ((x : CourseRound P) → Has (r ∷ rounds) x → IsAnsweredRound by (path_of start p) x)
-      → length (due_by by r.now start.timing start.pairs) ≤ length (r ∷ rounds)
+      → checks_for start.rules (length (due_by by r.now start.timing start.pairs)) ≤ length (r ∷ rounds)
       → SelectsAmong (r ∷ rounds)

@@ -9,6 +9,7 @@ use Rattle.is_rules.specs.Agent.{AgentRecord}
 use Rattle.is_theorems.specs.Asked.{IsAnsweredIn}
 use Rattle.is_theorems.specs.Bounds.{FormsFew, IsLimited, gathered_count, pair_bound, signal_count}
 use Rattle.is_theorems.specs.Logs.{Logged}
+use Rattle.is_theorems.specs.Progress.{checks_for}
 use Rattle.is_theorems.specs.Reached.{ChecksIn, IsInLine, IsPassing, is_in_round}
 use Rattle.is_theorems.specs.Rounds.{LoggedRound, Part, began_at, entries_of}
 use Rattle.is_theorems.specs.Runs.{IsFresh}
@@ -36,14 +37,16 @@ timeout_count part = count_by (λ (x : Logged _). is_timeout x.call) part
 
 module _ {H P : Type 0} where
   -- The rounds suffice for a pair that is due by the time `by` when they begin, whatever pairs requests add in them. For at most n
-  -- pairs and m retransmits, m at least 2, k rounds suffice if k is at least (3n - 1) * m / (m - 1).
+  -- pairs and m retransmits, m at least 2, k rounds suffice if k is at least (3n - 1) * m / (m - 1). With kinds in turn m is at least 3,
+  -- and k at least (6n - 1) * m / (m - 2).
   pub record SufficeSteady (bound by : ℕ) (start : AgentRecord H P) (rounds : List (LoggedRound P)) (p : PairRecord) : Type 0 where
     pub at : ℕ
     pub began : began_at rounds ≡ Some at
     pub line : IsInLine at by start p
     pub passing : (r : LoggedRound P) → Has rounds r → IsPassing by r
     pub steady : AreSteady (entries_of rounds)
-    pub enough : 3 * bound * start.timing.max_retransmits + length rounds ≤ (length rounds + 1) * start.timing.max_retransmits
+    pub enough : checks_for start.rules (3 * bound) * start.timing.max_retransmits + checks_for start.rules (length rounds)
+        ≤ (length rounds + 1) * start.timing.max_retransmits
 
   module _ (mac : H → List ℕ → List ℕ → List ℕ) (answers : P → CandidateRecord → ℕ → ℕ → Type 0) where
     -- A pair is removed after timeout only after m checks, and a `handle_timeout` call sends one check. So in a segment with k of

@@ -11,7 +11,7 @@ use Rattle.is_rules.specs.declared.emitted.Path.{Path}
 use Rattle.is_rules.specs.Agent.{AgentRecord}
 use Rattle.is_rules.specs.Emitted.{issued_as}
 use Rattle.is_theorems.specs.Logs.{Logged}
-use Rattle.is_theorems.specs.Progress.{Awaits, IsUnanswered}
+use Rattle.is_theorems.specs.Progress.{checks_for, Awaits, IsUnanswered}
 use Rattle.is_theorems.specs.Reached.{IsPassing, IsEndedIn}
 use Rattle.is_theorems.specs.Rounds.{LoggedRound, entries_of, began_at, is_between, BringsSuccess, Part, IsControllingIn, SegmentSelects}
 use Rattle.is_theorems.specs.Runs.{IsFresh}
@@ -29,11 +29,11 @@ ArePlain rounds = (r : LoggedRound _) → Has rounds r → (x : Logged _) → Ha
 module _ {H P : Type 0} where
   -- The rounds suffice for each pair that is due by the time `by`, with due times computed at the time `at` at which they begin. If n
   -- pairs are due by then, n rounds suffice in which only packets and polls come after the `handle_timeout` calls. For n pairs in
-  -- all 2n - 1 rounds suffice, and one more for each pair that is added in them.
+  -- all 2n - 1 rounds suffice, and one more for each pair that is added in them. With kinds in turn it is 2n, and 4n - 1 and two more.
   abbrev pub OpenRoundsSuffice : ℕ → ℕ → AgentRecord H P → List (LoggedRound P) → AgentRecord H P → Type 0
   OpenRoundsSuffice at by start rounds last =
-      ((length (due_by by at start.timing start.pairs) ≤ length rounds) × ArePlain rounds)
-      ⊎ (2 * length start.pairs + last.next_number ≤ length rounds + 1 + start.next_number)
+      ((checks_for start.rules (length (due_by by at start.timing start.pairs)) ≤ length rounds) × ArePlain rounds)
+      ⊎ (checks_for start.rules (2 * length start.pairs + last.next_number) ≤ length rounds + 1 + checks_for start.rules start.next_number)
 
   module _ (mac : H → List ℕ → List ℕ → List ℕ) (answers : P → CandidateRecord → ℕ → ℕ → Type 0) where
     -- At a `handle_timeout` call in the log no pair is valid, and one is due by an earlier time `by`. The call begins rounds that

@@ -1,6 +1,6 @@
 -- What an agent achieves if `handle_timeout` is called at the times that `poll_timeout` returns: every timeout makes
 -- progress, and each due pair is checked (starvation freedom).
-use Rattle.std.specs.Prelude.{◌≡◌, ◌≢◌, ℕ, ◌<◌, ◌≤◌, true, false, List, [], ◌∷◌, length, Option, Some, None, is_some, Ok, ◌⊎◌}
+use Rattle.std.specs.Prelude.{◌≡◌, ◌≢◌, ℕ, ◌*◌, ◌<◌, ◌≤◌, true, false, List, [], ◌∷◌, length, Option, Some, None, is_some, Ok, ◌⊎◌, if◌then◌else◌}
 use Rattle.rand_core.specs.Stream.{Stream}
 use Rattle.is_proto.specs.Lists.{Has, is_empty}
 use Rattle.is_proto.specs.Times.{MAX}
@@ -14,6 +14,7 @@ use Rattle.is_stun.specs.Message.{Message}
 use Rattle.is_rules.specs.declared.event.IceAgentEvent.{IceAgentEvent}
 use Rattle.is_rules.specs.declared.emitted.Path.{Path}
 use Rattle.is_rules.specs.declared.emitted.Emitted.{Emitted}
+use Rattle.is_rules.specs.declared.rules.Rules.{Rules}
 use Rattle.is_rules.specs.Emitted.{issued_as}
 use Rattle.is_rules.specs.Agent.{AgentRecord}
 use Rattle.is_rules.specs.Sending.{path_of}
@@ -53,6 +54,10 @@ pub record Round : Type 0 where
   pub now : ℕ
   pub emitted : Emitted
   pub arrivals : List Arrival
+
+-- So many checks hold n checks of the pair that is due first: with kinds in turn, of two checks one after another at least one is.
+abbrev pub checks_for : Rules → ℕ → ℕ
+checks_for rules n = if rules.kinds_in_turn then 2 * n else n
 
 module _ {H P : Type 0} where
   -- The agent checks pairs: it is not lite, and the remote credentials are known.
@@ -166,7 +171,7 @@ TimeoutsAreOfUse {H = H} P mac =
     → IsOfUse old emitted new
 
 -- Starvation freedom: a pair is checked, or removed after timeout, within as many polling cycles as there are pairs that are due
--- no later than it. The `handle_timeout` calls come at its due time, or later. A nominated pair goes before all others, unless
+-- no later than it, or with kinds in turn twice as many. The `handle_timeout` calls come at its due time, or later. A nominated pair goes before all others, unless
 -- its due time was fixed before; so `poll_timeout` is called before each `handle_timeout` call.
 abbrev pub NoPairIsStarved : {H : Type 0} (P : Type 0) → (H → List ℕ → List ℕ → List ℕ) → Type 0
 NoPairIsStarved {H = H} P mac =
@@ -174,14 +179,15 @@ NoPairIsStarved {H = H} P mac =
     → IsSound first → first.packets ≡ [] → first.last_time ≡ Some at → Awaits at by first p
     → ((x : ℕ × Emitted) → Has turns x → (by ≤ x.0) × (x.0 < MAX))
     → Turns mac turns first last
-    → length (due_by by at first.timing first.pairs) ≤ length turns
+    → checks_for first.rules (length (due_by by at first.timing first.pairs)) ≤ length turns
     → ((x : ℕ × Emitted) × Has turns x × ChecksOn first x.1 p) ⊎ IsGone p.number last.pairs
 
 -- ---- responses
 
 -- A controlling agent has no valid pair yet, and each check that is sent on the path of a pair is answered in its round. Then the
 -- agent selects a path within as many rounds as there are pairs that are due no later than this one, with due times computed at
--- the time of the first round. This holds whatever else it receives, and whether or not `poll_timeout` is called.
+-- the time of the first round, or with kinds in turn within twice as many. This holds whatever else it receives, and whether or not
+-- `poll_timeout` is called.
 abbrev pub AnsweredSelect : {H P : Type 0} → (H → List ℕ → List ℕ → List ℕ) → (P → CandidateRecord → ℕ → ℕ → Type 0) → Type 0
 AnsweredSelect {H = H} {P = P} mac answers =
     (first last : AgentRecord H P) (r : Round) (rounds : List Round) (p : PairRecord) (by : ℕ)
@@ -189,7 +195,7 @@ AnsweredSelect {H = H} {P = P} mac answers =
     → ((x : Round) → Has (r ∷ rounds) x → (by < x.now) × (x.now < MAX))
     → (run : Rounds mac answers (r ∷ rounds) first last)
     → ((x : Round) (id : List ℕ) → Has (r ∷ rounds) x → x.emitted.issued ≡ Some (issued_as (path_of first p) class.Request id) → HasSuccess x.arrivals)
-    → length (due_by by r.now first.timing first.pairs) ≤ length (r ∷ rounds)
+    → checks_for first.rules (length (due_by by r.now first.timing first.pairs)) ≤ length (r ∷ rounds)
     → RoundSelects mac answers (r ∷ rounds) first last run
 
 module _ {H P : Type 0} (mac : H → List ℕ → List ℕ → List ℕ) (answers : P → CandidateRecord → ℕ → ℕ → Type 0) where

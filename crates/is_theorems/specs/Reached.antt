@@ -15,7 +15,7 @@ use Rattle.is_theorems.specs.Asked.{IsOnlyPair, IsAnsweredIn, IsAskedIn, MayEndI
 use Rattle.is_theorems.specs.AskedCourses.{Ends}
 use Rattle.is_rules.specs.declared.emitted.Path.{Path}
 use Rattle.is_theorems.specs.Logs.{Logged}
-use Rattle.is_theorems.specs.Progress.{IsChecking}
+use Rattle.is_theorems.specs.Progress.{IsChecking, checks_for}
 use Rattle.is_rules.specs.Queue.{request_at}
 use Rattle.is_theorems.specs.Rounds.{LoggedRound, entries_of, began_at, is_between, Part, RunsOn}
 use Rattle.is_theorems.specs.Runs.{IsFresh, IsTopPath}
@@ -68,13 +68,14 @@ module _ {H P : Type 0} where
     pub young : unanswered_count p.checks < a.timing.max_retransmits
 
   -- The rounds suffice for a pair that is due by the time `by` when they begin: their `handle_timeout` calls are later than `by`.
-  -- For n pairs there are at least 2n - 1 rounds, and one more for each pair that is added in them.
+  -- For n pairs there are at least 2n - 1 rounds, and one more for each pair that is added in them; with kinds in turn 4n - 1, and
+  -- two more for each such pair.
   pub record Suffice (by : ℕ) (start : AgentRecord H P) (rounds : List (LoggedRound P)) (last : AgentRecord H P) (p : PairRecord) : Type 0 where
     pub at : ℕ
     pub began : began_at rounds ≡ Some at
     pub line : IsInLine at by start p
     pub passing : (r : LoggedRound P) → Has rounds r → IsPassing by r
-    pub enough : 2 * length start.pairs + last.next_number ≤ length rounds + 1 + start.next_number
+    pub enough : checks_for start.rules (2 * length start.pairs + last.next_number) ≤ length rounds + 1 + checks_for start.rules start.next_number
 
   module _ (mac : H → List ℕ → List ℕ → List ℕ) (answers : P → CandidateRecord → ℕ → ℕ → Type 0) where
     -- Between the `handle_timeout` calls of a segment, a call may remove a pair that uses the path's addresses. Only the addition

@@ -13,7 +13,7 @@ use Rattle.is_rules.specs.Agent.{AgentRecord}
 use Rattle.is_theorems.specs.AskedCourses.{IsAnsweredAlong}
 use Rattle.is_theorems.specs.Courses.{CourseRound, SelectsAmong, CourseRounds}
 use Rattle.is_theorems.specs.Exchange.{AreBetween, Course}
-use Rattle.is_theorems.specs.Progress.{Awaits, IsUnanswered}
+use Rattle.is_theorems.specs.Progress.{checks_for, Awaits, IsUnanswered}
 use Rattle.is_theorems.specs.Reached.{IsInLine}
 use Rattle.is_theorems.specs.Runs.{IsFresh}
 use Rattle.is_rules.specs.Sending.{path_of}
@@ -45,23 +45,24 @@ module _ {H P : Type 0} (mac : H → List ℕ → List ℕ → List ℕ) (answer
       × Course mac answers r.following mid next × PassRounds later next new
 
   -- An execution starts with a newly created agent. One of n pairs waits for its check, and at least 2n - 1 rounds follow, and
-  -- one more for each pair that is added in them. Then a check is sent on the pair's path in one of them, unless a success
-  -- response is received on the path in one of them. This holds in either role, whatever the agent receives and nominates.
+  -- one more for each pair that is added in them; with kinds in turn 4n - 1, and two more. Then a check is sent on the pair's path in
+  -- one of them, unless a success response is received on the path in one of them. This holds in either role, whatever the agent
+  -- receives and nominates.
   abbrev pub CoursesReach : Type 0
   CoursesReach =
       (first start last : AgentRecord H P) (xs : List (Call P × Entry)) (r : CourseRound P) (rounds : List (CourseRound P)) (p : PairRecord) (by : ℕ)
       → IsFresh first → Course mac answers xs first start → IsInLine r.now by start p → PassRounds (r ∷ rounds) start last
       → ((x : CourseRound P) → Has (r ∷ rounds) x → IsPassed by x)
-      → 2 * length start.pairs + last.next_number ≤ length (r ∷ rounds) + 1 + start.next_number
+      → checks_for start.rules (2 * length start.pairs + last.next_number) ≤ length (r ∷ rounds) + 1 + checks_for start.rules start.next_number
       → ChecksAmong (r ∷ rounds) (path_of start p) ⊎ IsAnsweredAmong (r ∷ rounds) (path_of start p)
 
   -- An execution starts with a newly created agent. At the start of the rounds no pair is valid, and n pairs are due by an
-  -- earlier time `by`, with due times computed at the time of the first round. At least n rounds follow, in which the agent is
-  -- controlling. Then a check is sent on the path of each of these pairs in one of the rounds, unless a path is selected in one.
+  -- earlier time `by`, with due times computed at the time of the first round. At least n rounds follow, or with kinds in turn 2n, in
+  -- which the agent is controlling. Then a check is sent on the path of each of these pairs in one of the rounds, unless a path is selected in one.
   abbrev pub CoursesCheck : Type 0
   CoursesCheck =
       (first start last : AgentRecord H P) (xs : List (Call P × Entry)) (r : CourseRound P) (rounds : List (CourseRound P)) (p : PairRecord) (by : ℕ)
       → IsFresh first → Course mac answers xs first start → start.controlling ≡ true → Awaits r.now by start p → IsUnanswered start p
       → CourseRounds mac answers (r ∷ rounds) start last → ((x : CourseRound P) → Has (r ∷ rounds) x → IsPassed by x)
-      → length (due_by by r.now start.timing start.pairs) ≤ length (r ∷ rounds)
+      → checks_for start.rules (length (due_by by r.now start.timing start.pairs)) ≤ length (r ∷ rounds)
       → ChecksAmong (r ∷ rounds) (path_of start p) ⊎ SelectsAmong (r ∷ rounds)

@@ -1,6 +1,6 @@
 -- When forming pairs may remove a pair: one of the new pairs replaces it, or there are too many pairs (RFC 8445, sections 6.1.2.4
 -- and 6.1.2.5).
-use Rattle.std.specs.Prelude.{◌≡◌, ℕ, ◌+◌, ◌<◌, ◌&&◌, ◌⊎◌, Bool, true, false, nat_le, nat_lt, List, length, position, count_by, Option, Some, None, MatchBool}
+use Rattle.std.specs.Prelude.{◌≡◌, ◌==◌, ℕ, ◌+◌, ◌*◌, ◌<◌, ◌&&◌, ◌||◌, ◌⊎◌, Bool, true, false, not, nat_le, nat_lt, List, length, position, count_by, Option, Some, None, MatchBool, if◌then◌else◌}
 use Rattle.std.specs.List.{list_any}
 use Rattle.is_candidate.specs.Candidates.{CandidateRecord, candidate_at}
 use Rattle.is_candidate.specs.Equality.{is_same_place}
@@ -8,6 +8,7 @@ use Rattle.is_pair.specs.Pairs.{PairRecord}
 use Rattle.is_rules.specs.Agent.{AgentRecord}
 use Rattle.is_rules.specs.Discarding.{local_discarded}
 use Rattle.is_rules.specs.Forming.{SidesRecord, Combination, combined_priority, is_redundant, local_combinations, remote_combinations, sides_of}
+use Rattle.is_rules.specs.Kinds.{kind_between, kind_of, KINDS}
 use Rattle.is_rules.specs.Local.{as_own, appended, comes_again, enabled, enabled_again, preferred, Prefers}
 use Rattle.is_rules.specs.Remote.{as_remote, is_ignored, is_placeholder, place_or_end, with_remote}
 
@@ -16,22 +17,35 @@ use Rattle.is_rules.specs.Remote.{as_remote, is_ignored, is_placeholder, place_o
 abbrev pub is_replaced_by : SidesRecord → PairRecord → Combination → Bool
 is_replaced_by s p at = is_redundant s at p && nat_lt p.priority (combined_priority s at)
 
--- The other pair, or the combination, has no smaller priority than the pair.
-abbrev pub ranks_with : PairRecord → PairRecord → Bool
-ranks_with p q = nat_le p.priority q.priority
+-- A pair of this kind may take the pair's place at the limit. With kinds in turn only one of its own kind does.
+abbrev pub is_rival : SidesRecord → PairRecord → ℕ → Bool
+is_rival s p kind = not s.kinds_in_turn || kind == kind_of s.local s.remote p
+
+-- The other pair, or the combination, is a rival with no smaller priority than the pair.
+abbrev pub ranks_with : SidesRecord → PairRecord → PairRecord → Bool
+ranks_with s p q = nat_le p.priority q.priority && is_rival s p (kind_of s.local s.remote q)
 
 abbrev pub combines_with : SidesRecord → PairRecord → Combination → Bool
-combines_with s p at = nat_le p.priority (combined_priority s at)
+combines_with s p at =
+    nat_le p.priority (combined_priority s at) && is_rival s p (kind_between s.local (candidate_at s.local at.0) (candidate_at s.remote at.1))
 
--- how many pairs have no smaller priority than the pair, at most, after these combinations are formed
+-- how many pairs rank with the pair, at most, after these combinations are formed
 abbrev pub rank_count : SidesRecord → List PairRecord → List Combination → PairRecord → ℕ
-rank_count s pairs all p = count_by (ranks_with p) pairs + count_by (combines_with s p) all
+rank_count s pairs all p = count_by (ranks_with s p) pairs + count_by (combines_with s p) all
+
+-- How many pairs there are at most, if so many rank with the pair and it is the one to be removed. With kinds in turn no kind has
+-- more pairs than its own.
+abbrev pub most_pairs : SidesRecord → ℕ → ℕ
+most_pairs s ranked = if s.kinds_in_turn then KINDS * ranked else ranked
 
 module _ {H P : Type 0} where
-  -- Forming these combinations may remove the pair: it is replaced, or evicted because more pairs than the limit rank with it.
+  -- Forming these combinations may remove the pair: it is replaced, or there may be more pairs than the limit, and more than that rank
+  -- with the pair; with kinds in turn, more than a sixteenth of it.
   abbrev pub MayBeRemoved : AgentRecord H P → List Combination → PairRecord → Type 0
   MayBeRemoved a all p =
-      (list_any (is_replaced_by (sides_of a) p) all ≡ true) ⊎ (a.max_pairs < rank_count (sides_of a) a.pairs all p)
+      (list_any (is_replaced_by (sides_of a) p) all ≡ true)
+      ⊎ ((a.max_pairs < length a.pairs + length all)
+      × (a.max_pairs < most_pairs (sides_of a) (rank_count (sides_of a) a.pairs all p)))
 
   -- ---- a remote candidate is added
 

@@ -20,7 +20,7 @@ use Rattle.is_rules.specs.Brought.{Brings}
 use Rattle.is_rules.specs.Effects.{last_of}
 use Rattle.is_theorems.specs.Logs.{Logged}
 use Rattle.is_theorems.specs.Runs.{IsFresh, Run, Point, IsTopPath}
-use Rattle.is_theorems.specs.Progress.{IsChecking, IsOfUse, Awaits, IsUnanswered}
+use Rattle.is_theorems.specs.Progress.{checks_for, IsChecking, IsOfUse, Awaits, IsUnanswered}
 
 -- ---- the entries of a round
 
@@ -133,9 +133,9 @@ module _ {H P : Type 0} (mac : H → List ℕ → List ℕ → List ℕ) (answer
       → IsChecking start → is_empty start.pairs ≡ false → deadline < MAX
       → IsOfUse start timeout.entry.emitted last
 
-  -- At a `handle_timeout` call in the log n pairs are due by an earlier time `by`. The call begins n rounds, all later than `by`,
-  -- in which the checks of one of these pairs are answered. Then a path is selected in one of the rounds, whatever else is
-  -- received.
+  -- At a `handle_timeout` call in the log n pairs are due by an earlier time `by`. The call begins n rounds, or with kinds in turn
+  -- 2n, all later than `by`, in which the checks of one of these pairs are answered. Then a path is selected in one of the rounds,
+  -- whatever else is received.
   abbrev pub RoundsSelect : AgentRecord H P → Stream → List (Logged P) → Type 0
   RoundsSelect first s log =
       (before : List (Logged P)) (start last : AgentRecord H P) (rounds : List (LoggedRound P)) (p : PairRecord) (at by : ℕ)
@@ -143,7 +143,7 @@ module _ {H P : Type 0} (mac : H → List ℕ → List ℕ → List ℕ) (answer
       → began_at rounds ≡ Some at → Awaits at by start p → IsUnanswered start p
       → ((r : LoggedRound P) → Has rounds r → IsRound by (path_of start p) r)
       → IsControllingIn before start part.at (entries_of rounds) last part.following part.run
-      → length (due_by by at start.timing start.pairs) ≤ length rounds
+      → checks_for start.rules (length (due_by by at start.timing start.pairs)) ≤ length rounds
       → SegmentSelects first s log (entries_of rounds)
 
   abbrev pub AnsweredRoundsSelect : Type 0

@@ -12,7 +12,7 @@ use is_candidate::LocalPreference;
 use is_proto::Sha1HmacProvider;
 
 /// A controlling agent selects a path within as many rounds as there are pairs that are due no later than one whose checks are
-/// answered in their rounds.
+/// answered in their rounds, or with kinds in turn (`Rules`) within twice as many. So it is in the theorems below: for n rounds read 2n.
 pub fn answered_select<H: Sha1HmacProvider, P: LocalPreference>()
     ensures { AnsweredSelect H.mac P.answers }
 {}

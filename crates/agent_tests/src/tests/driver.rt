@@ -143,6 +143,7 @@ impl Player {
             Setting::OneCheck => agent.set_max_stun_retransmits(1),
             Setting::TwoChecks => agent.set_max_stun_retransmits(2),
             Setting::Renomination(renominates) => agent.set_renomination(renominates),
+            Setting::Rules(rules) => agent.set_rules(rules),
             Setting::TieBreaker(number) => agent.set_control_tie_breaker(number),
             Setting::Published => self.rng = generator(),
         }

@@ -187,6 +187,10 @@ impl Player {
                 let actual = self.agent.state();
                 self.compares(actual, state)
             }
+            Shown::Rules(rules) => {
+                let actual = self.agent.rules();
+                self.compares(actual, rules)
+            }
             Shown::IceTimeout(ms) => {
                 let actual = self.agent.ice_timeout();
                 self.compares(actual, millis(ms))

@@ -5,9 +5,10 @@ use super::step::Emitted::*;
 use super::step::Shown::*;
 use super::step::Start::*;
 use super::step::Step::*;
-use super::step::{Outcome, Setting};
+use super::step::{Outcome, Setting, Shown, Whose};
 use super::story::{Story, play};
 use super::*;
+use is::Rules;
 
 #[test]
 fn settings_are_kept(rt: HostRuntime) -> Result<(), Fail> {
@@ -17,7 +18,17 @@ fn settings_are_kept(rt: HostRuntime) -> Result<(), Fail> {
 /// A tie-breaker that the agent sends in the controlling role.
 const TIE: u64 = 0x0102_0304_0506_0708;
 
-const STORIES: [Story; 4] = [
+/// The original's behaviour, with which an agent begins.
+const ORIGINAL: Rules = Rules {
+    kinds_in_turn: false,
+};
+
+/// What connects fastest.
+const MODERN: Rules = Rules {
+    kinds_in_turn: true,
+};
+
+const STORIES: [Story; 5] = [
     Story(
         "a_packet_may_be_as_long_as_the_longest_check",
         &[
@@ -36,9 +47,24 @@ const STORIES: [Story; 4] = [
             Shows(Controlling(false)),
             Shows(Lite(false)),
             Shows(State(IceConnectionState::New)),
+            Shows(Shown::Rules(ORIGINAL)),
             Shows(IceTimeout(21500)),
             Shows(NoRemoteName),
             Shows(LocalName("aaaa")),
+        ],
+    ),
+    Story(
+        "rules_stay_until_they_are_set",
+        &[
+            Begin(Paired),
+            Set(Setting::Rules(MODERN)),
+            Shows(Shown::Rules(MODERN)),
+            // neither a check nor an ICE restart changes them
+            Does(Check(0)),
+            Does(Creds(Whose::Restarted, "next", "nextpass")),
+            Shows(Shown::Rules(MODERN)),
+            Set(Setting::Rules(ORIGINAL)),
+            Shows(Shown::Rules(ORIGINAL)),
         ],
     ),
     Story(
@@ -64,6 +90,12 @@ const STORIES: [Story; 4] = [
         ],
     ),
 ];
+
+#[test]
+fn rules_have_two_named_values(rt: HostRuntime) {
+    assert_eq!(rt; Rules::original(), ORIGINAL);
+    assert_eq!(rt; Rules::modern(), MODERN);
+}
 
 // ---- states
 

@@ -2,6 +2,7 @@
 //! the functions of the driver see an agent: each of them is proved, while a table needs no proof.
 
 use super::*;
+use is::Rules;
 use is::pair::CheckState;
 
 /// The address 10.0.0.HOST:PORT.
@@ -89,6 +90,8 @@ pub(super) enum Setting {
     TwoChecks,
     /// Each nomination replaces the ones before, or not.
     Renomination(bool),
+    /// What it does beyond the original's behaviour.
+    Rules(Rules),
     /// The number that resolves role conflicts.
     TieBreaker(u64),
     /// The random words are those of the published example of PCG.
@@ -287,6 +290,7 @@ pub(super) enum Shown {
     Controlling(bool),
     Lite(bool),
     Renomination(bool),
+    Rules(Rules),
     State(IceConnectionState),
     Connected,
     Disconnected,

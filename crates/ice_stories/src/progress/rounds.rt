@@ -104,13 +104,24 @@ fn does_in_round(note: &Note, side: Side) -> Result<InRound, Rounds> {
     }
 }
 
+/// So many checks hold n checks of the pair that is due first (`checks_for`): with kinds in turn every second one may be of another
+/// pair.
+fn checks_for(start: Seen, n: u64) -> u64 {
+    if start.kinds_in_turn {
+        n.saturating_mul(2)
+    } else {
+        n
+    }
+}
+
 /// 2n - 1 rounds for n pairs, and one for each pair that is added until the last.
 fn are_enough(rounds: u64, first: Seen, last: Seen) -> bool {
     let Ok(pairs) = u64::try_from(first.pairs) else {
         return false;
     };
-    let needed = pairs.saturating_mul(2).saturating_add(last.numbers);
-    needed <= rounds.saturating_add(1).saturating_add(first.numbers)
+    let needed = checks_for(first, pairs.saturating_mul(2).saturating_add(last.numbers));
+    let before = checks_for(first, first.numbers);
+    needed <= rounds.saturating_add(1).saturating_add(before)
 }
 
 impl History {
@@ -183,7 +194,7 @@ impl History {
         };
         let due = u64::try_from(start.due).ok()?;
         let is_polled = kept.polls && kept.by < kept.from;
-        if is_polled && due <= kept.later.saturating_add(1)
+        if is_polled && checks_for(start, due) <= kept.later.saturating_add(1)
             || self.suffices(kept, side, first, end)
         {
             None

@@ -35,6 +35,8 @@ pub struct Seen {
     pub nominated: bool,
     /// It has renomination.
     pub renominates: bool,
+    /// Its pairs are checked by kinds in turn.
+    pub kinds_in_turn: bool,
     pub awaited: Option<Awaited>,
     /// Its pairs that are due no later than that one.
     pub due: usize,
@@ -125,6 +127,7 @@ pub fn settings(agent: &Agent, limit: usize) -> Seen {
         joined: 0,
         nominated: true,
         renominates: agent.renomination(),
+        kinds_in_turn: agent.rules().kinds_in_turn,
         awaited: None,
         due: 0,
         is_valid: false,

@@ -4,7 +4,7 @@ use Rattle.std.specs.Prelude.{◌==◌, MatchBool}
 use Rattle.rand_core.specs.Stream.{Stream}
 use Rattle.is_candidate.specs.Candidates.{CandidateRecord}
 use Rattle.is_rules.specs.Agent.{AgentRecord}
-use Rattle.is_rules.specs.Steps.{Call, Answer, Entry, quiet, Step, SetMtu, SetControlTieBreaker, SetMaxCandidatePairs, SetMaxDiscovered, SetIceLite, SetRenomination, SetTimingAdvance, SetInitialStunRto, SetMaxStunRto, SetMaxStunRetransmits, SetLiteTimeout, SetLocalPreference, SetControlling, SetLocalCredentials, SetRemoteCredentials, SkipPairIds, AddLocalCandidate, AddRemoteCandidate, InvalidateCandidate, RestartIce, RecreateCandidatePairs, ReceivePacket, HandleTimeout, PollTransmit, PollTimeout, PollEvent}
+use Rattle.is_rules.specs.Steps.{Call, Answer, Entry, quiet, Step, SetMtu, SetControlTieBreaker, SetMaxCandidatePairs, SetMaxDiscovered, SetIceLite, SetRenomination, SetRules, SetTimingAdvance, SetInitialStunRto, SetMaxStunRto, SetMaxStunRetransmits, SetLiteTimeout, SetLocalPreference, SetControlling, SetLocalCredentials, SetRemoteCredentials, SkipPairIds, AddLocalCandidate, AddRemoteCandidate, InvalidateCandidate, RestartIce, RecreateCandidatePairs, ReceivePacket, HandleTimeout, PollTransmit, PollTimeout, PollEvent}
 use Rattle.is_theorems.specs.Logs.{Logged}
 use Rattle.is_theorems.specs.Reporting.{QueuesTheorem}
 use Rattle.is.specs.Queues.{IssuesNone, OthersIssueNone, QueuesAreKept}
@@ -25,6 +25,7 @@ module _ {H P : Type 0} (mac : H → List ℕ → List ℕ → List ℕ) (answer
   issues_none old new s t (SetMaxDiscovered n) e h _ = silent e _ h.0
   issues_none old new s t (SetIceLite lite) e h _ = silent e _ h.0
   issues_none old new s t (SetRenomination on) e h _ = silent e _ h.0
+  issues_none old new s t (SetRules rules) e h _ = silent e _ h.0
   issues_none old new s t (SetTimingAdvance by) e h _ = silent e _ h.0
   issues_none old new s t (SetInitialStunRto rto) e h _ = silent e _ h.0
   issues_none old new s t (SetMaxStunRto rto) e h _ = silent e _ h.0

@@ -1,16 +1,19 @@
 -- Pairs that become due at a time: removing pairs and fixing due times add none.
 use Rattle.std.proofs.Common.{if◌then◌else◌, ◌≡◌, ℕ, ◌&&◌, ◌||◌, Bool, true, false, not, List, [], ◌∷◌, map, Option, Some, None, is_some, option_map, MatchBool, subst, sym, refl}
 use Rattle.std.specs.List.{list_any}
+use Rattle.std.proofs.lemmas.Bool.{eq-eqb}
+use Rattle.is_proto.specs.Lists.{Has}
 use Rattle.is_stun.specs.declared.timing.StunTiming.{StunTiming}
 use Rattle.is_pair.specs.Pairs.{PairRecord}
 use Rattle.is_pair.specs.Due.{asked, is_due, IsNextDue}
-use Rattle.is_pair.specs.Multiset.{without, pair_numbered, rises}
+use Rattle.is_pair.specs.Multiset.{without, has_number, is_numbered, pair_numbered, rises}
 use Rattle.rand_core.specs.Stream.{Stream}
 use Rattle.is_rules.specs.declared.credentials.IceCreds.{IceCreds}
 use Rattle.is_rules.specs.declared.emitted.Issued.{Issued}
 use Rattle.is_rules.specs.Agent.{AgentRecord}
-use Rattle.is_rules.specs.Checking.{all_asked, all_heard, ChecksNext, MayCheck}
+use Rattle.is_rules.specs.Checking.{all_asked, all_heard, is_kinds_turn, IsNextToCheck, ChecksNext, MayCheck}
 use Rattle.is_rules.specs.Due.{awaits_nomination, falls_due}
+use Rattle.is_rules.specs.Kinds.{IsNextOfKind}
 use Rattle.is_rules.proofs.PairLists.PairsByNumber.{numbered-found}
 use Rattle.is_agent.proofs.AgentParts.PairsByNumber.{has-any}
 
@@ -48,20 +51,32 @@ and-third false b c d weaker h = h
 pub all-three : (a b c : Bool) → a ≡ true → b ≡ true → c ≡ true → a && b && c ≡ true
 all-three a b c x y z = rw (x, y) z
 
+-- the pair that is checked next is in the list and due, in a turn of kinds too
+next-is-due : {H P : Type 0} (a : AgentRecord H P) (now : ℕ) (p : PairRecord) → IsNextToCheck now a (Some p) → Has a.pairs p × (is_due now a.timing p ≡ true)
+next-is-due a now p is =
+    elim (is_kinds_turn a) as (λ b. MatchBool b (IsNextOfKind a.local a.remote a.next_kind now a.timing a.pairs (Some p)) (IsNextDue now a.timing a.pairs (Some p))
+    → Has a.pairs p × (is_due now a.timing p ≡ true)) [
+      | true ↦ λ of_kind. (of_kind.0, of_kind.1)
+      | false ↦ λ first. (first.0.0, first.1)
+    ] is
+
 -- if the pair that is checked next has a number, it is due
-pub due-there : {H P : Type 0} (a : AgentRecord H P) (now : ℕ) (t : StunTiming) (next : Option PairRecord) (n : ℕ)
-    → IsNextDue now t a.pairs next → option_map (λ p. p.number) next ≡ Some n → list_any (is_due now t) a.pairs ≡ true
-due-there a now t None n is numbered = absurd (cc)
-due-there a now t (Some p) n ((has, first), due) numbered = has-any (is_due now t) a.pairs p has due
+pub due-there : {H P : Type 0} (a : AgentRecord H P) (now : ℕ) (next : Option PairRecord) (n : ℕ) → IsNextToCheck now a next
+    → option_map (λ p. p.number) next ≡ Some n → list_any (is_due now a.timing) a.pairs ≡ true
+due-there a now None n is numbered = absurd (cc)
+due-there a now (Some p) n is numbered = let its = next-is-due a now p is in has-any (is_due now a.timing) a.pairs p its.0 its.1
 
 -- and it is found by that number
-pub next-found : (ps : List PairRecord) (now : ℕ) (t : StunTiming) (next : Option PairRecord) (n : ℕ) → rises ps ≡ true
-    → IsNextDue now t ps next → option_map (λ p. p.number) next ≡ Some n
-    → (p : PairRecord) × (next ≡ Some p) × (p.number ≡ n) × (pair_numbered n ps ≡ Some p)
-next-found ps now t None n rising is numbered = absurd (cc)
-next-found ps now t (Some p) n rising ((has, first), due) numbered =
+pub next-found : {H P : Type 0} (a : AgentRecord H P) (now : ℕ) (next : Option PairRecord) (n : ℕ) → rises a.pairs ≡ true → IsNextToCheck now a next
+    → option_map (λ p. p.number) next ≡ Some n → (p : PairRecord) × (next ≡ Some p) × (p.number ≡ n) × (pair_numbered n a.pairs ≡ Some p)
+next-found a now None n rising is numbered = absurd (cc)
+next-found a now (Some p) n rising is numbered =
     let same : p.number ≡ n = cc in
-    (p, refl, same, subst (λ m. pair_numbered m ps ≡ Some p) same (numbered-found ps p rising has))
+    (p, refl, same, subst (λ m. pair_numbered m a.pairs ≡ Some p) same (numbered-found a.pairs p rising (next-is-due a now p is).0))
+
+-- it is there, also if the numbers do not rise
+pub next-has : {H P : Type 0} (a : AgentRecord H P) (now : ℕ) (p : PairRecord) → IsNextToCheck now a (Some p) → has_number p.number a.pairs ≡ true
+next-has a now p is = has-any (is_numbered p.number) a.pairs p (next-is-due a now p is).0 (eq-eqb p.number p.number refl)
 
 -- with the peer's credentials, and if the agent is not ICE-lite, the next pair is checked once all due times are
 -- fixed

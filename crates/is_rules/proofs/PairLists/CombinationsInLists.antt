@@ -23,7 +23,7 @@ Has-at [] i d lt = let at_least : 0 ≤ i = omega arith in absurd (let none : �
 Has-at (x ∷ xs) zero d lt = inl refl
 Has-at (x ∷ xs) (suc i) d lt = inr (Has-at xs i d (omega (arith, lt)))
 
-Has-append : {X : Type 0} (xs ys : List X) (x : X) → Has (xs ++ ys) x → Has xs x ⊎ Has ys x
+pub Has-append : {X : Type 0} (xs ys : List X) (x : X) → Has (xs ++ ys) x → Has xs x ⊎ Has ys x
 Has-append [] ys x h = inr h
 Has-append (z ∷ zs) ys x (inl e) = inl (inl e)
 Has-append (z ∷ zs) ys x (inr h) = elim (Has-append zs ys x h) [ inl k ↦ inl (inr k) | inr k ↦ inr k ]

@@ -6,12 +6,13 @@ use Rattle.std.proofs.lemmas.List.Folds.{list_all-append}
 use Rattle.is_proto.specs.Lists.{Has}
 use Rattle.is_candidate.specs.Candidates.{CandidateRecord}
 use Rattle.is_pair.specs.Pairs.{PairRecord, nominated, taking_over, validated, with_request}
-use Rattle.is_pair.specs.Multiset.{is_numbered, change_at, change_pair, is_awaiting, keeps_check, without, EvictsInTurn, Evicts, IsAwaiting, IsGreatest}
+use Rattle.is_pair.specs.Multiset.{is_numbered, change_at, change_pair, is_awaiting, keeps_check, without, IsAwaiting, IsGreatest}
 use Rattle.is_rules.specs.Kept.{is_placed, are_placed}
 use Rattle.is_rules.specs.Nominating.{nominated_by_self}
 use Rattle.is_rules.specs.Request.{RequestRecord}
 use Rattle.is_rules.specs.Serving.{served, validated_by_peer}
 use Rattle.is_rules.proofs.PairLists.PairsByNumber.{both}
+use Rattle.is_rules.proofs.PairLists.RemovedInTurn.{Removes, RemovesInTurn}
 
 -- ---- lists whose elements all pass a test
 
@@ -132,13 +133,13 @@ pub placed-push : (local remote : List CandidateRecord) (ps : List PairRecord) (
     → p.local < length local → p.remote < length remote → are_placed local remote (ps ++ p ∷ []) ≡ true
 placed-push local remote ps p all l r = all-push (is_placed local remote) ps p all (in-is local remote p l r)
 
-pub placed-drops : (local remote : List CandidateRecord) (limit : ℕ) (gone old new : List PairRecord) → EvictsInTurn limit gone old new
+pub placed-drops : (local remote : List CandidateRecord) (limit : ℕ) (gone old new : List PairRecord) → RemovesInTurn limit gone old new
     → are_placed local remote old ≡ true → are_placed local remote new ≡ true
 placed-drops local remote limit [] old new (within, same) all = rw (same) all
-placed-drops local remote limit (p ∷ gone) old new (over, least, rest) all =
+placed-drops local remote limit (p ∷ gone) old new (over, has, rest) all =
     placed-drops local remote limit gone (without (is_numbered p.number) old) new rest (placed-without local remote (is_numbered p.number) old all)
 
-pub placed-evicted : (local remote : List CandidateRecord) (limit : ℕ) (old new : List PairRecord) → Evicts limit old new
+pub placed-evicted : (local remote : List CandidateRecord) (limit : ℕ) (old new : List PairRecord) → Removes limit old new
     → are_placed local remote old ≡ true → are_placed local remote new ≡ true
 placed-evicted local remote limit old new (gone, drops) all = placed-drops local remote limit gone old new drops all
 
@@ -170,3 +171,8 @@ self-places controlling lite = record {
   local = λ p. if-kept (λ (x : PairRecord). x.local) _ (nominated lite p) p (nominated-places lite p).0;
   remote = λ p. if-kept (λ (x : PairRecord). x.remote) _ (nominated lite p) p (nominated-places lite p).1;
 }
+
+-- of a list that begins with a pair
+pub placed-first : (local remote : List CandidateRecord) (p : PairRecord) (all rest : List PairRecord) → all ≡ p ∷ rest → are_placed local remote all ≡ true
+    → (is_placed local remote p ≡ true) × (are_placed local remote rest ≡ true)
+placed-first local remote p all rest is placed = both (is_placed local remote p) (are_placed local remote rest) (sym (ap (are_placed local remote) is) ∙ placed)

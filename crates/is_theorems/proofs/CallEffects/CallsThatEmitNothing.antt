@@ -16,7 +16,7 @@ use Rattle.is_rules.specs.Discarding.{change_place, discarded, local_discarded, 
 use Rattle.is_rules.specs.Local.{enabled, enabled_again, appended, AddsLocal}
 use Rattle.is_rules.specs.Remote.{as_remote, with_remote, AddsRemote}
 use Rattle.is_rules.specs.Restarting.{with_ufrag, kept_local, restarted, emptied, Restarts, Recreates}
-use Rattle.is_rules.specs.Steps.{Call, SetMtu, SetControlTieBreaker, SetMaxCandidatePairs, SetMaxDiscovered, SetIceLite, SetRenomination, SetTimingAdvance, SetInitialStunRto, SetMaxStunRto, SetMaxStunRetransmits, SetLiteTimeout, SetLocalPreference, SetControlling, SetLocalCredentials, SetRemoteCredentials, SkipPairIds, AddLocalCandidate, AddRemoteCandidate, InvalidateCandidate, RestartIce, RecreateCandidatePairs, ReceivePacket, HandleTimeout, PollTransmit, PollTimeout, PollEvent, Becomes, MayDo, Step}
+use Rattle.is_rules.specs.Steps.{Call, SetMtu, SetControlTieBreaker, SetMaxCandidatePairs, SetMaxDiscovered, SetIceLite, SetRenomination, SetRules, SetTimingAdvance, SetInitialStunRto, SetMaxStunRto, SetMaxStunRetransmits, SetLiteTimeout, SetLocalPreference, SetControlling, SetLocalCredentials, SetRemoteCredentials, SkipPairIds, AddLocalCandidate, AddRemoteCandidate, InvalidateCandidate, RestartIce, RecreateCandidatePairs, ReceivePacket, HandleTimeout, PollTransmit, PollTimeout, PollEvent, Becomes, MayDo, Step}
 use Rattle.is_rules.specs.Sound.{GivesBased}
 use Rattle.is_theorems.proofs.CallEffects.FailedCallsAndNewAgents.{mtu_kept, local_kept, remote_kept, restart_kept, recreation_kept, enrolment_kept, storing_kept}
 use Rattle.is_theorems.proofs.CallEffects.AddedCandidates.{by_adding_local, by_adding_remote, by_waking}
@@ -137,6 +137,7 @@ module _ {H P : Type 0} where
     calm (SetMaxDiscovered n) is h = becomes (SetMaxDiscovered n) _ (local_alike (Unit {0}) old _ refl refl refl refl) h
     calm (SetIceLite lite) is h = becomes (SetIceLite lite) _ (local_alike (Unit {0}) old _ refl refl refl refl) h
     calm (SetRenomination on) is h = becomes (SetRenomination on) _ (local_alike (Unit {0}) old _ refl refl refl refl) h
+    calm (SetRules rules) is h = becomes (SetRules rules) _ (local_alike (Unit {0}) old _ refl refl refl refl) h
     calm (SetTimingAdvance step) is h = becomes (SetTimingAdvance step) _ (local_alike (Unit {0}) old _ refl refl refl refl) h
     calm (SetInitialStunRto rto) is h = becomes (SetInitialStunRto rto) (with_rtos rto old.timing.max_rto.0 old) (record { selected_paths = refl; last = refl; checks = λ k. k; based = λ _ b. b }) h
     calm (SetMaxStunRto rto) is h = becomes (SetMaxStunRto rto) (with_rtos old.timing.initial_rto.0 rto old) (record { selected_paths = refl; last = refl; checks = λ k. k; based = λ _ b. b }) h

@@ -13,7 +13,7 @@ use Rattle.is_pair.specs.declared.pair.states.NominationState.TheVariants.{None 
 use Rattle.is_pair.specs.States.{is_valid_state, is_nominated_state, state_once_sent, state_once_answered, nomination_once_sent, nomination_once_answered}
 use Rattle.is_pair.specs.Checks.{Check, answered_at, IsCheckAt}
 use Rattle.is_pair.specs.Pairs.{PairRecord, check_of, checked, answered, heard, heard_at}
-use Rattle.is_pair.specs.Due.{asked, IsNextDue}
+use Rattle.is_pair.specs.Due.{asked}
 use Rattle.is_rules.specs.declared.credentials.IceCreds.{IceCreds}
 use Rattle.is_rules.specs.declared.emitted.Path.{Path}
 use Rattle.is_rules.specs.declared.emitted.Issued.{Issued}
@@ -28,12 +28,13 @@ use Rattle.is_rules.proofs.PairLists.RisingNumbers.{AreRising}
 use Rattle.is_rules.specs.Sending.{path_of}
 use Rattle.is_rules.specs.Sound.{is_started_state}
 use Rattle.is_rules.specs.Answers.{is_left_out, mapped_candidate, mapped_added, success_counted, keeps_check_on, Records}
-use Rattle.is_rules.specs.Checking.{all_asked, ChecksTop, MayCheck}
+use Rattle.is_rules.specs.Checking.{all_asked, IsNextToCheck, ChecksTop, MayCheck}
 use Rattle.is_theorems.proofs.RuleEffects.UnchangedSettings.{either}
 use Rattle.is_theorems.proofs.RuleEffects.SelectedPaths.{one_pair, some_is}
 use Rattle.is_theorems.proofs.RuleEffects.EarlierAndNewPairs.{Parts, path_in, Fit, Onward, here, onward, Has-push}
 use Rattle.is_theorems.proofs.RuleEffects.ChangedPairs.{Changed, unchanged, mapped, one_changed, parts_of}
 use Rattle.is_theorems.proofs.BasicLemmas.CandidatesByIndex.{at-append}
+use Rattle.is_theorems.proofs.BasicLemmas.PairsInTurn.{next-is-due}
 
 pub Has-drop : {X : Type 0} (n : ℕ) (xs : List X) (x : X) → Has (drop n xs) x → Has xs x
 Has-drop zero xs x h = h
@@ -257,12 +258,13 @@ module _ (asks met : Path → Type 0) (sent : Path → List ℕ → Bool → Typ
           asks_all : Onward asks met sent (parts_of asks met sent old) (parts_of asks met sent (all_asked now old))
           asks_all = mapped asks met sent (parts_of asks met sent old) (asked now old.timing) fit (λ p has. asked_changes (path_of old p) now old.timing p)
 
-          next : (top : Option PairRecord) → IsNextDue now old.timing (all_asked now old).pairs top → ChecksTop mac now remote top (all_asked now old) s issued new t
+          next : (top : Option PairRecord) → IsNextToCheck now (all_asked now old) top → ChecksTop mac now remote top (all_asked now old) s issued new t
               → Onward asks met sent (parts_of asks met sent old) (parts_of asks met sent new)
           next None none (is, made, drawn) =
               subst (λ (a : AgentRecord H P). Onward asks met sent (parts_of asks met sent old) (parts_of asks met sent a)) (sym made) asks_all
-          next (Some p) ((has, first), due) (id, drawn, values, is, made) =
+          next (Some p) chosen (id, drawn, values, is, made) =
               let all : AgentRecord H P = all_asked now old in
+              let has : Has all.pairs p = (next-is-due now all p chosen).0 in
               let y : Parts = parts_of asks met sent all in
               let check : Onward asks met sent y (parts_of asks met sent (record all { pairs = change_pair p.number (checked now old.timing old.controlling id) all.pairs })) =
               one_changed asks met sent y p.number (checked now old.timing old.controlling id) asks_all.fit

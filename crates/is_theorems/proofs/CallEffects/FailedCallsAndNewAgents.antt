@@ -13,7 +13,7 @@ use Rattle.is_rules.specs.Settings.{SetsMtu, with_retransmits}
 use Rattle.is_rules.specs.Credentials.{SetsLocal, SetsRemote}
 use Rattle.is_rules.specs.Remote.{as_remote, is_ignored, JoinsRemote, AddsRemote}
 use Rattle.is_rules.specs.Restarting.{Restarts, Recreates}
-use Rattle.is_rules.specs.Steps.{Call, SetMtu, SetControlTieBreaker, SetMaxCandidatePairs, SetMaxDiscovered, SetIceLite, SetRenomination, SetTimingAdvance, SetInitialStunRto, SetMaxStunRto, SetMaxStunRetransmits, SetLiteTimeout, SetLocalPreference, SetControlling, SetLocalCredentials, SetRemoteCredentials, SkipPairIds, AddLocalCandidate, AddRemoteCandidate, InvalidateCandidate, RestartIce, RecreateCandidatePairs, ReceivePacket, HandleTimeout, PollTransmit, PollTimeout, PollEvent, Becomes, MayDo, Receives, Step}
+use Rattle.is_rules.specs.Steps.{Call, SetMtu, SetControlTieBreaker, SetMaxCandidatePairs, SetMaxDiscovered, SetIceLite, SetRenomination, SetRules, SetTimingAdvance, SetInitialStunRto, SetMaxStunRto, SetMaxStunRetransmits, SetLiteTimeout, SetLocalPreference, SetControlling, SetLocalCredentials, SetRemoteCredentials, SkipPairIds, AddLocalCandidate, AddRemoteCandidate, InvalidateCandidate, RestartIce, RecreateCandidatePairs, ReceivePacket, HandleTimeout, PollTransmit, PollTimeout, PollEvent, Becomes, MayDo, Receives, Step}
 use Rattle.is_rules.specs.Sound.{FreshIsSound}
 use Rattle.is_rules.specs.Effects.{RejectionKeeps}
 use Rattle.is_candidate.specs.Candidates.{candidate_at}
@@ -139,6 +139,7 @@ module _ {H P : Type 0} where
     kept (SetMaxDiscovered n) h r = silent Done h.0 refl r
     kept (SetIceLite lite) h r = silent Done h.0 refl r
     kept (SetRenomination on) h r = silent Done h.0 refl r
+    kept (SetRules rules) h r = silent Done h.0 refl r
     kept (SetTimingAdvance by) h r = silent Done h.0 refl r
     kept (SetInitialStunRto rto) h r = silent Done h.0 refl r
     kept (SetMaxStunRto rto) h r = silent Done h.0 refl r

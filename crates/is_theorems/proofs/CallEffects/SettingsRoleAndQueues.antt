@@ -38,7 +38,7 @@ use Rattle.is_rules.specs.Answers.{TakesFailure, LeavesRole, is_role_conflict}
 use Rattle.is_rules.specs.Accepting.{Takes, discovered_emitted}
 use Rattle.is_rules.specs.Checking.{all_asked, MayCheck, ChecksTop, check_message}
 use Rattle.is_rules.specs.Timeouts.{timeout_begun, at_timeout, MaintainsPairs, ServesQueued, TimesOut}
-use Rattle.is_rules.specs.Steps.{Call, SetMtu, SetControlTieBreaker, SetMaxCandidatePairs, SetMaxDiscovered, SetIceLite, SetRenomination, SetTimingAdvance, SetInitialStunRto, SetMaxStunRto, SetMaxStunRetransmits, SetLiteTimeout, SetLocalPreference, SetControlling, SetLocalCredentials, SetRemoteCredentials, SkipPairIds, AddLocalCandidate, AddRemoteCandidate, InvalidateCandidate, RestartIce, RecreateCandidatePairs, ReceivePacket, HandleTimeout, PollTransmit, PollTimeout, PollEvent, Becomes, MayDo, Receives, Step}
+use Rattle.is_rules.specs.Steps.{Call, SetMtu, SetControlTieBreaker, SetMaxCandidatePairs, SetMaxDiscovered, SetIceLite, SetRenomination, SetRules, SetTimingAdvance, SetInitialStunRto, SetMaxStunRto, SetMaxStunRetransmits, SetLiteTimeout, SetLocalPreference, SetControlling, SetLocalCredentials, SetRemoteCredentials, SkipPairIds, AddLocalCandidate, AddRemoteCandidate, InvalidateCandidate, RestartIce, RecreateCandidatePairs, ReceivePacket, HandleTimeout, PollTransmit, PollTimeout, PollEvent, Becomes, MayDo, Receives, Step}
 use Rattle.is_rules.specs.Brought.{Brings, IsServing, IsServedPastTests, SwitchesRoleFor, IsRejectedBy, IsRoleSet, role_once}
 use Rattle.is_rules.specs.Issuing.{QueuesPackets, Waits, WaitsPast, IsQueued}
 use Rattle.is_rules.specs.Effects.{tie_set_by, lite_set_by, local_after, remote_after}
@@ -477,6 +477,7 @@ module _ {H P : Type 0} where
     framed (SetMaxDiscovered n) (is, made, drawn) = moved old new _ _ e _ is made (plain old _ _ _ refl refl refl refl refl refl (inl refl) (inl refl) (λ q h. absurd h.3) (λ at by m h. absurd h))
     framed (SetIceLite lite) (is, made, drawn) = moved old new _ _ e _ is made (plain old _ _ _ refl refl refl refl refl refl (inl refl) (inl refl) (λ q h. absurd h.3) (λ at by m h. absurd h))
     framed (SetRenomination on) (is, made, drawn) = moved old new _ _ e _ is made (plain old _ _ _ refl refl refl refl refl refl (inl refl) (inl refl) (λ q h. absurd h.3) (λ at by m h. absurd h))
+    framed (SetRules rules) (is, made, drawn) = moved old new _ _ e _ is made (plain old _ _ _ refl refl refl refl refl refl (inl refl) (inl refl) (λ q h. absurd h.3) (λ at by m h. absurd h))
     framed (SetTimingAdvance by) (is, made, drawn) = moved old new _ _ e _ is made (plain old _ _ _ refl refl refl refl refl refl (inl refl) (inl refl) (λ q h. absurd h.3) (λ at by m h. absurd h))
     framed (SetInitialStunRto rto) (is, made, drawn) = moved old new (with_rtos rto old.timing.max_rto.0 old) _ e _ is made (plain old (with_rtos rto old.timing.max_rto.0 old) _ _ refl refl refl refl refl refl (inl refl) (inl refl) (λ q h. absurd h.3) (λ at by m h. absurd h))
     framed (SetMaxStunRto rto) (is, made, drawn) = moved old new (with_rtos old.timing.initial_rto.0 rto old) _ e _ is made (plain old (with_rtos old.timing.initial_rto.0 rto old) _ _ refl refl refl refl refl refl (inl refl) (inl refl) (λ q h. absurd h.3) (λ at by m h. absurd h))

@@ -19,12 +19,12 @@ use Rattle.is_candidate.specs.Candidates.{CandidateRecord, candidate_at}
 use Rattle.is_candidate.specs.Priorities.{check_priority}
 use Rattle.is_stun.specs.Checks.{binding_request}
 use Rattle.is_stun.specs.Writing.{written}
-use Rattle.is_pair.specs.Due.{asked, IsNextDue}
+use Rattle.is_pair.specs.Due.{asked}
 use Rattle.is_rules.specs.Answers.{keeps_check_on, Records, TakesSuccess}
 use Rattle.is_rules.specs.Timeouts.{at_timeout, MaintainsPairs}
 use Rattle.is_rules.specs.declared.credentials.IceCreds.{IceCreds}
 use Rattle.is_rules.specs.declared.emitted.Issued.{Issued}
-use Rattle.is_rules.specs.Checking.{username_between, all_asked, ChecksTop, MayCheck}
+use Rattle.is_rules.specs.Checking.{username_between, all_asked, IsNextToCheck, ChecksTop, MayCheck}
 use Rattle.is_theorems.proofs.RuleEffects.UnchangedSettings.{Frame, frame_of, packet_along, either, nominates_frame, removes_expired}
 use Rattle.is_theorems.proofs.CallEffects.UnchangedTimingAndBases.{Rest, nominates_rest, removes_expired_rest}
 use Rattle.is_theorems.proofs.RuleEffects.SelectedPaths.{Returns, returns_one, returns_two, returns_after, returns_before}
@@ -33,6 +33,7 @@ use Rattle.is_theorems.proofs.RuleEffects.ChangedPairs.{Has-map, parts_of, nomin
 use Rattle.is_theorems.proofs.CallEffects.ChecksAndResponses.{records, check_moves}
 use Rattle.is_theorems.proofs.BasicLemmas.EqualAddresses.{both}
 use Rattle.is_theorems.proofs.BasicLemmas.CandidatesByIndex.{is-listed}
+use Rattle.is_theorems.proofs.BasicLemmas.PairsInTurn.{next-is-due}
 
 pub none_some : (p : Path) → None ≡ Some p → ⊥
 none_some p h = cc
@@ -77,11 +78,11 @@ module _ (asks met : Path → Type 0) (sent : Path → List ℕ → Bool → Typ
   check_out mac now (Some remote) old new s t issued known fit h = either old.lite h
       (λ _ k. inl k.0)
       (λ _ k. next k.0 k.1 k.2) where
-        next : (top : Option PairRecord) → IsNextDue now old.timing (all_asked now old).pairs top → ChecksTop mac now remote top (all_asked now old) s issued new t
+        next : (top : Option PairRecord) → IsNextToCheck now (all_asked now old) top → ChecksTop mac now remote top (all_asked now old) s issued new t
             → CheckOut mac (frame_of old) old.local old.packets issued new.packets
         next None none (is, made, drawn) = inl is
-        next (Some p) ((has, first), due) (id, drawn, values, is, made) =
-            let o = Has-map (asked now old.timing) old.pairs p has in
+        next (Some p) chosen (id, drawn, values, is, made) =
+            let o = Has-map (asked now old.timing) old.pairs p (next-is-due now (all_asked now old) p chosen).0 in
             let at : p.local < length old.local = subst (λ (q : PairRecord). q.local < length old.local) o.2 (fit.placed o.0 o.1).0 in
             inr (
               path_of old p,

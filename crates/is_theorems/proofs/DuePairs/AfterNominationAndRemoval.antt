@@ -10,6 +10,7 @@ use Rattle.is_pair.specs.Multiset.{is_numbered, change_at}
 use Rattle.is_stun.specs.declared.timing.StunTiming.{StunTiming}
 use Rattle.is_rules.specs.declared.credentials.IceCreds.{IceCreds}
 use Rattle.is_rules.specs.declared.emitted.Path.{Path}
+use Rattle.is_rules.specs.declared.rules.Rules.{Rules}
 use Rattle.is_rules.specs.Request.{RequestRecord}
 use Rattle.is_rules.specs.Agent.{AgentRecord}
 use Rattle.is_rules.specs.Nominating.{nominated_by_self, Nominates, followed, remains, selection_of}
@@ -140,6 +141,8 @@ pub record Base : Type 0 where
   pub last_time : Option ℕ
   pub controlling : Bool
   pub next_number : ℕ
+  pub rules : Rules
+  pub kind_turn : Bool
 
 self-alike : (c l : Bool) (p : PairRecord) → Alike p (nominated_by_self c l p)
 self-alike c l p = apart (not (is_nominated p) && (c || l)) l where
@@ -177,6 +180,8 @@ module _ {H P : Type 0} where
     last_time = a.last_time;
     controlling = a.controlling;
     next_number = a.next_number;
+    rules = a.rules;
+    kind_turn = a.kind_turn;
   }
 
   abbrev pub Thins : ℕ → AgentRecord H P → AgentRecord H P → Type 0

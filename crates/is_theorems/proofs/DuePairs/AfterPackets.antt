@@ -20,6 +20,7 @@ use Rattle.is_rules.specs.declared.roles.Conflict.{Conflict}
 use Rattle.is_rules.specs.declared.roles.Conflict.TheVariants.{Absent, Send487, SwitchRole}
 use Rattle.is_rules.specs.declared.emitted.Path.{Path}
 use Rattle.is_rules.specs.declared.emitted.Emitted.{Emitted}
+use Rattle.is_rules.specs.declared.rules.Rules.{Rules}
 use Rattle.is_rules.specs.Request.{RequestRecord, request_in}
 use Rattle.is_rules.specs.Places.{local_place}
 use Rattle.is_rules.specs.Limit.{IsSenderPlace}
@@ -210,6 +211,8 @@ pub record Core : Type 0 where
   pub queue : List RequestRecord
   pub last_time : Option ℕ
   pub controlling : Bool
+  pub rules : Rules
+  pub kind_turn : Bool
 
 -- remote candidates are only appended
 abbrev pub Grown : List CandidateRecord → List CandidateRecord → Type 0
@@ -225,6 +228,8 @@ module _ {H P : Type 0} where
     queue = a.queue;
     last_time = a.last_time;
     controlling = a.controlling;
+    rules = a.rules;
+    kind_turn = a.kind_turn;
   }
 
   module _ (mac : H → List ℕ → List ℕ → List ℕ) (by at : ℕ) (following : by < at) (early : at < MAX) where

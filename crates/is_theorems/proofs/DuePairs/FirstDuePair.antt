@@ -1,5 +1,6 @@
--- A `handle_timeout` call checks the pair that is due first, and leaves the others due as they were.
-use Rattle.std.proofs.Common.{◌≡◌, ℕ, ◌<◌, ◌≤◌, Bool, true, false, List, length, map, filter, nat_le, nat_lt, Option, Some, None, is_some, unwrap_or, inl, inr, ◌⊎◌, refl, ap, sym, ◌∙◌, subst, arith, if◌then◌else◌}
+-- A `handle_timeout` call checks the pair that is due first, or in a kind's turn another one that is due, and leaves the others due as
+-- they were.
+use Rattle.std.proofs.Common.{◌≡◌, ℕ, ◌<◌, ◌≤◌, Bool, true, false, not, List, length, map, filter, nat_le, nat_lt, Option, Some, None, is_some, unwrap_or, inl, inr, ◌⊎◌, refl, ap, sym, ◌∙◌, subst, arith, if◌then◌else◌}
 use Rattle.std.specs.Prelude.{MatchBool}
 use Rattle.std.proofs.lemmas.Bool.{eqb-true}
 use Rattle.std.proofs.lemmas.Bool.Decides.{nat_tests}
@@ -12,7 +13,7 @@ use Rattle.is_pair.specs.declared.pair.states.CheckState.{CheckState}
 use Rattle.is_pair.specs.declared.pair.states.CheckState.TheVariants.{Waiting, InProgress, Succeeded}
 use Rattle.is_pair.specs.States.{is_valid_state, state_once_sent}
 use Rattle.is_pair.specs.Pairs.{PairRecord, is_valid, checked}
-use Rattle.is_pair.specs.Due.{asked, due_time_of, is_due, GoesBefore, IsNextDue}
+use Rattle.is_pair.specs.Due.{asked, due_time_of, is_due, GoesBefore}
 use Rattle.is_pair.specs.Multiset.{is_numbered, change_at, change_pair}
 use Rattle.is_stun.specs.declared.header.Class.TheVariants as class
 use Rattle.is_stun.specs.declared.timing.StunTiming.{StunTiming}
@@ -22,15 +23,18 @@ use Rattle.is_rules.specs.declared.emitted.Path.{Path}
 use Rattle.is_rules.specs.declared.emitted.Emitted.{Emitted}
 use Rattle.is_rules.specs.Emitted.{issued_as}
 use Rattle.is_rules.specs.Agent.{AgentRecord}
+use Rattle.is_rules.specs.Connecting.{is_connected}
 use Rattle.is_rules.specs.Sending.{path_of}
-use Rattle.is_rules.specs.Checking.{all_asked, all_heard, check_sent, ChecksTop, ChecksNext, MayCheck}
+use Rattle.is_rules.specs.Checking.{all_asked, all_heard, check_sent, is_kinds_turn, IsNextToCheck, ChecksTop, ChecksNext, MayCheck}
 use Rattle.is_rules.specs.Timeouts.{at_timeout, MaintainsPairs}
 use Rattle.is_theorems.proofs.RuleEffects.ChangedPairs.{Has-map}
 use Rattle.is_theorems.proofs.CallEffects.ServedRequests.{Has-mapped}
 use Rattle.is_rules.proofs.PairLists.ChosenPair.{none_pass}
+use Rattle.is_theorems.proofs.BasicLemmas.PairsInTurn.{none-is-due, next-is-due, next-in-turn}
 use Rattle.is_pair.specs.Turns.{IsPaced, is_due_by, due_by}
 use Rattle.is_pair.proofs.DueTimes.CountOfDuePairs.{no-more, fewer-due}
 use Rattle.is_theorems.specs.Progress.{IsGone, ChecksOn}
+use Rattle.is_theorems.proofs.DuePairs.KindsInTurn.{Falls, falls-from, is-turn, no-more-due}
 use Rattle.is_theorems.proofs.DuePairs.AfterNominationAndRemoval.{Distinct, Alike, Thinned, is_fixed_by, Base, Thins, base_of as agent_base, thins-on, nominates-thins, gives-up-thins, nominates-has, gives-up-has}
 
 -- ---- pairs
@@ -129,7 +133,7 @@ module _ {H P : Type 0} where
 
     pub next-check : (now : ℕ) (remote : Option IceCreds) (old new : AgentRecord H P) (s t : Stream) (issued : Option Issued) → is_some remote ≡ true → old.lite ≡ false
         → MayCheck mac now remote old s issued new t
-        → (peer : IceCreds) × (next : Option PairRecord) × IsNextDue now old.timing (all_asked now old).pairs next × ChecksTop mac now peer next (all_asked now old) s issued new t
+        → (peer : IceCreds) × (next : Option PairRecord) × IsNextToCheck now (all_asked now old) next × ChecksTop mac now peer next (all_asked now old) s issued new t
     next-check now None old new s t issued known full h = absurd (cc)
     next-check now (Some peer) old new s t issued known full h =
         let k : ChecksNext mac now peer (all_asked now old) s issued new t =
@@ -137,16 +141,17 @@ module _ {H P : Type 0} where
         (peer, k.0, k.1, k.2)
 
     pub check-follows : (now : ℕ) (remote : Option IceCreds) (old new : AgentRecord H P) (s t : Stream) (issued : Option Issued) → is_some remote ≡ true → old.lite ≡ false
-        → MayCheck mac now remote old s issued new t → (agent_base new ≡ agent_base old) × Follows old.pairs new.pairs
+        → MayCheck mac now remote old s issued new t → (agent_base new ≡ record (agent_base old) { kind_turn = new.kind_turn }) × Follows old.pairs new.pairs
     check-follows now remote old new s t issued known full h = let k = next-check now remote old new s t issued known full h in by-next k.0 k.1 k.3 where
-      by-next : (peer : IceCreds) (next : Option PairRecord) → ChecksTop mac now peer next (all_asked now old) s issued new t → (agent_base new ≡ agent_base old) × Follows old.pairs new.pairs
+      by-next : (peer : IceCreds) (next : Option PairRecord) → ChecksTop mac now peer next (all_asked now old) s issued new t
+          → (agent_base new ≡ record (agent_base old) { kind_turn = new.kind_turn }) × Follows old.pairs new.pairs
       by-next peer None (is, made, drawn) = (
-        ap (λ (a : AgentRecord H P). agent_base a) made,
+        subst (λ (a : AgentRecord H P). agent_base a ≡ record (agent_base old) { kind_turn = a.kind_turn }) (sym made) refl,
         subst (λ ps. Follows old.pairs ps) (sym (ap (λ (a : AgentRecord H P). a.pairs) made))
             (follows-map (asked now old.timing) old.pairs (λ p. record { number = refl; local = refl; remote = refl; valid = refl })),
       )
       by-next peer (Some q) (id, drawn, values, is, made) = (
-        ap (λ (a : AgentRecord H P). agent_base a) made,
+        subst (λ (a : AgentRecord H P). agent_base a ≡ record (agent_base old) { kind_turn = a.kind_turn }) (sym made) refl,
         subst (λ ps. Follows old.pairs ps) (sym (ap (λ (a : AgentRecord H P). a.pairs) made))
             (follows-on old.pairs (map (asked now old.timing) old.pairs) (change_pair q.number (checked now old.timing old.controlling id) (map (asked now old.timing) old.pairs))
             (follows-map (asked now old.timing) old.pairs (λ p. record { number = refl; local = refl; remote = refl; valid = refl }))
@@ -156,13 +161,13 @@ module _ {H P : Type 0} where
         once p true = record { number = refl; local = refl; remote = refl; valid = sent-valid p.state }
         once p false = record { number = refl; local = refl; remote = refl; valid = refl }
 
-    -- a pair still waits, due as it was, and fewer than n go before it
+    -- a pair still waits, due as it was, and fewer than n go before it, or a kind's turn is over
     abbrev pub WaitsOn : ℕ → ℕ → ℕ → AgentRecord H P → AgentRecord H P → PairRecord → Type 0
     WaitsOn now by n old new p =
         (q : PairRecord) × Has new.pairs q × Matches p q × (q.checks ≡ p.checks) × ((at : ℕ) → due_time_of at old.timing q ≤ by)
-        × (IsPaced old.timing → now < MAX → length (due_by by now old.timing new.pairs) < n)
+        × (IsPaced old.timing → now < MAX → Falls old.rules.kinds_in_turn old.kind_turn new.kind_turn n (length (due_by by now old.timing new.pairs)))
 
-    -- the pair that is due first is checked: this one, or one before it
+    -- a pair is checked: this one, or one before it, or in a kind's turn another one
     abbrev pub Checked : ℕ → ℕ → ℕ → AgentRecord H P → Option Issued → AgentRecord H P → PairRecord → Type 0
     Checked now by n old issued new p =
         (o : PairRecord) × Has old.pairs o × ((id : List ℕ) × (issued ≡ Some (issued_as (path_of old o) class.Request id)))
@@ -180,7 +185,8 @@ module _ {H P : Type 0} where
           → new ≡ check_sent mac now peer q id (all_asked now old) → (o : PairRecord) → Has old.pairs o → o.number ≡ q.number
           → (b : Bool) → is_numbered q.number (asked now old.timing p) ≡ b
           → (IsPaced old.timing → now < MAX
-          → length (due_by by now old.timing (change_pair q.number (checked now old.timing old.controlling id) (map (asked now old.timing) old.pairs))) < n)
+          → Falls old.rules.kinds_in_turn old.kind_turn new.kind_turn n
+          (length (due_by by now old.timing (change_pair q.number (checked now old.timing old.controlling id) (map (asked now old.timing) old.pairs)))))
           → (o ≡ p) ⊎ WaitsOn now by n old new p
       by-number new s t issued peer q id made o there same true is fewer =
           inl (distinct o p there has (same ∙ sym (eqb-true p.number q.number is)))
@@ -195,29 +201,39 @@ module _ {H P : Type 0} where
             record { number = refl; local = refl; remote = refl; valid = refl },
             refl,
             (λ at. own-due),
-            (λ paced early. subst (λ ps. length (due_by by now old.timing ps) < n) (sym (ap (λ (a : AgentRecord H P). a.pairs) made)) (fewer paced early)),
+            (λ paced early. subst (λ ps. Falls old.rules.kinds_in_turn old.kind_turn new.kind_turn n (length (due_by by now old.timing ps))) (sym (ap (λ (a : AgentRecord H P). a.pairs) made)) (fewer paced early)),
           )
 
       by-next : (new : AgentRecord H P) (s t : Stream) (issued : Option Issued) (peer : IceCreds) (next : Option PairRecord)
-          → IsNextDue now old.timing (all_asked now old).pairs next → ChecksTop mac now peer next (all_asked now old) s issued new t → Checked now by n old issued new p
-      by-next new s t issued peer None none h =
+          → IsNextToCheck now (all_asked now old) next → ChecksTop mac now peer next (all_asked now old) s issued new t → Checked now by n old issued new p
+      by-next new s t issued peer None chosen h =
           let it : is_due now old.timing (asked now old.timing p) ≡ true = le-is (due_time_of now old.timing p) now (let d = own-due in omega (arith, d, from)) in
-          absurd (none_pass (is_due now old.timing) (map (asked now old.timing) old.pairs) (asked now old.timing p) none (Has-mapped (asked now old.timing) old.pairs p has) it)
-      by-next new s t issued peer (Some q) ((there, first), is_now) (id, drawn, values, is, made) =
-          let o = Has-map (asked now old.timing) old.pairs q there in
-          let before : GoesBefore now old.timing q (asked now old.timing p) = first (asked now old.timing p) (Has-mapped (asked now old.timing) old.pairs p has) in
-          let q_due : due_time_of now old.timing q ≤ by = first-due (due_time_of now old.timing q) (due_time_of now old.timing p) q before own-due in
-          let counted = count-asked in
-          let fewer : IsPaced old.timing → now < MAX
-          → length (due_by by now old.timing (change_pair q.number (checked now old.timing old.controlling id) (map (asked now old.timing) old.pairs))) < n =
-          λ paced early.
-          (let drop = fewer-due now by old.timing old.controlling id paced early from (map (asked now old.timing) old.pairs) q there (le-is (due_time_of now old.timing q) by q_due) in
-          omega (arith, drop, counted)) in (
+          absurd (none_pass (is_due now old.timing) (map (asked now old.timing) old.pairs) (asked now old.timing p) (none-is-due now (all_asked now old) chosen)
+          (Has-mapped (asked now old.timing) old.pairs p has) it)
+      by-next new s t issued peer (Some q) chosen (id, drawn, values, is, made) =
+          let there : Has (map (asked now old.timing) old.pairs) q = (next-is-due now (all_asked now old) q chosen).0 in
+          let o = Has-map (asked now old.timing) old.pairs q there in (
             o.0,
             o.1,
             (id, is ∙ ap (λ (x : PairRecord). Some (issued_as (path_of old x) class.Request id)) (sym o.2)),
-            by-number new s t issued peer q id made o.0 o.1 (ap (λ (x : PairRecord). x.number) o.2) (is_numbered q.number (asked now old.timing p)) refl fewer,
-          )
+            by-number new s t issued peer q id made o.0 o.1 (ap (λ (x : PairRecord). x.number) o.2) (is_numbered q.number (asked now old.timing p)) refl
+                (λ paced early. fewer there paced early (is_kinds_turn (all_asked now old)) refl),
+          ) where
+            fewer : Has (map (asked now old.timing) old.pairs) q → IsPaced old.timing → now < MAX → (b : Bool) → is_kinds_turn (all_asked now old) ≡ b
+                → Falls old.rules.kinds_in_turn old.kind_turn new.kind_turn n
+                (length (due_by by now old.timing (change_pair q.number (checked now old.timing old.controlling id) (map (asked now old.timing) old.pairs))))
+            fewer there paced early true on =
+                let turn = is-turn old.rules.kinds_in_turn old.kind_turn (not (is_connected old.state)) on in
+                let le = no-more-due now by old.timing old.controlling id paced early from q.number (map (asked now old.timing) old.pairs) in
+                let counted = count-asked in
+                inr (omega (arith, le, counted), turn.0, turn.1, ap (λ (a : AgentRecord H P). a.kind_turn) made ∙ ap not on)
+            fewer there paced early false off =
+                let next = next-in-turn now (all_asked now old) (Some q) off chosen in
+                let before : GoesBefore now old.timing q (asked now old.timing p) = next.0.1 (asked now old.timing p) (Has-mapped (asked now old.timing) old.pairs p has) in
+                let q_due : due_time_of now old.timing q ≤ by = first-due (due_time_of now old.timing q) (due_time_of now old.timing p) q before own-due in
+                let drop = fewer-due now by old.timing old.controlling id paced early from (map (asked now old.timing) old.pairs) q there (le-is (due_time_of now old.timing q) by q_due) in
+                let counted = count-asked in
+                inl (omega (arith, drop, counted))
 
       pub check-moves : (new : AgentRecord H P) (s t : Stream) (issued : Option Issued) (remote : Option IceCreds) → is_some remote ≡ true → old.lite ≡ false
           → MayCheck mac now remote old s issued new t → Checked now by n old issued new p
@@ -225,15 +241,15 @@ module _ {H P : Type 0} where
 
     -- ---- the `handle_timeout` call
 
-    -- it removes the pair, or checks the pair that is due first
+    -- it removes the pair, or checks one
     pub record Moved (now by : ℕ) (old : AgentRecord H P) (emitted : Emitted) (new : AgentRecord H P) (p : PairRecord) : Type 0 where
-      pub base : agent_base new ≡ record (agent_base old) { last_time = Some now }
+      pub base : agent_base new ≡ record (agent_base old) { last_time = Some now; kind_turn = new.kind_turn }
       pub follows : Follows old.pairs new.pairs
       pub does : IsGone p.number new.pairs ⊎ ((o : PairRecord) × Has old.pairs o × ChecksOn old emitted o × ((o ≡ p) ⊎ WaitsOn now by (length (filter (is_fixed_by by) old.pairs)) old new p))
 
     -- what it leaves, for any pair
     pub timeout-follows : (now : ℕ) (old new : AgentRecord H P) (s t : Stream) (emitted : Emitted) → is_some old.remote_creds ≡ true → old.lite ≡ false
-        → MaintainsPairs mac now old s emitted new t → (agent_base new ≡ record (agent_base old) { last_time = Some now }) × Follows old.pairs new.pairs
+        → MaintainsPairs mac now old s emitted new t → (agent_base new ≡ record (agent_base old) { last_time = Some now; kind_turn = new.kind_turn }) × Follows old.pairs new.pairs
     timeout-follows now old new s t emitted known full (first, second, issued, named, kept, nominating, giving, checking, is) =
         let a = nominates-thins 0 (at_timeout now old) named first nominating in
         let b = gives-up-thins 0 now named kept second giving in
@@ -241,7 +257,7 @@ module _ {H P : Type 0} where
         let known_kept : is_some kept.remote_creds ≡ true = ap (λ (x : Base). is_some x.remote_creds) c.0 ∙ known in
         let full_kept : kept.lite ≡ false = ap (λ (x : Base). x.lite) c.0 ∙ full in
         let d = check-follows now kept.remote_creds kept new s t issued known_kept full_kept checking in
-        (d.0 ∙ c.0, follows-on old.pairs kept.pairs new.pairs (thinned-follows 0 old.pairs kept.pairs c.1) d.1)
+        (d.0 ∙ ap (λ (x : Base). record x { kind_turn = new.kind_turn }) c.0, follows-on old.pairs kept.pairs new.pairs (thinned-follows 0 old.pairs kept.pairs c.1) d.1)
 
     fixed-due : (now by : ℕ) (a : AgentRecord H P) (p : PairRecord) → is_some p.due ≡ true → unwrap_or p.due 0 ≤ by → due_time_of now a.timing p ≤ by
     fixed-due now by a p fixed due = subst (λ n. n ≤ by) (sym (fixed-is p.due _ fixed)) due
@@ -262,7 +278,7 @@ module _ {H P : Type 0} where
         let timing : kept.timing ≡ old.timing = ap (λ (x : Base). x.timing) c.0 in
         let d = check-follows now kept.remote_creds kept new s t issued known_kept full_kept checking in
         record {
-          base = d.0 ∙ c.0;
+          base = d.0 ∙ ap (λ (x : Base). record x { kind_turn = new.kind_turn }) c.0;
           follows = follows-on old.pairs kept.pairs new.pairs (thinned-follows by old.pairs kept.pairs c.1) d.1;
           does = elim (c.1.forth distinct p has) [
             | inr gone ↦ inl (gone-follows kept.pairs new.pairs p.number d.1 gone)
@@ -290,15 +306,19 @@ module _ {H P : Type 0} where
                   | inl same ↦ inl (distinct o.0 p o.1 has (sym o.2.number ∙ (ap (λ (x : PairRecord). x.number) same ∙ alike.number)))
                   | inr (r, r_there, matches, checks, r_due, fewer) ↦
                       (let counted = c.1.fewer in
-                      let fewer_old : IsPaced kept.timing → now < MAX → length (due_by by now kept.timing new.pairs) < length (filter (is_fixed_by by) old.pairs) =
-                      λ paced early. (let f = fewer paced early in omega (arith, f, counted)) in
+                      let fewer_old : IsPaced kept.timing → now < MAX
+                      → Falls old.rules.kinds_in_turn old.kind_turn new.kind_turn (length (filter (is_fixed_by by) old.pairs)) (length (due_by by now kept.timing new.pairs)) =
+                      λ paced early. falls-from kept.rules.kinds_in_turn old.rules.kinds_in_turn kept.kind_turn old.kind_turn new.kind_turn
+                      (length (filter (is_fixed_by by) kept.pairs)) (length (filter (is_fixed_by by) old.pairs)) (length (due_by by now kept.timing new.pairs))
+                      (ap (λ (x : Base). x.rules.kinds_in_turn) (sym c.0)) (ap (λ (x : Base). x.kind_turn) (sym c.0)) counted (fewer paced early) in
                       inr (
                         r,
                         r_there,
                         matches-on p q r (alike-matches p q alike) matches,
                         checks ∙ alike.checks,
                         (λ at. subst (λ (x : StunTiming). due_time_of at x r ≤ by) timing (r_due at)),
-                        subst (λ (x : StunTiming). IsPaced x → now < MAX → length (due_by by now x new.pairs) < length (filter (is_fixed_by by) old.pairs)) timing fewer_old,
+                        subst (λ (x : StunTiming). IsPaced x → now < MAX
+                            → Falls old.rules.kinds_in_turn old.kind_turn new.kind_turn (length (filter (is_fixed_by by) old.pairs)) (length (due_by by now x new.pairs))) timing fewer_old,
                       ))
                 ],
               )

@@ -1,6 +1,6 @@
 -- Starvation freedom: a pair that is due is checked within as many polling cycles as there are pairs that are due no
--- later.
-use Rattle.std.proofs.Common.{◌≡◌, ℕ, suc, ◌<◌, ◌≤◌, Bool, true, false, List, [], ◌∷◌, length, map, filter, drop, take_while, max, nat_le, nat_lt, Option, Some, None, is_some, Ok, inl, inr, ◌⊎◌, refl, ap, sym, ◌∙◌, subst, arith}
+-- later, or with kinds in turn within twice as many.
+use Rattle.std.proofs.Common.{◌≡◌, ℕ, suc, ◌+◌, ◌<◌, ◌≤◌, Bool, true, false, List, [], ◌∷◌, length, map, filter, drop, take_while, max, nat_le, nat_lt, Option, Some, None, is_some, Ok, inl, inr, ◌⊎◌, refl, ap, sym, ◌∙◌, subst, arith}
 use Rattle.std.specs.Prelude.{MatchOption}
 use Rattle.std.proofs.lemmas.Bool.Decides.{nat_tests}
 use Rattle.std.proofs.lemmas.List.{length-drop}
@@ -17,6 +17,7 @@ use Rattle.is_rules.specs.declared.emitted.Emitted.{Emitted}
 use Rattle.is_rules.specs.Emitted.{issued_as}
 use Rattle.is_rules.specs.Request.{RequestRecord}
 use Rattle.is_rules.specs.Agent.{AgentRecord}
+use Rattle.is_rules.specs.declared.rules.Rules.{Rules}
 use Rattle.is_rules.specs.Sending.{path_of}
 use Rattle.is_rules.specs.Queue.{is_outdated, queue_left, next_request, first_taken, request_at}
 use Rattle.is_rules.specs.Polls.{PollsTimeout, NextTimeoutFrom, is_waiting, is_idle, soon, earliest_due}
@@ -32,6 +33,7 @@ use Rattle.is_pair.proofs.DueTimes.CountOfDuePairs.{no-more, some-pass}
 use Rattle.is_theorems.specs.Progress.{IsGone, IsChecking, ChecksOn, IsOfUse, TimeoutsAreOfUse, Turn, Turns, IsIdle, NoPairIsStarved}
 use Rattle.is_rules.proofs.PollsAndResponses.NextTimeout.{timeouts-from, all-are-asked, least-is}
 use Rattle.is_theorems.proofs.DuePairs.AfterNominationAndRemoval.{Distinct, is_fixed_by, Base, base_of}
+use Rattle.is_theorems.proofs.DuePairs.KindsInTurn.{calls_left, Falls, falls-from, calls-fall, calls-some, calls-from}
 use Rattle.is_theorems.proofs.DuePairs.FirstDuePair.{Matches, Follows, follows-on, follows-same, follows-map, gone-follows, same-path, Moved, timeout-follows, timeout-moves, timeout-keeps}
 
 le-is : (n m : ℕ) → n ≤ m → nat_le n m ≡ true
@@ -113,7 +115,7 @@ module _ {H P : Type 0} where
 
     pub turn-fits : (old new : AgentRecord H P) (at now : ℕ) (emitted : Emitted) → Fits at old → Turn mac old now emitted new
         → Fits now new × Follows old.pairs new.pairs × (new.timing ≡ old.timing) × (new.local ≡ old.local) × (new.remote ≡ old.remote)
-        × (new.controlling ≡ old.controlling) × (new.next_number ≡ old.next_number)
+        × (new.controlling ≡ old.controlling) × (new.next_number ≡ old.next_number) × (new.rules ≡ old.rules)
     turn-fits old new at now emitted f turn =
         let a = asks-follow at turn.deadline old turn.asked f.last turn.polled in
         let queue : turn.asked.queue ≡ [] = ap (λ (x : Base). x.queue) a.0 ∙ f.idle.queue in
@@ -142,13 +144,15 @@ module _ {H P : Type 0} where
           ap (λ (x : Base). x.remote) taken ∙ (ap (λ (x : Base). x.remote) m.0 ∙ ap (λ (x : Base). x.remote) a.0),
           ap (λ (x : Base). x.controlling) taken ∙ (ap (λ (x : Base). x.controlling) m.0 ∙ ap (λ (x : Base). x.controlling) a.0),
           ap (λ (x : Base). x.next_number) taken ∙ (ap (λ (x : Base). x.next_number) m.0 ∙ ap (λ (x : Base). x.next_number) a.0),
+          ap (λ (x : Base). x.rules) taken ∙ (ap (λ (x : Base). x.rules) m.0 ∙ ap (λ (x : Base). x.rules) a.0),
         )
 
-    -- a pair that is due still waits, and one fewer goes before it
+    -- a pair that is due still waits, and one fewer goes before it, or a kind's turn is over
     abbrev pub StillWaits : ℕ → ℕ → ℕ → AgentRecord H P → AgentRecord H P → PairRecord → Type 0
     StillWaits at now by old new p =
         (q : PairRecord) × Has new.pairs q × Matches p q × (q.checks ≡ p.checks) × (due_time_of now new.timing q ≤ by)
-        × (IsPaced old.timing → now < MAX → length (due_by by now new.timing new.pairs) < length (due_by by at old.timing old.pairs))
+        × (IsPaced old.timing → now < MAX
+        → Falls old.rules.kinds_in_turn old.kind_turn new.kind_turn (length (due_by by at old.timing old.pairs)) (length (due_by by now new.timing new.pairs)))
 
     abbrev pub Does : ℕ → ℕ → ℕ → AgentRecord H P → Emitted → AgentRecord H P → PairRecord → Type 0
     Does at now by old emitted new p =
@@ -184,16 +188,20 @@ module _ {H P : Type 0} where
                   elim which [
                     | inl same ↦ inl (ap (λ (y : PairRecord). y.number) x.2 ∙ ap (λ (y : PairRecord). y.number) same)
                     | inr (q, q_there, matches, checks, q_due, fewer) ↦
-                        (let less = counted at by old in
-                        let fewer_old : IsPaced old.timing → now < MAX → length (due_by by now old.timing new.pairs) < length (due_by by at old.timing old.pairs) =
-                        λ paced early. (let g = fewer paced early in omega (arith, g, less)) in
+                        (let fewer_old : IsPaced old.timing → now < MAX
+                        → Falls old.rules.kinds_in_turn old.kind_turn new.kind_turn (length (due_by by at old.timing old.pairs)) (length (due_by by now old.timing new.pairs)) =
+                        λ paced early. falls-from old.rules.kinds_in_turn old.rules.kinds_in_turn old.kind_turn old.kind_turn new.kind_turn
+                        (length (filter (is_fixed_by by) (map (asked at old.timing) old.pairs))) (length (due_by by at old.timing old.pairs))
+                        (length (due_by by now old.timing new.pairs)) refl refl (counted at by old) (fewer paced early) in
                         inr (
                           q,
                           q_there,
                           record { number = matches.number; local = matches.local; remote = matches.remote; valid = matches.valid },
                           checks,
                           subst (λ (y : StunTiming). due_time_of now y q ≤ by) (sym timing) (q_due now),
-                          subst (λ (y : StunTiming). IsPaced old.timing → now < MAX → length (due_by by now y new.pairs) < length (due_by by at old.timing old.pairs)) (sym timing) fewer_old,
+                          subst (λ (y : StunTiming). IsPaced old.timing → now < MAX
+                              → Falls old.rules.kinds_in_turn old.kind_turn new.kind_turn (length (due_by by at old.timing old.pairs)) (length (due_by by now y new.pairs)))
+                              (sym timing) fewer_old,
                         ))
                   ],
                 ))
@@ -233,23 +241,34 @@ module _ {H P : Type 0} where
 
     starves-not : (turns : List (ℕ × Emitted)) (first last : AgentRecord H P) (p : PairRecord) (at by : ℕ) → Fits at first → IsPaced first.timing → Has first.pairs p
         → due_time_of at first.timing p ≤ by → ((x : ℕ × Emitted) → Has turns x → (by ≤ x.0) × (x.0 < MAX)) → Turns mac turns first last
-        → length (due_by by at first.timing first.pairs) ≤ length turns → Reached turns first last p
+        → calls_left first.rules.kinds_in_turn first.kind_turn (length (due_by by at first.timing first.pairs)) ≤ length turns + 1 → Reached turns first last p
     starves-not [] first last p at by f paced has due timeouts is enough =
         let some : 0 < length (due_by by at first.timing first.pairs) = some-pass (is_due_by by at first.timing) first.pairs p has (le-is (due_time_of at first.timing p) by due) in
-        absurd (let no : ⊥ = omega (arith, some, enough) in no)
+        absurd (none-left-over (calls_left first.rules.kinds_in_turn first.kind_turn (length (due_by by at first.timing first.pairs)))
+        (calls-some first.rules.kinds_in_turn first.kind_turn (length (due_by by at first.timing first.pairs)) some) enough) where
+          none-left-over : (n : ℕ) → 2 ≤ n → n ≤ 0 + 1 → ⊥
+          none-left-over n some enough = omega (arith, some, enough)
     starves-not (x ∷ rest) first last p at by f paced has due timeouts (mid, turn, more) enough =
         let k = turn-fits first mid at x.0 x.1 f turn in
-        let times = timeouts x (inl refl) in
-        elim (turn-moves first mid at x.0 by x.1 f times.0 p has due turn) [
+        let times_of_call = timeouts x (inl refl) in
+        elim (turn-moves first mid at x.0 by x.1 f times_of_call.0 p has due turn) [
           | inl gone ↦ inr (gone-through rest mid last x.0 p.number k.0 more gone)
           | inr (o, there, out, inl same) ↦
               (let one : o ≡ p = f.distinct o p there has same in
               inl (x, inl refl, subst (λ (y : PairRecord). ChecksOn first x.1 y) one out))
           | inr (o, there, out, inr (q, q_there, matches, checks, q_due, fewer)) ↦
               onward matches (starves-not rest mid last q x.0 by k.0 (subst (λ (t : StunTiming). IsPaced t) (sym k.2) paced) q_there q_due (λ y has_y. timeouts y (inr has_y)) more
-              (let g = fewer paced times.1 in omega (arith, g, enough)))
+              (one-call (calls_left mid.rules.kinds_in_turn mid.kind_turn (length (due_by by x.0 mid.timing mid.pairs)))
+              (calls_left first.rules.kinds_in_turn first.kind_turn (length (due_by by at first.timing first.pairs))) (length rest)
+              (subst (λ (r : Rules). calls_left r.kinds_in_turn mid.kind_turn (length (due_by by x.0 mid.timing mid.pairs)) + 1
+              ≤ calls_left first.rules.kinds_in_turn first.kind_turn (length (due_by by at first.timing first.pairs))) (sym k.7)
+              (calls-fall first.rules.kinds_in_turn first.kind_turn mid.kind_turn (length (due_by by at first.timing first.pairs)) (length (due_by by x.0 mid.timing mid.pairs))
+              (fewer paced times_of_call.1))) enough))
               (same-path first mid p q k.3 k.4 matches)
         ] where
+          one-call : (m n k : ℕ) → m + 1 ≤ n → n ≤ suc k + 1 → m ≤ k + 1
+          one-call m n k falls enough = omega (arith, falls, enough)
+
           onward : {q : PairRecord} → Matches p q → Reached rest mid last q → path_of mid q ≡ path_of first p → Reached (x ∷ rest) first last p
           onward {q = q} matches (inl (y, has_y, (id, out))) path = inl (y, inr has_y, (id, out ∙ ap (λ w. Some (issued_as w class.Request id)) path))
           onward {q = q} matches (inr gone) path = inr (subst (λ n. IsGone n last.pairs) matches.number gone)
@@ -317,4 +336,5 @@ module _ {H P : Type 0} where
           last = last_is;
         })
         waits.paced waits.there (let due = waits.due in omega (arith, due))
-        (λ x has. (let from = (timeouts x has).0 in let early = (timeouts x has).1 in (omega (arith, from), omega (arith, early)))) turning (omega (arith, enough))
+        (λ x has. (let from = (timeouts x has).0 in let early = (timeouts x has).1 in (omega (arith, from), omega (arith, early)))) turning
+        (calls-from first.rules.kinds_in_turn first.kind_turn (length (due_by by at first.timing first.pairs)) (length turns) (omega (arith, enough)))

@@ -1,5 +1,5 @@
 -- A `handle_timeout` call of a controlling agent without a valid pair, with or without `poll_timeout` before it: the
--- pair that is due first is checked, and a waiting pair is due as it was.
+-- pair that is due first is checked, or in a kind's turn another one, and a waiting pair is due as it was.
 use Rattle.std.proofs.Common.{◌≡◌, ℕ, ◌+◌, ◌<◌, ◌≤◌, ◌&&◌, ◌||◌, Bool, true, false, not, suc, List, [], length, map, filter, min, nat_le, nat_lt, Option, Some, None, is_some, Ok, inl, inr, ◌⊎◌, refl, ap, sym, ◌∙◌, subst, arith, if◌then◌else◌}
 use Rattle.std.specs.List.{list_any}
 use Rattle.std.proofs.lemmas.Bool.Decides.{nat_tests}
@@ -22,6 +22,7 @@ use Rattle.is_rules.specs.declared.event.IceAgentEvent.{IceAgentEvent}
 use Rattle.is_rules.specs.declared.emitted.Issued.{Issued}
 use Rattle.is_rules.specs.declared.emitted.Path.{Path}
 use Rattle.is_rules.specs.declared.emitted.Emitted.{Emitted}
+use Rattle.is_rules.specs.declared.rules.Rules.{Rules}
 use Rattle.is_rules.specs.Emitted.{issued_as}
 use Rattle.is_rules.specs.Agent.{AgentRecord}
 use Rattle.is_rules.specs.Sending.{path_of}
@@ -41,6 +42,7 @@ use Rattle.is_rules.proofs.PairLists.ChosenPair.{chosen-able}
 use Rattle.is_theorems.proofs.RuleEffects.NominatedPairs.{SelectsPath, selects_path}
 use Rattle.is_rules.proofs.PairLists.RisingNumbers.{AllBelow, below-each}
 use Rattle.is_theorems.proofs.DuePairs.AfterNominationAndRemoval.{Distinct, Base, base_of as agent_base, gives-up-has}
+use Rattle.is_theorems.proofs.DuePairs.KindsInTurn.{calls_left, Falls, falls-from, calls-kept, calls-go-on, calls-some}
 use Rattle.is_theorems.proofs.DuePairs.FirstDuePair.{Follows, same-path, WaitsOn, next-check, check-moves, timeout-follows}
 use Rattle.is_theorems.proofs.DuePairs.PollingCycles.{none-left, maintains_pairs-from, distinct-sound}
 use Rattle.is_theorems.proofs.DuePairs.AfterPackets.{NoneValid, Held}
@@ -61,6 +63,9 @@ and-left false b h k = cc
 -- a stream of zeros
 undrawn : Stream
 undrawn = record { u32_after = λ calls. 0; u64_after = λ calls. 0; bytes_after = λ calls n. [] }
+
+none-over : (x : ℕ) → x + 0 ≤ x
+none-over x = omega arith
 
 -- a sublist
 record Sifted (xs ys : List PairRecord) : Type 0 where
@@ -187,7 +192,11 @@ module _ {H P : Type 0} where
                     matches,
                     checks,
                     (λ at. subst (λ (x : StunTiming). due_time_of at x r ≤ by) timing (r_due at)),
-                    subst (λ (x : StunTiming). IsPaced x → now < MAX → length (due_by by now x new.pairs) < length (due_by by now old.timing old.pairs)) timing fewer,
+                    subst (λ (x : StunTiming). IsPaced x → now < MAX
+                        → Falls old.rules.kinds_in_turn old.kind_turn new.kind_turn (length (due_by by now old.timing old.pairs)) (length (due_by by now x new.pairs))) timing
+                        (λ is_paced is_early. falls-from kept.rules.kinds_in_turn old.rules.kinds_in_turn kept.kind_turn old.kind_turn new.kind_turn
+                        (length (due_by by now old.timing old.pairs)) (length (due_by by now old.timing old.pairs)) (length (due_by by now kept.timing new.pairs))
+                        (ap (λ (x : Base). x.rules.kinds_in_turn) (sym base)) (ap (λ (x : Base). x.kind_turn) (sym base)) (omega arith) (fewer is_paced is_early)),
                   ))
             ],
           )
@@ -214,7 +223,7 @@ module _ {H P : Type 0} where
     pub invalid : NoneValid a.pairs
     pub role : a.controlling ≡ true
 
-  -- a pair of the path is due by a time, computed now, and k rounds of n are over
+  -- A pair of the path is due by a time, computed now, and k rounds are over. One fewer than n suffice.
   pub record Persists (by n : ℕ) (path : Path) (now k : ℕ) (a : AgentRecord H P) : Type 0 where
     pub calm : Calm a
     pub paced : IsPaced a.timing
@@ -224,7 +233,7 @@ module _ {H P : Type 0} where
     pub due : due_time_of now a.timing pair ≤ by
     pub placed : pair.remote < length a.remote
     pub on : path_of a pair ≡ path
-    pub count : length (due_by by now a.timing a.pairs) + k ≤ n
+    pub count : calls_left a.rules.kinds_in_turn a.kind_turn (length (due_by by now a.timing a.pairs)) + k ≤ n
 
   -- the same after a `handle_timeout` call, whenever the due time is computed
   pub record Waits (by n : ℕ) (path : Path) (at k : ℕ) (a : AgentRecord H P) : Type 0 where
@@ -238,7 +247,7 @@ module _ {H P : Type 0} where
     pub held : Held by at a.timing a.pairs
     pub placed : pair.remote < length a.remote
     pub on : path_of a pair ≡ path
-    pub count : length (due_by by at a.timing a.pairs) + k ≤ n
+    pub count : calls_left a.rules.kinds_in_turn a.kind_turn (length (due_by by at a.timing a.pairs)) + k ≤ n
 
   pub persists : (by n : ℕ) (path : Path) (at k now : ℕ) (a : AgentRecord H P) → by < now → Waits by n path at k a → Persists by n path now k a
   persists by n path at k now a late w = record {
@@ -252,18 +261,21 @@ module _ {H P : Type 0} where
     on = w.on;
     count = (let less = no-more-pass (is_due_by by at a.timing) (is_due_by by now a.timing) a.pairs
         (λ q has is. le-is (due_time_of at a.timing q) by (w.held q has now late (le-from (due_time_of now a.timing q) by is))) in
-        let counted = w.count in omega (arith, less, counted));
+        calls-kept a.rules.kinds_in_turn a.kind_turn (length (due_by by at a.timing a.pairs)) (length (due_by by now a.timing a.pairs)) k n less w.count);
   }
 
   -- once all rounds are over, no pair waits
-  pub never : (by n : ℕ) (path : Path) (at k : ℕ) (a : AgentRecord H P) → by < at → Waits by n path at k a → n ≤ k → ⊥
+  pub never : (by n : ℕ) (path : Path) (at k : ℕ) (a : AgentRecord H P) → by < at → Waits by n path at k a → n ≤ k + 1 → ⊥
   never by n path at k a following w enough =
       let some : 0 < length (due_by by at a.timing a.pairs) = some-pass (is_due_by by at a.timing) a.pairs w.pair w.there (le-is (due_time_of at a.timing w.pair) by (w.due at following)) in
-      let counted = w.count in omega (arith, some, counted, enough)
+      over (calls_left a.rules.kinds_in_turn a.kind_turn (length (due_by by at a.timing a.pairs)))
+      (calls-some a.rules.kinds_in_turn a.kind_turn (length (due_by by at a.timing a.pairs)) some) w.count enough where
+        over : (left : ℕ) → 2 ≤ left → left + k ≤ n → n ≤ k + 1 → ⊥
+        over left some counted enough = omega (arith, some, counted, enough)
 
   module _ (mac : H → List ℕ → List ℕ → List ℕ) (answers : P → CandidateRecord → ℕ → ℕ → Type 0) where
     pub begins : (now by : ℕ) (a : AgentRecord H P) (p : PairRecord) → IsSound a → a.controlling ≡ true → Awaits now by a p → IsUnanswered a p
-        → Persists by (length (due_by by now a.timing a.pairs)) (path_of a p) now 0 a
+        → Persists by (calls_left a.rules.kinds_in_turn a.kind_turn (length (due_by by now a.timing a.pairs))) (path_of a p) now 0 a
     begins now by a p sound role waits unanswered = record {
       calm = record {
         sound = sound;
@@ -281,7 +293,7 @@ module _ {H P : Type 0} where
       due = (let due = waits.due in omega (arith, due));
       placed = (sound.placed p waits.there).1;
       on = refl;
-      count = omega arith;
+      count = none-over (calls_left a.rules.kinds_in_turn a.kind_turn (length (due_by by now a.timing a.pairs)));
     }
 
     pub asked-sound : (old new : AgentRecord H P) (deadline : Option ℕ) → IsSound old → PollsTimeout old deadline new → IsSound new
@@ -294,6 +306,7 @@ module _ {H P : Type 0} where
       pub timing : new.timing ≡ old.timing
       pub local : new.local ≡ old.local
       pub remote : new.remote ≡ old.remote
+      pub rules : new.rules ≡ old.rules
 
     pub passed : (now : ℕ) (emitted : Emitted) (old new : AgentRecord H P) → Calm old → Passes mac old now emitted new → Passed now old new
     passed now emitted old new calm pass =
@@ -324,9 +337,10 @@ module _ {H P : Type 0} where
           timing = ap (λ (x : Base). x.timing) taken ∙ ap (λ (x : Base). x.timing) m.0;
           local = ap (λ (x : Base). x.local) taken ∙ ap (λ (x : Base). x.local) m.0;
           remote = ap (λ (x : Base). x.remote) taken ∙ ap (λ (x : Base). x.remote) m.0;
+          rules = ap (λ (x : Base). x.rules) taken ∙ ap (λ (x : Base). x.rules) m.0;
         }
 
-    -- a check is sent on the path, or the pair still waits, with one fewer before it
+    -- a check is sent on the path, or the pair still waits, with one fewer before it, or a kind's turn is over
     pub pass-on : (by n : ℕ) (path : Path) (now k : ℕ) (emitted : Emitted) (old new : AgentRecord H P) → Persists by n path now k old → by < now → now < MAX → Passes mac old now emitted new
         → ((id : List ℕ) × (emitted.issued ≡ Some (issued_as path class.Request id))) ⊎ Waits by n path now (suc k) new
     pass-on by n path now k emitted old new st late early pass =
@@ -342,9 +356,11 @@ module _ {H P : Type 0} where
           by-check x (o, there, (id, out), inl one) held =
               inl (id, out ∙ ap (λ p. Some (issued_as p class.Request id)) (ap (λ (y : PairRecord). path_of old y) one ∙ st.on))
           by-check x (o, there, out, inr (q, q_there, matches, checks, q_due, fewer)) held =
-              let less : length (due_by by now old.timing new.pairs) < length (due_by by now old.timing old.pairs) =
-              subst (λ ps. length (due_by by now old.timing ps) < length (due_by by now old.timing old.pairs)) (sym pairs) (fewer st.paced early) in
-              let counted = st.count in
+              let falls : Falls old.rules.kinds_in_turn old.kind_turn new.kind_turn (length (due_by by now old.timing old.pairs)) (length (due_by by now old.timing new.pairs)) =
+              subst (λ (b : Bool). Falls old.rules.kinds_in_turn old.kind_turn b (length (due_by by now old.timing old.pairs)) (length (due_by by now old.timing new.pairs)))
+              (sym (ap (λ (a : AgentRecord H P). a.kind_turn) pass.taken))
+              (subst (λ ps. Falls old.rules.kinds_in_turn old.kind_turn pass.after.kind_turn (length (due_by by now old.timing old.pairs)) (length (due_by by now old.timing ps)))
+              (sym pairs) (fewer st.paced early)) in
               inr (record {
                 calm = x.calm;
                 last = x.last;
@@ -357,5 +373,7 @@ module _ {H P : Type 0} where
                 held = subst (λ (t : StunTiming). Held by now t new.pairs) (sym x.timing) held;
                 placed = subst (λ (cs : List CandidateRecord). q.remote < length cs) (sym x.remote) (subst (λ j. j < length old.remote) (sym matches.remote) st.placed);
                 on = same-path old new st.pair q x.local x.remote matches ∙ st.on;
-                count = subst (λ (t : StunTiming). length (due_by by now t new.pairs) + suc k ≤ n) (sym x.timing) (omega (arith, less, counted));
+                count = subst (λ (t : StunTiming). calls_left new.rules.kinds_in_turn new.kind_turn (length (due_by by now t new.pairs)) + suc k ≤ n) (sym x.timing)
+                    (subst (λ (r : Rules). calls_left r.kinds_in_turn new.kind_turn (length (due_by by now old.timing new.pairs)) + suc k ≤ n) (sym x.rules)
+                    (calls-go-on old.rules.kinds_in_turn old.kind_turn new.kind_turn (length (due_by by now old.timing old.pairs)) (length (due_by by now old.timing new.pairs)) k n falls st.count));
               })

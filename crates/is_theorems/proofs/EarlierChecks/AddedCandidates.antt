@@ -3,7 +3,7 @@
 use Rattle.std.proofs.Common.{◌≡◌, ℕ, ◌+◌, ◌≤◌, ◌==◌, Bool, true, false, not, nat_lt, List, [], ◌∷◌, ◌++◌, filter, Option, Some, None, Ok, Err, inl, inr, ◌⊎◌, refl, ap, sym, ◌∙◌, subst, arith, if◌then◌else◌}
 use Rattle.is_proto.specs.Lists.{Has}
 use Rattle.is_candidate.specs.Candidates.{CandidateRecord}
-use Rattle.is_pair.specs.Multiset.{is_numbered, without, EvictsInTurn}
+use Rattle.is_pair.specs.Multiset.{is_numbered, without}
 use Rattle.is_pair.specs.Checks.{Check}
 use Rattle.is_pair.specs.Pairs.{PairRecord, taking_over}
 use Rattle.is_pair.specs.declared.pair.states.NominationState.{NominationState}
@@ -21,6 +21,7 @@ use Rattle.is_theorems.proofs.EarlierChecks.ChecksOfOtherPairs.{own, lead, leads
 use Rattle.is_theorems.proofs.EarlierChecks.ChangedPairs.{Onward, Fixed}
 use Rattle.is_theorems.proofs.EarlierChecks.BetweenTimeouts.{Ground, ground_of, Goes, goes-same}
 use Rattle.is_theorems.proofs.StoredPairs.PairsAfterForming.{local-leaves, remote-leaves}
+use Rattle.is_rules.proofs.PairLists.RemovedInTurn.{removes, RemovesInTurn}
 use Rattle.is_rules.proofs.PairLists.RisingNumbers.{AreRising, rising-each}
 use Rattle.is_theorems.proofs.RuleEffects.SelectedPaths.{one_pair}
 
@@ -72,9 +73,9 @@ module _ (n by : ℕ) where
       let b : Fewer mid new = each-leads s all mid new others in
       omega (arith, a, b)
 
-  drops-leads : (limit : ℕ) (gone old new : List PairRecord) → EvictsInTurn limit gone old new → leads n by new ≤ leads n by old
+  drops-leads : (limit : ℕ) (gone old new : List PairRecord) → RemovesInTurn limit gone old new → leads n by new ≤ leads n by old
   drops-leads limit [] old new (within, same) = subst (λ ps. leads n by ps ≤ leads n by old) (sym same) (omega arith)
-  drops-leads limit (p ∷ gone) old new (over, least, others) =
+  drops-leads limit (p ∷ gone) old new (over, has, others) =
       let a : leads n by (without (is_numbered p.number) old) ≤ leads n by old = leads-filter n by (λ q. not (is_numbered p.number q)) old in
       let b : leads n by new ≤ leads n by (without (is_numbered p.number) old) = drops-leads limit gone (without (is_numbered p.number) old) new others in
       omega (arith, a, b)
@@ -85,10 +86,10 @@ module _ (n by : ℕ) where
     Leads old new = (ground_of new ≡ ground_of old) × (leads n by new.pairs + old.next_number ≤ leads n by old.pairs + new.next_number)
 
     forms-leads : (mid new : AgentRecord H P) (all : List Combination) → FormsAll mid all new → Leads mid new
-    forms-leads mid new all (f, (tried, each, (gone, drops), next_is), made) = subst (λ (a : AgentRecord H P). Leads mid a) (sym made) (
+    forms-leads mid new all (f, (tried, each, evicts, next_is), made) = subst (λ (a : AgentRecord H P). Leads mid a) (sym made) (
       refl,
       (let a : Fewer (formed_of mid) tried = each-leads (sides_of mid) all (formed_of mid) tried each in
-          let b : leads n by f.pairs ≤ leads n by tried.pairs = drops-leads mid.max_pairs gone tried.pairs f.pairs drops in
+          let b : leads n by f.pairs ≤ leads n by tried.pairs = (let all_gone = removes (sides_of mid) mid.max_pairs tried.pairs f.pairs evicts in drops-leads mid.max_pairs all_gone.0 tried.pairs f.pairs all_gone.1) in
           omega (arith, a, b, next_is)),
     )
 

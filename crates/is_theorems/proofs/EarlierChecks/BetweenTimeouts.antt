@@ -21,6 +21,7 @@ use Rattle.is_rules.specs.declared.roles.Conflict.{Conflict}
 use Rattle.is_rules.specs.declared.roles.Conflict.TheVariants.{Absent, Send487, SwitchRole}
 use Rattle.is_rules.specs.declared.emitted.Path.{Path}
 use Rattle.is_rules.specs.declared.emitted.Emitted.{Emitted}
+use Rattle.is_rules.specs.declared.rules.Rules.{Rules}
 use Rattle.is_rules.specs.Forming.{formed, with_pair, priority_between}
 use Rattle.is_rules.specs.Nominating.{nominated_by_self, Nominates, followed, remains, selection_of}
 use Rattle.is_rules.specs.Places.{local_place}
@@ -45,10 +46,20 @@ pub record Ground : Type 0 where
   pub timing : StunTiming
   pub queue : List RequestRecord
   pub last_time : Option ℕ
+  pub rules : Rules
+  pub kind_turn : Bool
 
 module _ {H P : Type 0} where
   abbrev pub ground_of : AgentRecord H P → Ground
-  ground_of a = record { lite = a.lite; remote_creds = a.remote_creds; timing = a.timing; queue = a.queue; last_time = a.last_time }
+  ground_of a = record {
+    lite = a.lite;
+    remote_creds = a.remote_creds;
+    timing = a.timing;
+    queue = a.queue;
+    last_time = a.last_time;
+    rules = a.rules;
+    kind_turn = a.kind_turn;
+  }
 
   module _ (n by : ℕ) where
     abbrev pub Goes : AgentRecord H P → AgentRecord H P → Type 0

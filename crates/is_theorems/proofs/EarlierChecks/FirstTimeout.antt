@@ -1,18 +1,18 @@
 -- A `handle_timeout` call checks a pair that is due by its time, or another one, and fixes its due time.
-use Rattle.std.proofs.Common.{◌≡◌, ℕ, ◌<◌, ◌≤◌, ◌==◌, ◌&&◌, ◌||◌, Bool, true, false, not, List, map, nat_le, nat_lt, Option, Some, None, is_some, unwrap_or, inl, inr, ◌⊎◌, refl, ap, sym, ◌∙◌, subst, arith, if◌then◌else◌}
+use Rattle.std.proofs.Common.{◌≡◌, ℕ, ◌≤◌, ◌==◌, ◌&&◌, ◌||◌, Bool, true, false, not, List, map, nat_le, nat_lt, Option, Some, None, is_some, unwrap_or, inl, inr, ◌⊎◌, refl, ap, sym, ◌∙◌, subst, arith, if◌then◌else◌}
 use Rattle.std.specs.List.{list_any}
-use Rattle.std.proofs.lemmas.Bool.{eq-eqb, eqb-true}
+use Rattle.std.proofs.lemmas.Bool.{eqb-true}
 use Rattle.std.proofs.lemmas.Bool.Decides.{nat_tests}
 use Rattle.rand_core.specs.Stream.{Stream}
 use Rattle.is_proto.specs.Lists.{Has}
 use Rattle.is_pair.specs.Multiset.{is_numbered, change_at, change_pair}
 use Rattle.is_pair.specs.Checks.{unanswered_count}
-use Rattle.is_pair.specs.Due.{asked, due_time_of, is_due, GoesBefore, IsNextDue}
+use Rattle.is_pair.specs.Due.{asked, due_time_of, is_due}
 use Rattle.is_pair.specs.Pairs.{PairRecord, is_valid, is_nominated, checked}
 use Rattle.is_stun.specs.declared.header.Class.TheVariants as class
 use Rattle.is_stun.specs.declared.timing.StunTiming.{StunTiming}
 use Rattle.is_rules.specs.Agent.{AgentRecord}
-use Rattle.is_rules.specs.Checking.{all_asked, ChecksTop, MayCheck}
+use Rattle.is_rules.specs.Checking.{all_asked, IsNextToCheck, ChecksTop, MayCheck}
 use Rattle.is_rules.specs.declared.credentials.IceCreds.{IceCreds}
 use Rattle.is_rules.specs.declared.emitted.Emitted.{Emitted}
 use Rattle.is_rules.specs.declared.emitted.Issued.{Issued}
@@ -23,6 +23,7 @@ use Rattle.is_theorems.specs.Progress.{ChecksOn}
 use Rattle.is_rules.specs.Sending.{path_of}
 use Rattle.is_rules.specs.Timeouts.{at_timeout, is_expired, expired_gone, RemovesExpired, MaintainsPairs}
 use Rattle.is_rules.proofs.PairLists.ChosenPair.{chosen-able, none_pass}
+use Rattle.is_theorems.proofs.BasicLemmas.PairsInTurn.{none-is-due, next-is-due}
 use Rattle.is_theorems.proofs.RuleEffects.UnchangedSettings.{either}
 use Rattle.is_theorems.proofs.EarlierChecks.ChangedPairs.{Fixed}
 use Rattle.is_theorems.proofs.RuleEffects.ChangedPairs.{Has-map}
@@ -139,13 +140,13 @@ module _ (now by : ℕ) (begun : by ≤ now) where
                       (if b then checked now old.timing old.controlling id (asked now old.timing p) else asked now old.timing p)) apart
                       (Has-mapped (change_at q.number (checked now old.timing old.controlling id)) (map (asked now old.timing) old.pairs) (asked now old.timing p) in_asked)
 
-            by-next : (peer : IceCreds) (next : Option PairRecord) → IsNextDue now old.timing (all_asked now old).pairs next → ChecksTop mac now peer next (all_asked now old) s issued new u
+            by-next : (peer : IceCreds) (next : Option PairRecord) → IsNextToCheck now (all_asked now old) next → ChecksTop mac now peer next (all_asked now old) s issued new u
                 → ((id : List ℕ) × (issued ≡ Some (issued_as (path_of old p) class.Request id))) ⊎ WaitsOn old new p
-            by-next peer None none h =
+            by-next peer None chosen h =
                 let it : is_due now old.timing (asked now old.timing p) ≡ true = le-is (due_time_of now old.timing p) now (let d = due in omega (arith, d, begun)) in
-                absurd (none_pass (is_due now old.timing) (map (asked now old.timing) old.pairs) (asked now old.timing p) none in_asked it)
-            by-next peer (Some q) ((there, first), is_now) (id, drawn, values, is, made) =
-                whose q id (ap (λ (a : AgentRecord H P). a.pairs) made) is (Has-map (asked now old.timing) old.pairs q there) (p.number == q.number) refl
+                absurd (none_pass (is_due now old.timing) (map (asked now old.timing) old.pairs) (asked now old.timing p) (none-is-due now (all_asked now old) chosen) in_asked it)
+            by-next peer (Some q) chosen (id, drawn, values, is, made) =
+                whose q id (ap (λ (a : AgentRecord H P). a.pairs) made) is (Has-map (asked now old.timing) old.pairs q (next-is-due now (all_asked now old) q chosen).0) (p.number == q.number) refl
 
       -- ---- the `handle_timeout` call
 

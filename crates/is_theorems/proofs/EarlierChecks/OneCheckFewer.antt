@@ -1,5 +1,5 @@
 -- A `handle_timeout` call checks a pair that is due, or another one before it, and then one check fewer goes before
--- it.
+-- it; or it is a kind's turn, and then no more checks go before it and the next call is none.
 use Rattle.std.proofs.Common.{◌≡◌, ℕ, ◌+◌, ◌<◌, ◌≤◌, ◌==◌, ◌&&◌, ◌||◌, Bool, true, false, not, List, map, nat_le, nat_lt, Option, Some, None, is_some, unwrap_or, inl, inr, ◌⊎◌, refl, ap, sym, ◌∙◌, subst, arith, if◌then◌else◌}
 use Rattle.std.specs.List.{list_any}
 use Rattle.std.proofs.lemmas.Bool.{eq-eqb, eqb-true}
@@ -9,13 +9,14 @@ use Rattle.is_proto.specs.Lists.{Has}
 use Rattle.is_proto.specs.Times.{MAX}
 use Rattle.is_pair.specs.Checks.{unanswered_count}
 use Rattle.is_pair.specs.Multiset.{is_numbered, change_at, change_pair}
-use Rattle.is_pair.specs.Due.{asked, due_time_of, is_due, GoesBefore, IsNextDue}
+use Rattle.is_pair.specs.Due.{asked, due_time_of, is_due, GoesBefore}
 use Rattle.is_pair.specs.Pairs.{PairRecord, is_valid, is_nominated, checked}
 use Rattle.is_pair.specs.States.{nomination_once_sent}
 use Rattle.is_stun.specs.declared.header.Class.TheVariants as class
 use Rattle.is_stun.specs.declared.timing.StunTiming.{StunTiming}
 use Rattle.is_rules.specs.Agent.{AgentRecord}
-use Rattle.is_rules.specs.Checking.{all_asked, ChecksTop, MayCheck}
+use Rattle.is_rules.specs.Checking.{all_asked, is_kinds_turn, IsNextToCheck, ChecksTop, MayCheck}
+use Rattle.is_rules.specs.Connecting.{is_connected}
 use Rattle.is_rules.specs.declared.credentials.IceCreds.{IceCreds}
 use Rattle.is_rules.specs.declared.emitted.Issued.{Issued}
 use Rattle.is_rules.specs.declared.emitted.Path.{Path}
@@ -30,7 +31,9 @@ use Rattle.is_theorems.proofs.EarlierChecks.ChecksOfOtherPairs.{lead, leads, own
 use Rattle.is_theorems.proofs.EarlierChecks.ChangedPairs.{Fixed}
 use Rattle.is_theorems.proofs.EarlierChecks.BetweenTimeouts.{nominates-goes}
 use Rattle.is_theorems.proofs.RuleEffects.ChangedPairs.{Has-map}
+use Rattle.is_theorems.proofs.BasicLemmas.PairsInTurn.{none-is-due, next-is-due, next-in-turn}
 use Rattle.is_theorems.proofs.DuePairs.FirstDuePair.{fixed-is, same-path, next-check}
+use Rattle.is_theorems.proofs.DuePairs.KindsInTurn.{Falls, falls-from, is-turn}
 use Rattle.is_rules.proofs.PairLists.ChosenPair.{chosen-able, none_pass}
 use Rattle.is_theorems.proofs.RuleEffects.NominatedPairs.{SelectsPath, selects_path}
 use Rattle.is_theorems.proofs.CallEffects.ServedRequests.{Has-mapped}
@@ -155,9 +158,15 @@ module _ (now by : ℕ) (late : by < now) (early : now < MAX) where
 
     -- ---- the check
 
-    -- its due time is fixed, and one check fewer goes before it
+    -- its due time is fixed, and one check fewer goes before it, or a kind's turn is over
     abbrev pub WaitsOn : AgentRecord H P → AgentRecord H P → PairRecord → Type 0
-    WaitsOn old new p = (d : ℕ) × (d ≤ by) × Fixed p.number d p.checks new.pairs × (leads p.number by new.pairs + 1 ≤ leads p.number by old.pairs)
+    WaitsOn old new p =
+        (d : ℕ) × (d ≤ by) × Fixed p.number d p.checks new.pairs
+        × Falls old.rules.kinds_in_turn old.kind_turn new.kind_turn (leads p.number by old.pairs) (leads p.number by new.pairs)
+
+    -- it is a kind's turn, or the pair is due by the time
+    abbrev Chosen : AgentRecord H P → PairRecord → Type 0
+    Chosen old q = (is_kinds_turn (all_asked now old) ≡ true) ⊎ (due_time_of now old.timing q ≤ by)
 
     module _ (mac : H → List ℕ → List ℕ → List ℕ) where
       check-goes : (old new : AgentRecord H P) (s u : Stream) (issued : Option Issued) (remote : Option IceCreds) → is_some remote ≡ true → old.lite ≡ false
@@ -169,20 +178,20 @@ module _ (now by : ℕ) (late : by < now) (early : now < MAX) where
             in_asked : Has (map (asked now old.timing) old.pairs) (asked now old.timing p)
             in_asked = Has-mapped (asked now old.timing) old.pairs p has
 
-            whose : (peer : IceCreds) (q : PairRecord) (id : List ℕ) → new.pairs ≡ change_pair q.number (checked now old.timing old.controlling id) (map (asked now old.timing) old.pairs)
+            whose : (peer : IceCreds) (q : PairRecord) (id : List ℕ) → new.kind_turn ≡ not (is_kinds_turn (all_asked now old)) → new.pairs ≡ change_pair q.number (checked now old.timing old.controlling id) (map (asked now old.timing) old.pairs)
                 → issued ≡ Some (issued_as (path_of old q) class.Request id) → Has (map (asked now old.timing) old.pairs) q
-                → (o : PairRecord) × Has old.pairs o × (asked now old.timing o ≡ q) → due_time_of now old.timing q ≤ by
+                → (o : PairRecord) × Has old.pairs o × (asked now old.timing o ≡ q) → Chosen old q
                 → (b : Bool) → (p.number == q.number) ≡ b
                 → ((id : List ℕ) × (issued ≡ Some (issued_as (path_of old p) class.Request id))) ⊎ WaitsOn old new p
-            whose peer q id made is there (o, o_has, o_is) q_due true same =
+            whose peer q id turned made is there (o, o_has, o_is) chosen true same =
                 let one : o ≡ p = distinct o p o_has has (ap (λ (x : PairRecord). x.number) o_is ∙ sym (eqb-true p.number q.number same)) in
                 inl (id, is ∙ ap (λ (x : PairRecord). Some (issued_as (path_of old x) class.Request id)) (sym o_is ∙ ap (asked now old.timing) one))
-            whose peer q id made is there (o, o_has, o_is) q_due false apart =
+            whose peer q id turned made is there (o, o_has, o_is) chosen false apart =
                 inr (
                   due_time_of now old.timing p,
                   due,
                   subst (λ ps. Fixed p.number (due_time_of now old.timing p) p.checks ps) (sym made) (asked now old.timing p, stays, refl, refl, refl),
-                  fewer,
+                  falls,
                 ) where
                   stays : Has (change_pair q.number (checked now old.timing old.controlling id) (map (asked now old.timing) old.pairs)) (asked now old.timing p)
                   stays = subst (λ b. Has (change_pair q.number (checked now old.timing old.controlling id) (map (asked now old.timing) old.pairs))
@@ -192,8 +201,8 @@ module _ (now by : ℕ) (late : by < now) (early : now < MAX) where
                   q_fixed : q.due ≡ Some (due_time_of now old.timing o)
                   q_fixed = ap (λ (x : PairRecord). x.due) (sym o_is)
 
-                  o_due : due_time_of now old.timing o ≤ by
-                  o_due = subst (λ d. d ≤ by) (ap (λ (x : PairRecord). due_time_of now old.timing x) (sym o_is)) q_due
+                  o_due : due_time_of now old.timing q ≤ by → due_time_of now old.timing o ≤ by
+                  o_due q_due = subst (λ d. d ≤ by) (ap (λ (x : PairRecord). due_time_of now old.timing x) (sym o_is)) q_due
 
                   other : (q.number == p.number) ≡ false
                   other = not-same (q.number == p.number) refl where
@@ -201,26 +210,51 @@ module _ (now by : ℕ) (late : by < now) (early : now < MAX) where
                     not-same true same = (let no : true ≡ false = sym (eq-eqb p.number q.number (sym (eqb-true q.number p.number same))) ∙ apart in absurd (cc))
                     not-same false same = same
 
-                  fewer : leads p.number by new.pairs + 1 ≤ leads p.number by old.pairs
-                  fewer =
+                  asked-less : leads p.number by (map (asked now old.timing) old.pairs) ≤ leads p.number by old.pairs
+                  asked-less = leads-map p.number by (asked now old.timing) old.pairs (λ y. own-le p.number by y (asked now old.timing y) refl (lead-asked by now old.timing y late early))
+
+                  no-more : leads p.number by new.pairs ≤ leads p.number by old.pairs
+                  no-more =
+                      let a : leads p.number by (change_pair q.number (checked now old.timing old.controlling id) (map (asked now old.timing) old.pairs))
+                      ≤ leads p.number by (map (asked now old.timing) old.pairs) =
+                      leads-map p.number by (change_at q.number (checked now old.timing old.controlling id)) (map (asked now old.timing) old.pairs)
+                      (change-no-more old.timing old.controlling id some p.number q.number) in
+                      let b = asked-less in
+                      subst (λ ps. leads p.number by ps ≤ leads p.number by old.pairs) (sym made) (omega (arith, a, b))
+
+                  one-fewer : due_time_of now old.timing q ≤ by → leads p.number by new.pairs < leads p.number by old.pairs
+                  one-fewer q_due =
                       let a : leads p.number by (change_pair q.number (checked now old.timing old.controlling id) (map (asked now old.timing) old.pairs)) + 1
                       ≤ leads p.number by (map (asked now old.timing) old.pairs) =
                       leads-less p.number by (change_at q.number (checked now old.timing old.controlling id)) (map (asked now old.timing) old.pairs) q
                       (change-no-more old.timing old.controlling id some p.number q.number) there
-                      (change-less old.timing old.controlling id some p.number (due_time_of now old.timing o) q q_fixed o_due other) in
-                      let b : leads p.number by (map (asked now old.timing) old.pairs) ≤ leads p.number by old.pairs =
-                      leads-map p.number by (asked now old.timing) old.pairs (λ y. own-le p.number by y (asked now old.timing y) refl (lead-asked by now old.timing y late early)) in
-                      subst (λ ps. leads p.number by ps + 1 ≤ leads p.number by old.pairs) (sym made) (omega (arith, a, b))
+                      (change-less old.timing old.controlling id some p.number (due_time_of now old.timing o) q q_fixed (o_due q_due) other) in
+                      let b = asked-less in
+                      subst (λ ps. leads p.number by ps < leads p.number by old.pairs) (sym made) (omega (arith, a, b))
 
-            by-next : (peer : IceCreds) (next : Option PairRecord) → IsNextDue now old.timing (all_asked now old).pairs next → ChecksTop mac now peer next (all_asked now old) s issued new u
+                  falls : Falls old.rules.kinds_in_turn old.kind_turn new.kind_turn (leads p.number by old.pairs) (leads p.number by new.pairs)
+                  falls = elim chosen [
+                    | inl on ↦
+                        (let turn = is-turn old.rules.kinds_in_turn old.kind_turn (not (is_connected old.state)) on in
+                        inr (no-more, turn.0, turn.1, turned ∙ ap not on))
+                    | inr q_due ↦ inl (one-fewer q_due)
+                  ]
+
+            by-next : (peer : IceCreds) (next : Option PairRecord) → IsNextToCheck now (all_asked now old) next → ChecksTop mac now peer next (all_asked now old) s issued new u
                 → ((id : List ℕ) × (issued ≡ Some (issued_as (path_of old p) class.Request id))) ⊎ WaitsOn old new p
-            by-next peer None none h =
+            by-next peer None chosen h =
                 let it : is_due now old.timing (asked now old.timing p) ≡ true = le-is (due_time_of now old.timing p) now (let d = due in omega (arith, d, late)) in
-                absurd (none_pass (is_due now old.timing) (map (asked now old.timing) old.pairs) (asked now old.timing p) none in_asked it)
-            by-next peer (Some q) ((there, first), is_now) (id, drawn, values, is, made) =
-                let before : GoesBefore now old.timing q (asked now old.timing p) = first (asked now old.timing p) in_asked in
-                whose peer q id (ap (λ (a : AgentRecord H P). a.pairs) made) is there (Has-map (asked now old.timing) old.pairs q there)
-                (first-due (due_time_of now old.timing q) (due_time_of now old.timing p) p q before due) (p.number == q.number) refl
+                absurd (none_pass (is_due now old.timing) (map (asked now old.timing) old.pairs) (asked now old.timing p) (none-is-due now (all_asked now old) chosen) in_asked it)
+            by-next peer (Some q) chosen (id, drawn, values, is, made) =
+                let there : Has (map (asked now old.timing) old.pairs) q = (next-is-due now (all_asked now old) q chosen).0 in
+                whose peer q id (ap (λ (a : AgentRecord H P). a.kind_turn) made) (ap (λ (a : AgentRecord H P). a.pairs) made) is there (Has-map (asked now old.timing) old.pairs q there)
+                (in-turn (is_kinds_turn (all_asked now old)) refl) (p.number == q.number) refl where
+                  in-turn : (b : Bool) → is_kinds_turn (all_asked now old) ≡ b → Chosen old q
+                  in-turn true on = inl on
+                  in-turn false off =
+                      let next = next-in-turn now (all_asked now old) (Some q) off chosen in
+                      let before : GoesBefore now old.timing q (asked now old.timing p) = next.0.1 (asked now old.timing p) in_asked in
+                      inr (first-due (due_time_of now old.timing q) (due_time_of now old.timing p) p q before due)
 
       -- ---- the `handle_timeout` call
 
@@ -253,13 +287,15 @@ module _ (now by : ℕ) (late : by < now) (early : now < MAX) where
                       (same-path old kept p y.0 (ap (λ (z : Base). z.local) base) (ap (λ (z : Base). z.remote) base)
                       (record { number = alike.number; local = alike.local; remote = alike.remote; valid = alike.valid }))),
                 )
-            | inr (d, due, fixed, less) ↦
-                (let fewer : leads p.number by new.pairs + 1 ≤ leads p.number by kept.pairs =
-                subst (λ k. leads k by new.pairs + 1 ≤ leads k by kept.pairs) alike.number less in
+            | inr (d, due, fixed, falls) ↦
+                (let falls_for : Falls kept.rules.kinds_in_turn kept.kind_turn new.kind_turn (leads p.number by kept.pairs) (leads p.number by new.pairs) =
+                subst (λ k. Falls kept.rules.kinds_in_turn kept.kind_turn new.kind_turn (leads k by kept.pairs) (leads k by new.pairs)) alike.number falls in
                 inr (
                   d,
                   due,
                   subst (λ cs. Fixed p.number d cs new.pairs) alike.checks (subst (λ k. Fixed k d y.0.checks new.pairs) alike.number fixed),
-                  omega (arith, fewer, lessened),
+                  falls-from kept.rules.kinds_in_turn old.rules.kinds_in_turn kept.kind_turn old.kind_turn new.kind_turn
+                      (leads p.number by kept.pairs) (leads p.number by old.pairs) (leads p.number by new.pairs)
+                      (ap (λ (z : Base). z.rules.kinds_in_turn) (sym base)) (ap (λ (z : Base). z.kind_turn) (sym base)) lessened falls_for,
                 ))
           ]

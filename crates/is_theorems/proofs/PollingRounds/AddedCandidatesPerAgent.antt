@@ -1,5 +1,5 @@
 -- Rounds of an execution in which candidates may be added, as rounds of a log.
-use Rattle.std.proofs.Common.{◌≡◌, ℕ, ◌<◌, true, List, [], ◌∷◌, ◌++◌, length, Some, inl, inr, ◌⊎◌, refl, ap, sym, ◌∙◌, subst, arith, append_assoc}
+use Rattle.std.proofs.Common.{ℕ, ◌<◌, List, [], ◌∷◌, ◌++◌, length, inl, inr, ◌⊎◌, refl, ap, sym, ◌∙◌, subst, arith, append_assoc}
 use Rattle.rand_core.specs.Stream.{Stream}
 use Rattle.is_proto.specs.Lists.{Has}
 use Rattle.is_candidate.specs.Candidates.{CandidateRecord}
@@ -10,7 +10,7 @@ use Rattle.is_theorems.specs.AskedCourses.{Ends, EndsAlong}
 use Rattle.is_theorems.specs.Courses.{CourseRound}
 use Rattle.is_theorems.specs.Exchange.{Course}
 use Rattle.is_theorems.specs.Logs.{Logged}
-use Rattle.is_theorems.specs.Reached.{is_in_round, IsPassing, ChecksIn, IsEndedIn, PairsAreReached}
+use Rattle.is_theorems.specs.Reached.{IsPassing, ChecksIn, IsEndedIn, PairsAreReached}
 use Rattle.is_theorems.specs.ReachedCourses.{ChecksAmong, IsAnsweredAmong, PassRounds}
 use Rattle.is_theorems.specs.Rounds.{LoggedRound, entries_of, RunsOn}
 use Rattle.is_theorems.specs.Runs.{Run}

@@ -1,5 +1,5 @@
 -- Round after round: if the checks of a pair are answered, a response is accepted within as many rounds as there are
--- pairs that are due no later.
+-- pairs that are due no later, or with kinds in turn within twice as many.
 use Rattle.std.proofs.Common.{◌≡◌, ℕ, ◌+◌, ◌<◌, ◌≤◌, true, suc, List, [], ◌∷◌, length, map, nat_lt, Option, Some, None, is_some, inl, inr, ◌⊎◌, refl, ap, sym, ◌∙◌, subst, arith}
 use Rattle.std.specs.Prelude.{IsSomeAnd}
 use Rattle.is_proto.specs.Lists.{Has}
@@ -25,6 +25,7 @@ use Rattle.is_theorems.proofs.RuleEffects.UnchangedSettings.{either}
 use Rattle.is_pair.specs.Turns.{IsPaced, due_by}
 use Rattle.is_theorems.specs.Progress.{Passes, MayBeAsked, Arrival, HasSuccess, Round, IsSuccess, MatchesTop, ArriveInTurn, Rounds, SelectsAfter, RoundSelects, AnsweredSelect}
 use Rattle.is_theorems.proofs.DuePairs.WithoutValidPair.{Calm, Persists, Waits, polled-sound, asked-sound, begins, persists, passed, pass-on, never}
+use Rattle.is_theorems.proofs.DuePairs.KindsInTurn.{calls_left, calls-kept, calls-from}
 use Rattle.is_theorems.proofs.DuePairs.AfterPackets.{Core, DueAlike, Held, Arrived, arrived-same, receives, spares-map}
 use Rattle.is_theorems.proofs.PathSelection.SelectedAfterResponse.{eligible}
 use Rattle.is_theorems.proofs.BasicLemmas.VacantIndices.{keeps-remote-same}
@@ -76,7 +77,9 @@ module _ {H P : Type 0} where
             held = subst (λ (t : StunTiming). Held by at t new.pairs) (sym timing) (spares.held w.held);
             placed = subst (λ r. r < length new.remote) (sym x.2.matches.remote) g.1;
             on = grown-path old new w.pair x.0 (ap (λ (c : Core). c.local) core) (ap (λ r. candidate_at new.remote r) x.2.matches.remote ∙ g.0) x.2.matches.local ∙ w.on;
-            count = subst (λ (t : StunTiming). length (due_by by at t new.pairs) + k ≤ n) (sym timing) (let less = spares.count in let counted = w.count in omega (arith, less, counted));
+            count = subst (λ (t : StunTiming). calls_left new.rules.kinds_in_turn new.kind_turn (length (due_by by at t new.pairs)) + k ≤ n) (sym timing)
+                (subst (λ (c : Core). calls_left c.rules.kinds_in_turn c.kind_turn (length (due_by by at old.timing new.pairs)) + k ≤ n) (sym core)
+                (calls-kept old.rules.kinds_in_turn old.kind_turn (length (due_by by at old.timing old.pairs)) (length (due_by by at old.timing new.pairs)) k n spares.count w.count));
           } where
             due_still : (m : ℕ) → by < m → (q : PairRecord) → DueAlike at old.timing w.pair q → due_time_of m old.timing q ≤ by
             due_still m above q a = elim (a.whenever m) [
@@ -170,7 +173,7 @@ module _ {H P : Type 0} where
     met-in : (by n : ℕ) (path : Path) (k : ℕ) (x : Round) (rounds : List Round) (first last : AgentRecord H P) → Persists by n path x.now k first
         → ((y : Round) → Has (x ∷ rounds) y → (by < y.now) × (y.now < MAX)) → (run : Rounds mac answers (x ∷ rounds) first last)
         → ((y : Round) (id : List ℕ) → Has (x ∷ rounds) y → y.emitted.issued ≡ Some (issued_as path class.Request id) → HasSuccess y.arrivals)
-        → n ≤ k + length (x ∷ rounds) → RoundSelects mac answers (x ∷ rounds) first last run
+        → n ≤ k + length (x ∷ rounds) + 1 → RoundSelects mac answers (x ∷ rounds) first last run
     met-in by n path k x [] first last st timeouts (mid, polled, next, passes, may, came, is) echoes enough =
         elim (one-round by n path k x first mid polled next st (timeouts x (inl refl)) passes may came (λ id out. echoes x id (inl refl) out)) [
           | inl selected_paths ↦ inl selected_paths
@@ -186,6 +189,9 @@ module _ {H P : Type 0} where
 
     pub answered-announce : AnsweredSelect mac answers
     answered-announce first last r rounds p by sound role waits unanswered timeouts rounding echoes enough =
-        met-in by (length (due_by by r.now first.timing first.pairs)) (path_of first p) 0 r rounds first last (begins mac answers r.now by first p sound role waits unanswered)
+        met-in by (calls_left first.rules.kinds_in_turn first.kind_turn (length (due_by by r.now first.timing first.pairs))) (path_of first p) 0 r rounds first last (begins mac answers r.now by first p sound role waits unanswered)
         (λ x has. (let late = (timeouts x has).0 in let early = (timeouts x has).1 in (omega (arith, late), omega (arith, early)))) rounding echoes
-        (omega (arith, enough))
+        (at-first (calls_left first.rules.kinds_in_turn first.kind_turn (length (due_by by r.now first.timing first.pairs))) (length (r ∷ rounds))
+        (calls-from first.rules.kinds_in_turn first.kind_turn (length (due_by by r.now first.timing first.pairs)) (length (r ∷ rounds)) (omega (arith, enough)))) where
+          at-first : (n k : ℕ) → n ≤ k + 1 → n ≤ 0 + k + 1
+          at-first n k enough = omega (arith, enough)

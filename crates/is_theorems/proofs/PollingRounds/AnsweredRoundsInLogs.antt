@@ -1,6 +1,6 @@
 -- Rounds in a log: if the checks of a pair are answered, a path is selected within as many rounds as there are pairs
--- that are due no later.
-use Rattle.std.proofs.Common.{◌≡◌, ℕ, ◌<◌, ◌≤◌, true, List, [], ◌∷◌, ◌++◌, length, Some, inl, inr, ◌⊎◌, refl, ap, sym, ◌∙◌, subst, arith, append_assoc}
+-- that are due no later, or with kinds in turn within twice as many.
+use Rattle.std.proofs.Common.{◌≡◌, ℕ, ◌+◌, ◌<◌, ◌≤◌, true, List, [], ◌∷◌, ◌++◌, length, Some, inl, inr, ◌⊎◌, refl, ap, sym, ◌∙◌, subst, arith, append_assoc}
 use Rattle.rand_core.specs.Stream.{Stream}
 use Rattle.is_proto.specs.Lists.{Has}
 use Rattle.is_proto.specs.Times.{MAX}
@@ -20,6 +20,7 @@ use Rattle.is_theorems.specs.Progress.{Passes}
 use Rattle.is_theorems.specs.Rounds.{LoggedRound, entries_of, began_at, is_between, BringsSuccess, IsRound, RunsOn, IsControllingIn, SegmentSelects, AnsweredRoundsSelect}
 use Rattle.is_theorems.proofs.CallEffects.PathAndTradeEffects.{path_theorem}
 use Rattle.is_theorems.proofs.ExecutionLogs.LogTheorems.{runs_sound}
+use Rattle.is_theorems.proofs.DuePairs.KindsInTurn.{calls_left, calls-from}
 use Rattle.is_theorems.proofs.DuePairs.AfterPackets.{Core, Arrived, receives, spares-same}
 use Rattle.is_theorems.proofs.DuePairs.WithoutValidPair.{Calm, Persists, Waits, begins, persists, passed, pass-on, never}
 use Rattle.is_theorems.proofs.PollingRounds.AnsweredRounds.{calm-on, waits-on, asks}
@@ -210,12 +211,18 @@ module _ {H P : Type 0} where
         let sound = runs_sound mac answers (path_theorem mac answers) first start s part.at before fresh part.led in
         let begin = begins mac answers at by start p sound
         (starts-controlling mac answers before start last part.at part.following (entries_of rounds) part.run role) waiting unanswered in
-        by-rounds rounds began are enough (rounds-go first s log fresh before start part.at part.led (entries_of rounds) by (length (due_by by at start.timing start.pairs)) at (path_of start p) begin
+        by-rounds rounds began are
+        (calls-from start.rules.kinds_in_turn start.kind_turn (length (due_by by at start.timing start.pairs)) (length rounds) (omega (arith, enough)))
+        (rounds-go first s log fresh before start part.at part.led (entries_of rounds) by
+        (calls_left start.rules.kinds_in_turn start.kind_turn (length (due_by by at start.timing start.pairs))) at (path_of start p) begin
         rounds last part.following part.rest part.split (λ x has. has) (inr began) are part.run role) where
           by-rounds : (rs : List (LoggedRound P)) → began_at rs ≡ Some at → ((r : LoggedRound P) → Has rs r → IsRound by (path_of start p) r)
-              → length (due_by by at start.timing start.pairs) ≤ length rs
-              → SegmentSelects mac answers first s log (entries_of rounds) ⊎ WaitsAfter start by (length (due_by by at start.timing start.pairs)) (path_of start p) rs last → SegmentSelects mac answers first s log (entries_of rounds)
+              → calls_left start.rules.kinds_in_turn start.kind_turn (length (due_by by at start.timing start.pairs)) ≤ length rs + 1
+              → SegmentSelects mac answers first s log (entries_of rounds)
+              ⊎ WaitsAfter start by (calls_left start.rules.kinds_in_turn start.kind_turn (length (due_by by at start.timing start.pairs))) (path_of start p) rs last
+              → SegmentSelects mac answers first s log (entries_of rounds)
           by-rounds rs none are enough (inl selected_paths) = selected_paths
           by-rounds [] none are enough (inr w) = absurd (cc)
           by-rounds (r ∷ older) began are enough (inr w) =
-              absurd (never by (length (due_by by at start.timing start.pairs)) (path_of start p) r.now (length (r ∷ older)) last (falls-late by (path_of start p) r (are r (inl refl))) w (omega (arith, enough)))
+              absurd (never by (calls_left start.rules.kinds_in_turn start.kind_turn (length (due_by by at start.timing start.pairs))) (path_of start p) r.now (length (r ∷ older)) last
+              (falls-late by (path_of start p) r (are r (inl refl))) w enough)

@@ -1,6 +1,6 @@
 -- Rounds in a log: a pair that is due is checked in one of them, or answered, before more checks of other pairs are
 -- sent than the bound allows.
-use Rattle.std.proofs.Common.{◌≡◌, ℕ, suc, ◌+◌, ◌*◌, ◌<◌, ◌≤◌, true, false, not, List, [], ◌∷◌, ◌++◌, length, map, nat_lt, Option, Some, None, Ok, Err, is_some, unwrap_or, inl, inr, ◌⊎◌, refl, ap, sym, ◌∙◌, subst, arith, append_assoc}
+use Rattle.std.proofs.Common.{◌≡◌, ℕ, suc, ◌+◌, ◌*◌, ◌<◌, ◌≤◌, Bool, true, false, not, List, [], ◌∷◌, ◌++◌, length, map, nat_lt, Option, Some, None, Ok, Err, is_some, unwrap_or, inl, inr, ◌⊎◌, refl, ap, sym, ◌∙◌, subst, arith, append_assoc}
 use Rattle.std.specs.Prelude.{IsSomeAnd}
 use Rattle.std.proofs.lemmas.Bool.Decides.{nat_tests}
 use Rattle.rand_core.specs.Stream.{Stream}
@@ -38,6 +38,7 @@ use Rattle.is_theorems.proofs.ExecutionLogs.LogSegments.{no-case, run-on, passed
 use Rattle.is_theorems.proofs.EarlierChecks.ChangedPairs.{onward-same}
 use Rattle.is_theorems.proofs.EarlierChecks.BetweenTimeouts.{Ground, Goes, goes-to, goes-same, receives-goes}
 use Rattle.is_theorems.proofs.DuePairs.FirstDuePair.{timeout-follows}
+use Rattle.is_theorems.proofs.DuePairs.KindsInTurn.{times, calls_left, Falls, calls-fall, calls-added, calls-over}
 use Rattle.is_theorems.proofs.EarlierChecks.OneCheckFewer.{Ready, timeout-goes}
 use Rattle.is_rules.proofs.PairLists.RisingNumbers.{rising-each}
 use Rattle.is_theorems.proofs.CallEffects.ServedRequests.{Has-mapped}
@@ -103,7 +104,7 @@ module _ {H P : Type 0} where
   -- ---- a pair that waits for its check
 
   -- before a `handle_timeout` call
-  record Persists (by n : ℕ) (path : Path) (total base now k : ℕ) (a : AgentRecord H P) : Type 0 where
+  record Persists (by n : ℕ) (path : Path) (in_turn : Bool) (total base now k : ℕ) (a : AgentRecord H P) : Type 0 where
     checking : IsChecking a
     queue : a.queue ≡ []
     pair : PairRecord
@@ -114,10 +115,11 @@ module _ {H P : Type 0} where
     late : by < now
     early : now < MAX
     ready : Ready now by late early a.timing pair
-    count : leads n by a.pairs + k + base ≤ total + a.next_number
+    rules : a.rules.kinds_in_turn ≡ in_turn
+    count : calls_left in_turn a.kind_turn (leads n by a.pairs) + k + times in_turn base ≤ total + times in_turn a.next_number
 
   -- after it
-  record Waits (by n : ℕ) (path : Path) (total base at k : ℕ) (a : AgentRecord H P) : Type 0 where
+  record Waits (by n : ℕ) (path : Path) (in_turn : Bool) (total base at k : ℕ) (a : AgentRecord H P) : Type 0 where
     checking : IsChecking a
     queue : a.queue ≡ []
     last : a.last_time ≡ Some at
@@ -129,10 +131,11 @@ module _ {H P : Type 0} where
     timeout : ℕ
     before : timeout ≤ by
     due : pair.due ≡ Some timeout
-    count : leads n by a.pairs + k + base ≤ total + a.next_number
+    rules : a.rules.kinds_in_turn ≡ in_turn
+    count : calls_left in_turn a.kind_turn (leads n by a.pairs) + k + times in_turn base ≤ total + times in_turn a.next_number
 
-  persists : (by n : ℕ) (path : Path) (total base at k now : ℕ) (a : AgentRecord H P) → by < now → now < MAX → Waits by n path total base at k a → Persists by n path total base now k a
-  persists by n path total base at k now a late early w = record {
+  persists : (by n : ℕ) (path : Path) (in_turn : Bool) (total base at k now : ℕ) (a : AgentRecord H P) → by < now → now < MAX → Waits by n path in_turn total base at k a → Persists by n path in_turn total base now k a
+  persists by n path in_turn total base at k now a late early w = record {
     checking = w.checking;
     queue = w.queue;
     pair = w.pair;
@@ -143,19 +146,18 @@ module _ {H P : Type 0} where
     late = late;
     early = early;
     ready = (subst (λ d. d ≤ by) (sym (ap (λ o. unwrap_or o (due_time_of now a.timing (record w.pair { due = None }))) w.due)) w.before, inr (ap is_some w.due));
+    rules = w.rules;
     count = w.count;
   }
 
-  module _ (mac : H → List ℕ → List ℕ → List ℕ) (answers : P → CandidateRecord → ℕ → ℕ → Type 0) (by n : ℕ) (path : Path) (total base : ℕ) where
+  module _ (mac : H → List ℕ → List ℕ → List ℕ) (answers : P → CandidateRecord → ℕ → ℕ → Type 0) (by n : ℕ) (path : Path) (in_turn : Bool) (total base : ℕ) where
     -- ---- between two `handle_timeout` calls
 
-    waits-on : (at k : ℕ) (old new : AgentRecord H P) (w : Waits by n path total base at k old) → IsSound new → Goes n by old new → Stays old w.pair new → Waits by n path total base at k new
+    waits-on : (at k : ℕ) (old new : AgentRecord H P) (w : Waits by n path in_turn total base at k old) → IsSound new → Goes n by old new → Stays old w.pair new → Waits by n path in_turn total base at k new
     waits-on at k old new w sound (ground, goes) stays =
         let f = goes.fixed w.timeout w.pair.checks (w.pair, w.there, w.number, w.due, refl) in
         let one : stays.pair ≡ f.0 = one_pair new.pairs stays.pair f.0 (rising-each new.pairs sound.rising) stays.there f.1 (stays.number ∙ (w.number ∙ sym f.2)) in
         let timing : new.timing ≡ old.timing = ap (λ (g : Ground). g.timing) ground in
-        let counted = w.count in
-        let less = goes.less in
         record {
           checking = record {
             full = ap (λ (g : Ground). g.lite) ground ∙ w.checking.full;
@@ -171,10 +173,11 @@ module _ {H P : Type 0} where
           timeout = w.timeout;
           before = w.before;
           due = f.3;
-          count = counted-on (leads n by old.pairs) (leads n by new.pairs) old.next_number new.next_number counted less;
-        } where
-          counted-on : (x y i j : ℕ) → x + k + base ≤ total + i → y + i ≤ x + j → y + k + base ≤ total + j
-          counted-on x y i j h l = omega (arith, h, l)
+          rules = ap (λ (g : Ground). g.rules.kinds_in_turn) ground ∙ w.rules;
+          count = subst (λ b. calls_left in_turn b (leads n by new.pairs) + k + times in_turn base ≤ total + times in_turn new.next_number)
+              (sym (ap (λ (g : Ground). g.kind_turn) ground))
+              (calls-added in_turn old.kind_turn (leads n by old.pairs) (leads n by new.pairs) old.next_number new.next_number k base total goes.less w.count);
+        }
 
     between-goes : (at : ℕ) → by < at → at < MAX → (x : Logged P) (call : Call P) → x.call ≡ call → (old new : AgentRecord H P) (s t : Stream) → is_some old.remote_creds ≡ true → old.last_time ≡ Some at
         → (p : PairRecord) → IsSound old → Has old.pairs p → p.number ≡ n → path_of old p ≡ path → is_in_round call ≡ true → Step mac answers old s call x.entry new t
@@ -217,9 +220,9 @@ module _ {H P : Type 0} where
       sound-at log a t run = runs_sound mac answers (path_theorem mac answers) first a s t log fresh run
 
       walk : (at k : ℕ) → by < at → at < MAX → (before : List (Logged P)) (start last : AgentRecord H P) (u t : Stream) (xs : List (Logged P)) → ((x : Logged P) → Has xs x → is_in_round x.call ≡ true)
-          → Run mac answers first s before start u → (run : RunsOn mac answers before start u xs last t) → Waits by n path total base at k start
-          → IsAnsweredIn xs path ⊎ (IsEndedIn mac answers before start u xs last t run path ⊎ Waits by n path total base at k last)
-      walk at k following early before start last u t [] fits led (is, same) w = inr (inr (subst (λ (a : AgentRecord H P). Waits by n path total base at k a) (sym is) w))
+          → Run mac answers first s before start u → (run : RunsOn mac answers before start u xs last t) → Waits by n path in_turn total base at k start
+          → IsAnsweredIn xs path ⊎ (IsEndedIn mac answers before start u xs last t run path ⊎ Waits by n path in_turn total base at k last)
+      walk at k following early before start last u t [] fits led (is, same) w = inr (inr (subst (λ (a : AgentRecord H P). Waits by n path in_turn total base at k a) (sym is) w))
       walk at k following early before start last u t (x ∷ xs) fits led (mid, v, run, number, given, step) w =
           elim (walk at k following early before start mid u v xs (λ y has. fits y (inr has)) led run w) [
             | inl answered ↦ inl (answered-later path x xs answered)
@@ -242,15 +245,15 @@ module _ {H P : Type 0} where
     -- ---- a `handle_timeout` call
 
     timeout-on : (now k : ℕ) (e : Entry) (old new : AgentRecord H P) (s t : Stream) → e.answer ≡ Done → Step mac answers old s (HandleTimeout now) e new t → IsSound old → IsSound new
-        → Persists by n path total base now k old
-        → ((id : List ℕ) × (e.emitted.issued ≡ Some (issued_as path class.Request id))) ⊎ Waits by n path total base now (suc k) new
+        → Persists by n path in_turn total base now k old
+        → ((id : List ℕ) × (e.emitted.issued ≡ Some (issued_as path class.Request id))) ⊎ Waits by n path in_turn total base now (suc k) new
     timeout-on now k e old new s t done step sound sound_new st =
         let h = passed-at mac answers old new s t now e done step in
         let p = maintains_pairs-from mac now old s t e.emitted new st.queue h in
         let m = timeout-follows mac now (timeout_begun now old) new s t e.emitted st.checking.peer st.checking.full p in
         elim (timeout-goes now by st.late st.early mac (timeout_begun now old) new s t e.emitted st.checking.peer st.checking.full (distinct-sound mac old sound) sound.checks st.pair st.there st.young st.ready p) [
           | inl (id, out) ↦ inl (id, out ∙ ap (λ w. Some (issued_as w class.Request id)) st.on)
-          | inr (d, before, (q, has, is, due, checks), fewer) ↦
+          | inr (d, before, (q, has, is, due, checks), falls) ↦
               (let stays : Stays old st.pair new = elim (pairs-stay mac answers old new s t (HandleTimeout now) e st.pair sound tt step st.there) [
                 | inl x ↦ x
                 | inr (was_done, none, gone) ↦ (let no : false ≡ true = ap not (sym gone) ∙ stays-young old.lite now old.timing st.pair st.checking.full st.young in absurd (cc))
@@ -258,8 +261,9 @@ module _ {H P : Type 0} where
               let one : stays.pair ≡ q = one_pair new.pairs stays.pair q (rising-each new.pairs sound_new.rising) stays.there has (stays.number ∙ sym is) in
               let next : new.next_number ≡ old.next_number = ap (λ (b : Base). b.next_number) m.0 in
               let timing : new.timing ≡ old.timing = ap (λ (b : Base). b.timing) m.0 in
-              let less : leads n by new.pairs + 1 ≤ leads n by old.pairs = subst (λ i. leads i by new.pairs + 1 ≤ leads i by old.pairs) st.number fewer in
-              let counted = st.count in
+              let falls_for : Falls in_turn old.kind_turn new.kind_turn (leads n by old.pairs) (leads n by new.pairs) =
+              subst (λ b. Falls b old.kind_turn new.kind_turn (leads n by old.pairs) (leads n by new.pairs)) st.rules
+              (subst (λ i. Falls old.rules.kinds_in_turn old.kind_turn new.kind_turn (leads i by old.pairs) (leads i by new.pairs)) st.number falls) in
               inr (record {
                 checking = record {
                   full = ap (λ (b : Base). b.lite) m.0 ∙ st.checking.full;
@@ -275,11 +279,14 @@ module _ {H P : Type 0} where
                 timeout = d;
                 before = before;
                 due = due;
-                count = subst (λ j. leads n by new.pairs + suc k + base ≤ total + j) (sym next) (counted-on (leads n by old.pairs) (leads n by new.pairs) (total + old.next_number) counted less);
+                rules = ap (λ (b : Base). b.rules.kinds_in_turn) m.0 ∙ st.rules;
+                count = subst (λ j. calls_left in_turn new.kind_turn (leads n by new.pairs) + suc k + times in_turn base ≤ total + times in_turn j) (sym next)
+                    (counted-on (calls_left in_turn old.kind_turn (leads n by old.pairs)) (calls_left in_turn new.kind_turn (leads n by new.pairs)) (times in_turn base) (total + times in_turn old.next_number)
+                    (calls-fall in_turn old.kind_turn new.kind_turn (leads n by old.pairs) (leads n by new.pairs) falls_for) st.count);
               }))
         ] where
-          counted-on : (x y z : ℕ) → x + k + base ≤ z → y + 1 ≤ x → y + suc k + base ≤ z
-          counted-on x y z h l = omega (arith, h, l)
+          counted-on : (x y i z : ℕ) → y + 1 ≤ x → x + k + i ≤ z → y + suc k + i ≤ z
+          counted-on x y i z l h = omega (arith, h, l)
 
     -- ---- rounds
 
@@ -309,23 +316,23 @@ module _ {H P : Type 0} where
     reached-later r older (inr answered) = inr (has-following path r.following (r.timeout ∷ entries_of older) (answered-later path r.timeout (entries_of older) answered))
 
     module _ (first : AgentRecord H P) (s : Stream) (fresh : IsFresh first) (before : List (Logged P)) (start : AgentRecord H P) (u : Stream) (led : Run mac answers first s before start u) (at : ℕ)
-        (begin : (late : by < at) (early : at < MAX) → Persists by n path total base at 0 start) where
+        (begin : (late : by < at) (early : at < MAX) → Persists by n path in_turn total base at 0 start) where
       abbrev WaitsAfter : List (LoggedRound P) → AgentRecord H P → Type 0
       WaitsAfter [] a = a ≡ start
-      WaitsAfter (r ∷ older) a = Waits by n path total base r.now (length (r ∷ older)) a
+      WaitsAfter (r ∷ older) a = Waits by n path in_turn total base r.now (length (r ∷ older)) a
 
       some-is : (x y : ℕ) → Some x ≡ Some y → x ≡ y
       some-is x y e = cc
 
       persists-at : (r : LoggedRound P) (older : List (LoggedRound P)) (old : AgentRecord H P) → began_at (r ∷ older) ≡ Some at → IsPassing by r → WaitsAfter older old
-          → Persists by n path total base r.now (length older) old
+          → Persists by n path in_turn total base r.now (length older) old
       persists-at r [] old began passing same =
           let now : r.now ≡ at = some-is r.now at began in
           let late : by < r.now = falls-late by r passing in
           let early : r.now < MAX = falls-early by r passing in
-          subst (λ (a : AgentRecord H P). Persists by n path total base r.now 0 a) (sym same)
-          (subst (λ m. Persists by n path total base m 0 start) (sym now) (begin (omega (arith, late, now)) (omega (arith, early, now))))
-      persists-at r (x ∷ older) old began passing w = persists by n path total base x.now (length (x ∷ older)) r.now old (falls-late by r passing) (falls-early by r passing) w
+          subst (λ (a : AgentRecord H P). Persists by n path in_turn total base r.now 0 a) (sym same)
+          (subst (λ m. Persists by n path in_turn total base m 0 start) (sym now) (begin (omega (arith, late, now)) (omega (arith, early, now))))
+      persists-at r (x ∷ older) old began passing w = persists by n path in_turn total base x.now (length (x ∷ older)) r.now old (falls-late by r passing) (falls-early by r passing) w
 
       older-began : (r : LoggedRound P) (rs : List (LoggedRound P)) → began_at (r ∷ rs) ≡ Some at → (rs ≡ [] ⊎ began_at rs ≡ Some at)
       older-began r [] is = inl refl
@@ -352,7 +359,7 @@ module _ {H P : Type 0} where
                 → Reached older ⊎ (IsEndedIn mac answers before start u (entries_of older) h.2.0 h.2.1 h.2.2 path ⊎ WaitsAfter older h.2.0)
                 → Reached (r ∷ older)
                 ⊎ ((IsEndedIn mac answers ((r.timeout ∷ entries_of older) ++ before) h.0 h.1 r.following last t h.3 path ⊎ IsEndedIn mac answers before start u (r.timeout ∷ entries_of older) h.0 h.1 h.2 path)
-                ⊎ Waits by n path total base r.now (length (r ∷ older)) last)
+                ⊎ Waits by n path in_turn total base r.now (length (r ∷ older)) last)
             on-halves began (mid, v, (old, z, run_older, number, given, step), back) so_far =
                 elim so_far [
                   | inl reached ↦ inl (reached-later r older reached)
@@ -378,8 +385,11 @@ module _ {H P : Type 0} where
     pub pairs-are-reached : PairsAreReached {H = H} {P = P} mac answers
     pairs-are-reached first s log fresh before start last rounds p by found f =
         by-rounds (IsEndedIn mac answers before start found.at (entries_of rounds) last found.following found.run (path_of start p)) rounds f.began (let enough = f.enough in omega (arith, enough))
-        (rounds-go mac answers by p.number (path_of start p) (leads p.number by start.pairs) start.next_number first s fresh before start found.at found.led f.at begin rounds last found.following (inr f.began) f.passing found.run) where
-          begin : (late : by < f.at) (early : f.at < MAX) → Persists by p.number (path_of start p) (leads p.number by start.pairs) start.next_number f.at 0 start
+        (rounds-go mac answers by p.number (path_of start p) start.rules.kinds_in_turn total start.next_number first s fresh before start found.at found.led f.at begin rounds last found.following (inr f.began) f.passing found.run) where
+          total : ℕ
+          total = calls_left start.rules.kinds_in_turn start.kind_turn (leads p.number by start.pairs)
+
+          begin : (late : by < f.at) (early : f.at < MAX) → Persists by p.number (path_of start p) start.rules.kinds_in_turn total start.next_number f.at 0 start
           begin late early = record {
             checking = f.line.checking;
             queue = f.line.queue;
@@ -391,23 +401,24 @@ module _ {H P : Type 0} where
             late = late;
             early = early;
             ready = (let due = f.line.due in omega (arith, due), f.line.settled);
-            count = omega arith;
-          }
+            rules = refl;
+            count = at-first total (times start.rules.kinds_in_turn start.next_number);
+          } where
+            at-first : (x i : ℕ) → x + 0 + i ≤ x + i
+            at-first x i = omega arith
 
-          over : (x y m i j k : ℕ) → y + k + i ≤ x + j → x + 2 ≤ 2 * m → 2 * m + j ≤ k + 1 + i → ⊥
-          over x y m i j k h l e = omega (arith, h, l, e)
-
-          by-rounds : (Gone : Type 0) (rs : List (LoggedRound P)) → began_at rs ≡ Some f.at → 2 * length start.pairs + last.next_number ≤ length rs + 1 + start.next_number
-              → Reached mac answers by p.number (path_of start p) (leads p.number by start.pairs) start.next_number rs
-              ⊎ (Gone ⊎ WaitsAfter mac answers by p.number (path_of start p) (leads p.number by start.pairs) start.next_number first s fresh before start found.at found.led f.at begin rs last)
+          by-rounds : (Gone : Type 0) (rs : List (LoggedRound P)) → began_at rs ≡ Some f.at
+              → times start.rules.kinds_in_turn (2 * length start.pairs + last.next_number) ≤ length rs + 1 + times start.rules.kinds_in_turn start.next_number
+              → Reached mac answers by p.number (path_of start p) start.rules.kinds_in_turn total start.next_number rs
+              ⊎ (Gone ⊎ WaitsAfter mac answers by p.number (path_of start p) start.rules.kinds_in_turn total start.next_number first s fresh before start found.at found.led f.at begin rs last)
               → ChecksIn rs (path_of start p) ⊎ (IsAnsweredIn (entries_of rs) (path_of start p) ⊎ Gone)
           by-rounds Gone rs none enough (inl (inl checks)) = inl checks
           by-rounds Gone rs none enough (inl (inr answered)) = inr (inl answered)
           by-rounds Gone rs none enough (inr (inl gone)) = inr (inr gone)
           by-rounds Gone [] none enough (inr (inr w)) = absurd (cc)
           by-rounds Gone (r ∷ older) began enough (inr (inr w)) =
-              absurd (over (leads p.number by start.pairs) (leads p.number by last.pairs) (length start.pairs) start.next_number last.next_number (length (r ∷ older)) w.count
-              (leads-others by start.pairs p f.line.there) enough)
+              absurd (calls-over start.rules.kinds_in_turn start.kind_turn last.kind_turn (leads p.number by start.pairs) (leads p.number by last.pairs) (length start.pairs) start.next_number last.next_number
+              (length (r ∷ older)) w.count (leads-others by start.pairs p f.line.there) enough)
 
     -- what may end the pair is an entry of the log
     ended-may : (first : AgentRecord H P) (s : Stream) (log part before : List (Logged P)) (start : AgentRecord H P) (u : Stream) (path : Path) → Run mac answers first s before start u

@@ -1,6 +1,6 @@
 -- The first round leaves a pair that is due by its `handle_timeout` call, and is not checked in it, due as it was. So what holds of
 -- a pair that is due before the rounds holds of it from the second round on.
-use Rattle.std.proofs.Common.{◌≡◌, ℕ, ◌+◌, ◌*◌, ◌<◌, ◌≤◌, ◌==◌, Bool, true, false, not, List, [], ◌∷◌, ◌++◌, length, map, nat_lt, Option, Some, None, Ok, Err, is_some, unwrap_or, inl, inr, ◌⊎◌, refl, ap, sym, ◌∙◌, subst, arith}
+use Rattle.std.proofs.Common.{◌≡◌, ℕ, ◌+◌, ◌*◌, ◌<◌, ◌≤◌, true, false, not, List, [], ◌∷◌, ◌++◌, length, map, nat_lt, Option, Some, None, Ok, Err, is_some, unwrap_or, inl, inr, ◌⊎◌, refl, ap, sym, ◌∙◌, subst, arith}
 use Rattle.std.specs.Prelude.{IsSomeAnd}
 use Rattle.std.proofs.lemmas.Bool.{eq-eqb}
 use Rattle.std.proofs.lemmas.Bool.Decides.{nat_tests}
@@ -35,6 +35,7 @@ use Rattle.is_theorems.proofs.ExecutionLogs.LogSegments.{no-case, run-on, passed
 use Rattle.is_theorems.proofs.EarlierChecks.BetweenTimeouts.{Ground, Goes, ground_of, receives-goes}
 use Rattle.is_theorems.proofs.EarlierChecks.ChangedPairs.{Fixed}
 use Rattle.is_theorems.proofs.DuePairs.FirstDuePair.{timeout-follows}
+use Rattle.is_theorems.proofs.DuePairs.KindsInTurn.{times, none-suffices}
 use Rattle.is_theorems.proofs.CallEffects.FailedCallsAndNewAgents.{mtu_kept, local_kept, enrolment_kept, storing_kept}
 use Rattle.is_rules.proofs.PairLists.RisingNumbers.{rising-each}
 use Rattle.is_theorems.proofs.CallEffects.ServedRequests.{Has-mapped}
@@ -284,12 +285,12 @@ module _ {H P : Type 0} where
 
           from-second : (rounds : List (LoggedRound P)) → (found : Part mac answers first s log (entries_of (r ∷ []) ++ before) second (entries_of rounds) last)
               → Waits by p.number (path_of start p) r.now second → ((x : LoggedRound P) → Has rounds x → IsPassing by x)
-              → 2 * length second.pairs + last.next_number ≤ length rounds + 1 + second.next_number
+              → times second.rules.kinds_in_turn (2 * length second.pairs + last.next_number) ≤ length rounds + 1 + times second.rules.kinds_in_turn second.next_number
               → IsReachedIn mac answers rounds found (path_of start p)
           from-second [] found v passing enough =
               let some = some-there second.pairs v.pair v.there in
               let same : last.next_number ≡ second.next_number = ap (λ (a : AgentRecord H P). a.next_number) found.run.0 in
-              absurd (let no : ⊥ = omega (arith, some, same, enough) in no)
+              absurd (none-suffices second.rules.kinds_in_turn (length second.pairs) second.next_number last.next_number some same enough)
           from-second (x ∷ older) found v passing enough =
               let began = oldest x older in
               let due : due_time_of began.0 second.timing v.pair ≡ v.timeout = ap (λ o. unwrap_or o (due_time_of began.0 second.timing (record v.pair { due = None }))) v.due in

@@ -1,6 +1,6 @@
 -- A controlling agent without a valid pair that is due by its first `handle_timeout` call has none after the round either, or selects
 -- a path in it. So what holds of pairs that are due before the rounds holds of it from the second round on.
-use Rattle.std.proofs.Common.{◌≡◌, ℕ, ◌<◌, ◌≤◌, ◌==◌, true, false, List, [], ◌∷◌, ◌++◌, length, map, Option, Some, None, is_some, unwrap_or, inl, inr, ◌⊎◌, refl, ap, sym, ◌∙◌, subst, arith}
+use Rattle.std.proofs.Common.{◌≡◌, ℕ, ◌<◌, ◌≤◌, true, List, [], ◌∷◌, ◌++◌, length, map, Option, Some, None, is_some, unwrap_or, inl, inr, ◌⊎◌, refl, ap, sym, ◌∙◌, subst, arith}
 use Rattle.std.proofs.lemmas.Bool.{eq-eqb}
 use Rattle.rand_core.specs.Stream.{Stream}
 use Rattle.is_proto.specs.Lists.{Has}
@@ -8,7 +8,7 @@ use Rattle.is_candidate.specs.Candidates.{CandidateRecord}
 use Rattle.is_pair.specs.Checks.{unanswered_count}
 use Rattle.is_pair.specs.Due.{asked, due_time_of}
 use Rattle.is_pair.specs.Pairs.{PairRecord, is_valid}
-use Rattle.is_pair.specs.Turns.{IsPaced, due_by}
+use Rattle.is_pair.specs.Turns.{IsPaced}
 use Rattle.is_stun.specs.declared.header.Class.TheVariants as class
 use Rattle.is_stun.specs.declared.timing.StunTiming.{StunTiming}
 use Rattle.is_stun.specs.Message.{Message}
@@ -21,7 +21,6 @@ use Rattle.is_rules.specs.Effects.{last_of}
 use Rattle.is_theorems.specs.Exchange.{AreBetween, Course}
 use Rattle.is_rules.specs.Polls.{PollsTimeout}
 use Rattle.is_rules.specs.Points.{HasSelected}
-use Rattle.is_theorems.specs.Progress.{Awaits, IsUnanswered}
 use Rattle.is_theorems.specs.Reached.{IsInLine}
 use Rattle.is_theorems.specs.ReachedCourses.{IsPassed, ChecksAmong, CoursesCheck}
 use Rattle.is_theorems.specs.Rounds.{is_between}
@@ -182,7 +181,7 @@ module _ {H P : Type 0} where
       }
 
       -- what the call leaves of the others
-      after-call : (agent_base run.0 ≡ record (agent_base (timeout_begun r.now start)) { last_time = Some r.now }) × Follows start.pairs run.0.pairs
+      after-call : (agent_base run.0 ≡ record (agent_base (timeout_begun r.now start)) { last_time = Some r.now; kind_turn = run.0.kind_turn }) × Follows start.pairs run.0.pairs
       after-call = timeout-follows mac r.now (timeout_begun r.now start) run.0 run.2 run.3 r.timeout.emitted waits.checking.peer waits.checking.full
           (maintains_pairs-from mac r.now start run.2 run.3 r.timeout.emitted run.0 waits.queue (passed-at mac answers start run.0 run.2 run.3 r.now r.timeout done run.4))
 

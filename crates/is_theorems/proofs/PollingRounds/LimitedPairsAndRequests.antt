@@ -1,5 +1,5 @@
 -- With limits, a bound on the rounds before a pair that is due is checked, whatever pairs requests add in them.
-use Rattle.std.proofs.Common.{◌≡◌, ℕ, ◌+◌, ◌*◌, ◌<◌, ◌≤◌, Bool, true, false, List, [], ◌∷◌, ◌++◌, length, count_by, inl, inr, refl, sym, ◌∙◌, subst, arith, cond, append_assoc}
+use Rattle.std.proofs.Common.{◌≡◌, ℕ, ◌+◌, ◌*◌, ◌<◌, ◌≤◌, Bool, true, false, List, [], ◌∷◌, ◌++◌, length, count_by, inl, inr, refl, ap, sym, ◌∙◌, subst, arith, cond, append_assoc}
 use Rattle.std.proofs.Math.Nat.{add-mul, le_of_mul-le-mul_right, mul-le-mul_right}
 use Rattle.std.proofs.lemmas.List.Sums.{sum_by-append, sum_by-cons}
 use Rattle.rand_core.specs.Stream.{Stream}
@@ -17,6 +17,7 @@ use Rattle.is_rules.specs.Sound.{IsSound}
 use Rattle.is_theorems.specs.Staying.{MayEnd}
 use Rattle.is_rules.specs.Steps.{Call, AddLocalCandidate, AddRemoteCandidate, InvalidateCandidate, RestartIce, RecreateCandidatePairs, HandleTimeout, Entry}
 use Rattle.is_rules.specs.declared.emitted.Path.{Path}
+use Rattle.is_theorems.proofs.DuePairs.KindsInTurn.{times}
 use Rattle.is_theorems.proofs.StorageBounds.BoundedLists.{at-most-one}
 use Rattle.is_theorems.proofs.StorageBounds.NumberOfPairs.{pairs_within}
 use Rattle.is_theorems.proofs.CallEffects.PathAndTradeEffects.{path_theorem}
@@ -43,6 +44,27 @@ enough-rounds was now next_was next rounds bound m was_few now_few some added en
 none-of : (b : Bool) → b ≡ false → cond b 1 0 ≤ 0
 none-of true is = no-case (sym is)
 none-of false is = omega arith
+
+enough-rounds-in-turn : (in_turn : Bool) (was now next_was next rounds bound m : ℕ) → was ≤ bound → now ≤ bound → 0 < m → next * m ≤ (next_was + now) * m + rounds
+    → times in_turn (3 * bound) * m + times in_turn rounds ≤ (rounds + 1) * m → times in_turn (2 * was + next) ≤ rounds + 1 + times in_turn next_was
+enough-rounds-in-turn false was now next_was next rounds bound m was_few now_few some added enough = enough-rounds was now next_was next rounds bound m was_few now_few some added enough
+enough-rounds-in-turn true was now next_was next rounds bound m was_few now_few some added enough =
+    let all : (2 * was + now) * m ≤ 3 * bound * m = mul-le-mul_right m (omega (arith, was_few, now_few)) in
+    let all_sum : (2 * was + now) * m ≡ 2 * was * m + now * m = add-mul (2 * was) now m in
+    let left : (2 * (2 * was + next)) * m ≡ (2 * was + next) * m + (2 * was + next) * m = doubled (2 * was + next) in
+    let left_sum : (2 * was + next) * m ≡ 2 * was * m + next * m = add-mul (2 * was) next m in
+    let added_sum : (next_was + now) * m ≡ next_was * m + now * m = add-mul next_was now m in
+    let right : (rounds + 1 + 2 * next_was) * m ≡ (rounds + 1) * m + (2 * next_was) * m = add-mul (rounds + 1) (2 * next_was) m in
+    let right_sum : (2 * next_was) * m ≡ next_was * m + next_was * m = doubled next_was in
+    let bounds : (2 * (3 * bound)) * m ≡ 3 * bound * m + 3 * bound * m = doubled (3 * bound) in
+    le_of_mul-le-mul_right (joined (2 * was * m) (now * m) (next * m) (next_was * m) (3 * bound * m) ((rounds + 1) * m) _ _ _ _ _ _ _
+    left left_sum right right_sum added_sum bounds all all_sum added enough) some where
+      doubled : (x : ℕ) → (2 * x) * m ≡ x * m + x * m
+      doubled x = let same : 2 * x ≡ x + x = omega arith in ap (λ y. y * m) same ∙ add-mul x x m
+
+      joined : (a b c d e f left one right twice added bounds both : ℕ) → left ≡ one + one → one ≡ a + c → right ≡ f + twice → twice ≡ d + d → added ≡ d + b → bounds ≡ e + e
+          → both ≤ e → both ≡ a + b → c ≤ added + rounds → bounds + 2 * rounds ≤ f → left ≤ right
+      joined a b c d e f left one right twice added bounds both h1 h2 h3 h4 h5 h6 h7 h8 h9 h10 = omega (arith, h1, h2, h3, h4, h5, h6, h7, h8, h9, h10)
 
 -- ---- calls of a segment in which no candidate is added
 
@@ -137,12 +159,12 @@ module _ {H P : Type 0} (mac : H → List ℕ → List ℕ → List ℕ) (answer
             (λ b m a y k. limited b m a y (deeper mac answers first s log (entries_of rounds ++ before) part.rest b m y a part.split k))
             (λ b m a y k. few b m a y (deeper mac answers first s log (entries_of rounds ++ before) part.rest b m y a part.split k)) led))
 
-        enough : 2 * length start.pairs + last.next_number ≤ length rounds + 1 + start.next_number
+        enough : times start.rules.kinds_in_turn (2 * length start.pairs + last.next_number) ≤ length rounds + 1 + times start.rules.kinds_in_turn start.next_number
         enough =
             let added = requests-add-few mac answers first s log fresh before (entries_of rounds) start last part f.line.checking.full f.steady in
             let timeouts = few-timeouts by rounds f.passing in
             let sound : IsSound start = runs_sound mac answers (path_theorem mac answers) first start s part.at before fresh part.led in
             let all = f.enough in
-            enough-rounds (length start.pairs) (length last.pairs) start.next_number last.next_number (length rounds)
+            enough-rounds-in-turn start.rules.kinds_in_turn (length start.pairs) (length last.pairs) start.next_number last.next_number (length rounds)
             (pair_bound limit most (gathered_count before) (signal_count before)) start.timing.max_retransmits was now sound.checks
             (omega (arith, added, timeouts)) (omega (arith, all))

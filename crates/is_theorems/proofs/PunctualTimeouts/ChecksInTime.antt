@@ -28,6 +28,7 @@ use Rattle.is_rules.specs.Timeouts.{timeout_begun}
 use Rattle.is_theorems.proofs.CallEffects.PathAndTradeEffects.{path_theorem}
 use Rattle.is_theorems.proofs.ExecutionLogs.LogSegments.{passed as passed-at}
 use Rattle.is_theorems.proofs.DuePairs.FirstDuePair.{timeout-follows}
+use Rattle.is_theorems.proofs.DuePairs.KindsInTurn.{times, times-kept}
 use Rattle.is_theorems.proofs.CallEffects.FailedCallsAndNewAgents.{fresh_sound}
 use Rattle.is_theorems.proofs.DuePairs.PollingCycles.{maintains_pairs-from}
 use Rattle.is_theorems.proofs.DuePairs.AfterNominationAndRemoval.{Base}
@@ -271,9 +272,21 @@ module _ {H P : Type 0} where
         }
 
     suffices-earlier : (by now many : ℕ) (first second end last : AgentRecord H P) → end.next_number ≤ last.next_number → Suffices by now first second last many → Suffices by now first second end many
-    suffices-earlier by now many first second end last fewer (inl (late, enough)) = inl (omega (arith, late), omega (arith, enough, fewer))
+    suffices-earlier by now many first second end last fewer (inl (late, enough)) =
+        inl (
+          omega (arith, late),
+          (let needed : times first.rules.kinds_in_turn (2 * length first.pairs + last.next_number) ≤ many + 2 + times first.rules.kinds_in_turn first.next_number = omega (arith, enough) in
+              let kept = times-kept first.rules.kinds_in_turn (2 * length first.pairs + last.next_number) (2 * length first.pairs + end.next_number)
+              (many + 2 + times first.rules.kinds_in_turn first.next_number) (omega (arith, fewer)) needed in
+              omega (arith, kept)),
+        )
     suffices-earlier by now many first second end last fewer (inr (inl few)) = inr (inl (omega (arith, few)))
-    suffices-earlier by now many first second end last fewer (inr (inr enough)) = inr (inr (omega (arith, enough, fewer)))
+    suffices-earlier by now many first second end last fewer (inr (inr enough)) =
+        inr (inr
+        (let needed : times second.rules.kinds_in_turn (2 * length second.pairs + last.next_number) ≤ many + 1 + times second.rules.kinds_in_turn second.next_number = omega (arith, enough) in
+        let kept = times-kept second.rules.kinds_in_turn (2 * length second.pairs + last.next_number) (2 * length second.pairs + end.next_number)
+        (many + 1 + times second.rules.kinds_in_turn second.next_number) (omega (arith, fewer)) needed in
+        omega (arith, kept)))
 
     -- all of them
     reach-all : CoursesReachFromDue {H = H} {P = P} mac answers

@@ -12,7 +12,8 @@ use Rattle.is_pair.specs.declared.pair.states.NominationState.{NominationState}
 use Rattle.is_pair.specs.declared.pair.states.NominationState.TheVariants.{None as Unnominated, Nominated, Attempt, Success}
 use Rattle.is_theorems.proofs.BasicLemmas.EqualAddresses.{both, same_address-sound, same_protocol-sound}
 use Rattle.is_rules.specs.declared.emitted.Path.{Path}
-use Rattle.is_pair.specs.Multiset.{is_numbered, without, EvictsInTurn}
+use Rattle.is_pair.specs.Multiset.{is_numbered, without}
+use Rattle.is_rules.proofs.PairLists.RemovedInTurn.{removes, RemovesInTurn}
 use Rattle.is_rules.proofs.PairLists.RisingNumbers.{AreRising, AllBelow}
 use Rattle.is_rules.specs.Sound.{IsPlaced, ArePlaced}
 use Rattle.is_rules.specs.Forming.{SidesRecord, Formed, Combination, combined_priority, is_redundant, pair_of, Tries, FormsEach}
@@ -330,16 +331,17 @@ module _ (asks met : Path → Type 0) (sent : Path → List ℕ → Bool → Typ
       onward (parts_with s old) (parts_with s mid) (parts_with s new) first
       (tries_each s all mid new (λ x has. placed x (inr has)) first.fit others)
 
-  drops_each : (limit : ℕ) (gone : List PairRecord) (x : Parts) (new : List PairRecord) → Fit x → EvictsInTurn limit gone x.pairs new → Onward x (record x { pairs = new })
+  drops_each : (limit : ℕ) (gone : List PairRecord) (x : Parts) (new : List PairRecord) → Fit x → RemovesInTurn limit gone x.pairs new → Onward x (record x { pairs = new })
   drops_each limit [] x new fit (within, same) = subst (λ ps. Onward x (record x { pairs = ps })) (sym same) (here x fit)
-  drops_each limit (p ∷ gone) x new fit (over, least, others) =
+  drops_each limit (p ∷ gone) x new fit (over, has, others) =
       let first = thinned x (λ q. not (is_numbered p.number q)) fit in
       onward x _ _ first (drops_each limit gone (record x { pairs = without (is_numbered p.number) x.pairs }) new first.fit others)
 
   pub forms : (s : SidesRecord) (limit : ℕ) (all : List Combination) (old new : Formed) → ((at : Combination) → Has all at → IsIn s at) → Fit (parts_with s old)
       → FormsEach s limit all old new → Onward (parts_with s old) (parts_with s new)
-  forms s limit all old new placed fit (mid, each, (gone, drops), counter) =
+  forms s limit all old new placed fit (mid, each, evicts, counter) =
       let first = tries_each s all old mid placed fit each in
-      let second = drops_each limit gone (parts_with s mid) new.pairs first.fit drops in
+      let all_gone = removes s limit mid.pairs new.pairs evicts in
+      let second = drops_each limit all_gone.0 (parts_with s mid) new.pairs first.fit all_gone.1 in
       subst (λ n. Onward (parts_with s old) (record (parts_with s new) { next_number = n })) (sym counter)
       (onward (parts_with s old) (parts_with s mid) (record (parts_with s mid) { pairs = new.pairs }) first second)

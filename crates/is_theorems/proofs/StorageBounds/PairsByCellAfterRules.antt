@@ -13,7 +13,7 @@ use Rattle.is_candidate.specs.declared.candidate.kind.CandidateKind.{CandidateKi
 use Rattle.is_candidate.specs.declared.candidate.kind.CandidateKind.TheVariants.{Host, PeerReflexive, ServerReflexive, Relayed}
 use Rattle.is_candidate.specs.Candidates.{CandidateRecord, candidate_at}
 use Rattle.is_candidate.specs.Kinds.{is_direct, same_kind}
-use Rattle.is_pair.specs.Multiset.{change_at, is_between, is_numbered, is_valid_at, without, EvictsInTurn as Evicted, IsPairBetween}
+use Rattle.is_pair.specs.Multiset.{change_at, is_between, is_numbered, is_valid_at, without, IsPairBetween}
 use Rattle.is_pair.specs.Due.{asked}
 use Rattle.is_pair.specs.Pairs.{PairRecord, checked, heard, heard_at, is_nominated, nominated, validated, with_request}
 use Rattle.is_stun.specs.declared.header.Class.{Class}
@@ -48,6 +48,7 @@ use Rattle.is_theorems.proofs.RuleEffects.UnchangedSettings.{either}
 use Rattle.is_theorems.proofs.RuleEffects.ChangedPairs.{Has-map}
 use Rattle.is_theorems.proofs.BasicLemmas.UsernamesAndFirstMatches.{neither}
 use Rattle.is_rules.proofs.PairLists.PairsByNumber.{none-any}
+use Rattle.is_rules.proofs.PairLists.RemovedInTurn.{removes, RemovesInTurn}
 use Rattle.is_theorems.proofs.RuleEffects.SelectedPaths.{some_is}
 use Rattle.is_theorems.proofs.BasicLemmas.CandidatesByIndex.{at-append, found-at}
 
@@ -111,9 +112,9 @@ reached-own local q l is = by (position (is_live (is_reached q)) local) refl is 
       subst (λ (n : ℕ). own_at local n ≡ true) one (passing-own q (candidate_at local k) (both (is_reached q (candidate_at local k)) (not (candidate_at local k).discarded) passes).0)
 
 -- after forming the limit holds
-evicted-most : (limit : ℕ) (gone old new : List PairRecord) → Evicted limit gone old new → length new ≤ limit
+evicted-most : (limit : ℕ) (gone old new : List PairRecord) → RemovesInTurn limit gone old new → length new ≤ limit
 evicted-most limit [] old new (fits, same) = subst (λ (ps : List PairRecord). length ps ≤ limit) (sym same) fits
-evicted-most limit (p ∷ gone) old new (over, least, more) = evicted-most limit gone (without (is_numbered p.number) old) new more
+evicted-most limit (p ∷ gone) old new (over, has, more) = evicted-most limit gone (without (is_numbered p.number) old) new more
 
 names-cells : (s : SidesRecord) (followed : Option ℕ) (top : Option PairRecord) (old : Selection) (path : Option Path) (new : Selection) → NamesTop s followed top old path new → cells new.pairs ≡ cells old.pairs
 names-cells s followed None old path new (is, same) = ap (λ (x : Selection). cells x.pairs) same
@@ -241,8 +242,9 @@ module _ {H P : Type 0} where
   -- ---- forming
 
   pub forms_few : (old new : AgentRecord H P) (all : List Combination) → FormsAll old all new → length new.pairs ≤ old.max_pairs
-  forms_few old new all (f, (mid, each, (gone, evicts), number), made) =
-      subst (λ (a : AgentRecord H P). length a.pairs ≤ old.max_pairs) (sym made) (evicted-most old.max_pairs gone mid.pairs f.pairs evicts)
+  forms_few old new all (f, (mid, each, evicts, number), made) =
+      let all_gone = removes (sides_of old) old.max_pairs mid.pairs f.pairs evicts in
+      subst (λ (a : AgentRecord H P). length a.pairs ≤ old.max_pairs) (sym made) (evicted-most old.max_pairs all_gone.0 mid.pairs f.pairs all_gone.1)
 
   -- ---- requests
 

@@ -31,7 +31,7 @@ use Rattle.is_rules.specs.Request.{RequestRecord, request_in}
 use Rattle.is_rules.specs.Restarting.{Restarts, Recreates, cleared, emptied}
 use Rattle.is_rules.specs.Serving.{Serves}
 use Rattle.is_rules.specs.Settings.{SetsMtu}
-use Rattle.is_rules.specs.Steps.{Call, SetMtu, SetControlTieBreaker, SetMaxCandidatePairs, SetMaxDiscovered, SetIceLite, SetRenomination, SetTimingAdvance, SetInitialStunRto, SetMaxStunRto, SetMaxStunRetransmits, SetLiteTimeout, SetLocalPreference, SetControlling, SetLocalCredentials, SetRemoteCredentials, SkipPairIds, AddLocalCandidate, AddRemoteCandidate, InvalidateCandidate, RestartIce, RecreateCandidatePairs, ReceivePacket, HandleTimeout, PollTransmit, PollTimeout, PollEvent, Entry, Receives, Step, MayDo, Polled, Happened, answer_by, done, quiet}
+use Rattle.is_rules.specs.Steps.{Call, SetMtu, SetControlTieBreaker, SetMaxCandidatePairs, SetMaxDiscovered, SetIceLite, SetRenomination, SetRules, SetTimingAdvance, SetInitialStunRto, SetMaxStunRto, SetMaxStunRetransmits, SetLiteTimeout, SetLocalPreference, SetControlling, SetLocalCredentials, SetRemoteCredentials, SkipPairIds, AddLocalCandidate, AddRemoteCandidate, InvalidateCandidate, RestartIce, RecreateCandidatePairs, ReceivePacket, HandleTimeout, PollTransmit, PollTimeout, PollEvent, Entry, Receives, Step, MayDo, Polled, Happened, answer_by, done, quiet}
 use Rattle.is_rules.specs.Timeouts.{MaintainsPairs, TimesOut, timeout_begun}
 use Rattle.is_theorems.proofs.CallEffects.AddedCandidates.{by_adding_local, by_adding_remote, by_waking}
 use Rattle.is_theorems.proofs.RuleEffects.UnchangedSettings.{either}
@@ -295,6 +295,7 @@ module _ {H P : Type 0} where
       moves (SetMaxDiscovered limit) (is, made, drawn) = relimited limit made
       moves (SetIceLite lite) (is, made, drawn) = still (same old new (ap (λ (a : AgentRecord H P). lines_of a) made))
       moves (SetRenomination on) (is, made, drawn) = still (same old new (ap (λ (a : AgentRecord H P). lines_of a) made))
+      moves (SetRules rules) (is, made, drawn) = still (same old new (ap (λ (a : AgentRecord H P). lines_of a) made))
       moves (SetTimingAdvance by) (is, made, drawn) = still (same old new (ap (λ (a : AgentRecord H P). lines_of a) made))
       moves (SetInitialStunRto rto) (is, made, drawn) = still (same old new (ap (λ (a : AgentRecord H P). lines_of a) made))
       moves (SetMaxStunRto rto) (is, made, drawn) = still (same old new (ap (λ (a : AgentRecord H P). lines_of a) made))

@@ -1,8 +1,7 @@
 -- Forming pairs leaves a pair as it is, unless a new pair may replace it or there may be too many pairs.
-use Rattle.std.proofs.Common.{◌≡◌, ℕ, ◌+◌, ◌<◌, ◌≤◌, ◌&&◌, ◌||◌, Bool, true, false, not, nat_lt, nat_le, List, [], ◌∷◌, ◌++◌, length, filter, count_by, position, Option, Some, None, Ok, Err, inl, inr, ◌⊎◌, refl, ap, sym, ◌∙◌, subst, arith, if◌then◌else◌}
+use Rattle.std.proofs.Common.{◌≡◌, ℕ, ◌+◌, ◌*◌, ◌<◌, ◌≤◌, ◌==◌, ◌&&◌, ◌||◌, Bool, true, false, not, nat_lt, nat_le, List, [], ◌∷◌, ◌++◌, length, filter, count_by, position, Option, Some, None, Ok, Err, inl, inr, ◌⊎◌, refl, ap, sym, ◌∙◌, subst, arith, if◌then◌else◌}
 use Rattle.std.proofs.lemmas.Bool.{eqb-true}
 use Rattle.std.proofs.lemmas.Bool.Decides.{nat_tests}
-use Rattle.std.proofs.lemmas.List.Sums.{length-filter, sum_by-cons}
 use Rattle.std.specs.Prelude.{MatchBool}
 use Rattle.std.specs.List.{list_any}
 use Rattle.is_proto.specs.declared.error.IceError.{IceError}
@@ -11,20 +10,23 @@ use Rattle.is_proto.specs.Lists.{Has}
 use Rattle.is_candidate.specs.Candidates.{CandidateRecord, candidate_at}
 use Rattle.is_candidate.specs.Equality.{is_same_place}
 use Rattle.is_candidate.specs.Priorities.{candidate_priority}
-use Rattle.is_pair.proofs.DueTimes.CountOfDuePairs.{thinner}
-use Rattle.is_pair.specs.Multiset.{is_numbered, without, EvictsInTurn, IsLeast}
+use Rattle.is_pair.specs.Multiset.{is_numbered, without, Evicts, EvictsInTurn}
 use Rattle.is_pair.specs.Pairs.{PairRecord, taking_over}
 use Rattle.is_rules.specs.Agent.{AgentRecord}
 use Rattle.is_rules.specs.Discarding.{is_local_at, local_discarded}
 use Rattle.is_rules.specs.Each.{Each}
-use Rattle.is_rules.specs.Forming.{SidesRecord, Formed, Combination, combined_priority, is_redundant, pair_of, local_combinations, remote_combinations, sides_of, formed_of, Tries, FormsAll}
+use Rattle.is_rules.specs.Evicting.{kind_count, EvictsOfMost, EvictsOfMostInTurn, IsLeastOfMost}
+use Rattle.is_rules.specs.Forming.{SidesRecord, Formed, Combination, combined_priority, is_redundant, pair_of, local_combinations, remote_combinations, sides_of, formed_of, EvictsFor, Tries, FormsAll}
+use Rattle.is_rules.specs.Kinds.{kind_of, KINDS}
 use Rattle.is_rules.specs.Local.{as_own, appended, comes_again, enabled, enabled_again, is_too_high, is_unwanted, preferred, AddsLocal, EnrolsAt, EntersAgain, EntersNew, IsNotAdded}
 use Rattle.is_rules.specs.Owed.{one_if}
 use Rattle.is_rules.specs.Remote.{as_remote, is_ignored, is_placeholder, place_or_end, with_remote, AddsRemote}
-use Rattle.is_theorems.specs.Removing.{is_replaced_by, ranks_with, combines_with, MayBeRemoved, MayEndByAppending, MayEndByRemote, MayEndByStoring, MayEndByEnrolling, MayEndByLocal}
+use Rattle.is_theorems.specs.Removing.{is_replaced_by, is_rival, ranks_with, combines_with, most_pairs, MayBeRemoved, MayEndByAppending, MayEndByRemote, MayEndByStoring, MayEndByEnrolling, MayEndByLocal}
 use Rattle.is_rules.specs.Sound.{IsSound}
 use Rattle.is_theorems.proofs.RuleEffects.UnchangedSettings.{either}
 use Rattle.is_theorems.proofs.RuleEffects.EarlierAndNewPairs.{Has-filter, Has-push, rising-filter, rising-push}
+use Rattle.is_rules.proofs.PairLists.CountedPairs.{count-agree, count-all, count-filter, count-head, count-push, few}
+use Rattle.is_rules.proofs.PairLists.PairKinds.{kind-below}
 use Rattle.is_rules.proofs.PairLists.RisingNumbers.{AreRising, AllBelow, below-each, rising-each}
 use Rattle.is_theorems.proofs.RuleEffects.SelectedPaths.{one_pair}
 use Rattle.is_theorems.proofs.DuePairs.AfterNominationAndRemoval.{Has-kept}
@@ -36,34 +38,20 @@ has-front [] ys x has = absurd has
 has-front (y ∷ xs) ys x (inl e) = inl e
 has-front (y ∷ xs) ys x (inr has) = inr (has-front xs ys x has)
 
-count-head : {X : Type 0} (t : X → Bool) (x : X) (xs : List X) → count_by t (x ∷ xs) ≡ one_if (t x) + count_by t xs
-count-head t x xs = sum_by-cons (λ y. if t y then 1 else 0) x xs ∙ ap (λ k. k + count_by t xs) (one (t x)) where
-  one : (b : Bool) → (if b then 1 else 0) ≡ one_if b
-  one true = refl
-  one false = refl
+most-fewer : (b : Bool) (less more : ℕ) → less ≤ more → (if b then KINDS * less else less) ≤ (if b then KINDS * more else more)
+most-fewer true less more le = omega (arith, le)
+most-fewer false less more le = le
 
-count-push : {X : Type 0} (t : X → Bool) (xs : List X) (x : X) → count_by t (xs ++ x ∷ []) ≡ count_by t xs + one_if (t x)
-count-push t [] x = let h : count_by t (x ∷ []) ≡ one_if (t x) + 0 = count-head t x [] in omega (arith, h)
-count-push t (y ∷ ys) x =
-    let k : count_by t (ys ++ x ∷ []) ≡ count_by t ys + one_if (t x) = count-push t ys x in
-    let l : count_by t (y ∷ (ys ++ x ∷ [])) ≡ one_if (t y) + count_by t (ys ++ x ∷ []) = count-head t y (ys ++ x ∷ []) in
-    let r : count_by t (y ∷ ys) ≡ one_if (t y) + count_by t ys = count-head t y ys in
-    omega (arith, k, l, r)
+push-length : {X : Type 0} (xs : List X) (x : X) → length (xs ++ x ∷ []) ≡ length xs + 1
+push-length [] x = refl
+push-length (y ∷ ys) x = omega (arith, push-length ys x)
 
-count-thinner : {X : Type 0} (t keep : X → Bool) (xs : List X) → count_by t (filter keep xs) ≤ count_by t xs
-count-thinner t keep xs =
-    let le : length (filter t (filter keep xs)) ≤ length (filter t xs) = thinner t keep xs in
-    let a : length (filter t (filter keep xs)) ≡ count_by t (filter keep xs) = length-filter t (filter keep xs) in
-    let b : length (filter t xs) ≡ count_by t xs = length-filter t xs in
-    omega (arith, le, a, b)
-
-count-all : {X : Type 0} (t : X → Bool) (xs : List X) → ((x : X) → Has xs x → t x ≡ true) → count_by t xs ≡ length xs
-count-all t [] each = refl
-count-all t (x ∷ xs) each =
-    let k : count_by t xs ≡ length xs = count-all t xs (λ y has. each y (inr has)) in
-    let h : count_by t (x ∷ xs) ≡ one_if (t x) + count_by t xs = count-head t x xs in
-    let one : one_if (t x) ≡ 1 = ap one_if (each x (inl refl)) in
-    omega (arith, k, h, one)
+kept-length : {X : Type 0} (keep : X → Bool) (xs : List X) → length (filter keep xs) ≤ length xs
+kept-length keep [] = omega arith
+kept-length keep (x ∷ xs) = elim (keep x) as (λ b. length (if b then x ∷ filter keep xs else filter keep xs) ≤ length (x ∷ xs)) [
+  | true ↦ omega (arith, kept-length keep xs)
+  | false ↦ omega (arith, kept-length keep xs)
+]
 
 any-here : {X : Type 0} (t : X → Bool) (x : X) (xs : List X) → t x ≡ true → list_any t (x ∷ xs) ≡ true
 any-here t x xs is = rw (is) refl
@@ -74,15 +62,56 @@ any-later t x xs is = elim (t x) as (λ b. (b || list_any t xs) ≡ true) [ true
 le-is : (n m : ℕ) → n ≤ m → nat_le n m ≡ true
 le-is n m h = grind (arith, nat_tests, h)
 
-taken-over : (lite : Bool) (found p : PairRecord) → ((taking_over lite found p).number ≡ p.number) × ((taking_over lite found p).priority ≡ p.priority)
-taken-over true found p = (refl, refl)
-taken-over false found p = (refl, refl)
+record TakenOver (lite : Bool) (found p : PairRecord) : Type 0 where
+  number : (taking_over lite found p).number ≡ p.number
+  priority : (taking_over lite found p).priority ≡ p.priority
+  local : (taking_over lite found p).local ≡ p.local
+  remote : (taking_over lite found p).remote ≡ p.remote
+
+taken-over : (lite : Bool) (found p : PairRecord) → TakenOver lite found p
+taken-over true found p = record { number = refl; priority = refl; local = refl; remote = refl }
+taken-over false found p = record { number = refl; priority = refl; local = refl; remote = refl }
 
 no-place : {A : Type 0} (place : ℕ) → Some place ≡ None → A
 no-place place h = absurd (cc)
 
 no-error : {A R : Type 0} (x : A) (error : IceError) → Ok x ≡ Err error → R
 no-error x error h = absurd (cc)
+
+-- ---- how many pairs there are
+
+module _ (s : SidesRecord) where
+  -- each combination adds at most one
+  adds : (at : Combination) (old new : Formed) → Tries s at old new → length new.pairs ≤ length old.pairs + 1
+  adds at old new (None, none, made) =
+      let same : length new.pairs ≡ length (old.pairs ++ pair_of s at old.next_number ∷ []) = ap (λ (f : Formed). length f.pairs) made in
+      let one = push-length old.pairs (pair_of s at old.next_number) in
+      omega (arith, same, one)
+  adds at old new (Some found, top, made) = by (nat_lt found.priority (combined_priority s at)) made where
+    after : Formed
+    after = record { pairs = without (is_numbered found.number) old.pairs ++ taking_over s.lite found (pair_of s at old.next_number) ∷ []; next_number = old.next_number + 1 }
+
+    by : (b : Bool) → new ≡ (if b then after else old) → length new.pairs ≤ length old.pairs + 1
+    by true is =
+        let same : length new.pairs ≡ length after.pairs = ap (λ (f : Formed). length f.pairs) is in
+        let one = push-length (without (is_numbered found.number) old.pairs) (taking_over s.lite found (pair_of s at old.next_number)) in
+        let fewer = kept-length (λ q. not (is_numbered found.number q)) old.pairs in
+        omega (arith, same, one, fewer)
+    by false is = (let same : length new.pairs ≡ length old.pairs = ap (λ (f : Formed). length f.pairs) is in omega (arith, same))
+
+  adds-each : (all : List Combination) (old new : Formed) → Each (Tries s) all old new → length new.pairs ≤ length old.pairs + length all
+  adds-each [] old new same = (let is : length new.pairs ≡ length old.pairs = ap (λ (f : Formed). length f.pairs) same in omega (arith, is))
+  adds-each (at ∷ all) old new (mid, one, others) =
+      (let a = adds at old mid one in let b = adds-each all mid new others in omega (arith, a, b))
+
+  -- Within the limit none is removed.
+  over-or-same : (limit : ℕ) (pairs new : List PairRecord) → EvictsFor s limit pairs new → (new ≡ pairs) ⊎ (limit < length pairs)
+  over-or-same limit pairs new h = by s.kinds_in_turn h where
+    by : (b : Bool) → MatchBool b (EvictsOfMost (kind_of s.local s.remote) limit pairs new) (Evicts limit pairs new) → (new ≡ pairs) ⊎ (limit < length pairs)
+    by true ([], (within, same)) = inl same
+    by true (q ∷ gone, (over, least, others)) = inr over
+    by false ([], (within, same)) = inl same
+    by false (q ∷ gone, (over, least, others)) = inr over
 
 -- ---- the pair while combinations are tried
 
@@ -115,28 +144,28 @@ module _ (p : PairRecord) where
   same-number : (pairs : List PairRecord) (n : ℕ) (q : PairRecord) → There pairs n → Has pairs q → is_numbered q.number p ≡ true → q ≡ p
   same-number pairs n q k has is = one_pair pairs q p k.rising has k.has (sym (eqb-true p.number q.number is))
 
-  abbrev ranked : List PairRecord → ℕ
-  ranked pairs = count_by (ranks_with p) pairs
-
   module _ (s : SidesRecord) where
+    abbrev ranked : List PairRecord → ℕ
+    ranked pairs = count_by (ranks_with s p) pairs
+
     -- after one combination
     abbrev Leaves : Combination → Formed → Formed → Type 0
     Leaves at old new = There new.pairs new.next_number × (ranked new.pairs ≤ ranked old.pairs + one_if (combines_with s p at))
 
     pushes : (at : Combination) (old : Formed) (rest : List PairRecord) (q : PairRecord) → There old.pairs old.next_number → ((r : PairRecord) → Has rest r → Has old.pairs r) → AreRising rest → Has rest p
-        → ranked rest ≤ ranked old.pairs → q.number ≡ old.next_number → q.priority ≡ combined_priority s at → (new : Formed)
+        → ranked rest ≤ ranked old.pairs → q.number ≡ old.next_number → q.priority ≡ combined_priority s at → q.local ≡ at.0 → q.remote ≡ at.1 → (new : Formed)
         → new.pairs ≡ rest ++ q ∷ [] → new.next_number ≡ old.next_number + 1 → Leaves at old new
-    pushes at old rest q k among rising has fewer number priority new pairs_are next_is = (
+    pushes at old rest q k among rising has fewer number priority local remote new pairs_are next_is = (
       subst (λ n. There new.pairs n) (sym next_is) (subst (λ ps. There ps (old.next_number + 1)) (sym pairs_are) (pushed old.pairs rest old.next_number q k among rising has number)),
-      (let count : ranked (rest ++ q ∷ []) ≡ ranked rest + one_if (ranks_with p q) = count-push (ranks_with p) rest q in
-          let one : one_if (ranks_with p q) ≡ one_if (combines_with s p at) = ap (λ n. one_if (nat_le p.priority n)) priority in
+      (let count : ranked (rest ++ q ∷ []) ≡ ranked rest + one_if (ranks_with s p q) = count-push (ranks_with s p) rest q in
+          let one : one_if (ranks_with s p q) ≡ one_if (combines_with s p at) = ap one_if (rw (priority, local, remote) refl) in
           let all : ranked new.pairs ≡ ranked (rest ++ q ∷ []) = ap (λ ps. ranked ps) pairs_are in
           omega (arith, count, one, all, fewer)),
     )
 
     tries : (at : Combination) (old new : Formed) → There old.pairs old.next_number → Tries s at old new → Leaves at old new ⊎ (is_replaced_by s p at ≡ true)
     tries at old new k (None, none, made) =
-        inl (pushes at old old.pairs (pair_of s at old.next_number) k (λ r there. there) k.rising k.has (omega arith) refl refl new (ap (λ (f : Formed). f.pairs) made) (ap (λ (f : Formed). f.next_number) made))
+        inl (pushes at old old.pairs (pair_of s at old.next_number) k (λ r there. there) k.rising k.has (omega arith) refl refl refl refl new (ap (λ (f : Formed). f.pairs) made) (ap (λ (f : Formed). f.next_number) made))
     tries at old new k (Some found, (has, redundant, greatest), made) = by (nat_lt found.priority (combined_priority s at)) refl made where
       own : PairRecord
       own = pair_of s at old.next_number
@@ -152,7 +181,7 @@ module _ (p : PairRecord) where
           let kept = thinned old.pairs old.next_number (λ q. not (is_numbered found.number q)) k (ap not other) in
           let rest = taken-over s.lite found own in
           inl (pushes at old (without (is_numbered found.number) old.pairs) (taking_over s.lite found own) k (λ r there. Has-filter (λ q. not (is_numbered found.number q)) old.pairs r there) kept.rising kept.has
-          (count-thinner (ranks_with p) (λ q. not (is_numbered found.number q)) old.pairs) rest.0 rest.1 new (ap (λ (f : Formed). f.pairs) is) (ap (λ (f : Formed). f.next_number) is))
+          (count-filter (ranks_with s p) (λ q. not (is_numbered found.number q)) old.pairs) rest.number rest.priority rest.local rest.remote new (ap (λ (f : Formed). f.pairs) is) (ap (λ (f : Formed). f.next_number) is))
 
       by : (b : Bool) → nat_lt found.priority (combined_priority s at) ≡ b → new ≡ (if b then after else old) → Leaves at old new ⊎ (is_replaced_by s p at ≡ true)
       by true greater is = replaced greater is (is_numbered found.number p) refl
@@ -175,31 +204,86 @@ module _ (p : PairRecord) where
       ]
     ]
 
-  -- ---- eviction
+    -- ---- eviction
 
-  evicts : (limit n : ℕ) (gone pairs new : List PairRecord) → There pairs n → EvictsInTurn limit gone pairs new → Has new p ⊎ (limit < ranked pairs)
-  evicts limit n [] pairs new k (within, same) = inl (subst (λ ps. Has ps p) (sym same) k.has)
-  evicts limit n (q ∷ gone) pairs new k (over, least, others) =
-      by (λ other. evicts limit n gone (without (is_numbered q.number) pairs) new (thinned pairs n (λ r. not (is_numbered q.number r)) k (ap not other)) others) (is_numbered q.number p) refl where
-        by : (is_numbered q.number p ≡ false → Has new p ⊎ (limit < ranked (without (is_numbered q.number) pairs))) → (b : Bool) → is_numbered q.number p ≡ b → Has new p ⊎ (limit < ranked pairs)
-        by later true same =
-            let one : q ≡ p = same-number pairs n q k least.0 same in
-            let all : ranked pairs ≡ length pairs = count-all (ranks_with p) pairs (λ r has. le-is p.priority r.priority (subst (λ (x : PairRecord). x.priority ≤ r.priority) one (least.1 r has))) in
-            inr (omega (arith, all, over))
-        by later false other = elim (later other) [
-          | inl has ↦ inl has
-          | inr more ↦ inr (let fewer : ranked (without (is_numbered q.number) pairs) ≤ ranked pairs = count-thinner (ranks_with p) (λ r. not (is_numbered q.number r)) pairs in omega (arith, more, fewer))
-        ]
+    -- each removal leaves the pair, or removes it because too many rank with it
+    module _ (limit n : ℕ) where
+      spares : (q : PairRecord) (pairs : List PairRecord) → There pairs n → Has pairs q → (is_numbered q.number p ≡ true → limit < most_pairs s (ranked pairs))
+          → There (without (is_numbered q.number) pairs) n ⊎ (limit < most_pairs s (ranked pairs))
+      spares q pairs k has full = by (is_numbered q.number p) refl where
+        by : (b : Bool) → is_numbered q.number p ≡ b → There (without (is_numbered q.number) pairs) n ⊎ (limit < most_pairs s (ranked pairs))
+        by true its = inr (full its)
+        by false other = inl (thinned pairs n (λ r. not (is_numbered q.number r)) k (ap not other))
+
+      once : (q : PairRecord) (pairs new : List PairRecord) → There (without (is_numbered q.number) pairs) n ⊎ (limit < most_pairs s (ranked pairs))
+          → (There (without (is_numbered q.number) pairs) n → Has new p ⊎ (limit < most_pairs s (ranked (without (is_numbered q.number) pairs))))
+          → Has new p ⊎ (limit < most_pairs s (ranked pairs))
+      once q pairs new (inr full) later = inr full
+      once q pairs new (inl there) later = elim (later there) [
+        | inl has ↦ inl has
+        | inr full ↦ inr (
+            let fewer = most-fewer s.kinds_in_turn (ranked (without (is_numbered q.number) pairs)) (ranked pairs) (count-filter (ranks_with s p) (λ r. not (is_numbered q.number r)) pairs) in
+            omega (arith, full, fewer))
+      ]
+
+      lowest : s.kinds_in_turn ≡ false → (gone pairs new : List PairRecord) → There pairs n → EvictsInTurn limit gone pairs new → Has new p ⊎ (limit < most_pairs s (ranked pairs))
+      lowest off [] pairs new k (within, same) = inl (subst (λ ps. Has ps p) (sym same) k.has)
+      lowest off (q ∷ gone) pairs new k (over, least, others) =
+          once q pairs new (spares q pairs k least.0 full) (λ there. lowest off gone (without (is_numbered q.number) pairs) new there others) where
+            full : is_numbered q.number p ≡ true → limit < most_pairs s (ranked pairs)
+            full same =
+                let one : q ≡ p = same-number pairs n q k least.0 same in
+                let all : ranked pairs ≡ length pairs = count-all (ranks_with s p) pairs (λ r has.
+                rw (le-is p.priority r.priority (subst (λ (x : PairRecord). x.priority ≤ r.priority) one (least.1 r has)), off) refl) in
+                subst (λ b. limit < (if b then KINDS * ranked pairs else ranked pairs)) (sym off) (omega (arith, all, over))
+
+      of-most : s.kinds_in_turn ≡ true → (gone pairs new : List PairRecord) → There pairs n → EvictsOfMostInTurn (kind_of s.local s.remote) limit gone pairs new
+          → Has new p ⊎ (limit < most_pairs s (ranked pairs))
+      of-most on [] pairs new k (within, same) = inl (subst (λ ps. Has ps p) (sym same) k.has)
+      of-most on (q ∷ gone) pairs new k (over, least, others) =
+          once q pairs new (spares q pairs k least.1.0 full) (λ there. of-most on gone (without (is_numbered q.number) pairs) new there others) where
+            rank : IsLeastOfMost (kind_of s.local s.remote) pairs p → ranked pairs ≡ kind_count (kind_of s.local s.remote) pairs (kind_of s.local s.remote p)
+            rank (most, (has, same, low)) = count-agree (ranks_with s p) (λ q. kind_of s.local s.remote q == kind_of s.local s.remote p) pairs (λ q there.
+                by q there (kind_of s.local s.remote q == kind_of s.local s.remote p) refl) where
+                  by : (q : PairRecord) → Has pairs q → (b : Bool) → kind_of s.local s.remote q == kind_of s.local s.remote p ≡ b → ranks_with s p q ≡ b
+                  by q there true own = rw (le-is p.priority q.priority (low q there (eqb-true (kind_of s.local s.remote q) (kind_of s.local s.remote p) own)), on, own) refl
+                  by q there false other = elim (nat_le p.priority q.priority) as (λ b. b && is_rival s p (kind_of s.local s.remote q) ≡ false) [
+                    | true ↦ rw (on, other) refl
+                    | false ↦ refl
+                  ]
+
+            full : is_numbered q.number p ≡ true → limit < most_pairs s (ranked pairs)
+            full same =
+                let one : q ≡ p = same-number pairs n q k least.1.0 same in
+                let its : IsLeastOfMost (kind_of s.local s.remote) pairs p = subst (λ (x : PairRecord). IsLeastOfMost (kind_of s.local s.remote) pairs x) one least in
+                let few_pairs = few (kind_of s.local s.remote) pairs (kind_count (kind_of s.local s.remote) pairs (kind_of s.local s.remote p)) its.0 KINDS
+                (λ x has. kind-below s.local s.remote x) in
+                let all = rank its in
+                subst (λ b. limit < (if b then KINDS * ranked pairs else ranked pairs)) (sym on) (omega (arith, few_pairs, all, over))
+
+      evicts : (pairs new : List PairRecord) → There pairs n → EvictsFor s limit pairs new → Has new p ⊎ (limit < most_pairs s (ranked pairs))
+      evicts pairs new k h = by s.kinds_in_turn refl h where
+        by : (b : Bool) → s.kinds_in_turn ≡ b → MatchBool b (EvictsOfMost (kind_of s.local s.remote) limit pairs new) (Evicts limit pairs new)
+            → Has new p ⊎ (limit < most_pairs s (ranked pairs))
+        by true on (gone, drops) = of-most on gone pairs new k drops
+        by false off (gone, drops) = lowest off gone pairs new k drops
 
 -- ---- forming
 
 module _ {H P : Type 0} where
   forms : (old new : AgentRecord H P) (all : List Combination) (p : PairRecord) → There p old.pairs old.next_number → FormsAll old all new → Has new.pairs p ⊎ MayBeRemoved old all p
-  forms old new all p k (f, (mid, each, (gone, drops), next_is), made) = elim (tries-each p (sides_of old) all (formed_of old) mid k each) [
+  forms old new all p k (f, (mid, each, drops, next_is), made) = elim (tries-each p (sides_of old) all (formed_of old) mid k each) [
     | inr replaced ↦ inr (inl replaced)
-    | inl (there, count) ↦ elim (evicts p old.max_pairs mid.next_number gone mid.pairs f.pairs there drops) [
+    | inl (there, count) ↦ elim (evicts p (sides_of old) old.max_pairs mid.next_number mid.pairs f.pairs there drops) [
       | inl has ↦ inl (subst (λ (a : AgentRecord H P). Has a.pairs p) (sym made) has)
-      | inr over ↦ inr (inr (omega (arith, over, count)))
+      | inr over ↦ elim (over-or-same (sides_of old) old.max_pairs mid.pairs f.pairs drops) [
+        | inl same ↦ inl (subst (λ (a : AgentRecord H P). Has a.pairs p) (sym made) (subst (λ ps. Has ps p) (sym same) there.has))
+        | inr many ↦
+            inr (inr (
+              (let added = adds-each (sides_of old) all (formed_of old) mid each in omega (arith, many, added)),
+              (let more = most-fewer old.rules.kinds_in_turn _ _ count in omega (arith, over, more)),
+            ))
+      ]
     ]
   ]
 

@@ -16,7 +16,6 @@ use Rattle.is_candidate.specs.Addresses.{same_address}
 use Rattle.is_candidate.specs.Candidates.{CandidateRecord, candidate_at}
 use Rattle.is_pair.specs.Multiset.{change_at, change_pair}
 use Rattle.is_pair.specs.Checks.{Check, has_id, is_kept}
-use Rattle.is_pair.specs.Due.{IsNextDue}
 use Rattle.is_pair.specs.Pairs.{PairRecord, check_of, checked}
 use Rattle.is_stun.specs.declared.header.Class.{Class}
 use Rattle.is_stun.specs.declared.header.Class.TheVariants as class
@@ -32,7 +31,7 @@ use Rattle.is_rules.specs.declared.emitted.Path.{Path}
 use Rattle.is_rules.specs.declared.emitted.Emitted.{Emitted}
 use Rattle.is_rules.specs.Agent.{AgentRecord}
 use Rattle.is_rules.specs.Answers.{goes_back, keeps_check_on}
-use Rattle.is_rules.specs.Checking.{all_asked, check_message, check_sent, ChecksPair, ChecksTop, MayCheck}
+use Rattle.is_rules.specs.Checking.{all_asked, check_message, check_sent, IsNextToCheck, ChecksPair, ChecksTop, MayCheck}
 use Rattle.is_theorems.specs.Delivery.{ChecksAreKept}
 use Rattle.is_rules.specs.Forming.{formed, with_pair}
 use Rattle.is_rules.specs.Issuing.{via_out}
@@ -48,6 +47,7 @@ use Rattle.is_rules.specs.Emitted.{issued_only, issued_as, reversed}
 use Rattle.is_theorems.proofs.CallEffects.PathAndTradeEffects.{path_theorem}
 use Rattle.is_theorems.proofs.RuleEffects.UnchangedSettings.{either}
 use Rattle.is_theorems.proofs.BasicLemmas.UsernamesAndFirstMatches.{any_has}
+use Rattle.is_theorems.proofs.BasicLemmas.PairsInTurn.{next-is-due}
 use Rattle.is_theorems.proofs.CallEffects.ServedRequests.{Has-mapped}
 use Rattle.is_theorems.proofs.RuleEffects.SelectedPaths.{some_is}
 
@@ -172,10 +172,10 @@ module _ {H P : Type 0} (mac : H → List ℕ → List ℕ → List ℕ) (answer
   may_check now (Some remote) old sent s t issued via id some out h = either old.lite h
       (λ _ k. none_out issued via id k.0 out)
       (λ _ k. next k.0 k.1 k.2) where
-        next : (top : Option PairRecord) → IsNextDue now old.timing (all_asked now old).pairs top → ChecksTop mac now remote top (all_asked now old) s issued sent t
+        next : (top : Option PairRecord) → IsNextToCheck now (all_asked now old) top → ChecksTop mac now remote top (all_asked now old) s issued sent t
             → list_any (keeps_check_on sent (reversed via) id) sent.pairs ≡ true
-        next None due h = none_out issued via id h.0 out
-        next (Some p) due h = checked_pair now remote p (all_asked now old) sent s t issued via id due.0.0 some out h
+        next None chosen h = none_out issued via id h.0 out
+        next (Some p) chosen h = checked_pair now remote p (all_asked now old) sent s t issued via id (next-is-due now (all_asked now old) p chosen).0 some out h
 
   pub checks-are-kept : ChecksAreKept mac answers
   checks-are-kept a sent s t now check id e sound step sends =
@@ -232,9 +232,9 @@ module _ {H P : Type 0} (mac : H → List ℕ → List ℕ → List ℕ) (answer
     checked (Some remote) old issued known emitted h = either old.lite h
         (λ _ k. none_out issued via id k.0 emitted)
         (λ _ k. next k.0 k.1 k.2) where
-          next : (top : Option PairRecord) → IsNextDue now old.timing (all_asked now old).pairs top → ChecksTop mac now remote top (all_asked now old) s issued sent t → Checks now via id sent
-          next None due k = none_out issued via id k.0 emitted
-          next (Some p) due k = pair_checked remote p (all_asked now old) issued due.0.0 known emitted k
+          next : (top : Option PairRecord) → IsNextToCheck now (all_asked now old) top → ChecksTop mac now remote top (all_asked now old) s issued sent t → Checks now via id sent
+          next None chosen k = none_out issued via id k.0 emitted
+          next (Some p) chosen k = pair_checked remote p (all_asked now old) issued (next-is-due now (all_asked now old) p chosen).0 known emitted k
 
     timeout : (emitted : Emitted) → e.emitted ≡ emitted → (o : Option RequestRecord)
         → MatchOption o (MaintainsPairs mac now (timeout_begun now a) s emitted sent t) (λ q. ServesQueued mac q (timeout_begun now a) s emitted sent t) → Checks now via id sent

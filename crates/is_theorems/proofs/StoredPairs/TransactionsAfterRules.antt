@@ -33,12 +33,13 @@ use Rattle.is_rules.specs.Roles.{conflict_of, switched, switched_sides, with_pri
 use Rattle.is_rules.specs.Serving.{served, is_misled, names_another, pair_served, request_counted, with_sender, with_sender_at, validated_by_peer, Drops, Queues, RecordsAndResponds, FindsOrAddsPair, AddsUnknownSender, CountsAndServes, ResolvesRoleConflictBy, ResolvesRoleConflict, Serves}
 use Rattle.is_rules.specs.Answers.{is_role_conflict, TakesSuccess, LeavesRole, TakesFailure}
 use Rattle.is_rules.specs.Accepting.{Takes}
-use Rattle.is_rules.specs.Checking.{all_asked, check_sent, ChecksTop, MayCheck}
+use Rattle.is_rules.specs.Checking.{all_asked, check_sent, IsNextToCheck, ChecksTop, MayCheck}
 use Rattle.is_rules.specs.Emitted.{issued_as}
 use Rattle.is_rules.specs.Timeouts.{at_timeout, is_expired, expired_gone, RemovesExpired, MaintainsPairs}
 use Rattle.is_rules.specs.States.{evaluated}
 use Rattle.is_theorems.proofs.RuleEffects.UnchangedSettings.{either}
 use Rattle.is_theorems.proofs.RuleEffects.NominatedPairs.{SelectsPath, selects_path}
+use Rattle.is_theorems.proofs.BasicLemmas.PairsInTurn.{next-is-due}
 use Rattle.is_theorems.proofs.CallEffects.ServedRequests.{Has-mapped}
 use Rattle.is_theorems.proofs.RuleEffects.SelectedPaths.{some_is}
 use Rattle.is_theorems.proofs.DuePairs.AfterNominationAndRemoval.{Base, Has-kept, nominates-thins, gives-up-thins}
@@ -228,10 +229,10 @@ module _ {H P : Type 0} where
           there : Has all.pairs first
           there = Has-mapped (due.asked now old.timing) old.pairs p has
 
-          next : (top : Option PairRecord) → due.IsNextDue now old.timing all.pairs top → ChecksTop mac now peer top all s issued new t
+          next : (top : Option PairRecord) → IsNextToCheck now all top → ChecksTop mac now peer top all s issued new t
               → Persists p new.pairs ⊎ Sends old.timing.max_retransmits p issued new
-          next None due_is (is, made, drawn) = inl (subst (λ (a : AgentRecord H P). Persists p a.pairs) (sym made) (first, there, (refl, refl)))
-          next (Some top) due_is (id, drawn, put, is, made) = subst (λ (a : AgentRecord H P). Persists p a.pairs ⊎ Sends old.timing.max_retransmits p issued a) (sym made)
+          next None chosen (is, made, drawn) = inl (subst (λ (a : AgentRecord H P). Persists p a.pairs) (sym made) (first, there, (refl, refl)))
+          next (Some top) chosen (id, drawn, put, is, made) = subst (λ (a : AgentRecord H P). Persists p a.pairs ⊎ Sends old.timing.max_retransmits p issued a) (sym made)
               (by (is_numbered top.number first) refl) where
                 change : PairRecord → PairRecord
                 change = checked now old.timing old.controlling id
@@ -254,7 +255,7 @@ module _ {H P : Type 0} where
                     sent-last old.timing.max_retransmits first (check_of now old.controlling id first) refl,
                     (
                       change top,
-                      subst (λ (x : PairRecord). Has sent.pairs x) (ap (λ b. if b then change top else top) (number_same top.number)) (Has-mapped (change_at top.number change) all.pairs top due_is.0.0),
+                      subst (λ (x : PairRecord). Has sent.pairs x) (ap (λ b. if b then change top else top) (number_same top.number)) (Has-mapped (change_at top.number change) all.pairs top (next-is-due now all top chosen).0),
                       sym (eqb-true first.number top.number here),
                       is,
                     ),

@@ -2,7 +2,7 @@
 
 use is::{
     AgentCall, Answer, Call, Candidate, DefaultSha1HmacProvider, Duration, IceAgent, IceCreds,
-    IceError, LocalPreference, Protocol, RunLog, Text, run,
+    IceError, LocalPreference, Protocol, Rules, RunLog, Text, run,
 };
 use rand_core::SeedableRng;
 use rand_pcg::Pcg32;
@@ -54,6 +54,7 @@ fn settings(alloc: Global) -> Option<Vec<Call>> {
             AgentCall::SetMaxCandidatePairs(10),
             AgentCall::SetIceLite(false),
             AgentCall::SetRenomination(true),
+            AgentCall::SetRules(Rules::modern()),
             AgentCall::SetTimingAdvance(Duration(50_000_000)),
             AgentCall::SetInitialStunRto(Duration(250_000_000)),
             AgentCall::SetMaxStunRto(Duration(3_000_000_000)),
@@ -69,9 +70,10 @@ fn settings(alloc: Global) -> Option<Vec<Call>> {
 }
 
 /// A call that fails has its log entry as any other, and the run continues.
-const SETTINGS_ANSWERS: [Answer; 15] = [
+const SETTINGS_ANSWERS: [Answer; 16] = [
     Answer::Done,
     Answer::Refused(IceError::MtuTooSmall),
+    Answer::Done,
     Answer::Done,
     Answer::Done,
     Answer::Done,

@@ -76,6 +76,8 @@ fn each_fault_of_a_line_ends_the_script(rt: HostRuntime) -> Result<(), Fail> {
         (r#"{"call":"timeout","now":null}"#, "bad now"),
         (r#"{"call":"retransmits","number":0}"#, "bad number"),
         (r#"{"call":"lite","flag":1}"#, "bad flag"),
+        (r#"{"call":"rules"}"#, "missing name"),
+        (r#"{"call":"rules","name":"Modern"}"#, "bad name"),
         (r#"{"call":"litetimeout"}"#, "missing number"),
         (r#"{"call":"srflx","addr":"10.0.0.1:1"}"#, "missing base"),
         (r#"{"call":"deliver","packet":0,"now":-1}"#, "bad now"),

@@ -1,0 +1,130 @@
+-- The pair of the kind whose turn is next, found by a loop over all pairs.
+use Rattle.std.proofs.Common.{if◌then◌else◌, ◌≡◌, ℕ, ◌⊎◌, Bool, true, false, List, [], ◌∷◌, filter, Option, Some, None, IfSome, inl, inr, refl, sym, ap, subst, ◌∙◌, arith}
+use Rattle.is_proto.specs.Lists.{Has, NonePass}
+use Rattle.is_stun.specs.declared.timing.StunTiming.{StunTiming}
+use Rattle.is_candidate.specs.Candidates.{CandidateRecord}
+use Rattle.is_pair.specs.Pairs.{PairRecord}
+use Rattle.is_pair.specs.Due.{is_due, GoesBefore}
+use Rattle.is_rules.specs.Kept.{is_placed, are_placed}
+use Rattle.is_rules.specs.Kinds.{TurnsBefore, IsNextOfKind}
+use Rattle.is_rules.proofs.PairLists.ChosenPair.{none_pass}
+use Rattle.is_rules.proofs.PairLists.PairsInLists.{all-has}
+
+none-when : {X : Type 0} (test : X → Bool) (xs : List X) → ((x : X) → Has xs x → test x ≡ true → ⊥) → NonePass test xs
+none-when test [] none = refl
+none-when test (x ∷ xs) none =
+    elim (test x) as (λ b. test x ≡ b → (if b then x ∷ filter test xs else filter test xs) ≡ []) [
+      | true ↦ λ is. absurd (none x (inl refl) is)
+      | false ↦ λ is. none-when test xs (λ y h. none y (inr h))
+    ] refl
+
+module _ (local remote : List CandidateRecord) (next now : ℕ) (t : StunTiming) where
+  abbrev Before : PairRecord → PairRecord → Type 0
+  Before p q = TurnsBefore local remote next now t p q
+
+  abbrev IsNext : List PairRecord → Option PairRecord → Type 0
+  IsNext done first = IsNextOfKind local remote next now t done first
+
+  abbrev due : PairRecord → Bool
+  due p = is_due now t p
+
+  -- ---- the order of turns
+
+  goes-through : (p q r : PairRecord) → GoesBefore now t p q → GoesBefore now t q r → GoesBefore now t p r
+  goes-through p q r (inl a) (inl b) = inl (omega (arith, a, b))
+  goes-through p q r (inl a) (inr b) = let same = b.0 in inl (omega (arith, a, same))
+  goes-through p q r (inr a) (inl b) = let same = a.0 in inl (omega (arith, same, b))
+  goes-through p q r (inr a) (inr b) = let low = a.1 in let lower = b.1 in inr (a.0 ∙ b.0, omega (arith, low, lower))
+
+  before-through : (p q r : PairRecord) → Before p q → Before q r → Before p r
+  before-through p q r (inl a) (inl b) = inl (omega (arith, a, b))
+  before-through p q r (inl a) (inr b) = let same = b.0 in inl (omega (arith, a, same))
+  before-through p q r (inr a) (inl b) = let same = a.0 in inl (omega (arith, same, b))
+  before-through p q r (inr a) (inr b) = inr (a.0 ∙ b.0, goes-through p q r a.1 b.1)
+
+  before-itself : (p : PairRecord) → Before p p
+  before-itself p = inr (refl, inr (refl, omega arith))
+
+  -- ---- one more pair
+
+  -- it is not due
+  pub not-due : (done : List PairRecord) (p : PairRecord) (first : Option PairRecord) → due p ≡ false → IsNext done first → IsNext (p ∷ done) first
+  not-due done p None late none = rw (late) none
+  not-due done p (Some first) late (has, is, before) = (inr has, is, each)
+    where
+      each : (q : PairRecord) → Has (p ∷ done) q → due q ≡ true → Before first q
+      each q (inl same) its = let no : due p ≡ true = ap (λ (x : PairRecord). due x) same ∙ its in absurd (cc)
+      each q (inr h) its = before q h its
+
+  -- it is the first that is due
+  pub due-first : (done : List PairRecord) (p : PairRecord) → due p ≡ true → IsNext done None → IsNext (p ∷ done) (Some p)
+  due-first done p is none = (inl refl, is, each)
+    where
+      each : (q : PairRecord) → Has (p ∷ done) q → due q ≡ true → Before p q
+      each q (inl same) its = subst (λ (x : PairRecord). Before p x) same (before-itself p)
+      each q (inr h) its = absurd (none_pass due done q none h its)
+
+  -- the first so far goes before it
+  pub due-later : (done : List PairRecord) (p first : PairRecord) → Before first p → IsNext done (Some first) → IsNext (p ∷ done) (Some first)
+  due-later done p first goes (has, is, before) = (inr has, is, each)
+    where
+      each : (q : PairRecord) → Has (p ∷ done) q → due q ≡ true → Before first q
+      each q (inl same) its = subst (λ (x : PairRecord). Before first x) same goes
+      each q (inr h) its = before q h its
+
+  -- it goes before the first so far
+  pub due-before : (done : List PairRecord) (p first : PairRecord) → due p ≡ true → Before p first → IsNext done (Some first) → IsNext (p ∷ done) (Some p)
+  due-before done p first its goes (has, is, before) = (inl refl, its, each)
+    where
+      each : (q : PairRecord) → Has (p ∷ done) q → due q ≡ true → Before p q
+      each q (inl same) at = subst (λ (x : PairRecord). Before p x) same (before-itself p)
+      each q (inr h) at = before-through p first q goes (before q h at)
+
+  -- ---- the loop: all pairs are those that were visited and those that are left
+
+  abbrev pub IsVisited : List PairRecord → List PairRecord → List PairRecord → Option PairRecord → Type 0
+  IsVisited all done rest first =
+      IsNext done first
+      × ((q : PairRecord) → Has all q → Has done q ⊎ Has rest q)
+      × ((q : PairRecord) → Has done q → Has all q)
+      × ((q : PairRecord) → Has rest q → Has all q)
+
+  pub visited-none : (all : List PairRecord) → IsVisited all [] all None
+  visited-none all = (refl, (λ q h. inr h), (λ q h. elim h [ ]), λ q h. h)
+
+  pub visited-more : (all done rest left : List PairRecord) (p : PairRecord) (first following : Option PairRecord) → rest ≡ p ∷ left → IsVisited all done rest first → IsNext (p ∷ done) following → IsVisited all (p ∷ done) left following
+  visited-more all done rest left p first following is seen earlier =
+      (earlier, (λ q h. either q (seen.1 q h)), seen_in, λ q h. seen.3 q (subst (λ (xs : List PairRecord). Has xs q) (sym is) (inr h)))
+    where
+      from : (q : PairRecord) → Has (p ∷ left) q → Has (p ∷ done) q ⊎ Has left q
+      from q (inl e) = inl (inl e)
+      from q (inr h) = inr h
+
+      either : (q : PairRecord) → Has done q ⊎ Has rest q → Has (p ∷ done) q ⊎ Has left q
+      either q (inl h) = inl (inr h)
+      either q (inr h) = from q (subst (λ (xs : List PairRecord). Has xs q) is h)
+
+      seen_in : (q : PairRecord) → Has (p ∷ done) q → Has all q
+      seen_in q (inl e) = seen.3 q (subst (λ (xs : List PairRecord). Has xs q) (sym is) (inl e))
+      seen_in q (inr h) = seen.2 q h
+
+  none-left : (rest : List PairRecord) (q : PairRecord) → rest ≡ [] → Has rest q → ⊥
+  none-left rest q none h = elim (subst (λ (xs : List PairRecord). Has xs q) none h) [ ]
+
+  pub visited-all : (all done rest : List PairRecord) (first : Option PairRecord) → rest ≡ [] → IsVisited all done rest first → IsNext all first
+  visited-all all done rest None none seen = none-when due all (λ q h is. either q (seen.1 q h) is)
+    where
+      either : (q : PairRecord) → Has done q ⊎ Has rest q → due q ≡ true → ⊥
+      either q (inl h) is = none_pass due done q seen.0 h is
+      either q (inr h) is = none-left rest q none h
+  visited-all all done rest (Some p) none seen = (seen.2 p seen.0.0, seen.0.1, λ q h is. either q (seen.1 q h) is)
+    where
+      either : (q : PairRecord) → Has done q ⊎ Has rest q → due q ≡ true → Before p q
+      either q (inl h) is = seen.0.2 q h is
+      either q (inr h) is = absurd (none-left rest q none h)
+
+  -- ---- the candidates of the pairs are in the lists
+
+  pub placed-first : (all done rest : List PairRecord) (first : Option PairRecord) → are_placed local remote all ≡ true → IsVisited all done rest first → IfSome first (λ p. is_placed local remote p ≡ true)
+  placed-first all done rest None placed seen = tt
+  placed-first all done rest (Some p) placed seen = all-has (is_placed local remote) all p placed (seen.2 p seen.0.0)

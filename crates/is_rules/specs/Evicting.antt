@@ -1,0 +1,43 @@
+-- The limit on pairs with kinds in turn: the kind with the most pairs loses one.
+use Rattle.std.specs.Prelude.{◌≡◌, ℕ, ◌≤◌, ◌<◌, ◌==◌, Bool, List, [], ◌∷◌, length, count_by, Option, Some, None}
+use Rattle.is_proto.specs.Lists.{Has, NonePass}
+use Rattle.is_pair.specs.Pairs.{PairRecord}
+use Rattle.is_pair.specs.Multiset.{is_numbered, without}
+
+module _ (kind_of : PairRecord → ℕ) where
+  abbrev pub is_of_kind : ℕ → PairRecord → Bool
+  is_of_kind kind p = kind_of p == kind
+
+  -- how many of the pairs are of the kind
+  abbrev pub kind_count : List PairRecord → ℕ → ℕ
+  kind_count pairs kind = count_by (is_of_kind kind) pairs
+
+  -- No kind has more pairs.
+  abbrev pub HasMost : List PairRecord → ℕ → Type 0
+  HasMost pairs kind = (other : ℕ) → kind_count pairs other ≤ kind_count pairs kind
+
+  -- a pair of lowest priority of a kind, or none if it has no pair; ties may be broken in any way
+  abbrev pub IsLeastOfKind : ℕ → List PairRecord → Option PairRecord → Type 0
+  IsLeastOfKind kind pairs None = NonePass (is_of_kind kind) pairs
+  IsLeastOfKind kind pairs (Some least) =
+      Has pairs least × (kind_of least ≡ kind) × ((p : PairRecord) → Has pairs p → kind_of p ≡ kind → least.priority ≤ p.priority)
+
+  -- a pair of lowest priority of a kind that no other has more pairs than; ties may be broken in any way
+  abbrev pub IsLeastOfMost : List PairRecord → PairRecord → Type 0
+  IsLeastOfMost pairs least = HasMost pairs (kind_of least) × IsLeastOfKind (kind_of least) pairs (Some least)
+
+  -- one of these pairs, or none if there is none
+  abbrev pub IsLowestOfMost : List PairRecord → Option PairRecord → Type 0
+  IsLowestOfMost pairs None = pairs ≡ []
+  IsLowestOfMost pairs (Some least) = IsLeastOfMost pairs least
+
+  -- these pairs are removed one after another: when one is removed, it has the lowest priority of the kind with the most
+  -- pairs, and the list is over the limit until then
+  abbrev pub EvictsOfMostInTurn : ℕ → List PairRecord → List PairRecord → List PairRecord → Type 0
+  EvictsOfMostInTurn limit [] old new = (length old ≤ limit) × (new ≡ old)
+  EvictsOfMostInTurn limit (p ∷ gone) old new =
+      (limit < length old) × IsLeastOfMost old p × EvictsOfMostInTurn limit gone (without (is_numbered p.number) old) new
+
+  -- pairs of the most numerous kind are removed until the limit holds (RFC 8445, section 6.1.2.5)
+  abbrev pub EvictsOfMost : ℕ → List PairRecord → List PairRecord → Type 0
+  EvictsOfMost limit old new = (gone : List PairRecord) × EvictsOfMostInTurn limit gone old new

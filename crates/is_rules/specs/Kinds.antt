@@ -1,0 +1,77 @@
+-- The kinds of pairs, which take turns (RFC 8445, section 6.1.4.2; RFC 8421, section 4).
+use Rattle.std.specs.Prelude.{◌≡◌, ℕ, ◌+◌, ◌*◌, ◌<◌, ◌&&◌, ◌||◌, ◌⊎◌, Bool, true, not, nat_le, List, Option, Some, None, if◌then◌else◌}
+use Rattle.std.specs.List.{list_any}
+use Rattle.std.specs.declared.net.socket_addr.SocketAddr.{SocketAddr}
+use Rattle.is_proto.specs.Lists.{Has, NonePass}
+use Rattle.is_candidate.specs.Addresses.{is_v4, same_address, same_version}
+use Rattle.is_candidate.specs.Candidates.{CandidateRecord, base_of, candidate_at}
+use Rattle.is_candidate.specs.Kinds.{same_kind}
+use Rattle.is_candidate.specs.declared.candidate.kind.CandidateKind.{CandidateKind}
+use Rattle.is_candidate.specs.declared.candidate.kind.CandidateKind.TheVariants.{Host, PeerReflexive, ServerReflexive, Relayed}
+use Rattle.is_pair.specs.Due.{is_due, GoesBefore}
+use Rattle.is_pair.specs.Pairs.{PairRecord}
+use Rattle.is_stun.specs.declared.timing.StunTiming.{StunTiming}
+
+-- ---- the kind of a pair
+
+-- A live server-reflexive candidate.
+abbrev pub is_reflexive : CandidateRecord → Bool
+is_reflexive c = same_kind c.kind ServerReflexive && not c.discarded
+
+-- It has this base: packets from the base reach the server outside.
+abbrev pub is_reflexive_of : SocketAddr → CandidateRecord → Bool
+is_reflexive_of base c = is_reflexive c && same_address (base_of c) base
+
+-- Its base has this IP version.
+abbrev pub is_reflexive_like : SocketAddr → CandidateRecord → Bool
+is_reflexive_like base c = is_reflexive c && same_version (base_of c) base
+
+-- Packets from this base reach the outside: a server-reflexive candidate has it, or none has a base of its IP version.
+abbrev pub reaches_out : List CandidateRecord → SocketAddr → Bool
+reaches_out local base = list_any (is_reflexive_of base) local || not (list_any (is_reflexive_like base) local)
+
+-- So do those of a relay.
+abbrev pub is_outer : List CandidateRecord → CandidateRecord → Bool
+is_outer local c = same_kind c.kind Relayed || reaches_out local (base_of c)
+
+-- Peer-reflexive candidates come first, since the peer sent a packet from there. Host candidates come last, since they have the
+-- greatest priorities.
+abbrev pub kind_rank : CandidateKind → ℕ
+kind_rank PeerReflexive = 0
+kind_rank ServerReflexive = 1
+kind_rank Relayed = 2
+kind_rank Host = 3
+
+abbrev pub version_rank : SocketAddr → ℕ
+version_rank addr = if is_v4 addr then 1 else 0
+
+-- whether the local candidate is an outer one, the kind of the remote candidate, and the IP version
+abbrev pub kind_between : List CandidateRecord → CandidateRecord → CandidateRecord → ℕ
+kind_between local l r = (if is_outer local l then 0 else 8) + 2 * kind_rank r.kind + version_rank r.addr
+
+-- the kind of a pair, a number from 0 to 15
+abbrev pub kind_of : List CandidateRecord → List CandidateRecord → PairRecord → ℕ
+kind_of local remote p = kind_between local (candidate_at local p.local) (candidate_at remote p.remote)
+
+-- ---- turns
+
+abbrev pub KINDS : ℕ
+KINDS = 16
+
+-- The place of a kind in the round that begins with `next`: the kinds from `next` on come before the others.
+abbrev pub turn_of : ℕ → ℕ → ℕ
+turn_of next kind = if nat_le next kind then kind else kind + KINDS
+
+module _ (local remote : List CandidateRecord) (next now : ℕ) (t : StunTiming) where
+  abbrev pub turn_of_pair : PairRecord → ℕ
+  turn_of_pair p = turn_of next (kind_of local remote p)
+
+  -- its kind comes earlier, or it is of the same kind and due earlier
+  abbrev pub TurnsBefore : PairRecord → PairRecord → Type 0
+  TurnsBefore p q = (turn_of_pair p < turn_of_pair q) ⊎ ((turn_of_pair p ≡ turn_of_pair q) × GoesBefore now t p q)
+
+  -- Of the due pairs, those of the kind whose turn comes first; of these the pair that is due first. None if no pair is due.
+  abbrev pub IsNextOfKind : List PairRecord → Option PairRecord → Type 0
+  IsNextOfKind pairs None = NonePass (is_due now t) pairs
+  IsNextOfKind pairs (Some p) =
+      Has pairs p × (is_due now t p ≡ true) × ((q : PairRecord) → Has pairs q → is_due now t q ≡ true → TurnsBefore p q)

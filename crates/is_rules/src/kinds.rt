@@ -1,0 +1,219 @@
+//! The kinds of pairs, which take turns; the agent's part: `is_agent::timeout`.
+
+ghost use Rattle.std.specs.Prelude.{◌≡◌, ◌<◌, true, false, List, ◌∷◌, IfSome};
+ghost use Rattle.std.specs.List.{list_any};
+ghost use Rattle.std.specs.Option.{option_copied};
+ghost use Rattle.is_pair.specs.Pairs.{PairRecord};
+ghost use Rattle.is_pair.specs.Due.{is_due, GoesBefore};
+ghost use Rattle.is_pair.specs.Checklists.{multiset_of};
+ghost use Rattle.is_rules.specs.Kept.{is_placed, are_placed};
+ghost use Rattle.is_rules.specs.Kinds.{is_reflexive, is_reflexive_of, is_reflexive_like, reaches_out, is_outer, kind_rank, version_rank};
+ghost use Rattle.is_rules.specs.Kinds.{kind_between, kind_of, turn_of, turn_of_pair, KINDS, TurnsBefore, IsNextOfKind};
+
+use crate::places::candidate_at;
+use is_candidate::candidate::address::{same_address, same_version};
+use is_candidate::candidate::internals::{base, is_discarded};
+use is_candidate::candidate::kind::same_kind;
+use is_candidate::{Candidate, CandidateKind};
+use is_pair::checklist::Checklist;
+use is_pair::due_time_of;
+use is_pair::pair::CandidatePair;
+use is_proto::Instant;
+use is_stun::stun::StunTiming;
+use std::net::SocketAddr;
+
+// ---- the kind of a pair
+
+/// A live server-reflexive candidate.
+fn is_reflexive(candidate: &Candidate) -> bool
+    ensures { result ≡ is_reflexive candidate.now }
+{
+    same_kind(candidate.kind(), CandidateKind::ServerReflexive) && !is_discarded(candidate)
+}
+
+/// A live server-reflexive candidate with this base.
+fn is_reflexive_of(address: SocketAddr, candidate: &Candidate) -> bool
+    ensures { result ≡ is_reflexive_of address candidate.now }
+{
+    is_reflexive(candidate) && same_address(base(candidate), address)
+}
+
+/// A live server-reflexive candidate whose base has the IP version of this one.
+fn is_reflexive_like(address: SocketAddr, candidate: &Candidate) -> bool
+    ensures { result ≡ is_reflexive_like address candidate.now }
+{
+    is_reflexive(candidate) && same_version(base(candidate), address)
+}
+
+/// A live server-reflexive candidate has this base.
+fn has_reflexive(local: &[Candidate], address: SocketAddr) -> bool
+    ensures { result ≡ list_any (is_reflexive_of address) local.now }
+{
+    local.iter().any(|c| is_reflexive_of(address, c))
+}
+
+/// A live server-reflexive candidate has a base of this IP version.
+fn has_reflexive_like(local: &[Candidate], address: SocketAddr) -> bool
+    ensures { result ≡ list_any (is_reflexive_like address) local.now }
+{
+    local.iter().any(|c| is_reflexive_like(address, c))
+}
+
+/// Packets from this base reach the outside: a server-reflexive candidate has it, or none has a base of its IP version.
+fn reaches_out(local: &[Candidate], address: SocketAddr) -> bool
+    ensures { result ≡ reaches_out local.now address }
+{
+    has_reflexive(local, address) || !has_reflexive_like(local, address)
+}
+
+/// Packets of the local candidate reach the outside.
+fn is_outer(local: &[Candidate], candidate: &Candidate) -> bool
+    ensures { result ≡ is_outer local.now candidate.now }
+{
+    same_kind(candidate.kind(), CandidateKind::Relayed) || reaches_out(local, base(candidate))
+}
+
+/// The place of the kind of a remote candidate in a round. Peer-reflexive candidates come first, since the peer sent a packet from
+/// there. Host candidates come last, since they have the greatest priorities.
+fn kind_rank(kind: CandidateKind) -> u8
+    ensures rank { result ≡ kind_rank kind }
+    ensures within { result < 4 }
+{
+    match kind {
+        CandidateKind::PeerReflexive => 0,
+        CandidateKind::ServerReflexive => 1,
+        CandidateKind::Relayed => 2,
+        CandidateKind::Host => 3,
+    }
+}
+
+/// IPv6 comes first (RFC 8421, section 4).
+fn version_rank(address: SocketAddr) -> u8
+    ensures rank { result ≡ version_rank address }
+    ensures within { result < 2 }
+{
+    if address.is_ipv4() { 1 } else { 0 }
+}
+
+/// The kind of a pair of these candidates.
+fn kind_between(local: &[Candidate], ours: &Candidate, theirs: &Candidate) -> u8
+    ensures kind { result ≡ kind_between local.now ours.now theirs.now }
+    ensures within { result < KINDS }
+{
+    let side = if is_outer(local, ours) { 0 } else { 8 };
+    side + 2 * kind_rank(theirs.kind()) + version_rank(theirs.addr())
+}
+
+/// The kind of a pair, a number from 0 to 15.
+pub fn kind_of(local: &[Candidate], remote: &[Candidate], pair: &CandidatePair) -> u8
+    requires placed { is_placed local.now remote.now pair.now ≡ true }
+    ensures kind { result ≡ kind_of local.now remote.now pair.now }
+    ensures within { result < KINDS }
+{
+    let ours = candidate_at(local, pair.local_idx());
+    let theirs = candidate_at(remote, pair.remote_idx());
+    kind_between(local, ours, theirs)
+}
+
+// ---- turns
+
+/// The place of a kind in the round that begins with `next`: the kinds from `next` on come before the others.
+fn turn_of(next: u8, kind: u8) -> u8
+    requires within { kind < KINDS }
+    ensures { result ≡ turn_of next kind }
+{
+    if next <= kind { kind } else { kind + 16 }
+}
+
+/// The candidates of the pairs, the kind whose turn is next, and what the due time of a pair depends on.
+#[derive(Clone, Copy)]
+struct Round<'a> {
+    local: &'a [Candidate],
+    remote: &'a [Candidate],
+    next: u8,
+    time: Instant,
+    timing: &'a StunTiming,
+}
+
+/// The place of the pair's kind in the round.
+fn turn_of_pair(round: &Round<'_>, pair: &CandidatePair) -> u8
+    requires placed { is_placed round.now.local.now round.now.remote.now pair.now ≡ true }
+    ensures { result ≡ turn_of_pair round.now.local.now round.now.remote.now round.now.next round.now.time.0 round.now.timing.now pair.now }
+{
+    turn_of(round.next, kind_of(round.local, round.remote, pair))
+}
+
+fn is_due(pair: &CandidatePair, round: &Round<'_>) -> bool
+    ensures { result ≡ is_due round.now.time.0 round.now.timing.now pair.now }
+{
+    due_time_of(pair, round.time, round.timing) <= round.time
+}
+
+/// Whether a pair is due earlier, or at the same time with no smaller priority.
+fn is_due_before(p: &CandidatePair, q: &CandidatePair, round: &Round<'_>) -> bool
+    ensures before { result ≡ true → GoesBefore round.now.time.0 round.now.timing.now p.now q.now }
+    ensures following { result ≡ false → GoesBefore round.now.time.0 round.now.timing.now q.now p.now }
+{
+    let ours = due_time_of(p, round.time, round.timing).0;
+    let theirs = due_time_of(q, round.time, round.timing).0;
+    ours < theirs || (ours == theirs && p.prio() >= q.prio())
+}
+
+/// Whether the kind of a pair comes earlier, or is the same and the pair is due earlier.
+fn turns_before(p: &CandidatePair, q: &CandidatePair, round: &Round<'_>) -> bool
+    requires first { is_placed round.now.local.now round.now.remote.now p.now ≡ true }
+    requires second { is_placed round.now.local.now round.now.remote.now q.now ≡ true }
+    ensures before { result ≡ true → TurnsBefore round.now.local.now round.now.remote.now round.now.next round.now.time.0 round.now.timing.now p.now q.now }
+    ensures following { result ≡ false → TurnsBefore round.now.local.now round.now.remote.now round.now.next round.now.time.0 round.now.timing.now q.now p.now }
+{
+    let ours = turn_of_pair(round, p);
+    let theirs = turn_of_pair(round, q);
+    ours < theirs || (ours == theirs && is_due_before(p, q, round))
+}
+
+/// Returns the first so far, or one more pair if it is due and comes before.
+fn earlier<'a>(
+    first: Option<&'a CandidatePair>,
+    pair: &'a CandidatePair,
+    round: &Round<'_>,
+) -> Option<&'a CandidatePair>
+    requires first { IfSome (option_copied first) (λ p. is_placed round.now.local.now round.now.remote.now p ≡ true) }
+    requires placed { is_placed round.now.local.now round.now.remote.now pair.now ≡ true }
+    ensures { (done : List PairRecord) → IsNextOfKind round.now.local.now round.now.remote.now round.now.next round.now.time.0 round.now.timing.now done (option_copied first.entry)
+        → IsNextOfKind round.now.local.now round.now.remote.now round.now.next round.now.time.0 round.now.timing.now (pair.now ∷ done) (option_copied result) }
+{
+    if !is_due(pair, round) {
+        return first;
+    }
+    match first {
+        Some(first) if turns_before(first, pair, round) => Some(first),
+        _ => Some(pair),
+    }
+}
+
+/// Returns the pair to check in a kind's turn: of the due pairs, those of the kind that comes first from `next` on, and of these the
+/// one that is due first. None if no pair is due.
+pub fn next_of_kind<'a>(
+    pairs: &'a Checklist,
+    local: &[Candidate],
+    remote: &[Candidate],
+    next: u8,
+    now: Instant,
+    timing: &StunTiming,
+) -> Option<&'a CandidatePair>
+    requires placed { are_placed local.now remote.now (multiset_of pairs.now) ≡ true }
+    ensures { IsNextOfKind local.now remote.now next now.0 timing.now (multiset_of pairs.now) (option_copied result) }
+{
+    let round = Round {
+        local,
+        remote,
+        next,
+        time: now,
+        timing,
+    };
+    let mut first = None;
+    for pair in pairs.iter() {
+        first = earlier(first, pair, &round);
+    }
+    first
+}

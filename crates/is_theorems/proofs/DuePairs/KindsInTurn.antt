@@ -1,0 +1,153 @@
+-- With kinds in turn a check may be of another pair than the one that is due first, but no two checks one after another are.
+use Rattle.std.proofs.Common.{◌≡◌, ℕ, suc, ◌+◌, ◌*◌, ◌<◌, ◌≤◌, ◌&&◌, Bool, true, false, List, length, min, refl, sym, ◌∙◌, inl, inr, ◌⊎◌, arith, if◌then◌else◌}
+use Rattle.is_proto.specs.Times.{MAX}
+use Rattle.is_pair.specs.Due.{due_time_of}
+use Rattle.is_pair.specs.Multiset.{is_numbered, change_at, change_pair}
+use Rattle.is_pair.specs.Pairs.{PairRecord, checked}
+use Rattle.is_pair.specs.Turns.{IsPaced, is_due_by, due_by}
+use Rattle.is_pair.proofs.DueTimes.CountOfDuePairs.{no-more, not-by}
+use Rattle.is_pair.proofs.DueTimes.LaterAfterCheck.{checked-later}
+use Rattle.is_rules.specs.Owed.{one_if}
+use Rattle.is_stun.specs.declared.timing.StunTiming.{StunTiming}
+
+-- ---- the number of calls
+
+-- so many checks hold n in turn: `checks_for` of rules with or without kinds in turn
+abbrev pub times : Bool → ℕ → ℕ
+times in_turn n = if in_turn then 2 * n else n
+
+-- One more than the number of calls that suffice if n pairs go first, this one included: one for each pair, and with kinds in turn one
+-- for each kind's turn between them, or before them if the next call is one.
+abbrev pub calls_left : Bool → Bool → ℕ → ℕ
+calls_left in_turn turn n = if in_turn then 2 * n + one_if turn else n + 1
+
+-- from n to m: one fewer goes first, or no more do and a kind's turn is over
+abbrev pub Falls : Bool → Bool → Bool → ℕ → ℕ → Type 0
+Falls in_turn turn next_turn n m = (m < n) ⊎ ((m ≤ n) × (in_turn ≡ true) × (turn ≡ true) × (next_turn ≡ false))
+
+one-at-most : (b : Bool) → one_if b ≤ 1
+one-at-most true = omega arith
+one-at-most false = omega arith
+
+falls-to-one : (n m : ℕ) (next_turn : Bool) → m < n → 2 * m + one_if next_turn + 1 ≤ 2 * n
+falls-to-one n m true h = omega (arith, h)
+falls-to-one n m false h = omega (arith, h)
+
+pub calls-fall : (in_turn turn next_turn : Bool) (n m : ℕ) → Falls in_turn turn next_turn n m → calls_left in_turn next_turn m + 1 ≤ calls_left in_turn turn n
+calls-fall true turn next_turn n m (inl less) = wider (falls-to-one n m next_turn less) where
+  wider : 2 * m + one_if next_turn + 1 ≤ 2 * n → 2 * m + one_if next_turn + 1 ≤ 2 * n + one_if turn
+  wider h = omega (arith, h)
+calls-fall true true false n m (inr (le, in_turn, turn, over)) = at-end n m le where
+  at-end : (n m : ℕ) → m ≤ n → 2 * m + 0 + 1 ≤ 2 * n + 1
+  at-end n m h = omega (arith, h)
+calls-fall true true true n m (inr (le, in_turn, turn, over)) = absurd (cc)
+calls-fall true false next_turn n m (inr (le, in_turn, turn, over)) = absurd (cc)
+calls-fall false turn next_turn n m (inl less) = one-fewer n m less where
+  one-fewer : (n m : ℕ) → m < n → m + 1 + 1 ≤ n + 1
+  one-fewer n m h = omega (arith, h)
+calls-fall false turn next_turn n m (inr (le, in_turn, turn_is, over)) = absurd (cc)
+
+-- the same of other names for the numbers, and from more
+pub falls-from : (b c t u next_turn : Bool) (n k m : ℕ) → c ≡ b → u ≡ t → n ≤ k → Falls b t next_turn n m → Falls c u next_turn k m
+falls-from b c t u next_turn n k m same same_turn le (inl less) = inl (omega (arith, le, less))
+falls-from b c t u next_turn n k m same same_turn le (inr (no_more, in_turn, turn, over)) = inr (omega (arith, le, no_more), same ∙ in_turn, same_turn ∙ turn, over)
+
+pub calls-no-more : (in_turn turn : Bool) (n m : ℕ) → m ≤ n → calls_left in_turn turn m ≤ calls_left in_turn turn n
+calls-no-more true turn n m h = twice (one_if turn) n m h where
+  twice : (x n m : ℕ) → m ≤ n → 2 * m + x ≤ 2 * n + x
+  twice x n m h = omega (arith, h)
+calls-no-more false turn n m h = once n m h where
+  once : (n m : ℕ) → m ≤ n → m + 1 ≤ n + 1
+  once n m h = omega (arith, h)
+
+-- after k of so many calls
+pub calls-kept : (in_turn turn : Bool) (n m k total : ℕ) → m ≤ n → calls_left in_turn turn n + k ≤ total → calls_left in_turn turn m + k ≤ total
+calls-kept in_turn turn n m k total le counted = kept (calls_left in_turn turn n) (calls_left in_turn turn m) (calls-no-more in_turn turn n m le) counted where
+  kept : (x y : ℕ) → y ≤ x → x + k ≤ total → y + k ≤ total
+  kept x y le counted = omega (arith, le, counted)
+
+pub calls-go-on : (in_turn turn next_turn : Bool) (n m k total : ℕ) → Falls in_turn turn next_turn n m → calls_left in_turn turn n + k ≤ total → calls_left in_turn next_turn m + suc k ≤ total
+calls-go-on in_turn turn next_turn n m k total falls counted = on (calls_left in_turn turn n) (calls_left in_turn next_turn m) (calls-fall in_turn turn next_turn n m falls) counted where
+  on : (x y : ℕ) → y + 1 ≤ x → x + k ≤ total → y + suc k ≤ total
+  on x y less counted = omega (arith, less, counted)
+
+-- if pairs are added, from i to j, each may go first
+pub calls-added : (in_turn turn : Bool) (n m i j k base total : ℕ) → m + i ≤ n + j
+    → calls_left in_turn turn n + k + times in_turn base ≤ total + times in_turn i → calls_left in_turn turn m + k + times in_turn base ≤ total + times in_turn j
+calls-added true turn n m i j k base total less counted = twice (one_if turn) less counted where
+  twice : (x : ℕ) → m + i ≤ n + j → 2 * n + x + k + 2 * base ≤ total + 2 * i → 2 * m + x + k + 2 * base ≤ total + 2 * j
+  twice x less counted = omega (arith, less, counted)
+calls-added false turn n m i j k base total less counted = once less counted where
+  once : m + i ≤ n + j → n + 1 + k + base ≤ total + i → m + 1 + k + base ≤ total + j
+  once less counted = omega (arith, less, counted)
+
+-- of size pairs, this one not counted, each goes first at most twice
+pub calls-over : (in_turn turn last_turn : Bool) (n m size i j k : ℕ) → calls_left in_turn last_turn m + k + times in_turn i ≤ calls_left in_turn turn n + times in_turn j
+    → n + 2 ≤ 2 * size → times in_turn (2 * size + j) ≤ k + 1 + times in_turn i → ⊥
+calls-over true turn last_turn n m size i j k counted few enough = twice (one_if turn) (one_if last_turn) (one-at-most turn) counted few enough where
+  twice : (x y : ℕ) → x ≤ 1 → 2 * m + y + k + 2 * i ≤ 2 * n + x + 2 * j → n + 2 ≤ 2 * size → 2 * (2 * size + j) ≤ k + 1 + 2 * i → ⊥
+  twice x y one counted few enough = omega (arith, one, counted, few, enough)
+calls-over false turn last_turn n m size i j k counted few enough = once counted few enough where
+  once : m + 1 + k + i ≤ n + 1 + j → n + 2 ≤ 2 * size → 2 * size + j ≤ k + 1 + i → ⊥
+  once counted few enough = omega (arith, counted, few, enough)
+
+-- if some go first, a call is left
+pub calls-some : (in_turn turn : Bool) (n : ℕ) → 0 < n → 2 ≤ calls_left in_turn turn n
+calls-some true turn n h = twice (one_if turn) n h where
+  twice : (x n : ℕ) → 0 < n → 2 ≤ 2 * n + x
+  twice x n h = omega (arith, h)
+calls-some false turn n h = once n h where
+  once : (n : ℕ) → 0 < n → 2 ≤ n + 1
+  once n h = omega (arith, h)
+
+-- so many checks suffice for n in turn
+pub calls-from : (in_turn turn : Bool) (n k : ℕ) → times in_turn n ≤ k → calls_left in_turn turn n ≤ k + 1
+calls-from true turn n k h = twice (one_if turn) n k (one-at-most turn) h where
+  twice : (x n k : ℕ) → x ≤ 1 → 2 * n ≤ k → 2 * n + x ≤ k + 1
+  twice x n k one h = omega (arith, one, h)
+calls-from false turn n k h = once n k h where
+  once : (n k : ℕ) → n ≤ k → n + 1 ≤ k + 1
+  once n k h = omega (arith, h)
+
+-- what suffices for more checks suffices for fewer
+pub times-kept : (in_turn : Bool) (n m k : ℕ) → m ≤ n → times in_turn n ≤ k → times in_turn m ≤ k
+times-kept true n m k le enough = twice n m le enough where
+  twice : (n m : ℕ) → m ≤ n → 2 * n ≤ k → 2 * m ≤ k
+  twice n m le enough = omega (arith, le, enough)
+times-kept false n m k le enough = once n m le enough where
+  once : (n m : ℕ) → m ≤ n → n ≤ k → m ≤ k
+  once n m le enough = omega (arith, le, enough)
+
+-- no calls suffice for no pair
+pub none-suffices : (in_turn : Bool) (size i j : ℕ) → 0 < size → j ≡ i → times in_turn (2 * size + j) ≤ 0 + 1 + times in_turn i → ⊥
+none-suffices true size i j some same enough = twice some same enough where
+  twice : 0 < size → j ≡ i → 2 * (2 * size + j) ≤ 0 + 1 + 2 * i → ⊥
+  twice some same enough = omega (arith, some, same, enough)
+none-suffices false size i j some same enough = once some same enough where
+  once : 0 < size → j ≡ i → 2 * size + j ≤ 0 + 1 + i → ⊥
+  once some same enough = omega (arith, some, same, enough)
+
+-- ---- the turn
+
+pub is-turn : (a b c : Bool) → (a && b && c) ≡ true → (a ≡ true) × (b ≡ true)
+is-turn true true c is = (refl, refl)
+is-turn true false c is = absurd (cc)
+is-turn false b c is = absurd (cc)
+
+-- ---- a check of any pair
+
+module _ (now by : ℕ) (t : StunTiming) (controlling : Bool) (id : List ℕ) (paced : IsPaced t) (early : now < MAX) (from : by ≤ now) where
+  later-now : (p : PairRecord) → is_due_by by now t (checked now t controlling id p) ≡ false
+  later-now p =
+      let following : min now now < due_time_of now t (checked now t controlling id p) = checked-later now now t controlling id p paced early in
+      not-by (due_time_of now t (checked now t controlling id p)) by (omega (arith, following, from))
+
+  was-due : (b : Bool) (q : PairRecord) → is_due_by by now t (if b then checked now t controlling id q else q) ≡ true → is_due_by by now t q ≡ true
+  was-due true q is = let no : true ≡ false = sym is ∙ later-now q in absurd (cc)
+  was-due false q is = is
+
+  -- it makes no pair due
+  pub no-more-due : (n : ℕ) (pairs : List PairRecord) → length (due_by by now t (change_pair n (checked now t controlling id) pairs)) ≤ length (due_by by now t pairs)
+  no-more-due n pairs =
+      no-more (is_due_by by now t) (is_due_by by now t) (change_at n (checked now t controlling id)) pairs
+      (λ q there is. was-due (is_numbered n q) q is)

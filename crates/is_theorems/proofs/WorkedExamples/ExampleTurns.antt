@@ -1,0 +1,97 @@
+-- Kinds in turn in a worked example: two pairs are due, and whose turn it is decides which one is checked.
+use Rattle.std.proofs.Common.{◌≡◌, ℕ, ◌<◌, true, false, List, [], ◌∷◌, Some, None, inl, inr, refl, subst, arith}
+use Rattle.std.specs.Prelude.{codes}
+use Rattle.is_proto.specs.Lists.{Has}
+use Rattle.is_proto.specs.declared.proto.Protocol.TheVariants.{Udp}
+use Rattle.is_candidate.specs.Candidates.{CandidateRecord}
+use Rattle.is_candidate.specs.Making.{signalled_candidate}
+use Rattle.is_candidate.specs.declared.candidate.kind.CandidateKind.TheVariants.{ServerReflexive}
+use Rattle.is_pair.specs.Due.{asked, GoesBefore}
+use Rattle.is_pair.specs.Pairs.{PairRecord, new_pair}
+use Rattle.is_rules.specs.declared.event.IceConnectionState.TheVariants.{Connected, Disconnected}
+use Rattle.is_rules.specs.Agent.{AgentRecord, default_timing, original_rules, modern_rules}
+use Rattle.is_rules.specs.Checking.{all_asked, check_sent, IsNextToCheck}
+use Rattle.is_rules.specs.Kinds.{kind_of, TurnsBefore}
+use Rattle.is_theorems.proofs.WorkedExamples.ExampleAgents.{address_3, creds_2, host_2, own_1, with_host}
+
+abbrev reflexive_3 : CandidateRecord
+reflexive_3 = signalled_candidate (codes "2") 1 Udp 1694498815 address_3 ServerReflexive None None None
+
+abbrev remote_candidates : List CandidateRecord
+remote_candidates = host_2 2130706175 ∷ reflexive_3 ∷ []
+
+abbrev host_pair : PairRecord
+host_pair = new_pair 0 0 0 9151313343271665150
+
+abbrev reflexive_pair : PairRecord
+reflexive_pair = new_pair 1 0 1 7277816997797166591
+
+-- both pairs, which are due now
+abbrev due_pairs : List PairRecord
+due_pairs = asked 0 default_timing host_pair ∷ asked 0 default_timing reflexive_pair ∷ []
+
+-- The kinds of their remote candidates differ.
+kinds_differ : (kind_of (own_1 ∷ []) remote_candidates host_pair ≡ 7) × (kind_of (own_1 ∷ []) remote_candidates reflexive_pair ≡ 3)
+kinds_differ = (refl, refl)
+
+host_first : (q : PairRecord) → Has due_pairs q → GoesBefore 0 default_timing (asked 0 default_timing host_pair) q
+host_first q (inl same) = subst (λ x. GoesBefore 0 default_timing (asked 0 default_timing host_pair) x) same (inr (refl, omega arith))
+host_first q (inr (inl same)) = subst (λ x. GoesBefore 0 default_timing (asked 0 default_timing host_pair) x) same (inr (refl, omega arith))
+host_first q (inr (inr none)) = absurd none
+
+-- Kind 3 comes before kind 7 in a round that begins with kind 0.
+reflexive_first : (q : PairRecord) → Has due_pairs q
+    → TurnsBefore (own_1 ∷ []) remote_candidates 0 0 default_timing (asked 0 default_timing reflexive_pair) q
+reflexive_first q (inl same) =
+    let earlier : 3 < 7 = omega arith in
+    subst (λ x. TurnsBefore (own_1 ∷ []) remote_candidates 0 0 default_timing (asked 0 default_timing reflexive_pair) x) same (inl earlier)
+reflexive_first q (inr (inl same)) =
+    subst (λ x. TurnsBefore (own_1 ∷ []) remote_candidates 0 0 default_timing (asked 0 default_timing reflexive_pair) x) same (inr (refl, inr (refl, omega arith)))
+reflexive_first q (inr (inr none)) = absurd none
+
+-- After kind 3, the round goes on with kind 7.
+host_next : (q : PairRecord) → Has due_pairs q → TurnsBefore (own_1 ∷ []) remote_candidates 4 0 default_timing (asked 0 default_timing host_pair) q
+host_next q (inl same) =
+    subst (λ x. TurnsBefore (own_1 ∷ []) remote_candidates 4 0 default_timing (asked 0 default_timing host_pair) x) same (inr (refl, inr (refl, omega arith)))
+host_next q (inr (inl same)) =
+    let earlier : 7 < 19 = omega arith in
+    subst (λ x. TurnsBefore (own_1 ∷ []) remote_candidates 4 0 default_timing (asked 0 default_timing host_pair) x) same (inl earlier)
+host_next q (inr (inr none)) = absurd none
+
+module _ {H : Type 0} (P : Type 0) (mac : H → List ℕ → List ℕ → List ℕ) (provider : H) where
+  -- a kind's turn
+  abbrev with_turn : AgentRecord H P
+  with_turn = record (with_host mac provider) {
+    rules = modern_rules;
+    kind_turn = true;
+    remote = remote_candidates;
+    pairs = host_pair ∷ reflexive_pair ∷ [];
+    next_number = 2;
+  }
+
+  checks_reflexive : IsNextToCheck 0 (all_asked 0 with_turn) (Some (asked 0 default_timing reflexive_pair))
+  checks_reflexive = (inr (inl refl), refl, λ q has due. reflexive_first q has)
+
+  abbrev after_turn : List ℕ → AgentRecord H P
+  after_turn id = check_sent mac 0 creds_2 (asked 0 default_timing reflexive_pair) id (all_asked 0 with_turn)
+
+  -- The next check is of the pair that is due first, and the next turn begins with the kind after this one.
+  turn_ends : (id : List ℕ) → ((after_turn id).kind_turn ≡ false) × ((after_turn id).next_kind ≡ 4)
+  turn_ends id = (refl, refl)
+
+  checks_host : IsNextToCheck 0 (all_asked 0 (record with_turn { kind_turn = false })) (Some (asked 0 default_timing host_pair))
+  checks_host = ((inl refl, λ q has. host_first q has), refl)
+
+  checks_next_kind : IsNextToCheck 0 (all_asked 0 (record with_turn { next_kind = 4 })) (Some (asked 0 default_timing host_pair))
+  checks_next_kind = (inl refl, refl, λ q has due. host_next q has)
+
+  -- No kind has a turn while a path is selected, or under the original's rules.
+  checks_host_if_connected : IsNextToCheck 0 (all_asked 0 (record with_turn { state = Connected })) (Some (asked 0 default_timing host_pair))
+  checks_host_if_connected = ((inl refl, λ q has. host_first q has), refl)
+
+  checks_host_by_original : IsNextToCheck 0 (all_asked 0 (record with_turn { rules = original_rules })) (Some (asked 0 default_timing host_pair))
+  checks_host_by_original = ((inl refl, λ q has. host_first q has), refl)
+
+  -- After the path is lost, kinds take turns again.
+  checks_reflexive_if_disconnected : IsNextToCheck 0 (all_asked 0 (record with_turn { state = Disconnected })) (Some (asked 0 default_timing reflexive_pair))
+  checks_reflexive_if_disconnected = (inr (inl refl), refl, λ q has due. reflexive_first q has)
