@@ -293,6 +293,11 @@ typedef struct is_ice_preference_table {
     is_ice_kind_preferences v6;
 } is_ice_preference_table;
 
+/* What an agent does beyond the behavior of the Rust crate `is` 0.12.0, one field for each rule: see is_ice_set_rules. */
+typedef struct is_ice_agent_rules {
+    bool kinds_in_turn; /* until a path is selected, every second check goes to the next kind of pairs */
+} is_ice_agent_rules;
+
 /* ---- creating */
 
 /* is_ice_make_credentials - creates credentials from random bytes.
@@ -361,8 +366,9 @@ IS_ICE_QUIET_CALL int32_t is_ice_set_lite_timeout(is_ice_agent *agent, uint64_t 
 IS_ICE_QUIET_CALL int32_t is_ice_set_tie_breaker(is_ice_agent *agent, uint64_t tie_breaker);
 
 /* is_ice_set_max_pairs - limits how many pairs are left when a candidate is added or pairs are formed again: those of
- * the lowest priority are removed then. A request of the other agent adds its pair without regard to this limit, which
- * counts the pair when pairs are next formed. IS_ICE_OK. Value: 100. */
+ * the lowest priority are removed then. With the rule kinds_in_turn, each time the lowest pair of the kind that has the
+ * most is removed. A request of the other agent adds its pair without regard to this limit, which counts the pair when
+ * pairs are next formed. IS_ICE_OK. Value: 100. */
 IS_ICE_QUIET_CALL int32_t is_ice_set_max_pairs(is_ice_agent *agent, size_t limit);
 
 /* No limit: see is_ice_set_max_discovered. */
@@ -408,6 +414,22 @@ IS_ICE_QUIET_CALL int32_t is_ice_set_max_rto(is_ice_agent *agent, uint64_t nanos
  * a browser gives it up and does not nominate it again. With 9, and 3 s by is_ice_set_max_rto, it is 24.5 s.
  * IS_ICE_OK. IS_ICE_BAD_LIMIT: the limit is 0. Value: 11. */
 IS_ICE_CALL int32_t is_ice_set_max_retransmits(is_ice_agent *agent, size_t limit);
+
+/* is_ice_modern_rules, is_ice_original_rules - return the rules that make agents connect sooner, and those of the Rust
+ * crate `is` 0.12.0, of which each is off. On any thread. IS_ICE_OK. */
+IS_ICE_QUIET_CALL int32_t is_ice_modern_rules(is_ice_agent_rules *rules);
+IS_ICE_QUIET_CALL int32_t is_ice_original_rules(is_ice_agent_rules *rules);
+
+/* is_ice_set_rules - sets what the agent does beyond the behavior of the Rust crate `is` 0.12.0. To change one rule,
+ * change its field in what is_ice_rules or is_ice_modern_rules returned: a later version of this header may have further
+ * fields. The other agent may have other rules. The struct is copied. IS_ICE_OK. Value: is_ice_modern_rules.
+ *
+ * kinds_in_turn: until a path is selected, every second check goes to the next kind of pairs, and the others to the pair
+ * that is due first, as without the rule (RFC 8445, section 6.1.4.2). So a path through NATs is found soon, however many
+ * host candidates there are. The kind of a pair is the kind of its remote candidate, its IP version, and whether packets
+ * of its local candidate reach the outside. They do if the candidate is relayed, if its base has a server-reflexive
+ * candidate, or if no base of its IP version has one. */
+IS_ICE_QUIET_CALL int32_t is_ice_set_rules(is_ice_agent *agent, const is_ice_agent_rules *rules);
 
 /* is_ice_set_mtu - stores how long a packet may be, and the length to warn about; is_ice_status returns both.
  * IS_ICE_OK. IS_ICE_MTU_TOO_SMALL: `mtu` is below 588. Values: 1150 and 1280. */
@@ -706,6 +728,9 @@ IS_ICE_CALL int32_t is_ice_recreate_pairs(is_ice_agent *agent);
 /* is_ice_status - returns the settings of the agent, and its state. IS_ICE_OK. */
 IS_ICE_CALL int32_t is_ice_status(is_ice_agent *agent, is_ice_agent_status *status);
 
+/* is_ice_rules - returns the rules of the agent. IS_ICE_OK. */
+IS_ICE_CALL int32_t is_ice_rules(is_ice_agent *agent, is_ice_agent_rules *rules);
+
 /* is_ice_stats - returns the counters since the last restart. IS_ICE_OK. */
 IS_ICE_CALL int32_t is_ice_stats(is_ice_agent *agent, is_ice_agent_stats *stats);
 
@@ -940,6 +965,7 @@ IS_ICE_SIZE(is_ice_nominated_pair, 88);
 IS_ICE_SIZE(is_ice_pair, 96);
 IS_ICE_SIZE(is_ice_kind_preferences, 8);
 IS_ICE_SIZE(is_ice_preference_table, 16);
+IS_ICE_SIZE(is_ice_agent_rules, 1);
 IS_ICE_SIZE(is_ice_stun_transaction, 12);
 IS_ICE_SIZE(is_ice_stun_result, 32);
 IS_ICE_SIZE(is_ice_stun_number, 16);

@@ -93,6 +93,22 @@ static void set_preference(void)
     CALL(OK | QUIET, is_ice_set_preference_table(agents[on], given));
 }
 
+/* Sets the rules of the original, those of a new agent, or each rule to one value, and reads them. */
+static void set_rules(void)
+{
+    uint8_t kind = take();
+    is_ice_agent_rules *given = argument(sizeof *given), *told = argument(sizeof *told);
+    size_t agent = on;
+    on = AGENTS;
+    if (kind % 4 == 0) CALL(OK | QUIET, is_ice_original_rules(given));
+    else if (kind % 4 == 1) CALL(OK | QUIET, is_ice_modern_rules(given));
+    else memset(given, kind % 2, sizeof *given);
+    on = agent;
+    if (CALL(OK | QUIET, is_ice_set_rules(agents[on], given)) != IS_ICE_OK) return;
+    if (CALL(OK | QUIET | QUERY, is_ice_rules(agents[on], told)) != IS_ICE_OK || memcmp(given, told, sizeof *told) != 0)
+        stop("rules are read otherwise than they were set");
+}
+
 static void set_credentials(void)
 {
     static int32_t (*const calls[])(is_ice_agent *, const uint8_t *, size_t, const uint8_t *, size_t) = {is_ice_set_local_credentials,
@@ -456,9 +472,10 @@ static void play(void)
 static void queries(void)
 {
     const unsigned quiet = QUIET | QUERY;
-    uint8_t kind = take() % 6;
-    void *result = argument(kind == 0 ? sizeof(is_ice_agent_status) : kind == 1 ? sizeof(is_ice_agent_stats)
-        : kind == 2 ? sizeof(is_ice_nominated_pair) : kind == 3 ? sizeof(size_t) : sizeof(is_ice_pair));
+    uint8_t kind = take() % 7;
+    static const size_t sizes[] = {sizeof(is_ice_agent_status), sizeof(is_ice_agent_stats), sizeof(is_ice_nominated_pair), sizeof(size_t),
+        sizeof(is_ice_pair), sizeof(size_t), sizeof(is_ice_agent_rules)};
+    void *result = argument(sizes[kind]);
     size_t index = one_in(8) ? (size_t)number() : below(16);
     const is_ice_address *remote = address_argument();
     int32_t code = IS_ICE_OK;
@@ -468,7 +485,8 @@ static void queries(void)
     if (kind == 3) code = CALL(OK | quiet, is_ice_pair_count(agents[on], result));
     if (kind == 4) code = CALL(OK | NOTHING | quiet, is_ice_pair_at(agents[on], index, result));
     if (kind == 5) CALL(OK | NOTHING | BAD_ADDRESS | quiet, is_ice_has_viable_remote(agents[on], remote));
-    filled(code, result, kind < 4 ? sizeof(size_t) : sizeof(is_ice_pair));
+    if (kind == 6) code = CALL(OK | quiet, is_ice_rules(agents[on], result));
+    filled(code, result, sizes[kind]);
 }
 
 static void credentials(void)
@@ -608,7 +626,7 @@ static void (*const steps[])(void) = {
     play, handle_packet, handle_packet, add_local, add_remote, handle_timeout, poll_transmit, poll_event, poll_timeout, list, list_fields,
     line_fields, candidate_fields, line_parts, json_texts, line_texts, candidate_texts, preferences, find_pair, invalidate, queries,
     credentials, stun_read, stun_write, stun_text, stun_username, stun_response, stun_request, set_bool, set_number, set_limit, set_mtu,
-    set_preference, set_credentials, restart, recreate, create, destroy, make_credentials, fail_next, version};
+    set_preference, set_rules, set_credentials, restart, recreate, create, destroy, make_credentials, fail_next, version};
 
 /* Two agents that know each other's credentials and candidates. */
 static void introduce(void)

@@ -97,6 +97,7 @@ static unsigned bit_of(int32_t code)
 static void view(is_ice_agent *agent, struct view *v)
 {
     is_ice_agent_status status;
+    is_ice_agent_rules rules;
     is_ice_agent_stats stats;
     is_ice_nominated_pair path;
     is_ice_pair pair;
@@ -106,6 +107,7 @@ static void view(is_ice_agent *agent, struct view *v)
     uint64_t timeout = 0, *to = v->values;
     *to++ = (uint64_t)status.state, *to++ = status.controlling, *to++ = status.lite, *to++ = status.mtu, *to++ = status.mtu_warn;
     *to++ = status.ice_timeout;
+    if (is_ice_rules(agent, &rules) == IS_ICE_OK) *to++ = rules.kinds_in_turn;
     if (is_ice_stats(agent, &stats) == IS_ICE_OK) {
         *to++ = stats.bind_request_sent, *to++ = stats.bind_success_recv, *to++ = stats.bind_request_recv;
         *to++ = stats.discovered_recv_count, *to++ = stats.nomination_send_count;

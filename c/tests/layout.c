@@ -47,6 +47,7 @@ static void offsets(void)
     AT(is_ice_kind_preferences, host, 0), AT(is_ice_kind_preferences, peer_reflexive, 2);
     AT(is_ice_kind_preferences, server_reflexive, 4), AT(is_ice_kind_preferences, relayed, 6);
     AT(is_ice_preference_table, v4, 0), AT(is_ice_preference_table, v6, 8);
+    AT(is_ice_agent_rules, kinds_in_turn, 0);
 }
 
 static is_ice_agent made(void)
@@ -73,6 +74,24 @@ static void settings(void)
     HOLD(is_ice_set_controlling(&agent, false) == IS_ICE_OK && is_ice_set_lite(&agent, true) == IS_ICE_OK);
     HOLD(is_ice_status(&agent, &s) == IS_ICE_OK && !s.controlling && s.lite);
     is_ice_agent_free(&agent);
+}
+
+/* is_ice_agent_rules: the rules of a new agent, those of the original, and each field in both values. */
+static void rules(void)
+{
+    is_ice_agent agent = made();
+    is_ice_agent_rules modern, original, r;
+    memset(&modern, 0, sizeof modern), memset(&original, 0xff, sizeof original), memset(&r, 0, sizeof r);
+    HOLD(is_ice_modern_rules(&modern) == IS_ICE_OK && modern.kinds_in_turn);
+    HOLD(is_ice_original_rules(&original) == IS_ICE_OK && !original.kinds_in_turn);
+    HOLD(is_ice_rules(&agent, &r) == IS_ICE_OK && memcmp(&r, &modern, sizeof r) == 0);
+    HOLD(is_ice_set_rules(&agent, &original) == IS_ICE_OK && is_ice_rules(&agent, &r) == IS_ICE_OK && !r.kinds_in_turn);
+    r.kinds_in_turn = true;
+    HOLD(is_ice_set_rules(&agent, &r) == IS_ICE_OK);
+    memset(&r, 0, sizeof r);
+    HOLD(is_ice_rules(&agent, &r) == IS_ICE_OK && r.kinds_in_turn);
+    is_ice_agent_free(&agent);
+    HOLD(is_ice_set_rules(&agent, &r) == IS_ICE_NO_AGENT && is_ice_rules(&agent, &r) == IS_ICE_NO_AGENT);
 }
 
 /* Adds the candidate: its text has this after the foundation. */
@@ -207,6 +226,7 @@ int main(void)
 {
     offsets();
     settings();
+    rules();
     candidates();
     session();
     flow_and_scope();

@@ -139,6 +139,12 @@ class PreferenceTable(ctypes.Structure):
     _fields_ = [("v4", KindPreferences), ("v6", KindPreferences)]
 
 
+class AgentRules(ctypes.Structure):
+    """is_ice_agent_rules."""
+
+    _fields_ = [("kinds_in_turn", c_bool)]
+
+
 class StunTransaction(ctypes.Structure):
     """is_ice_stun_transaction."""
 
@@ -195,8 +201,8 @@ class StunTexts(ctypes.Structure):
 
 # The sizes of the structs that c/is_ice.h asserts.
 SIZES = {Agent: 16, Address: 28, Candidate: 60, Fields: 120, Packet: 72, Event: 68, Status: 32, Stats: 40, Nominated: 88, Pair: 96,
-         KindPreferences: 8, PreferenceTable: 16, StunTransaction: 12, StunResult: 32, StunNumber: 16, StunMessage: 232,
-         StunSpan: 24, StunTexts: 144}
+         KindPreferences: 8, PreferenceTable: 16, AgentRules: 1, StunTransaction: 12, StunResult: 32, StunNumber: 16,
+         StunMessage: 232, StunSpan: 24, StunTexts: 144}
 
 _AGENT = POINTER(Agent)
 _BYTES = [c_char_p, c_size_t]
@@ -231,6 +237,9 @@ PROTOTYPES: dict[str, list[object]] = {
     "is_ice_set_initial_rto": [_AGENT, c_uint64],
     "is_ice_set_max_rto": [_AGENT, c_uint64],
     "is_ice_set_max_retransmits": [_AGENT, c_size_t],
+    "is_ice_modern_rules": [POINTER(AgentRules)],
+    "is_ice_original_rules": [POINTER(AgentRules)],
+    "is_ice_set_rules": [_AGENT, POINTER(AgentRules)],
     "is_ice_set_mtu": [_AGENT, c_size_t, c_size_t],
     "is_ice_skip_pair_ids": [_AGENT, c_uint64],
     "is_ice_set_local_preference": [_AGENT, c_uint16],
@@ -256,6 +265,7 @@ PROTOTYPES: dict[str, list[object]] = {
     "is_ice_restart": [_AGENT, *_BYTES, *_BYTES, c_bool],
     "is_ice_recreate_pairs": [_AGENT],
     "is_ice_status": [_AGENT, POINTER(Status)],
+    "is_ice_rules": [_AGENT, POINTER(AgentRules)],
     "is_ice_stats": [_AGENT, POINTER(Stats)],
     "is_ice_nominated": [_AGENT, POINTER(Nominated)],
     "is_ice_pair_count": [_AGENT, POINTER(c_size_t)],

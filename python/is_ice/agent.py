@@ -32,6 +32,7 @@ from .events import (
     Transmit,
 )
 from .lines import line_refusal
+from .rules import Rules, rules_from, struct_of_rules
 
 
 def new_creds(random: bytes | None = None) -> IceCreds:
@@ -110,6 +111,10 @@ class IceAgent(Unique):
         keeps its path. If only the controlled agent has it, its path may change at each check of the peer.
         """
         done(self._c.is_ice_set_renomination(self._at, enabled))
+
+    def set_rules(self, rules: Rules) -> None:
+        """Sets what the agent does beyond the original's behavior. The peer may have other rules. Default: `Rules.modern()`."""
+        done(self._c.is_ice_set_rules(self._at, byref(struct_of_rules(rules))))
 
     def set_control_tie_breaker(self, tie_breaker: int) -> None:
         """Sets the number that decides role conflicts: the agent with the greater one keeps its role."""
@@ -352,6 +357,11 @@ class IceAgent(Unique):
     def ice_timeout(self) -> int:
         """How long a pair's checks go on without a response, before the pair is removed."""
         return int(self._status.ice_timeout)
+
+    @property
+    def rules(self) -> Rules:
+        """What the agent does beyond the original's behavior."""
+        return rules_from(self._c.is_ice_rules, self._at)
 
     @property
     def stats(self) -> IceAgentStats:

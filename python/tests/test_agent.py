@@ -2,6 +2,7 @@
 
 import copy
 import ctypes
+import dataclasses
 import inspect
 import os
 import pickle
@@ -37,6 +38,7 @@ from is_ice import (
     NoAgent,
     NominatedSend,
     Protocol,
+    Rules,
     SocketAddress,
     TooFewRandomBytes,
     Unparsed,
@@ -121,6 +123,27 @@ def last_paths(renomination: bool) -> tuple[SocketAddress | None, SocketAddress 
                     if isinstance(event, NominatedSend):
                         selected[agent] = event.source if agent is a else event.destination
     return selected.get(a), selected.get(b)
+
+
+def first_checks(rules: Rules | None) -> list[str]:
+    """Returns to which hosts the first four checks go, of an agent whose peer has three host candidates and a server-reflexive one.
+
+    None: the agent keeps the rules that it begins with.
+    """
+    agent = IceAgent()
+    if rules is not None:
+        agent.set_rules(rules)
+    agent.set_remote_credentials(IceCreds("BBBB", "Q" * 22))
+    agent.add_local_candidate(Candidate.host(HERE))
+    for number in (2, 3, 4):
+        agent.add_remote_candidate(f"candidate:{number} 1 udp {2130706175 - number} 10.0.0.{number} 2000 typ host")
+    agent.add_remote_candidate("candidate:9 1 udp 1694498815 203.0.113.9 2000 typ srflx raddr 0.0.0.0 rport 0")
+    checked: list[str] = []
+    for count in range(4):
+        agent.handle_timeout(BEGINNING + count * SECOND // 20)
+        while packet := agent.poll_transmit():
+            checked.append(packet.destination.ip)
+    return checked
 
 
 def seconds_of_a_cut(agents: tuple[IceAgent, IceAgent]) -> float:
@@ -292,6 +315,22 @@ class Errors(unittest.TestCase):
     def test_renomination(self) -> None:
         self.assertEqual(last_paths(False), (HERE, SocketAddress("10.0.0.3", 1000)))
         self.assertEqual(last_paths(True), (HERE, HERE))
+
+    def test_rules(self) -> None:
+        self.assertEqual(self.agent.rules, Rules.modern())
+        self.assertEqual((Rules.modern(), Rules.original()), (Rules(kinds_in_turn=True), Rules(kinds_in_turn=False)))
+        self.agent.set_rules(dataclasses.replace(self.agent.rules, kinds_in_turn=False))
+        self.assertEqual(self.agent.rules, Rules.original())
+        self.agent.close()
+        self.assertRaises(NoAgent, self.agent.set_rules, Rules.modern())
+        self.assertRaises(NoAgent, lambda: self.agent.rules)
+
+    def test_kinds_take_turns(self) -> None:
+        """The second check goes to the first kind, server-reflexive candidates, and the fourth one to the next kind, host candidates."""
+        in_turn, in_order = ["10.0.0.2", "203.0.113.9", "10.0.0.3", "10.0.0.4"], ["10.0.0.2", "10.0.0.3", "10.0.0.4", "203.0.113.9"]
+        self.assertEqual(first_checks(None), in_turn)
+        self.assertEqual(first_checks(Rules.modern()), in_turn)
+        self.assertEqual(first_checks(Rules.original()), in_order)
 
     def test_bytes_that_are_no_message(self) -> None:
         self.assertRaises(Unparsed, self.agent.handle_packet, BEGINNING, THERE, HERE, b"media")

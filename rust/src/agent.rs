@@ -75,7 +75,7 @@ impl IceAgent {
         Ok(IceAgent { held: RefCell::new(agent), first: None, local: local_credentials, remote: None, added: None })
     }
 
-    fn ask<R>(&self, call: impl FnOnce(&mut ffi::Agent) -> R) -> R {
+    pub(crate) fn ask<R>(&self, call: impl FnOnce(&mut ffi::Agent) -> R) -> R {
         call(&mut self.held.borrow_mut())
     }
 

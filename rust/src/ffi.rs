@@ -188,6 +188,12 @@ pub(crate) struct PreferenceTable {
 }
 
 #[repr(C)]
+#[derive(Clone, Copy, Default)]
+pub(crate) struct AgentRules {
+    pub(crate) kinds_in_turn: bool,
+}
+
+#[repr(C)]
 #[derive(Clone, Copy, Debug, Default, PartialEq, Eq)]
 pub(crate) struct StunTransaction {
     pub(crate) bytes: [u8; 12],
@@ -254,7 +260,7 @@ const _: () = {
     assert!(size_of::<Fields>() == 120 && std::mem::offset_of!(Fields, foundation_length) == 88);
     assert!(size_of::<Packet>() == 72 && size_of::<Event>() == 68 && size_of::<Status>() == 32);
     assert!(size_of::<Stats>() == 40 && size_of::<Nominated>() == 88 && size_of::<Pair>() == 96);
-    assert!(size_of::<KindPreferences>() == 8 && size_of::<PreferenceTable>() == 16);
+    assert!(size_of::<KindPreferences>() == 8 && size_of::<PreferenceTable>() == 16 && size_of::<AgentRules>() == 1);
     assert!(size_of::<StunTransaction>() == 12 && size_of::<StunResult>() == 32);
     assert!(size_of::<StunNumber>() == 16 && size_of::<StunMessage>() == 232);
     assert!(size_of::<StunSpan>() == 24 && size_of::<StunTexts>() == 144);
@@ -282,6 +288,9 @@ unsafe extern "C" {
     pub(crate) safe fn is_ice_set_initial_rto(agent: &mut Agent, nanoseconds: u64) -> i32;
     pub(crate) safe fn is_ice_set_max_rto(agent: &mut Agent, nanoseconds: u64) -> i32;
     pub(crate) safe fn is_ice_set_max_retransmits(agent: &mut Agent, limit: usize) -> i32;
+    pub(crate) safe fn is_ice_modern_rules(rules: &mut AgentRules) -> i32;
+    pub(crate) safe fn is_ice_original_rules(rules: &mut AgentRules) -> i32;
+    pub(crate) safe fn is_ice_set_rules(agent: &mut Agent, rules: &AgentRules) -> i32;
     pub(crate) safe fn is_ice_set_mtu(agent: &mut Agent, mtu: usize, warn: usize) -> i32;
     pub(crate) safe fn is_ice_set_local_preference(agent: &mut Agent, preference: u16) -> i32;
     pub(crate) safe fn is_ice_set_preference_table(agent: &mut Agent, table: &PreferenceTable) -> i32;
@@ -293,6 +302,7 @@ unsafe extern "C" {
     pub(crate) safe fn is_ice_poll_event(agent: &mut Agent, event: &mut Event) -> i32;
     pub(crate) safe fn is_ice_recreate_pairs(agent: &mut Agent) -> i32;
     pub(crate) safe fn is_ice_status(agent: &mut Agent, status: &mut Status) -> i32;
+    pub(crate) safe fn is_ice_rules(agent: &mut Agent, rules: &mut AgentRules) -> i32;
     pub(crate) safe fn is_ice_stats(agent: &mut Agent, stats: &mut Stats) -> i32;
     pub(crate) safe fn is_ice_nominated(agent: &mut Agent, nominated: &mut Nominated) -> i32;
     pub(crate) safe fn is_ice_pair_count(agent: &mut Agent, count: &mut usize) -> i32;

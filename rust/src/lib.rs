@@ -33,6 +33,7 @@ mod ffi;
 mod pair;
 mod preference;
 mod proto;
+mod rules;
 mod settings;
 pub mod stun;
 mod stun_builder;
@@ -47,3 +48,4 @@ pub use event::{IceAgentEvent, IceAgentStats, IceConnectionState, SelectedPath, 
 pub use pair::{CandidatePair, CheckState};
 pub use preference::{KindPreferences, LocalPreference, PreferenceTable, default_local_preference, try_default_local_preference};
 pub use proto::{Protocol, TcpType};
+pub use rules::Rules;

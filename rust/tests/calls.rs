@@ -4,7 +4,7 @@ mod world;
 
 use is::stun::{StunMessage, StunPacket};
 use is::{CallError, Candidate, CandidateKind, CheckState, IceAgent, IceAgentEvent, IceConnectionState, IceCreds, IceError};
-use is::{KindPreferences, LocalPreference, PreferenceTable, Protocol, StunError, TcpType};
+use is::{KindPreferences, LocalPreference, PreferenceTable, Protocol, Rules, StunError, TcpType};
 use std::time::{Duration, Instant};
 use world::{at, creds, host, ms};
 
@@ -157,6 +157,44 @@ fn delays_are_set() {
     agent.set_renomination(true);
     agent.set_mtu(600..=700);
     assert_eq!((agent.mtu(), agent.mtu_warn()), (600, 700));
+}
+
+#[test]
+fn rules_are_set() {
+    let mut agent = IceAgent::new(creds("near"));
+    assert_eq!(agent.rules(), Rules::modern());
+    assert!(Rules::modern().kinds_in_turn && !Rules::original().kinds_in_turn);
+    let mut rules = agent.rules();
+    rules.kinds_in_turn = false;
+    agent.set_rules(rules);
+    assert_eq!(agent.rules(), Rules::original());
+}
+
+/// Where the first four checks go of an agent whose peer has three host candidates and a server-reflexive one.
+fn first_checks(mut agent: IceAgent) -> Vec<String> {
+    agent.set_remote_credentials(creds("farr"));
+    agent.add_local_candidate(host("10.0.0.1:1000")).expect("a candidate");
+    for number in 2..5 {
+        let line = format!("candidate:{number} 1 udp {} 10.0.0.{number} 2000 typ host", 2_130_706_175 - number);
+        agent.add_remote_candidate(Candidate::from_sdp_string(&line).unwrap());
+    }
+    let reflexive = "candidate:9 1 udp 1694498815 203.0.113.9 2000 typ srflx raddr 0.0.0.0 rport 0";
+    agent.add_remote_candidate(Candidate::from_sdp_string(reflexive).unwrap());
+    let begin = Instant::now();
+    let checks = (0..4).map(|count| {
+        agent.handle_timeout(begin + ms(50) * count);
+        agent.poll_transmit().expect("a check").destination.ip().to_string()
+    });
+    checks.collect()
+}
+
+#[test]
+fn kinds_take_turns() {
+    // the second check goes to the first kind, that of server-reflexive candidates, and the fourth one to the next kind, that of hosts
+    assert_eq!(first_checks(IceAgent::new(creds("near"))), ["10.0.0.2", "203.0.113.9", "10.0.0.3", "10.0.0.4"]);
+    let mut original = IceAgent::new(creds("near"));
+    original.set_rules(Rules::original());
+    assert_eq!(first_checks(original), ["10.0.0.2", "10.0.0.3", "10.0.0.4", "203.0.113.9"]);
 }
 
 #[test]

@@ -6,7 +6,7 @@
 mod random;
 
 use is::stun::{BindingResponse, StunMessage, StunMessageBuilder, StunPacket, TransId};
-use is::{Candidate, IceAgent, IceAgentEvent, IceCreds, KindPreferences, LocalPreference, PreferenceTable, Protocol, TcpType};
+use is::{Candidate, IceAgent, IceAgentEvent, IceCreds, KindPreferences, LocalPreference, PreferenceTable, Protocol, Rules, TcpType};
 use is::{default_local_preference, try_default_local_preference};
 use random::Random;
 use std::hint::black_box;
@@ -218,7 +218,7 @@ impl Session {
         let (flag, side) = (self.random.once_in(2), self.side());
         let table = self.table();
         let agent = &mut self.agents[side];
-        match self.random.below(18) {
+        match self.random.below(19) {
             0 => agent.set_mtu(588..=number),
             1 => _ = black_box(agent.try_set_mtu(number..=number)),
             2 => agent.set_control_tie_breaker(number as u64),
@@ -236,6 +236,7 @@ impl Session {
             14 => agent.set_controlling(flag),
             15 => _ = black_box(agent.try_set_local_credentials(creds)),
             16 => _ = black_box(agent.try_set_remote_credentials(creds)),
+            17 => agent.set_rules(if flag { Rules::modern() } else { Rules::original() }),
             _ => {
                 agent.set_local_credentials(self::creds("near"));
                 agent.set_remote_credentials(self::creds("farr"));
@@ -268,7 +269,7 @@ impl Session {
             agent.state(),
             agent.stats(),
         ));
-        black_box((agent.state().is_connected(), agent.state().is_disconnected()));
+        black_box((agent.state().is_connected(), agent.state().is_disconnected(), agent.rules()));
         black_box((agent.nominated_pair_rtt(), agent.nominated_pair_total_rtt(), agent.nominated_pair_responses_received()));
         black_box((agent.selected_path(), agent.has_viable_remote_candidate(address), agent.pairs().count()));
         assert_eq!(agent.local_candidates().collect::<Vec<_>>(), agent.try_local_candidates().unwrap());

@@ -13,6 +13,7 @@ use crate::home::Home;
 use crate::slot::Slot;
 use is_agent::{Agent, IceCreds};
 use is_proto::Duration;
+use is_rules::rules::Rules;
 use std::alloc::Global;
 
 /// How many candidates received packets may bring of each side, until another limit is set.
@@ -48,6 +49,7 @@ fn boxed_agent(alloc: Global, creds: IceCreds, tie_breaker: u64) -> Result<Box<H
     agent.set_max_discovered(Some(discovered_limit()));
     agent.set_max_stun_rto(max_rto());
     agent.set_max_stun_retransmits(retransmits());
+    agent.set_rules(Rules::modern());
     let waiting = None;
     match Box::new(alloc, Home { agent, waiting }) {
         Ok(home) => Ok(home),
