@@ -116,10 +116,16 @@ QUESTIONS = {
 }
 
 
-def run(name: str, count: int, seed: int, processes: int, quiet: bool, path: Path, own: bool) -> None:
-    """Runs the sessions of each setting, prints the table, and writes the plot."""
+def _by_original_rules(setting: Setting) -> Setting:
+    made = setting.scenario
+    a, b = (replace(made.side(side), kinds_in_turn=False) for side in scenario.SIDES)
+    return replace(setting, scenario=replace(made, a=a, b=b))
+
+
+def run(name: str, count: int, seed: int, processes: int, quiet: bool, path: Path, own: bool, is_original: bool = False) -> None:
+    """Runs the sessions of each setting, prints the table, and writes the plot. `is_original`: the agents have the original's rules."""
     question = QUESTIONS[name]
-    settings = question.settings()
+    settings = [_by_original_rules(s) for s in question.settings()] if is_original else question.settings()
     told = figures.gather(pool.run([s.scenario for s in settings], count, seed, processes, quiet))
     times = {s.label: [time - question.shift for time in question.times(told[s.label])] for s in settings}
     _print(question, times, count)

@@ -2,6 +2,7 @@
 
 from __future__ import annotations
 
+from dataclasses import replace
 from random import Random
 from typing import Protocol as Interface_, cast
 
@@ -76,6 +77,8 @@ class Endpoint:
         for limit, set_limit in ((s.retransmits, agent.set_max_stun_retransmits), (s.max_pairs, agent.set_max_candidate_pairs)):
             if limit is not None:
                 set_limit(limit)
+        if s.kinds_in_turn is not None:
+            agent.set_rules(replace(agent.rules, kinds_in_turn=s.kinds_in_turn))
 
     # ---- starting, restarting, interfaces
 
@@ -84,7 +87,7 @@ class Endpoint:
         self._trickle = trickle
         self.began = True
         self._signal_creds()
-        for interface in self.interfaces:
+        for interface in self._random.sample(self.interfaces, len(self.interfaces)) if self.settings.shuffled else self.interfaces:
             if interface.is_on:
                 self._bind(interface)
         self._signal_candidates()

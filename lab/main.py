@@ -8,7 +8,7 @@ import time
 from contextlib import ExitStack
 from pathlib import Path
 
-from . import bars, compare, coverage, figures, pool, scenario
+from . import bars, compare, coverage, figures, hosts, pool, scenario
 from .guarantees import Broken
 from .scenario import BadScenario, Scenario
 
@@ -24,17 +24,22 @@ def _arguments() -> argparse.Namespace:
     measure.add_argument("--set", action="append", default=[], metavar="KEY=VALUE", help="changes a scenario: a.initial_rto_ms=100")
     measure.add_argument("--csv", type=Path, metavar="FILE", help="writes a row for each session")
     measure.add_argument("--plot", type=Path, metavar="FILE",
-                         help="plots when both sides have a path: median, 95 % and 99 %, as .svg or (by matplotlib) .png")
+                         help="plots when both sides have a path: median, 95 %% and 99 %%, as .svg or (by matplotlib) .png")
     comparing = words.add_parser("compare", help="compares settings, and plots them")
     comparing.add_argument("question", choices=sorted(compare.QUESTIONS))
     comparing.add_argument("-n", "--sessions", type=int, default=1000, help="sessions of each setting (1000)")
     comparing.add_argument("--plot", type=Path, metavar="FILE", required=True)
+    comparing.add_argument("--original", action="store_true", help="agents with the original's rules: no kinds in turn")
+    many = words.add_parser("hosts", help="measures how long agents with many host candidates take, with kinds in turn and without")
+    many.add_argument("-n", "--sessions", type=int, default=40, help="sessions of each setting (40)")
+    many.add_argument("--plot", type=Path, metavar="FILE", required=True)
+    many.add_argument("--document", type=Path, metavar="FILE", help="puts the tables in place of those of a document, as docs/SESSIONS.md")
     covering = words.add_parser("coverage", help="shows how many sessions each clause of progress covers, and its bound")
     covering.add_argument("scenario", nargs="*", help="as for measure")
     covering.add_argument("-n", "--sessions", type=int, default=200, help="sessions of each scenario (200)")
     covering.add_argument("--set", action="append", default=[], metavar="KEY=VALUE", help="as for measure")
     covering.add_argument("--settle", type=float, default=12.0, metavar="S", help="go on this long after the last selection (12 s)")
-    for command in (measure, comparing, covering):
+    for command in (measure, comparing, many, covering):
         command.add_argument("--seed", type=int, default=0, help="the first seed (0)")
         command.add_argument("-j", "--processes", type=int, default=1, help="number of processes (1)")
         command.add_argument("-q", "--quiet", action="store_true", help="no progress bar")
@@ -82,8 +87,11 @@ def main() -> int:
             _measure(options)
         elif options.word == "coverage":
             _cover(options)
+        elif options.word == "hosts":
+            hosts.run(options.sessions, options.seed, options.processes, options.quiet, options.plot, options.own_svg, options.document)
         else:
-            compare.run(options.question, options.sessions, options.seed, options.processes, options.quiet, options.plot, options.own_svg)
+            compare.run(options.question, options.sessions, options.seed, options.processes, options.quiet, options.plot, options.own_svg,
+                        options.original)
         return 0
     except Broken as broken:
         print(f"lab: BROKEN GUARANTEE: {broken}", file=sys.stderr)

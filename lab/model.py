@@ -7,11 +7,14 @@ from __future__ import annotations
 from collections.abc import Callable, Iterable
 from dataclasses import dataclass, replace
 
-from is_ice import Candidate, CandidateKind, IceCreds, SocketAddress
+from is_ice import Candidate, CandidateKind, IceConnectionState, IceCreds, SocketAddress
 from is_ice.stun import StunMessage
 
 from .clock import MILLISECOND, SECOND
+from .kinds import MODERN, Rules, kind_of, least_of_most, turn_of
 from .pairs import Pair, Path, Place, Timing, pair_priority
+from .requests import Request, request_of
+from .states import CHECKING, NEW, has_nominated, has_possible, next_state
 from .stun import message_of
 
 KINDS = {CandidateKind.HOST: "host", CandidateKind.SERVER_REFLEXIVE: "srflx", CandidateKind.RELAYED: "relay"}
@@ -19,21 +22,6 @@ KINDS = {CandidateKind.HOST: "host", CandidateKind.SERVER_REFLEXIVE: "srflx", Ca
 QUEUE_LIMIT = 100
 # How many candidates of each side packets may bring to an agent that the library makes.
 DISCOVERED_LIMIT = 32
-
-
-@dataclass(frozen=True)
-class Request:
-    """A Binding request that was received. `controlling` and `controlled`: the tie-breaker in each role attribute."""
-
-    time: int
-    source: SocketAddress
-    local: SocketAddress
-    id: bytes
-    priority: int
-    use_candidate: bool
-    ufrag: str
-    controlling: int | None
-    controlled: int | None
 
 
 @dataclass(frozen=True)
@@ -60,6 +48,7 @@ class Agent:
     controlling: bool = False
     lite: bool = False
     renominates: bool = False
+    rules: Rules = MODERN
     peer: IceCreds | None = None
     timing: Timing = Timing()
     advance: int = 50 * MILLISECOND
@@ -71,6 +60,9 @@ class Agent:
     next_number: int = 0
     selected: int | None = None
     last_nominated: int | None = None  # by the peer
+    kind_turn: bool = False  # the next check is of the next kind, if kinds take turns
+    next_kind: int = 0  # from which kind on that is
+    state: IceConnectionState = NEW
     queue: tuple[Request, ...] = ()
     last: int | None = None
 
@@ -138,6 +130,11 @@ class Agent:
         at = next((i for i, c in enumerate(places) if c.is_same_place(candidate) and c.is_same_origin(candidate)), None)
         return None if at is None or places[at].is_discarded else at
 
+    @property
+    def is_kinds_turn(self) -> bool:
+        """Whether the next check is of the next kind: with kinds in turn every second one, until a path is selected."""
+        return self.rules.kinds_in_turn and self.kind_turn and not self.state.is_connected()
+
     # ---- forming pairs
 
     def priority_between(self, local: int, remote: int) -> int:
@@ -151,8 +148,12 @@ class Agent:
             new = new._tried(local, remote)
         pairs = list(new.pairs)
         while len(pairs) > new.max_pairs:
-            pairs.remove(min(pairs, key=lambda p: p.priority))
+            pairs.remove(new._to_evict(pairs))
         return replace(new, pairs=tuple(pairs))
+
+    def _to_evict(self, pairs: list[Pair]) -> Pair:
+        """Returns the pair that goes at the limit."""
+        return least_of_most(self.local, self.remote, pairs) if self.rules.kinds_in_turn else min(pairs, key=lambda p: p.priority)
 
     def _tried(self, local: int, remote: int) -> Agent:
         path = self.local[local].base, self.remote[remote].address
@@ -219,12 +220,13 @@ class Agent:
 
     def restart(self, creds: IceCreds, keeps: bool) -> Agent:
         """Makes an ICE restart."""
-        return replace(self, creds=creds, peer=None, local=self.local if keeps else (), remote=(), pairs=())
+        return replace(self, creds=creds, peer=None, local=self.local if keeps else (), remote=(), pairs=(), state=CHECKING)
 
     def recreate(self) -> Agent:
         """Forms the pairs again."""
         live = [i for i, c in enumerate(self.local) if not c.is_discarded]
-        return replace(self, pairs=())._formed((i, r) for i in live for r in self._partners(self.local[i], self.remote))
+        empty = replace(self, pairs=(), state=CHECKING)
+        return empty._formed((i, r) for i in live for r in self._partners(self.local[i], self.remote))
 
     # ---- nomination
 
@@ -239,6 +241,11 @@ class Agent:
         if not top.is_nominated and (self.controlling or self.lite):
             new = new._changed(top.number, lambda p: replace(p, nomination="success" if self.lite else "nominated"))
         return new, (self.path(top),)
+
+    def _evaluated(self, now: int) -> Agent:
+        """Returns it with its connection state evaluated."""
+        is_possible = has_possible(self.local, self.remote, self.pairs, now, self.timing)
+        return replace(self, state=next_state(self.state, has_nominated(self.pairs), is_possible, self.lite))
 
     # ---- serving a request
 
@@ -313,7 +320,7 @@ class Agent:
             return (self.switched() if message.code == 487 and sent.controlling == self.controlling else self), None, ()
         new = self._mapped(pair, contents)._changed(pair.number, lambda p: p.answered(now, message.transaction))
         chosen, told = new._nominate()
-        return chosen, None, told
+        return chosen._evaluated(now), None, told
 
     def _mapped(self, pair: Pair, contents: bytes) -> Agent:
         mapped, brought = StunMessage(contents).mapped_address, sum(c.kind == "prflx" for c in self.local)
@@ -326,14 +333,16 @@ class Agent:
 
     def timeout(self, now: int, id: bytes, seen: Path | None = None) -> Result:
         """Takes a `handle_timeout`. `seen` is the path of the check that was sent, which decides between equal pairs."""
+        begun = self._evaluated(now)
         if self.peer is not None and (queue := self._current(now)) != ():
-            return replace(self, queue=queue[1:])._serve(queue[0])
-        start = replace(self, last=now, queue=self._current(now) if self.peer is not None else self.queue)
+            return replace(begun, queue=queue[1:])._serve(queue[0])
+        start = replace(begun, last=now, queue=self._current(now) if self.peer is not None else self.queue)
         new, first = start._nominate()
         kept = tuple(p for p in new.pairs if p.stays(now, new.timing, new.lite))
         second: tuple[Path, ...] = ()
         if len(kept) < len(new.pairs):
             new, second = replace(new, pairs=kept)._nominate()
+            new = new._evaluated(now)
         new, issued = new._check(now, id, seen)
         return new, issued, first + second
 
@@ -343,14 +352,20 @@ class Agent:
         if self.lite:
             return replace(self, pairs=tuple(p if p.last_request is not None else replace(p, last_request=now) for p in self.pairs)), None
         new = replace(self, pairs=tuple(p.fixed(now, self.timing) for p in self.pairs))
-        order = {p.number: (p.due_at(now, self.timing), -p.priority) for p in new.pairs}
-        first = min(order.values(), default=(now + 1, 0))
-        if first[0] > now:
+        order = {p.number: new._place_in_order(p, now) for p in new.pairs if p.due_at(now, self.timing) <= now}
+        if not order:
             return new, None
-        equal = [p for p in new.pairs if order[p.number] == first]
-        pair = next((p for p in equal if new.path(p) == seen), equal[0])
+        least = min(order.values())
+        first = [p for p in new.pairs if order.get(p.number) == least]
+        pair = next((p for p in first if new.path(p) == seen), first[0])
         checked = new._changed(pair.number, lambda p: p.checked(now, self.timing, self.controlling, id))
-        return checked, Issued("request", new.path(pair), id)
+        following = kind_of(self.local, self.remote, pair) + 1 if self.is_kinds_turn else self.next_kind
+        return replace(checked, kind_turn=not self.is_kinds_turn, next_kind=following), Issued("request", new.path(pair), id)
+
+    def _place_in_order(self, pair: Pair, now: int) -> tuple[int, int, int]:
+        """Returns what decides which of the due pairs is checked: in a kind's turn its kind, then its due time and its priority."""
+        turn = turn_of(self.next_kind, kind_of(self.local, self.remote, pair)) if self.is_kinds_turn else 0
+        return turn, pair.due_at(now, self.timing), -pair.priority
 
     def poll_timeout(self, is_waiting: bool) -> tuple[Agent, int | None]:
         """Returns when `handle_timeout` is due, and fixes due times. `is_waiting`: a packet waits to be polled."""
@@ -377,11 +392,3 @@ def local_place(candidate: Candidate) -> Place:
     """Returns a local candidate as a place, without its priority."""
     base = candidate.address if candidate.kind is CandidateKind.RELAYED else candidate.base
     return Place(KINDS[candidate.kind], candidate.address, base, 0)
-
-
-def request_of(now: int, source: SocketAddress, local: SocketAddress, contents: bytes) -> Request:
-    """Reads a request."""
-    message = StunMessage(contents)
-    ufrag = (message.username or ":").partition(":")[2]
-    return Request(now, source, local, message.transaction, message.priority or 0, message.use_candidate, ufrag, message.ice_controlling,
-                   message.ice_controlled)

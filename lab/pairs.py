@@ -142,6 +142,10 @@ class Pair:
         """Whether its consent has not expired; for a lite agent, whether the peer's checks go on."""
         if lite:
             return self.last_request is None or now - self.last_request < timing.lite
+        return self.is_possible(now, timing)
+
+    def is_possible(self, now: int, timing: Timing) -> bool:
+        """Whether the checks of a pair with this record may go on."""
         if self.is_young(timing):
             return True
         is_heard = self.last_request is not None and now - self.last_request < 15 * SECOND

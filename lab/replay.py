@@ -4,16 +4,18 @@ from __future__ import annotations
 
 from dataclasses import dataclass, field, replace
 
-from is_ice import NominatedSend
+from is_ice import IceConnectionState, IceConnectionStateChange, NominatedSend
 
+from .kinds import Rules
 from .log import Entry, Log
 from .model import Agent, Issued
 from .pairs import Path
 from .scenario import SIDES
 from .stun import message_of
 
-# The calls that issue packets.
+# The calls that issue packets, and those that may change the connection state.
 ISSUING = ("handle_packet", "handle_timeout")
+CHANGING = (*ISSUING, "ice_restart", "recreate_candidate_pairs")
 
 
 def other(side: str) -> str:
@@ -59,7 +61,8 @@ class Replay:
 def replay(log: Log) -> Replay:
     """Follows both agents through the log."""
     sent, selected = _issued(log)
-    world = {side: Agent(b.creds, b.tie_breaker, b.controlling) for side, b in log.sides.items()}
+    states = _states(log)
+    world = {side: Agent(b.creds, b.tie_breaker, b.controlling, rules=b.rules) for side, b in log.sides.items()}
     assert set(world) == set(SIDES)
     told = Replay([])
     waiting = {side: 0 for side in SIDES}
@@ -73,6 +76,8 @@ def replay(log: Log) -> Replay:
         actual = entry.returned if entry.call == "poll_timeout" else (seen, selected.get(at, ()))
         if foreseen is not None and foreseen != (actual,):
             told.differences.append(f"{entry.time} {entry.side} {entry.call}: {foreseen[0]}, not {actual}")
+        if at in states and own.state is not states[at]:
+            told.differences.append(f"{entry.time} {entry.side} {entry.call}: {own.state}, not {states[at]}")
         after = {**world, entry.side: own}
         told.steps.append(Step(at, entry, world, after, packet, seen, selected.get(at, ())))
         if entry.call == "handle_packet":
@@ -103,6 +108,19 @@ def _issued(log: Log) -> tuple[dict[int, Entry], dict[int, tuple[Path, ...]]]:
     return sent, selected
 
 
+def _states(log: Log) -> dict[int, IceConnectionState]:
+    """Finds the state of the agent after each call that may change it, by the events that are polled before the next one."""
+    states: dict[int, IceConnectionState] = {}
+    last: dict[str, int] = {}
+    for at, entry in enumerate(log.entries):
+        if entry.call in CHANGING:
+            before = states[last[entry.side]] if entry.side in last else IceConnectionState.NEW
+            states[at], last[entry.side] = before, at
+        elif entry.call == "poll_event" and isinstance(entry.returned, IceConnectionStateChange) and entry.side in last:
+            states[last[entry.side]] = entry.returned.state
+    return states
+
+
 SETTINGS = {"set_ice_lite": "lite", "set_renomination": "renominates", "set_timing_advance": "advance",
             "set_max_candidate_pairs": "max_pairs", "set_max_discovered": "max_discovered", "set_local_credentials": "creds",
             "set_remote_credentials": "peer"}
@@ -130,6 +148,8 @@ def after_setting(agent: Agent, entry: Entry) -> Agent:
     call, given = entry.call, entry.given
     if call in SETTINGS:
         return replace(agent, **{SETTINGS[call]: given[0]})
+    if call == "set_rules":
+        return replace(agent, rules=Rules(given[0].kinds_in_turn))
     if call in TIMING:
         return agent.with_timing(replace(agent.timing, **{TIMING[call]: given[0]}))
     if call == "add_local_candidate":

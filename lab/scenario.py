@@ -47,6 +47,8 @@ class AgentSettings:
     late_ms: float = 0.0  # how much later than the agent's timeout its endpoint calls `handle_timeout`
     retransmits: int = 9
     max_pairs: int | None = None
+    kinds_in_turn: bool | None = None
+    shuffled: bool = False  # gathers from its interfaces in random order
     stun: bool = True  # gathers server-reflexive candidates
     relay: bool = False  # gathers relayed candidates
     interface: tuple[InterfaceSettings, ...] = ()
@@ -59,6 +61,7 @@ class SignalingSettings:
     delay_ms: float = 50.0
     jitter_ms: float = 30.0
     trickle: bool = True  # each candidate when it is gathered, not all at the end
+    candidates_ms: float = 0.0  # no candidate arrives before this time: so both sides gather first
     credentials_late_ms: float = 0.0  # how much later than its candidates side B's credentials are signaled
 
 

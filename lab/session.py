@@ -41,6 +41,7 @@ class Outcome:
     scenario: str
     seed: int
     sides: dict[str, SideOutcome]
+    first_packets: int | None = None  # how many packets both had sent when both had selected a pair
     connected: bool = False  # both have a path at the end
     symmetric: bool = False  # and the paths are the reverse of each other, after translation by the NATs
     seconds: float = 0.0
@@ -151,6 +152,8 @@ class Session:
             own.last, own.path = since, (event.source, event.destination)
             own.packets, own.bytes = self._sent[side]
             self._calm = self.clock.now
+            if self.outcome.first is not None and self.outcome.first_packets is None:
+                self.outcome.first_packets = sum(packets for packets, _ in self._sent.values())
         elif isinstance(event, IceConnectionStateChange) and event.state is IceConnectionState.DISCONNECTED:
             own.lost_at = since
 

@@ -8,7 +8,7 @@ from random import Random
 
 from is_ice import IceCreds
 
-from .clock import Clock, nanoseconds
+from .clock import BEGINNING, Clock, nanoseconds
 from .scenario import SignalingSettings
 
 
@@ -33,7 +33,8 @@ class Channel:
     def tell(self, signal: Signal, extra: int = 0) -> None:
         """Sends a message. With `extra` delay it may be overtaken."""
         delay = self._settings.delay_ms + self._random.random() * self._settings.jitter_ms
-        arrival = max(self._clock.now + nanoseconds(delay), self._last)
+        held = BEGINNING + nanoseconds(self._settings.candidates_ms) if signal.lines else 0
+        arrival = max(self._clock.now + nanoseconds(delay), held, self._last)
         if not extra:
             self._last = arrival
         self._clock.at(arrival + extra, self._deliver, signal)

@@ -9,7 +9,7 @@ from typing import Protocol
 from ..pairs import Pair, Path
 from .execution import Execution, Lacks, Round, fewest, is_in_round, lacks
 from .accepted_nominations import ALL, Network
-from .progress import is_in_line
+from .progress import is_in_line, suffices
 from .selections import are_enough, are_kept, checks_in
 from .staying import may_end_in_rounds
 from .verdict import C, C_co
@@ -39,7 +39,7 @@ class Rows:
 
     def __init__(self, x: Execution, side: str) -> None:
         self.x, self.side, self.timeouts = x, side, x.timeouts[side]
-        self._sizes = [(len(a.pairs), a.next_number) for a in (x.state(at, side) for at in self.timeouts)]
+        self._agents = [x.state(at, side) for at in self.timeouts]
         self._lines: dict[int, list[Path]] = {}
 
     def latest(self, end: int, path: Path | None = None) -> tuple[int, Path] | None:
@@ -54,9 +54,8 @@ class Rows:
 
     def _may_suffice(self, place: int, stop: int, end: int) -> bool:
         """Whether `suffices` holds, if the pair is due before the first round."""
-        (first, old), later, last = self._sizes[place], stop - place - 1, self.x.state(end, self.side)
-        second, new = self._sizes[place + 1] if later else (len(last.pairs), last.next_number)
-        return first <= 1 or 2 * first + last.next_number <= later + 2 + old or 2 * second + last.next_number <= later + 1 + new
+        later, last = stop - place - 1, self.x.state(end, self.side)
+        return suffices(0, 1, self._agents[place], self._agents[place + 1] if later else last, last, later)
 
     def _path_at(self, place: int, end: int, path: Path | None) -> Path | None:
         lines = [p for p in self.lines(place) if path in (None, p)]

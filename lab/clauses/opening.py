@@ -9,7 +9,7 @@ from dataclasses import dataclass
 from ..model import Agent
 from ..pairs import Pair, Path
 from .execution import Execution, Lacks, Round, is_between, is_in_round
-from .progress import awaits, is_unanswered, suffices
+from .progress import awaits, checks_for, is_unanswered, suffices
 from .selections import are_kept, are_polled_or_enough
 from .staying import may_end_in_rounds
 
@@ -77,6 +77,10 @@ class Counts:
             self._dues[place] = sorted(p.due_at(now, agent.timing) for p in agent.pairs)
         return bisect_right(self._dues[place], by)
 
+    def rounds_for_due(self, place: int, by: int) -> int:
+        """Returns how many rounds, at least one, from the call at this place on suffice for the pairs that are due by a time."""
+        return max(checks_for(self._agent(place).rules, self.due_by(place, by)), 1)
+
     def _agent(self, place: int) -> Agent:
         return self.x.state(self.timeouts[place], self.side)
 
@@ -84,9 +88,9 @@ class Counts:
         most = most_rounds(self.x, self.side, place, is_between)
         found = [1] if len(self._agent(place).pairs) <= 1 else []
         if by < self.x.now(self.timeouts[place]):
-            found.append(max(self.due_by(place, by), 1))
+            found.append(self.rounds_for_due(place, by))
         if place + 1 < len(self.timeouts):
-            found.append(1 + max(self.due_by(place + 1, by), 1))
+            found.append(1 + self.rounds_for_due(place + 1, by))
         return min((count for count in found if count <= most), default=None)
 
     def _least_open(self, place: int, is_early: bool) -> int | None:

@@ -5,6 +5,7 @@ from __future__ import annotations
 from collections.abc import Sequence
 
 from ..clock import MILLISECOND
+from ..kinds import Rules
 from ..model import Agent
 from ..pairs import Pair, Path
 from .execution import Lacks, lacks
@@ -46,6 +47,11 @@ def is_in_line(at: int, by: int, agent: Agent, pair: Pair) -> Lacks:
 
 # ---- how many rounds suffice
 
+def checks_for(rules: Rules, count: int) -> int:
+    """Returns how many checks hold so many of the pair that is due first: with kinds in turn twice as many (`checks_for`)."""
+    return 2 * count if rules.kinds_in_turn else count
+
+
 def due_by(by: int, now: int, agent: Agent) -> int:
     """Returns how many pairs are due by a time, with due times computed now (`due_by`)."""
     return sum(p.due_at(now, agent.timing) <= by for p in agent.pairs)
@@ -53,7 +59,12 @@ def due_by(by: int, now: int, agent: Agent) -> int:
 
 def are_as_many_as_due(by: int, agent: Agent, times: Sequence[int]) -> bool:
     """Whether there are as many times as pairs that are due, computed at the first of them (`AreAsManyAsDue`)."""
-    return bool(times) and due_by(by, times[0], agent) <= len(times)
+    return bool(times) and checks_for(agent.rules, due_by(by, times[0], agent)) <= len(times)
+
+
+def are_open_enough(first: Agent, last: Agent, rounds: int) -> bool:
+    """Whether there are 2n - 1 rounds for n pairs, and one for each pair that is added in them; with kinds in turn 4n - 1, and two."""
+    return checks_for(first.rules, 2 * len(first.pairs) + last.next_number) <= rounds + 1 + checks_for(first.rules, first.next_number)
 
 
 def suffice_for_due(by: int, now: int, first: Agent, second: Agent, later: Sequence[int]) -> bool:
@@ -65,13 +76,12 @@ def suffice_for_due(by: int, now: int, first: Agent, second: Agent, later: Seque
 
 def suffices_from_due(first: Agent, second: Agent, last: Agent, later: int) -> bool:
     """Whether so many rounds after the first one suffice for a pair that is due by the first one (`SufficesFromDue`)."""
-    return len(first.pairs) <= 1 or 2 * len(second.pairs) + last.next_number <= later + 1 + second.next_number
+    return len(first.pairs) <= 1 or are_open_enough(second, last, later)
 
 
 def suffices(by: int, now: int, first: Agent, second: Agent, last: Agent, later: int) -> bool:
     """The same; or the first one counts too, if the pair is due before it (`Suffices`)."""
-    is_early = by < now and 2 * len(first.pairs) + last.next_number <= later + 2 + first.next_number
-    return is_early or suffices_from_due(first, second, last, later)
+    return (by < now and are_open_enough(first, last, later + 1)) or suffices_from_due(first, second, last, later)
 
 
 # ---- selection

@@ -8,6 +8,7 @@ from collections.abc import Iterator
 from ..scenario import SIDES
 from .execution import Execution, Lacks, is_between, is_in_round, lacks
 from .opening import Counts, controlling_calls, most_rounds
+from .progress import are_open_enough, checks_for
 from .single import Choice, announces_in, are_enough, by_end, due_of, end_of, is_passing, shared
 from .verdict import Verdict, first_that_holds
 
@@ -24,10 +25,10 @@ def lacking(x: Execution, c: Choice) -> Lacks:
 def least_count(x: Execution, counts: Counts, place: int, due: int) -> int | None:
     """Returns how many rounds suffice at least, from the `handle_timeout` call at this place among the side's on."""
     side, row = counts.side, counts.timeouts
-    first, plain = x.state(row[place], side), max(counts.due_by(place, due), 1)
+    first, plain = x.state(row[place], side), counts.rounds_for_due(place, due)
     found = [plain] if plain <= most_rounds(x, side, place, is_between) else []
-    for count in range(max(2 * len(first.pairs) - 1, 1), most_rounds(x, side, place, is_in_round) + 1):
-        if 2 * len(first.pairs) + x.state(row[place + count - 1] + 1, side).next_number <= count + 1 + first.next_number:
+    for count in range(max(checks_for(first.rules, 2 * len(first.pairs)) - 1, 1), most_rounds(x, side, place, is_in_round) + 1):
+        if are_open_enough(first, x.state(row[place + count - 1] + 1, side), count):
             found.append(count)
             break
     return min(found, default=None)

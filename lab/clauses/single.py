@@ -10,7 +10,7 @@ from ..pairs import Path
 from .execution import MAX, Execution, Lacks, Round, any_in, is_between, is_in_round, lacks
 from .fair import is_new_agent
 from .opening import pair_of
-from .progress import awaits, due_by, is_unanswered
+from .progress import are_open_enough, awaits, checks_for, due_by, is_unanswered
 from .staying import may_end_in_rounds
 from .verdict import first_in
 
@@ -52,11 +52,13 @@ def is_answered(x: Execution, side: str, path: Path, r: Round) -> bool:
 
 
 def are_enough(x: Execution, side: str, by: int, rounds: list[Round]) -> bool:
-    """Whether there are as many plain rounds as pairs that are due, or 2n - 1 for n pairs and one for each added one (`AreEnough`)."""
+    """Whether there are as many plain rounds as pairs that are due, or 2n - 1 for n pairs and one for each added one (`AreEnough`).
+
+    With kinds in turn it is twice as many, or 4n - 1 and two."""
     first, last = x.state(rounds[0].moment, side), x.state(rounds[-1].behind.stop, side)
-    if due_by(by, rounds[0].now, first) <= len(rounds) and are_plain(x, side, rounds):
+    if checks_for(first.rules, due_by(by, rounds[0].now, first)) <= len(rounds) and are_plain(x, side, rounds):
         return True
-    return 2 * len(first.pairs) + last.next_number <= len(rounds) + 1 + first.next_number
+    return are_open_enough(first, last, len(rounds))
 
 
 def shared(x: Execution, c: Choice, by: int) -> dict[str, bool | Lacks]:

@@ -2,6 +2,7 @@
 
 from __future__ import annotations
 
+from ..kinds import COUNT, kind_between, kind_of
 from ..model import Agent, Joined, local_place
 from ..pairs import Pair, Path
 from ..replay import Step
@@ -15,15 +16,40 @@ def is_replaced_by(agent: Agent, pair: Pair, combination: tuple[int, int]) -> bo
     return path == agent.path(pair) and pair.priority < agent.priority_between(local, remote)
 
 
+def is_rival(agent: Agent, pair: Pair, kind: int) -> bool:
+    """Whether a pair of this kind may take the pair's place at the limit: with kinds in turn only one of its own does (`is_rival`)."""
+    return not agent.rules.kinds_in_turn or kind == kind_of(agent.local, agent.remote, pair)
+
+
+def ranks_with(agent: Agent, pair: Pair, other: Pair) -> bool:
+    """Whether the other pair is a rival with no smaller priority (`ranks_with`)."""
+    return pair.priority <= other.priority and is_rival(agent, pair, kind_of(agent.local, agent.remote, other))
+
+
+def combines_with(agent: Agent, pair: Pair, combination: tuple[int, int]) -> bool:
+    """Whether the pair of the combination would be a rival with no smaller priority (`combines_with`)."""
+    local, remote = combination
+    kind = kind_between(agent.local, agent.local[local], agent.remote[remote])
+    return pair.priority <= agent.priority_between(local, remote) and is_rival(agent, pair, kind)
+
+
 def rank_count(agent: Agent, combinations: list[tuple[int, int]], pair: Pair) -> int:
-    """Returns how many pairs have no smaller priority than the pair, at most, after these are formed (`rank_count`)."""
-    ranks = sum(pair.priority <= p.priority for p in agent.pairs)
-    return ranks + sum(pair.priority <= agent.priority_between(*c) for c in combinations)
+    """Returns how many pairs rank with the pair, at most, after these are formed (`rank_count`)."""
+    return sum(ranks_with(agent, pair, p) for p in agent.pairs) + sum(combines_with(agent, pair, c) for c in combinations)
+
+
+def most_pairs(agent: Agent, ranked: int) -> int:
+    """Returns how many pairs there are at most, if so many rank with the pair that is removed (`most_pairs`).
+
+    With kinds in turn no kind has more pairs than its own."""
+    return COUNT * ranked if agent.rules.kinds_in_turn else ranked
 
 
 def may_be_removed(agent: Agent, combinations: list[tuple[int, int]], pair: Pair) -> bool:
     """Whether forming these combinations may remove the pair (`MayBeRemoved`)."""
-    return any(is_replaced_by(agent, pair, c) for c in combinations) or agent.max_pairs < rank_count(agent, combinations, pair)
+    are_many = agent.max_pairs < len(agent.pairs) + len(combinations)
+    is_over = agent.max_pairs < most_pairs(agent, rank_count(agent, combinations, pair))
+    return (are_many and is_over) or any(is_replaced_by(agent, pair, c) for c in combinations)
 
 
 def may_end_by_joining(joined: Joined | None, pair: Pair) -> bool:

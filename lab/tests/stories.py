@@ -5,10 +5,11 @@ from __future__ import annotations
 from dataclasses import replace
 from typing import Any
 
-from is_ice import Candidate, IceCreds, NominatedSend, Protocol, SocketAddress, Transmit
+from is_ice import Candidate, IceConnectionStateChange, IceCreds, NominatedSend, Protocol, SocketAddress, Transmit
 from lab.clauses.execution import Execution
 from lab.clauses.accepted_nominations import Network
 from lab.clock import BEGINNING, MILLISECOND
+from lab.kinds import ORIGINAL, Rules
 from lab.log import Beginning, Entry, Log
 from lab.model import Agent, Issued
 from lab.pairs import Path
@@ -38,15 +39,15 @@ class Story:
     """Two agents with one host candidate each, and the log of what a test lets happen. Times are milliseconds from the beginning."""
 
     def __init__(self, roles: tuple[bool, bool] = (True, False), known: bool = True, hosts: tuple[int, int] = (1, 1),
-                 ties: tuple[int, int] = (10, 5)) -> None:
+                 ties: tuple[int, int] = (10, 5), rules: Rules = ORIGINAL) -> None:
         self.log = Log()
         self.agents: dict[str, Agent] = {}
         self.moments: dict[str, list[int]] = {"a": [], "b": []}  # the indices of the `handle_timeout` calls
         self.ids = 0
         for side, role, tie in zip("ab", roles, ties):
             creds = IceCreds(side * 4, side * 22)
-            self.log.sides[side] = Beginning(creds, tie, role)
-            self.agents[side] = Agent(creds, tie, role)
+            self.log.sides[side] = Beginning(creds, tie, role, rules)
+            self.agents[side] = Agent(creds, tie, role, rules=rules)
         for side, first, count in zip("ab", (A, B), hosts):
             for n in range(count):
                 self.host(side, first._replace(port=first.port + n), 126 << 24 | (65535 - n) << 8 | 255)
@@ -111,7 +112,10 @@ class Story:
     def set(self, side: str, name: str, value: object, time: float = 0) -> None:
         """The side changes a setting."""
         self._log(time, side, name, (value,))
-        self.agents[side] = after_setting(self.agents[side], self.log.entries[-1])
+        old = self.agents[side]
+        self.agents[side] = after_setting(old, self.log.entries[-1])
+        if self.agents[side].state is not old.state:
+            self._log(time, side, "poll_event", (), IceConnectionStateChange(self.agents[side].state))
 
     def limit(self, side: str, pairs: int, time: float = 0) -> None:
         """The side limits its pairs, so that a further candidate may remove one."""
@@ -156,6 +160,8 @@ class Story:
         if issued is not None:
             packet = Transmit(Protocol.UDP, *issued.path, message(issued.kind, issued.id, self._attributes(old, new, issued, source)))
             self._log(time, side, "poll_transmit", (), packet)
+        if new.state is not old.state:
+            self._log(time, side, "poll_event", (), IceConnectionStateChange(new.state))
         for path in paths:
             self._log(time, side, "poll_event", (), NominatedSend(Protocol.UDP, *path))
         return packet

@@ -9,7 +9,7 @@ from lab.clauses import nomination_accepted, meet, world_rounds
 from lab.clauses.accepted_nominations import Network
 from lab.clauses.verdict import Verdict
 from lab.clock import BEGINNING, MILLISECOND
-from lab.model import Request
+from lab.requests import Request
 from lab.pairs import Place, Timing
 from lab.tests.stories import LINE, TO_A, TO_B, A, B, Story
 

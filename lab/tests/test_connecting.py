@@ -8,7 +8,7 @@ from lab.clauses import both, connect
 from lab.clauses.accepted_nominations import Network
 from lab.clauses.verdict import Verdict
 from lab.clock import BEGINNING, MILLISECOND
-from lab.model import Request
+from lab.requests import Request
 from lab.pairs import Check, Pair
 from lab.tests.stories import TO_A, TO_B, A, B, Story
 

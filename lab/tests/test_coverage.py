@@ -3,6 +3,7 @@
 import unittest
 from dataclasses import replace
 
+from is_ice import IceConnectionState, IceConnectionStateChange
 from lab import scenario
 from lab.coverage import CLAUSES, Covered, Play, gather, tables, verdicts_of
 from lab.replay import replay
@@ -21,7 +22,15 @@ class Sessions(unittest.TestCase):
     def test_a_difference_is_found(self) -> None:
         story = Story()
         story.timeout("a", 0)
-        story.log.entries[-2] = replace(story.log.entries[-2], returned=0)  # what `poll_timeout` returned
+        at = next(at for at, entry in enumerate(story.log.entries) if entry.call == "poll_timeout")
+        story.log.entries[at] = replace(story.log.entries[at], returned=0)
+        self.assertEqual(len(replay(story.log).differences), 1)
+
+    def test_a_difference_of_states_is_found(self) -> None:
+        story = Story()
+        story.timeout("a", 0)
+        assert story.log.entries[-1].call == "poll_event"
+        story.log.entries[-1] = replace(story.log.entries[-1], returned=IceConnectionStateChange(IceConnectionState.CONNECTED))
         self.assertEqual(len(replay(story.log).differences), 1)
 
 

@@ -14,7 +14,8 @@ from lab.clauses.selections import are_each_polled, are_enough, are_kept, is_ans
 from lab.clauses.single import are_plain
 from lab.clauses.staying import may_end_in
 from lab.clock import BEGINNING, MILLISECOND
-from lab.model import Agent, Request
+from lab.model import Agent
+from lab.requests import Request
 from lab.pairs import Check, Place, Timing
 from lab.tests.stories import LINE, TO_A, TO_B, A, B, Story
 

@@ -10,7 +10,7 @@ from lab.clauses.accepted_nominations import Network
 from lab.clauses.single import Choice
 from lab.clauses.verdict import Verdict
 from lab.clock import BEGINNING, MILLISECOND
-from lab.model import Request
+from lab.requests import Request
 from lab.pairs import Check, Timing
 from lab.tests.stories import A, B, Story
 

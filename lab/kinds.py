@@ -1,0 +1,62 @@
+"""The kinds of pairs: which of them is checked next, and which loses a pair at the limit (RFC 8445, section 6.1.4.2)."""
+
+from __future__ import annotations
+
+from collections import Counter
+from collections.abc import Sequence
+from dataclasses import dataclass
+
+from is_ice import SocketAddress
+
+from .pairs import Pair, Place
+
+# How many kinds of pairs there are.
+COUNT = 16
+# Peer-reflexive candidates come first, since the peer sent a packet from there. Host candidates come last.
+RANKS = {"prflx": 0, "srflx": 1, "relay": 2, "host": 3}
+
+
+@dataclass(frozen=True)
+class Rules:
+    """What an agent does beyond the original's behavior."""
+
+    kinds_in_turn: bool = False
+
+
+ORIGINAL = Rules()
+# With these an agent that the library makes begins.
+MODERN = Rules(kinds_in_turn=True)
+
+
+def reaches_out(local: Sequence[Place], base: SocketAddress) -> bool:
+    """Whether packets from this base reach the outside: a live server-reflexive candidate has it, or none has a base of its IP version."""
+    bases = {c.base for c in local if c.kind == "srflx" and not c.is_discarded}
+    return base in bases or all(other.version != base.version for other in bases)
+
+
+def is_outer(local: Sequence[Place], candidate: Place) -> bool:
+    """Whether packets of the local candidate reach the outside: from its base, or from a relay."""
+    return candidate.kind == "relay" or reaches_out(local, candidate.base)
+
+
+def kind_between(local: Sequence[Place], own: Place, other: Place) -> int:
+    """Returns the kind of a pair of two candidates: outer or not, the kind of the remote one, and the IP version."""
+    return (0 if is_outer(local, own) else 8) + 2 * RANKS[other.kind] + (1 if other.address.version == 4 else 0)
+
+
+def kind_of(local: Sequence[Place], remote: Sequence[Place], pair: Pair) -> int:
+    """Returns the kind of a pair, a number from 0 to 15."""
+    return kind_between(local, local[pair.local], remote[pair.remote])
+
+
+def turn_of(next_kind: int, kind: int) -> int:
+    """Returns the place of a kind in the round that begins with `next_kind`."""
+    return kind if next_kind <= kind else kind + COUNT
+
+
+def least_of_most(local: Sequence[Place], remote: Sequence[Place], pairs: Sequence[Pair]) -> Pair:
+    """Returns a pair of lowest priority of a kind of which there are most; of several such kinds, of the first."""
+    kinds = {p.number: kind_of(local, remote, p) for p in pairs}
+    counts = Counter(kinds.values())
+    most = min(counts, key=lambda kind: (-counts[kind], kind))
+    return min((p for p in pairs if kinds[p.number] == most), key=lambda p: p.priority)

@@ -1,0 +1,76 @@
+"""Tests sessions of agents with many host candidates, and the tables and curves of them."""
+
+import unittest
+
+from lab import hosts, plot
+from lab.clock import MILLISECOND
+from lab.hosts import GATHERED_MS, Cell, Found, cells, curves, filled, table
+from lab.session import Outcome, Session, SideOutcome
+
+
+def outcome(milliseconds: int | None) -> Outcome:
+    first = None if milliseconds is None else (GATHERED_MS + milliseconds) * MILLISECOND
+    return Outcome("x", 0, {side: SideOutcome(first) for side in "ab"}, None if first is None else 7)
+
+
+class Sessions(unittest.TestCase):
+    def time(self, hosts: int, in_turn: bool, seed: int = 0) -> float | None:
+        first = Session(Cell(True, 20, 0, hosts, in_turn).scenario(), seed).run().first
+        return None if first is None else first / MILLISECOND - GATHERED_MS
+
+    def test_ten_hosts_connect_soon(self) -> None:
+        # The second check, after 50 ms, is that of the server-reflexive candidates. Its response comes after 40 ms, and A nominates
+        # with the next check, after 100 ms. B receives it 20 ms later, and selects at its next timeout, after 150 ms.
+        for count in (5, 10):
+            time = self.time(count, True)
+            assert time is not None
+            self.assertTrue(150 <= time < 155, time)
+
+    def test_without_the_rule_five_take_long_and_ten_never_connect(self) -> None:
+        time = self.time(5, False)
+        assert time is not None
+        self.assertGreater(time, 25 * 50)  # the pairs of host candidates come first
+        self.assertIsNone(self.time(10, False))  # the hundred of them leave no room
+
+    def test_both_rules_have_the_same_networks(self) -> None:
+        own, other = (Cell(False, 50, 10, 5, in_turn).scenario() for in_turn in (True, False))
+        self.assertEqual((own.name, own.network, own.link, own.nat), (other.name, other.network, other.link, ()))
+        made = [(s.a.kinds_in_turn, len(s.a.interface), s.network["internet"]) for s in (own, other)]
+        self.assertEqual(made, [(True, 5, 50), (False, 5, 50)])
+
+
+class Tables(unittest.TestCase):
+    def test_columns(self) -> None:
+        found = Found()
+        self.assertEqual(found.columns(), ["never", "-"])
+        for time in (150, 250, 950):
+            found.add(outcome(time))
+        self.assertEqual(found.columns(), ["250 / 950", "7"])
+        found.add(outcome(None))
+        self.assertEqual(found.columns(), ["250 / 950 (75 %)", "7"])
+
+    def test_a_row_for_each_delay_loss_and_rule(self) -> None:
+        found = {cell: Found() for cell in cells()}
+        self.assertEqual(len(found), 192)
+        lines = table(found, True).splitlines()
+        self.assertEqual((len(lines), len({line.count("|") for line in lines})), (2 + 24, 1))
+        self.assertEqual([word.strip() for word in lines[2].split("|")[1:5]], ["20", "0", "60", "kinds in turn"])
+
+    def test_a_document_is_filled(self) -> None:
+        text = "before\n\nNo NAT:\n\n| a |\n|---|\n|   |\n\nafter\n"
+        self.assertEqual(filled(text, "No NAT", "| a |\n|---|\n| 1 |"), text.replace("|   |", "| 1 |"))
+        self.assertRaises(ValueError, filled, text, "Other", "")
+
+    def test_curves_end_where_no_session_connects(self) -> None:
+        found = {cell: Found() for cell in cells()}
+        for cell in found:
+            if cell.in_turn or cell.hosts < 10:
+                found[cell].add(outcome(150))
+        first, second, *_ = made = curves(found)
+        self.assertEqual((len(made), first.points), (8, [(hosts, 0.15) for hosts in hosts.HOSTS]))
+        self.assertEqual((second.points, second.label), ([(1, 0.15), (5, 0.15)], "20 ms, original, never with 10"))
+        self.assertIn("never with 10", plot.svg("", "", "", made))
+
+
+if __name__ == "__main__":
+    unittest.main()
