@@ -296,9 +296,8 @@ impl<H: Sha1HmacProvider + Drop, P: LocalPreference> Agent<H, P> {
             (record_of self.new) (R.stream rng.new)) }
         ensures unchanged { IfErr result (λ _. (record_of self.new ≡ record_of self.old) × (R.stream rng.new ≡ R.stream rng.old)) }
     {
-        let start = self.start_event()?;
         self.take_round_room(now)?;
-        self.begin_timeout(now, start, expired);
+        self.begin_timeout(now, expired)?;
         self.maintain_pairs(now, rng);
         Ok(())
     }

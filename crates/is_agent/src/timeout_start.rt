@@ -1,6 +1,6 @@
 //! How a `handle_timeout` call starts: the start event, the state, early requests; the rules: `is_rules::timeout_start`.
 
-ghost use Rattle.std.specs.Prelude.{◌≡◌, ℕ, ◌<◌, Some, IfOk, IfErr, IfSome, IsSome, IsSomeAnd, slice_get};
+ghost use Rattle.std.specs.Prelude.{◌≡◌, ℕ, ◌<◌, true, Some, OnOk, IfOk, IfErr, IfSome, IsSome, IsSomeAnd, slice_get};
 ghost use Rattle.std.specs.VecDeque.{deque_len};
 ghost use Rattle.is_rules.specs.RequestView.{request_view, waiting_view};
 ghost use Rattle.is_agent.specs.Ready.{IsPlan};
@@ -8,8 +8,10 @@ ghost use Rattle.is_agent.specs.Room.{HasEventRoom, HasServingRoom, HasCheckRoom
 ghost use Rattle.is_rules.specs.Serving.{names_another, Serves, MayFailAtRequest};
 ghost use Rattle.is_agent.specs.View.{record_of};
 ghost use Rattle.is_rules.specs.Queue.{first_taken};
-ghost use Rattle.is_rules.specs.TimeoutStart.{start_event, outdated};
-ghost use Rattle.is_rules.specs.Timeouts.{timeout_begun};
+ghost use Rattle.is_rules.specs.TimeoutStart.{outdated};
+ghost use Rattle.is_rules.specs.States.{same_state};
+ghost use Rattle.is_rules.specs.Timeouts.{start_emitted, timeout_begun};
+ghost use Rattle.is_rules.specs.declared.event.IceConnectionState.TheVariants.{New};
 
 use crate::agent::Agent;
 use is_candidate::LocalPreference;
@@ -20,39 +22,57 @@ use is_rules::queue::drop_first;
 use is_rules::request::{Request, Waiting};
 use is_rules::serving::{Places, Supplies};
 use is_rules::states::same_state;
-use is_rules::timeout_start::emit_start;
 use std::alloc::AllocError;
 
 impl<H: Sha1HmacProvider + Drop, P: LocalPreference> Agent<H, P> {
-    /// The start event, in New.
-    pub(crate) fn start_event(&self) -> Result<Option<IceAgentEvent>, AllocError>
-        ensures { IfOk result (λ event. event ≡ start_event (record_of self.now).state (record_of self.now).local_creds) }
+    /// Emits the start event, within the reserved capacity. It is a separate function, so that later calls do not pay for it.
+    #[inline(never)]
+    fn emit_start(&mut self) -> Result<(), AllocError>
+        requires first { same_state (record_of self.old).state New ≡ true }
+        requires room { HasEventRoom 1 self.old }
+        ensures emitted { OnOk result (record_of self.new ≡ start_emitted (record_of self.old)) }
+        ensures unchanged { IfErr result (λ _. record_of self.new ≡ record_of self.old) }
+        ensures serving { HasServingRoom self.old → HasServingRoom self.new }
+        ensures news { UsesNews 1 self.old self.new }
+        ensures checks { (t : ℕ) → HasCheckRoomAt t self.old → HasCheckRoomAt t self.new }
     {
-        if !same_state(self.state, IceConnectionState::New) {
-            return Ok(None);
-        }
-        Ok(Some(IceAgentEvent::IceRestart(self.local_creds.clone()?)))
+        let creds = self.local_creds.clone()?;
+        self.events
+            .push_back_reserved(IceAgentEvent::IceRestart(creds));
+        Ok(())
     }
 
-    /// Emits the start event, if there is one, evaluates the state, and removes this many outdated requests, within the
-    /// reserved capacity for two events.
-    pub(crate) fn begin_timeout(
-        &mut self,
-        now: Instant,
-        start: Option<IceAgentEvent>,
-        expired: usize,
-    )
-        requires start { start ≡ start_event (record_of self.old).state (record_of self.old).local_creds }
+    /// Does this in New.
+    fn may_emit_start(&mut self) -> Result<(), AllocError>
+        requires room { HasEventRoom 1 self.old }
+        ensures emitted { OnOk result (record_of self.new ≡ start_emitted (record_of self.old)) }
+        ensures unchanged { IfErr result (λ _. record_of self.new ≡ record_of self.old) }
+        ensures serving { HasServingRoom self.old → HasServingRoom self.new }
+        ensures news { UsesNews 1 self.old self.new }
+        ensures checks { (t : ℕ) → HasCheckRoomAt t self.old → HasCheckRoomAt t self.new }
+    {
+        if same_state(self.state, IceConnectionState::New) {
+            self.emit_start()
+        } else {
+            Ok(())
+        }
+    }
+
+    /// Emits the start event, in New, evaluates the state, and removes this many outdated requests, within the reserved
+    /// capacity for two events.
+    pub(crate) fn begin_timeout(&mut self, now: Instant, expired: usize) -> Result<(), AllocError>
         requires expired { expired ≡ outdated now.0 self.old.timing self.old.remote_creds (record_of self.old) }
         requires room { HasEventRoom 2 self.old }
-        ensures begun { record_of self.new ≡ timeout_begun now.0 (record_of self.old) }
+        ensures begun { OnOk result (record_of self.new ≡ timeout_begun now.0 (record_of self.old)) }
+        ensures unchanged { IfErr result (λ _. record_of self.new ≡ record_of self.old) }
         ensures serving { HasServingRoom self.old → HasServingRoom self.new }
         ensures news { UsesNews 2 self.old self.new }
         ensures checks { (t : ℕ) → HasCheckRoomAt t self.old → HasCheckRoomAt t self.new }
     {
-        emit_start(&mut self.events, start);
+        self.may_emit_start()?;
         self.evaluate_state(now);
         drop_first(&mut self.queue, expired);
+        Ok(())
     }
 
     /// The request names another peer than the known one. Only an early one can: of others the peer's username fragment is
@@ -83,21 +103,20 @@ impl<H: Sha1HmacProvider + Drop, P: LocalPreference> Agent<H, P> {
     fn begin_with_request(
         &mut self,
         now: Instant,
-        start: Option<IceAgentEvent>,
         expired: usize,
-    ) -> Waiting
-        requires start { start ≡ start_event (record_of self.old).state (record_of self.old).local_creds }
+    ) -> Result<Waiting, AllocError>
         requires expired { expired ≡ outdated now.0 self.old.timing self.old.remote_creds (record_of self.old) }
         requires left { IsSome (slice_get (record_of self.old).queue expired) }
         requires room { HasEventRoom 2 self.old }
-        ensures begun { record_of self.new ≡ first_taken (timeout_begun now.0 (record_of self.old)) }
-        ensures first { Some (waiting_view result) ≡ slice_get (record_of self.old).queue expired }
+        ensures begun { OnOk result (record_of self.new ≡ first_taken (timeout_begun now.0 (record_of self.old))) }
+        ensures unchanged { IfErr result (λ _. record_of self.new ≡ record_of self.old) }
+        ensures first { IfOk result (λ waiting. Some (waiting_view waiting) ≡ slice_get (record_of self.old).queue expired) }
         ensures serving { HasServingRoom self.old → HasServingRoom self.new }
         ensures news { UsesNews 2 self.old self.new }
     {
-        self.begin_timeout(now, start, expired);
+        self.begin_timeout(now, expired)?;
         match self.queue.pop_front() {
-            Some(waiting) => waiting,
+            Some(waiting) => Ok(waiting),
             None => unreachable!(),
         }
     }
@@ -115,14 +134,13 @@ impl<H: Sha1HmacProvider + Drop, P: LocalPreference> Agent<H, P> {
             Serves H.mac q (first_taken (timeout_begun now.0 (record_of self.old))) emitted (record_of self.new))) }
         ensures unchanged { IfErr result (λ _. record_of self.new ≡ record_of self.old) }
     {
-        let start = self.start_event()?;
         let Some((at, supplies)) = plan else {
             self.take_event_room(2)?;
-            let _ = self.begin_with_request(now, start, expired);
+            let _ = self.begin_with_request(now, expired)?;
             return Ok(Emitted::nothing());
         };
         self.take_serving_room(4)?;
-        let waiting = self.begin_with_request(now, start, expired);
+        let waiting = self.begin_with_request(now, expired)?;
         Ok(self.resolve_role_conflict(&waiting.request(), at, supplies))
     }
 }

@@ -13,7 +13,7 @@ use Rattle.is_rules.specs.Queue.{is_outdated, queue_left, next_request, first_ta
 use Rattle.is_rules.specs.States.{same_state, evaluated}
 use Rattle.is_rules.specs.declared.event.IceAgentEvent.TheVariants.{IceRestart}
 use Rattle.is_rules.specs.declared.event.IceConnectionState.TheVariants.{New}
-use Rattle.is_rules.specs.TimeoutStart.{with_start, start_event, outdated}
+use Rattle.is_rules.specs.TimeoutStart.{outdated}
 use Rattle.is_rules.specs.Timeouts.{timeout_begun, start_emitted, MayFailAtTimeout}
 use Rattle.is_rules.specs.declared.serving.Places.{Places}
 use Rattle.is_rules.specs.declared.serving.Supplies.{Supplies}
@@ -77,13 +77,6 @@ module _ {H P : Type 0} where
   pub outdated-left : (now : ℕ) (t : StunTiming) (creds : Option IceCreds) (a : AgentRecord H P) → drop (outdated now t creds a) a.queue ≡ queue_left now t creds a.queue
   outdated-left now t None a = refl
   outdated-left now t (Some peer) a = refl
-
-  -- the start is emitted only in New
-  pub start-emitted : (a : AgentRecord H P) → with_start (start_event a.state a.local_creds) a.events ≡ (start_emitted a).events
-  start-emitted a = emitted (same_state a.state New) where
-    emitted : (b : Bool) → with_start (if b then Some (IceRestart a.local_creds) else None) a.events ≡ (if b then a.events ++ IceRestart a.local_creds ∷ [] else a.events)
-    emitted true = refl
-    emitted false = refl
 
   -- after New it is not emitted again
   pub started : (a : AgentRecord H P) → same_state a.state New ≡ false → start_emitted a ≡ a
