@@ -18,6 +18,7 @@ mod requests;
 mod responses;
 mod restarts;
 mod roles;
+mod rules;
 mod seen;
 mod sent;
 mod settings;

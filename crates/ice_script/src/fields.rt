@@ -59,11 +59,15 @@ impl<'a> Fields<'a> {
             .ok_or(Fault::Bad(name))
     }
 
-    /// `original` or `modern`.
+    /// `original`, `modern`, or `kinds`: of these, kinds in turn only.
     pub fn rules(&self, name: &'static str) -> Result<Rules, Fault> {
         match self.line(name)? {
             "original" => Ok(Rules::original()),
             "modern" => Ok(Rules::modern()),
+            "kinds" => Ok(Rules {
+                kinds_in_turn: true,
+                ..Rules::original()
+            }),
             _ => Err(Fault::Bad(name)),
         }
     }

@@ -60,6 +60,10 @@ fn rules(text: &str) -> Option<Rules> {
     match text {
         "original" => Some(Rules::original()),
         "modern" => Some(Rules::modern()),
+        "kinds" => Some(Rules {
+            kinds_in_turn: true,
+            ..Rules::original()
+        }),
         _ => None,
     }
 }

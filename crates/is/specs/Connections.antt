@@ -23,8 +23,8 @@ use Rattle.is.specs.WorldRoles.{IsNewAgent}
 
 module _ {H P : Type 0} where
   -- The side has rounds in the segment that suffice for a pair on the path, which is due by the time `by` when they begin. If the side
-  -- has n pairs, there are 2n - 1 rounds, and one more for each pair that is added in them, also by candidates that the side adds; with
-  -- kinds in turn 4n - 1, and two more (`SideRoundsSuffice`).
+  -- has n pairs, there are 2n - 1 rounds, and one more for each pair that is added in them, also by candidates that the side adds; if
+  -- checks may go ahead, 4n - 1, and two more (`SideRoundsSuffice`).
   pub record HasRounds (side : Side) (path : Path) (part : List (Occurrence H P)) (last : WorldRecord H P) : Type 0 where
     pub ahead : List (Occurrence H P)
     pub first : SideRound H P

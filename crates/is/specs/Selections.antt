@@ -67,14 +67,14 @@ module _ {H P : Type 0} where
   MayEndInRounds answers side path rounds = (r : SideRound H P) × Has rounds r × ((x : Occurrence H P) × Has r.following x × MayEndAt answers side path x)
 
   -- The rounds suffice for a pair of the side that is due by the time `by` (`Suffices`): 2n - 1 rounds for n pairs, and one more for
-  -- each pair that is added in them, also by candidates that the side adds; with kinds in turn 4n - 1, and two more.
+  -- each pair that is added in them, also by candidates that the side adds; if checks may go ahead, 4n - 1, and two more.
   abbrev pub SideRoundsSuffice : Side → ℕ → SideRound H P → List (SideRound H P) → WorldRecord H P → Type 0
   SideRoundsSuffice side by first later last =
       Suffices by first.now (at side first.timeout.before) (at side (state_after first.timeout.following first.following)) (at side last) (length later)
 
   -- In the rounds the side makes only polls, and there are enough of them (`SufficeForDue`): n rounds, if n pairs of the side are due
   -- by the time `by` when they begin, and this time is earlier. If it is not, one round suffices for a single pair, and otherwise n
-  -- rounds after the first one, if n pairs are due by then when the second `handle_timeout` call comes. With kinds in turn it is 2n.
+  -- rounds after the first one, if n pairs are due by then when the second `handle_timeout` call comes. If checks may go ahead, it is 2n.
   pub record AreEachPolled (side : Side) (by : ℕ) (first : SideRound H P) (later : List (SideRound H P)) : Type 0 where
     pub few : SufficeForDue by first.now (at side first.timeout.before) (at side (state_after first.timeout.following first.following)) (times_in later)
     pub polls : MakesPollsIn side (first ∷ later)
@@ -99,7 +99,7 @@ module _ {H P : Type 0} where
   -- side is valid, and one on the path is due by the time `by`, with due times computed at the time of the first round. The rounds
   -- suffice: if n pairs are due by then, n rounds in which the side makes only polls, or one more if the time is not earlier than
   -- the first one (`AreEachPolled`); or else 2n - 1 rounds for n pairs in all, and one more for each pair that is added in them
-  -- (`SideRoundsSuffice`), also by candidates that the side adds. With kinds in turn it is 2n, or 4n - 1 and two more. If the side sends
+  -- (`SideRoundsSuffice`), also by candidates that the side adds. If checks may go ahead, it is 2n, or 4n - 1 and two more. If the side sends
   -- a check on the path in them, a check on it in the segment is answered. That may happen at any time while the check is pending, and
   -- through NATs. Then the side selects a path in the segment, unless a candidate that it adds in the rounds may remove a pair of the
   -- path. This holds whatever else happens.

@@ -117,14 +117,14 @@ pub fn run<H: Sha1HmacProvider + Drop, P: LocalPreference, R: Rng>(
     // a check is sent on the path of one of these pairs, an accepted success response is received. Then a controlling agent
     // selects a path in one of the rounds. This holds whatever else is received, and whether or not `poll_timeout` is called.
     // Candidates may be added between the `handle_timeout` calls, if there are 2n - 1 rounds for n pairs in all, and one more for
-    // each pair that is added, unless an added candidate may remove a pair of the path. With kinds in turn it is 2n rounds, or
+    // each pair that is added, unless an added candidate may remove a pair of the path. If checks may go ahead, it is 2n rounds, or
     // 4n - 1 and two more for each added pair.
     ensures rounds { IsFresh (record_of agent.old)
         → OpenRoundsSelect H.mac P.answers (record_of agent.old) (R.stream rng.old) (log_of calls.items result) }
 
     // Progress from the first timeout on: the same for a pair that is due by the first `handle_timeout` call of the rounds, maybe not
     // before it. For a single pair one round suffices. Otherwise 2m - 1 rounds after it do, for m pairs when the second call comes,
-    // and one more for each pair that is added in these. With kinds in turn it is 4m - 1, and two more.
+    // and one more for each pair that is added in these. If checks may go ahead, it is 4m - 1, and two more.
     ensures due_rounds { IsFresh (record_of agent.old)
         → DueRoundsSelect H.mac P.answers (record_of agent.old) (R.stream rng.old) (log_of calls.items result) }
 

@@ -456,7 +456,7 @@ impl<H: Sha1HmacProvider + Drop, P: LocalPreference> TwoAgents<H, P> {
         // success response at any time while the check is pending, also through NATs. Both agents know each other, their roles
         // differ, and the check reaches the other agent. Then the controlling agent selects a path by then, whatever else happens.
         // Candidates may be added in the rounds, if there are 2n - 1 for n pairs in all, and one more for each pair that is added,
-        // unless an added candidate may remove a pair of the path. With kinds in turn it is 2n rounds, or 4n - 1 and two more.
+        // unless an added candidate may remove a pair of the path. If checks may go ahead, it is 2n rounds, or 4n - 1 and two more.
         ensures rounds { DeliveredRoundsSelect H.mac P.answers (world_of self.old) (R.stream rng.old) (logged events.items result.entries.items) }
 
         // Progress of the controlled agent: the controlling agent checks a path whose pairs it nominated, and the check arrives on
@@ -468,7 +468,7 @@ impl<H: Sha1HmacProvider + Drop, P: LocalPreference> TwoAgents<H, P> {
         ensures nomination_accepted { AcceptedNominationsSelect H.mac P.answers (world_of self.old) (R.stream rng.old) (logged events.items result.entries.items) }
 
         // Progress of both: the controlling agent has a nominated pair, and the controlled agent a pair. Each has rounds that
-        // suffice: 2n - 1 if it has n pairs, and one more for each pair that is added, or with kinds in turn 4n - 1 and two more. If
+        // suffice: 2n - 1 if it has n pairs, and one more for each pair that is added, or 4n - 1 and two more if checks may go ahead. If
         // checks are sent on the two paths in these rounds, one of each agent is delivered, and so is the success response to the
         // controlled agent, as above. Then the controlled agent selected a path by its next `handle_timeout` call, as above.
         ensures connect { BothConnect H.mac P.answers (world_of self.old) (R.stream rng.old) (logged events.items result.entries.items) }

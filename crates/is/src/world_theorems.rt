@@ -48,7 +48,7 @@ pub(crate) fn selected_are_traced<H: Sha1HmacProvider, P: LocalPreference>()
 }
 
 /// A controlling agent sends a check on the path of one of its pairs, or selects a path, within as many rounds as there are pairs that
-/// are due no later, or, if candidates are added in the rounds, 2n - 1 and one more for each pair that is added. With kinds in turn it
+/// are due no later, or, if candidates are added in the rounds, 2n - 1 and one more for each pair that is added. If checks may go ahead, it
 /// is twice as many, or 4n - 1 and two more. If the check is answered while it is pending, the agent selects a path, unless an added
 /// candidate may remove the pair.
 pub(crate) fn delivered_rounds_select<H: Sha1HmacProvider, P: LocalPreference>()

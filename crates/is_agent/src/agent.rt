@@ -92,9 +92,9 @@ pub struct Agent<H, P> {
     pub(crate) selected_pair: Option<u64>,
     /// The number of the pair that the peer nominated last.
     pub(crate) last_nominated: Option<u64>,
-    /// With kinds in turn, the next check is of the next kind.
-    pub(crate) kind_turn: bool,
-    /// The kind from which on that is.
+    /// The next check may go ahead of pairs that are due earlier.
+    pub(crate) ahead_turn: bool,
+    /// The kind from which on the kinds of pairs take turns.
     pub(crate) next_kind: u8,
     /// The early requests: received before the remote credentials.
     pub(crate) queue: VecDeque<Waiting>,
@@ -194,7 +194,7 @@ impl<H: Sha1HmacProvider + Drop, P: LocalPreference> Agent<H, P> {
             next_number: 0,
             selected_pair: None,
             last_nominated: None,
-            kind_turn: false,
+            ahead_turn: false,
             next_kind: 0,
             queue: VecDeque::new(alloc),
             state: IceConnectionState::New,

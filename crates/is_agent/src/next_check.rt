@@ -1,63 +1,89 @@
-//! Which pair is checked next (RFC 8445, section 6.1.4.2); the rules: `is_rules::kinds`.
+//! Which pair is checked next (RFC 8445, sections 6.1.4.2 and 7.3.1.4); the rules: `is_rules::kinds`.
 
-ghost use Rattle.std.specs.Prelude.{◌≡◌, Option, Some, true, IfSome, option_map, ◌+◌};
+ghost use Rattle.std.specs.Prelude.{◌≡◌, ℕ, ◌||◌, Option, Some, true, is_some, IfSome, option_map, ◌+◌};
 ghost use Rattle.std.specs.Option.{option_copied};
 ghost use Rattle.is_pair.specs.Multiset.{has_number, pair_numbered, rises};
 ghost use Rattle.is_pair.specs.Pairs.{PairRecord};
-ghost use Rattle.is_rules.specs.Checking.{is_kinds_turn, IsNextToCheck, next_kind_after};
-ghost use Rattle.is_rules.specs.Kinds.{kind_of, IsNextOfKind};
+ghost use Rattle.is_rules.specs.Checking.{are_kinds_in_turn, has_urgent, is_ahead_turn, IsNextToCheck, next_kind_after};
+ghost use Rattle.is_rules.specs.Kinds.{kind_of, IsNextAhead};
 ghost use Rattle.is_agent.specs.View.{record_of};
 
 use crate::agent::Agent;
 use is_candidate::LocalPreference;
 use is_pair::pair::CandidatePair;
 use is_proto::{Instant, Sha1HmacProvider};
-use is_rules::kinds::{kind_of, next_of_kind};
+use is_rules::kinds::{has_urgent_due, kind_of, next_ahead};
+use is_rules::rules::goes_ahead;
 
 impl<H: Sha1HmacProvider + Drop, P: LocalPreference> Agent<H, P> {
-    /// The next check is of the next kind of pairs, until a path is selected.
-    pub(crate) fn is_kinds_turn(&self) -> bool
-        ensures { result ≡ is_kinds_turn (record_of self.now) }
+    /// Until a path is selected, kinds take turns.
+    fn are_kinds_in_turn(&self) -> bool
+        ensures { result ≡ are_kinds_in_turn (record_of self.now) }
     {
-        self.rules.kinds_in_turn && self.kind_turn && !self.state.is_connected()
+        self.rules.kinds_in_turn && !self.state.is_connected()
     }
 
-    /// The pair of the next kind that is due first. It is a separate function, so that checks in order of due times do not
+    /// An urgent pair is due, and urgent pairs go ahead.
+    fn has_urgent(&self, now: Instant) -> bool
+        ensures { result ≡ has_urgent now.0 (record_of self.now) }
+    {
+        self.rules.triggered_checks.is_some() && has_urgent_due(&self.pairs, now, &self.timing)
+    }
+
+    /// The next check goes ahead of pairs that are due earlier. It is a separate function, so that agents without such rules do not
     /// pay for it.
     #[inline(never)]
-    fn next_of_kind(&self, now: Instant) -> Option<&CandidatePair>
-        ensures { IsNextOfKind (record_of self.now).local (record_of self.now).remote (record_of self.now).next_kind now.0 self.now.timing
-            (record_of self.now).pairs (option_copied result) }
+    fn goes_ahead_now(&self, now: Instant) -> bool
+        ensures { result ≡ (are_kinds_in_turn (record_of self.now) || has_urgent now.0 (record_of self.now)) }
     {
-        next_of_kind(
+        self.are_kinds_in_turn() || self.has_urgent(now)
+    }
+
+    /// This check goes ahead: every second one may.
+    pub(crate) fn is_ahead_turn(&self, now: Instant) -> bool
+        ensures { result ≡ is_ahead_turn now.0 (record_of self.now) }
+    {
+        goes_ahead(&self.rules) && self.ahead_turn && self.goes_ahead_now(now)
+    }
+
+    /// The pair that goes ahead. It is a separate function, so that checks in order of due times do not pay for it.
+    #[inline(never)]
+    fn next_ahead(&self, now: Instant) -> Option<&CandidatePair>
+        ensures { IsNextAhead (record_of self.now).local (record_of self.now).remote (is_some (record_of self.now).rules.triggered_checks)
+            (record_of self.now).next_kind now.0 self.now.timing (record_of self.now).pairs (option_copied result) }
+    {
+        next_ahead(
             &self.pairs,
             &self.local,
             &self.remote,
+            self.rules.triggered_checks.is_some(),
             self.next_kind,
             now,
             &self.timing,
         )
     }
 
-    /// The pair that is checked next.
-    fn next_to_check(&self, now: Instant) -> Option<&CandidatePair>
+    /// The pair that is checked next, by whether the check goes ahead.
+    fn next_to_check(&self, ahead: bool, now: Instant) -> Option<&CandidatePair>
+        requires { ahead ≡ is_ahead_turn now.0 (record_of self.now) }
         ensures { IsNextToCheck now.0 (record_of self.now) (option_copied result) }
     {
-        if self.is_kinds_turn() {
-            self.next_of_kind(now)
+        if ahead {
+            self.next_ahead(now)
         } else {
             self.pairs.next_due(now, &self.timing)
         }
     }
 
     /// The number of the pair that is checked next.
-    pub(crate) fn next_number(&self, now: Instant) -> Option<u64>
+    pub(crate) fn next_number(&self, ahead: bool, now: Instant) -> Option<u64>
+        requires { ahead ≡ is_ahead_turn now.0 (record_of self.now) }
         ensures next { (next : Option PairRecord) × IsNextToCheck now.0 (record_of self.now) next × (result ≡ option_map (λ p. p.number) next) }
         ensures has { IfSome result (λ n. has_number n (record_of self.now).pairs ≡ true) }
         ensures rises { rises (record_of self.now).pairs ≡ true }
     {
         self.pairs.numbers_rise();
-        match self.next_to_check(now) {
+        match self.next_to_check(ahead, now) {
             None => None,
             Some(pair) => Some(pair.id().0),
         }
@@ -76,12 +102,13 @@ impl<H: Sha1HmacProvider + Drop, P: LocalPreference> Agent<H, P> {
         }
     }
 
-    /// The kind from which on the next turn is, after a check of the pair with this number.
-    pub(crate) fn next_kind_after(&self, number: u64) -> u8
+    /// The kind from which on the next turn is, after a check of the pair with this number, by whether the check went ahead.
+    pub(crate) fn next_kind_after(&self, number: u64, ahead: bool) -> u8
         requires { has_number number (record_of self.now).pairs ≡ true }
-        ensures { (p : PairRecord) → pair_numbered number (record_of self.now).pairs ≡ Some p → result ≡ next_kind_after p (record_of self.now) }
+        ensures { (now : ℕ) (p : PairRecord) → ahead ≡ is_ahead_turn now (record_of self.now) → pair_numbered number (record_of self.now).pairs ≡ Some p
+            → result ≡ next_kind_after now p (record_of self.now) }
     {
-        if self.is_kinds_turn() {
+        if ahead {
             self.kind_after(number)
         } else {
             self.next_kind

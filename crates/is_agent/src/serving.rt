@@ -21,7 +21,7 @@ ghost use Rattle.is_rules.specs.Roles.{switched};
 ghost use Rattle.is_agent.specs.Ready.{IsPlan, IsReady};
 ghost use Rattle.is_rules.specs.Serving.{names_another, is_misled, is_admitted, sender_at, nominated_last, pair_served, replied, RecordsAndResponds};
 ghost use Rattle.is_rules.specs.Serving.{AddsPairAndResponds, FindsOrAddsPair, AddsUnknownSender, CountsAndServes, SendsRoleConflict, ResolvesRoleConflict, Serves, Chooses};
-ghost use Rattle.is_rules.specs.Serving.{needs_pair_at, needs_pair, lacks_number, MayFailAtRequest};
+ghost use Rattle.is_rules.specs.Serving.{selects_at_requests, trigger_time, needs_pair_at, needs_pair, lacks_number, MayFailAtRequest};
 
 use crate::agent::{Agent, sides};
 use is_candidate::candidate::equality::TEMPORARY_FOUNDATION;
@@ -32,7 +32,7 @@ use is_proto::{IceError, Sha1HmacProvider, Text, Transmit};
 use is_rules::emitted::{Emitted, Issued, Path};
 use is_rules::forming::pair_of;
 use is_rules::limit::sender_place;
-use is_rules::pairs::{ServingRole, is_valid_at, pair_between, serve_pair};
+use is_rules::pairs::{ServingRole, Trigger, is_valid_at, pair_between, serve_pair};
 use is_rules::places::{RemotePlace, is_discarded_at, local_place, remote_index};
 use is_rules::reply::{REPLY_LEN, write_conflict, write_reply};
 use is_rules::request::Request;
@@ -202,9 +202,9 @@ impl<H: Sha1HmacProvider + Drop, P: LocalPreference> Agent<H, P> {
 
     /// Whether a request at the pair causes nomination to be evaluated (RFC 8445, section 7.3.1.5).
     fn evaluates_at(&self, number: u64) -> bool
-        ensures { result ≡ (self.now.controlling && is_valid_at number (record_of self.now).pairs) }
+        ensures { result ≡ (selects_at_requests (record_of self.now) && is_valid_at number (record_of self.now).pairs) }
     {
-        self.controlling && is_valid_at(&self.pairs, number)
+        (self.rules.selects_at_once || self.controlling) && is_valid_at(&self.pairs, number)
     }
 
     /// The number of the pair that the peer nominated last, after the request at the pair with this number.
@@ -218,7 +218,22 @@ impl<H: Sha1HmacProvider + Drop, P: LocalPreference> Agent<H, P> {
         }
     }
 
-    /// The pair records the request.
+    /// Whether, and when, the request triggers a check: at once, and not before the last `handle_timeout` call.
+    fn trigger(&self, request: &Request<'_>) -> Trigger
+        ensures most { result.most ≡ (record_of self.now).rules.triggered_checks }
+        ensures at { result.at.0 ≡ trigger_time (request_view request.now) (record_of self.now) }
+    {
+        let at = match self.last_time {
+            Some(last) => request.time.max(last),
+            None => request.time,
+        };
+        Trigger {
+            most: self.rules.triggered_checks,
+            at,
+        }
+    }
+
+    /// The pair records the request, which may trigger a check of it.
     fn serve_pair(&mut self, request: &Request<'_>, number: u64)
         requires packets { HasPacketRoom self.old }
         ensures served { record_of self.new ≡ pair_served (request_view request.now) number (record_of self.old) }
@@ -229,11 +244,13 @@ impl<H: Sha1HmacProvider + Drop, P: LocalPreference> Agent<H, P> {
             controlling: self.controlling,
             lite: self.lite,
         };
+        let trigger = self.trigger(request);
         self.last_nominated = self.nominated_last(request, number);
-        serve_pair(&mut self.pairs, number, request, role);
+        serve_pair(&mut self.pairs, number, request, role, trigger);
     }
 
-    /// The pair records the request, a controlling agent evaluates nomination if the pair is valid, and the response is sent.
+    /// The pair records the request, nomination is evaluated if the pair is valid, and the response is sent. A controlled agent
+    /// evaluates it only if its rules say so.
     fn record_and_respond(
         &mut self,
         request: &Request<'_>,

@@ -3,7 +3,7 @@
 ghost use Rattle.std.specs.Prelude.{◌≡◌, ◌<◌, Some};
 ghost use Rattle.std.specs.Range.{range_inclusive_start, range_inclusive_end};
 ghost use Rattle.is_agent.specs.View.{record_of};
-ghost use Rattle.is_rules.specs.Settings.{SetsMtu, with_rtos, with_retransmits, with_lite_timeout, numbers_skipped};
+ghost use Rattle.is_rules.specs.Settings.{SetsMtu, with_rtos, with_rules, with_retransmits, with_lite_timeout, numbers_skipped};
 ghost use Rattle.is_rules.specs.Questions.{ice_timeout};
 
 use crate::agent::Agent;
@@ -121,9 +121,10 @@ impl<H: Sha1HmacProvider + Drop, P: LocalPreference> Agent<H, P> {
     /// Sets what the agent does beyond the original's behaviour. Set it before the session. The peer need not have the same
     /// rules.
     pub fn set_rules(&mut self, rules: Rules)
-        ensures { record_of self.new ≡ record (record_of self.old) { rules = rules } }
+        ensures { record_of self.new ≡ with_rules rules (record_of self.old) }
     {
         self.rules = rules;
+        self.timing.early = rules.early_rto;
     }
 
     /// Sets the pacing interval of what the agent sends, Ta in RFC 8445, section 14.2: 50 ms until it is set.

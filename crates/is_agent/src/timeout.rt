@@ -10,7 +10,7 @@ ghost use Rattle.is_stun.specs.declared.header.Class.TheVariants as classes;
 ghost use Rattle.is_rules.specs.declared.credentials.IceCreds as model;
 ghost use Rattle.is_agent.specs.View.{record_of, emitted_of};
 ghost use Rattle.is_agent.specs.Room.{HasPacketRoom, HasEventRoom, HasCheckRoom, HasCheckRoomAt, IsPrepared, UsesEvents};
-ghost use Rattle.is_rules.specs.Checking.{check_message, ChecksPair, ChecksNext, MayCheck};
+ghost use Rattle.is_rules.specs.Checking.{check_message, is_ahead_turn, ChecksPair, ChecksNext, MayCheck};
 ghost use Rattle.is_pair.specs.Multiset.{has_number, pair_numbered};
 ghost use Rattle.is_pair.specs.Due.{is_due};
 ghost use Rattle.is_rules.specs.Agent.{AgentRecord};
@@ -125,9 +125,16 @@ impl<H: Sha1HmacProvider + Drop, P: LocalPreference> Agent<H, P> {
         Issued::new(path, Class::Request, id)
     }
 
-    /// Checks the pair with this number, with the content of its draft. The turn passes to the next kind, or to the pair that
-    /// is due first.
-    fn check<R: Rng>(&mut self, number: u64, draft: Draft, now: Instant, rng: &mut R) -> Issued
+    /// Checks the pair with this number, with the content of its draft. The next check may go ahead unless this one does.
+    fn check<R: Rng>(
+        &mut self,
+        number: u64,
+        ahead: bool,
+        draft: Draft,
+        now: Instant,
+        rng: &mut R,
+    ) -> Issued
+        requires turn { ahead ≡ is_ahead_turn now.0 (record_of self.old) }
         requires has { has_number number (record_of self.old).pairs ≡ true }
         requires room { HasCheckRoom self.old }
         ensures emitted { emitted_of self.new ≡ emitted_of self.old }
@@ -135,9 +142,8 @@ impl<H: Sha1HmacProvider + Drop, P: LocalPreference> Agent<H, P> {
             → pair_numbered number (record_of self.old).pairs ≡ Some p → Drafts (record_of self.old) p draft
             → ChecksPair H.mac now.0 peer p (record_of self.old) (R.stream rng.old) (Some result) (record_of self.new) (R.stream rng.new) }
     {
-        let next_kind = self.next_kind_after(number);
-        self.kind_turn = !self.is_kinds_turn();
-        self.next_kind = next_kind;
+        self.next_kind = self.next_kind_after(number, ahead);
+        self.ahead_turn = !ahead;
         let controlling = self.controlling;
         let id = self
             .pairs
@@ -159,7 +165,8 @@ impl<H: Sha1HmacProvider + Drop, P: LocalPreference> Agent<H, P> {
     /// Checks the pair with this number, and records the packet next to the paths that were selected. It is a separate
     /// function, so that calls without a check do not pay for it.
     #[inline(never)]
-    fn check_and_emit<R: Rng>(&mut self, number: u64, now: Instant, rng: &mut R)
+    fn check_and_emit<R: Rng>(&mut self, number: u64, ahead: bool, now: Instant, rng: &mut R)
+        requires turn { ahead ≡ is_ahead_turn now.0 (record_of self.old) }
         requires has { has_number number (record_of self.old).pairs ≡ true }
         requires room { HasCheckRoom self.old }
         ensures { (peer : model.IceCreds) (p : PairRecord) (first second : Option Path) → self.old.remote_creds ≡ Some peer
@@ -168,7 +175,7 @@ impl<H: Sha1HmacProvider + Drop, P: LocalPreference> Agent<H, P> {
             (R.stream rng.new) × (emitted_of self.new ≡ emitted_by issued first second) }
     {
         let draft = self.draft_of(number);
-        let issued = self.check(number, draft, now, rng);
+        let issued = self.check(number, ahead, draft, now, rng);
         self.emitted.issued = Some(issued);
     }
 
@@ -180,8 +187,9 @@ impl<H: Sha1HmacProvider + Drop, P: LocalPreference> Agent<H, P> {
             × ChecksNext H.mac now.0 peer (record_of self.old) (R.stream rng.old) issued (record_of self.new) (R.stream rng.new)
             × (emitted_of self.new ≡ emitted_by issued first second) }
     {
-        if let Some(number) = self.next_number(now) {
-            self.check_and_emit(number, now, rng);
+        let ahead = self.is_ahead_turn(now);
+        if let Some(number) = self.next_number(ahead, now) {
+            self.check_and_emit(number, ahead, now, rng);
         }
     }
 
@@ -344,9 +352,9 @@ impl<H: Sha1HmacProvider + Drop, P: LocalPreference> Agent<H, P> {
 
     /// Runs the agent's timers at time `now`. In New it first emits the start event. It evaluates the state. It serves an
     /// early request, once the remote credentials are known. If there is none, it nominates a pair, removes pairs that are no
-    /// longer possible, and checks the pair that is due first, or in turn one of the next kind (`Rules`; RFC 8445, sections
-    /// 6.1.4.2, 7.2.4 and 8.1.1). It allocates what the events and the packet that it issues need. If a pair may be nominated
-    /// and its due time is not fixed, it reserves capacity for its check too.
+    /// longer possible, and checks the pair that is due first, or in turn an urgent one or one of the next kind (`Rules`; RFC
+    /// 8445, sections 6.1.4.2, 7.2.4, 7.3.1.4 and 8.1.1). It allocates what the events and the packet that it issues need. If a
+    /// pair may be nominated and its due time is not fixed, it reserves capacity for its check too.
     ///
     /// Fails with `PairIdsExhausted` if a request is served, a pair must be added and no number is left, and with
     /// `OutOfMemory`. The agent is then unchanged, and no random words were drawn.

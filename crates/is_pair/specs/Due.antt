@@ -1,15 +1,17 @@
 -- When a pair is due for its next check, and when it fails.
-use Rattle.std.specs.Prelude.{[], ◌≡◌, ℕ, ◌<◌, ◌≤◌, ◌-◌, ◌*◌, ◌||◌, ◌⊎◌, Bool, true, false, not, nat_lt, nat_le, min, List, length, Option}
-use Rattle.std.specs.Prelude.{Some, None, unwrap_or, if◌then◌else◌}
+use Rattle.std.specs.Prelude.{[], ◌≡◌, ℕ, ◌<◌, ◌≤◌, ◌-◌, ◌*◌, ◌==◌, ◌&&◌, ◌||◌, ◌⊎◌, Bool, true, false, not, nat_lt, nat_le, min, List, length, Option}
+use Rattle.std.specs.Prelude.{Some, None, unwrap_or, option_map, if◌then◌else◌}
 use Rattle.std.specs.Option.{option_map_or}
 use Rattle.is_proto.specs.Lists.{Has, NonePass}
 use Rattle.is_proto.specs.Times.{SECOND, later}
 use Rattle.is_stun.specs.declared.timing.StunTiming.{StunTiming}
-use Rattle.is_stun.specs.Timing.{resend_delay, last_resend_delay}
+use Rattle.is_stun.specs.declared.timing.EarlyRto.{EarlyRto}
+use Rattle.is_stun.specs.Timing.{early_delay, resend_delay, last_resend_delay, timeout_of}
 use Rattle.is_pair.specs.declared.pair.states.NominationState.{NominationState}
 use Rattle.is_pair.specs.declared.pair.states.NominationState.TheVariants.{None as Unnominated, Nominated, Attempt, Success}
 use Rattle.is_pair.specs.Checks.{Check, last_check, unanswered_count, first_unanswered}
-use Rattle.is_pair.specs.Pairs.{PairRecord, is_recent, is_lite_alive}
+use Rattle.is_pair.specs.States.{is_nominating}
+use Rattle.is_pair.specs.Pairs.{PairRecord, is_valid, is_recent, is_lite_alive}
 
 -- ---- when it is due
 
@@ -25,24 +27,56 @@ is_silent now t checks = option_map_or (λ c. nat_lt t.max_rto.0 (2 * (now - c.s
 abbrev pub delaying_count : ℕ → StunTiming → List Check → ℕ
 delaying_count now t checks = if is_silent now t checks then unanswered_count checks else length checks
 
--- one RTO after the last check, or now if there was none
-abbrev pub next_due_time : ℕ → StunTiming → List Check → ℕ
-next_due_time now t checks =
-    option_map_or (λ c. later c.sent (resend_delay t (delaying_count now t checks))) (last_check checks) now
+-- the RTO after the last check
+abbrev pub usual_delay : ℕ → StunTiming → List Check → ℕ
+usual_delay now t checks = resend_delay t (delaying_count now t checks)
+
+-- No response arrived on the pair yet, or none to a check that nominates it: so its first checks may be repeated early.
+abbrev pub awaits_response : PairRecord → Bool
+awaits_response p = p.answers == 0 || is_nominating p.nomination
+
+-- The first checks are repeated early, until `max_retransmits` checks have no response.
+abbrev pub is_repeated_early : StunTiming → PairRecord → Bool
+is_repeated_early t p = awaits_response p && nat_lt (unanswered_count p.checks) t.max_retransmits
+
+abbrev pub delay_with : Option EarlyRto → ℕ → StunTiming → PairRecord → ℕ
+delay_with None now t p = usual_delay now t p.checks
+delay_with (Some e) now t p = if is_repeated_early t p then early_delay t e (unanswered_count p.checks) else usual_delay now t p.checks
+
+-- that long after the last check, or now if there was none
+abbrev pub next_due_time : ℕ → StunTiming → PairRecord → ℕ
+next_due_time now t p = option_map_or (λ c. later c.sent (delay_with t.early now t p)) (last_check p.checks) now
 
 -- a nominated pair without a check since its nomination is due before all others
-abbrev pub computed_due_time : NominationState → ℕ → StunTiming → List Check → ℕ
-computed_due_time Unnominated now t checks = next_due_time now t checks
-computed_due_time Nominated now t checks = long_before now
-computed_due_time Attempt now t checks = next_due_time now t checks
-computed_due_time Success now t checks = next_due_time now t checks
+abbrev pub computed_due_time : NominationState → ℕ → StunTiming → PairRecord → ℕ
+computed_due_time Unnominated now t p = next_due_time now t p
+computed_due_time Nominated now t p = long_before now
+computed_due_time Attempt now t p = next_due_time now t p
+computed_due_time Success now t p = next_due_time now t p
 
 -- the due time: the fixed one, if any, otherwise the one that is computed now
 abbrev pub due_time_of : ℕ → StunTiming → PairRecord → ℕ
-due_time_of now t p = unwrap_or p.due (min (computed_due_time p.nomination now t p.checks) (later now t.max_rto.0))
+due_time_of now t p = unwrap_or p.due (min (computed_due_time p.nomination now t p) (later now t.max_rto.0))
 
 abbrev pub asked : ℕ → StunTiming → PairRecord → PairRecord
 asked now t p = record p { due = Some (due_time_of now t p) }
+
+-- Triggered checks (RFC 8445, section 7.3.1.4): one of the first so many requests on the pair, which is not valid yet.
+abbrev pub is_triggered : ℕ → PairRecord → Bool
+is_triggered most p = not (is_valid p) && nat_lt p.requests most
+
+-- its due time, if it is fixed, is at most `at`
+abbrev pub moved_up : ℕ → PairRecord → PairRecord
+moved_up at p = record p { due = option_map (min at) p.due }
+
+abbrev pub triggered : Option ℕ → ℕ → PairRecord → PairRecord
+triggered None at p = p
+triggered (Some most) at p = if is_triggered most p then moved_up at p else p
+
+-- The pair may be checked before pairs that are due earlier: a request arrived, and the pair is not valid yet, or it is nominated, and
+-- no response arrived to a check that nominates it.
+abbrev pub is_urgent : PairRecord → Bool
+is_urgent p = (nat_lt 0 p.requests && not (is_valid p)) || is_nominating p.nomination
 
 -- ---- when it fails
 
@@ -54,9 +88,20 @@ is_heard now p = option_map_or (is_recent now) p.last_request false
 abbrev pub is_in_time : ℕ → StunTiming → List Check → Bool
 is_in_time now t checks = option_map_or (λ c. nat_lt now (later c.sent (last_resend_delay t))) (last_check checks) false
 
+-- less time has passed since the first check without a response than a whole series of checks takes
+abbrev pub is_early_silence : ℕ → StunTiming → List Check → Bool
+is_early_silence now t checks = option_map_or (λ c. nat_lt now (later c.sent (timeout_of t))) (first_unanswered checks) false
+
+-- Early retransmissions end no pair sooner. As long as no response arrived, they are not counted; after that, time counts.
+abbrev pub has_early_checks : Option EarlyRto → ℕ → StunTiming → PairRecord → Bool
+has_early_checks None now t p = false
+has_early_checks (Some e) now t p =
+    if p.answers == 0 then nat_lt (p.checks_sent - e.retransmits) t.max_retransmits else is_early_silence now t p.checks
+
 abbrev pub is_possible : ℕ → StunTiming → PairRecord → Bool
 is_possible now t p =
-    is_heard now p
+    has_early_checks t.early now t p
+    || is_heard now p
     || nat_lt (length p.checks) t.max_retransmits
     || nat_lt (unanswered_count p.checks) t.max_retransmits
     || is_in_time now t p.checks

@@ -17,6 +17,13 @@ is_nominated_state Nominated = true
 is_nominated_state Attempt = true
 is_nominated_state Success = true
 
+-- the pair is nominated, and no response arrived to a check that nominates it
+abbrev pub is_nominating : NominationState → Bool
+is_nominating Unnominated = false
+is_nominating Nominated = true
+is_nominating Attempt = true
+is_nominating Success = false
+
 -- after a check was sent
 
 abbrev pub state_once_sent : CheckState → CheckState

@@ -5,5 +5,5 @@ pub mod checklist;
 pub mod pair;
 pub mod theorems;
 
-pub use pair::due::{due_time_of, is_asked, reset_next_binding_attempt};
+pub use pair::due::{due_time_of, is_asked, is_urgent, reset_next_binding_attempt, trigger};
 pub use pair::replacing::take_over;

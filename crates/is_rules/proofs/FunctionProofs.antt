@@ -6,4 +6,4 @@ pub mod FoundChecks
 pub mod EvictedPairs
 pub mod EvictedPairsByKind
 pub mod DuePairsAfterNomination
-pub mod NextOfKind
+pub mod NextAhead

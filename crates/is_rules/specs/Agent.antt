@@ -1,5 +1,5 @@
 -- The abstract state of an agent (RFC 8445): what contracts say of it.
-use Rattle.std.specs.Prelude.{◌≡◌, ℕ, ◌*◌, Bool, true, false, List, [], Option, None, Result, Ok, Err}
+use Rattle.std.specs.Prelude.{◌≡◌, ℕ, ◌*◌, Bool, true, false, List, [], Option, Some, None, Result, Ok, Err}
 use Rattle.is_proto.specs.Packets.{Packet}
 use Rattle.is_proto.specs.Times.{MILLISECOND, SECOND}
 use Rattle.is_stun.specs.declared.timing.StunTiming.{StunTiming}
@@ -49,8 +49,8 @@ pub record AgentRecord (H P : Type 0) : Type 0 where
   pub selected_pair : Option ℕ
   -- the number of the pair that the peer nominated last, as of the last request with USE-CANDIDATE that was served
   pub last_nominated : Option ℕ
-  -- with kinds in turn: whether the next check is of the next kind, and from which kind on that is (`Kinds`, `Checking`)
-  pub kind_turn : Bool
+  -- whether the next check may go ahead of pairs that are due earlier, and from which kind on the kinds take turns (`Checking`, `Kinds`)
+  pub ahead_turn : Bool
   pub next_kind : ℕ
   -- the early requests: received before the remote credentials
   pub queue : List RequestRecord
@@ -66,11 +66,16 @@ pub record AgentRecord (H P : Type 0) : Type 0 where
 
 -- the original's behaviour
 abbrev pub original_rules : Rules
-original_rules = record { kinds_in_turn = false }
+original_rules = record { kinds_in_turn = false; triggered_checks = None; early_rto = None; selects_at_once = false }
 
 -- what connects fastest
 abbrev pub modern_rules : Rules
-modern_rules = record { kinds_in_turn = true }
+modern_rules = record {
+  kinds_in_turn = true;
+  triggered_checks = Some 4;
+  early_rto = Some (record { retransmits = 4; interval = record { 0 = 100 * MILLISECOND } });
+  selects_at_once = true;
+}
 
 abbrev pub no_stats : IceAgentStats
 no_stats = record {
@@ -88,6 +93,7 @@ default_timing = record {
   max_retransmits = 9;
   max_rto = record { 0 = 3000 * MILLISECOND };
   lite_timeout = record { 0 = 15 * SECOND };
+  early = None;
 }
 
 module _ {H P : Type 0} where
@@ -115,7 +121,7 @@ module _ {H P : Type 0} where
     next_number = 0;
     selected_pair = None;
     last_nominated = None;
-    kind_turn = false;
+    ahead_turn = false;
     next_kind = 0;
     queue = [];
     state = New;

@@ -1,11 +1,12 @@
 -- Which pair is checked next, and its check (RFC 8445, sections 6.1.4.2 and 7.2.4).
-use Rattle.std.specs.Prelude.{◌≡◌, ℕ, ◌+◌, ◌&&◌, Bool, not, List, ◌∷◌, ◌++◌, map, Option, Some, None, MatchBool, if◌then◌else◌}
+use Rattle.std.specs.Prelude.{◌≡◌, ℕ, ◌+◌, ◌&&◌, ◌||◌, Bool, not, List, ◌∷◌, ◌++◌, map, Option, Some, None, is_some, MatchBool, if◌then◌else◌}
+use Rattle.std.specs.List.{list_any}
 use Rattle.rand_core.specs.Stream.{Stream, fill_bytes}
 use Rattle.is_proto.specs.Times.{counted}
 use Rattle.is_candidate.specs.Candidates.{candidate_at}
 use Rattle.is_candidate.specs.Priorities.{check_priority}
 use Rattle.is_pair.specs.Pairs.{PairRecord, heard, checked}
-use Rattle.is_pair.specs.Due.{asked, IsNextDue}
+use Rattle.is_pair.specs.Due.{asked, is_due, is_urgent, IsNextDue}
 use Rattle.is_stun.specs.declared.header.Class.TheVariants.{Request}
 use Rattle.is_stun.specs.Message.{Message}
 use Rattle.is_stun.specs.Checks.{binding_request}
@@ -13,17 +14,22 @@ use Rattle.is_stun.specs.Theorems.{IsPut}
 use Rattle.is_stun.specs.Writing.{written}
 use Rattle.is_rules.specs.declared.credentials.IceCreds.{IceCreds}
 use Rattle.is_rules.specs.declared.emitted.Issued.{Issued}
+use Rattle.is_rules.specs.declared.rules.Rules.{Rules}
 use Rattle.is_rules.specs.Emitted.{issued_as}
 use Rattle.is_pair.specs.Multiset.{change_pair}
 use Rattle.is_rules.specs.Agent.{AgentRecord}
 use Rattle.is_rules.specs.Connecting.{is_connected}
-use Rattle.is_rules.specs.Kinds.{kind_of, IsNextOfKind}
+use Rattle.is_rules.specs.Kinds.{kind_of, IsNextAhead}
 use Rattle.is_rules.specs.Nominating.{stays_nominated}
 use Rattle.is_rules.specs.Sending.{with_packet, path_of}
 
 -- the peer's username fragment, a colon, and the agent's own username fragment (RFC 8445, section 7.2.2)
 abbrev pub username_between : IceCreds → IceCreds → List ℕ
 username_between remote local = remote.ufrag ++ 58 ∷ local.ufrag
+
+-- By these rules checks may go ahead of pairs that are due earlier.
+abbrev pub goes_ahead : Rules → Bool
+goes_ahead rules = rules.kinds_in_turn || is_some rules.triggered_checks
 
 module _ {H P : Type 0} where
   abbrev pub all_asked : ℕ → AgentRecord H P → AgentRecord H P
@@ -39,18 +45,28 @@ module _ {H P : Type 0} where
       binding_request (username_between remote a.local_creds) id a.controlling a.tie_breaker
       (check_priority (candidate_at a.local p.local)) (a.controlling && stays_nominated a p)
 
-  -- With kinds in turn, until a path is selected, every second check is of the next kind.
-  abbrev pub is_kinds_turn : AgentRecord H P → Bool
-  is_kinds_turn a = a.rules.kinds_in_turn && a.kind_turn && not (is_connected a.state)
+  -- Until a path is selected, kinds take turns.
+  abbrev pub are_kinds_in_turn : AgentRecord H P → Bool
+  are_kinds_in_turn a = a.rules.kinds_in_turn && not (is_connected a.state)
 
-  -- The pair that is checked next. In turn, that is the pair that is due first.
+  -- An urgent pair is due, and urgent pairs go ahead.
+  abbrev pub has_urgent : ℕ → AgentRecord H P → Bool
+  has_urgent now a = is_some a.rules.triggered_checks && list_any (λ p. is_due now a.timing p && is_urgent p) a.pairs
+
+  -- This check goes ahead: every second one may.
+  abbrev pub is_ahead_turn : ℕ → AgentRecord H P → Bool
+  is_ahead_turn now a = goes_ahead a.rules && a.ahead_turn && (are_kinds_in_turn a || has_urgent now a)
+
+  -- The pair that is checked next: the one that is due first, unless the check goes ahead.
   abbrev pub IsNextToCheck : ℕ → AgentRecord H P → Option PairRecord → Type 0
   IsNextToCheck now a next =
-      MatchBool (is_kinds_turn a) (IsNextOfKind a.local a.remote a.next_kind now a.timing a.pairs next) (IsNextDue now a.timing a.pairs next)
+      MatchBool (is_ahead_turn now a)
+      (IsNextAhead a.local a.remote (is_some a.rules.triggered_checks) a.next_kind now a.timing a.pairs next)
+      (IsNextDue now a.timing a.pairs next)
 
   -- the kind from which on the next turn is, after a check of the pair
-  abbrev pub next_kind_after : PairRecord → AgentRecord H P → ℕ
-  next_kind_after p a = if is_kinds_turn a then kind_of a.local a.remote p + 1 else a.next_kind
+  abbrev pub next_kind_after : ℕ → PairRecord → AgentRecord H P → ℕ
+  next_kind_after now p a = if is_ahead_turn now a then kind_of a.local a.remote p + 1 else a.next_kind
 
   module _ (mac : H → List ℕ → List ℕ → List ℕ) where
     -- The check is sent on the pair's path, signed with the remote password, and becomes a pending transaction.
@@ -58,8 +74,8 @@ module _ {H P : Type 0} where
     check_sent now remote p id a =
         with_packet (path_of a p) (written (mac a.provider) (Some remote.pass) (check_message a remote p id)) (record a {
           pairs = change_pair p.number (checked now a.timing a.controlling id) a.pairs;
-          kind_turn = not (is_kinds_turn a);
-          next_kind = next_kind_after p a;
+          ahead_turn = not (is_ahead_turn now a);
+          next_kind = next_kind_after now p a;
           stats = record a.stats { bind_request_sent = counted a.stats.bind_request_sent };
         })
 

@@ -1,4 +1,5 @@
--- The kinds of pairs, which take turns (RFC 8445, section 6.1.4.2; RFC 8421, section 4).
+-- Which pair is checked ahead of those that are due earlier: urgent pairs, and else those of the next kind, since kinds of pairs take turns
+-- (RFC 8445, section 6.1.4.2; RFC 8421, section 4).
 use Rattle.std.specs.Prelude.{◌≡◌, ℕ, ◌+◌, ◌*◌, ◌<◌, ◌&&◌, ◌||◌, ◌⊎◌, Bool, true, not, nat_le, List, Option, Some, None, if◌then◌else◌}
 use Rattle.std.specs.List.{list_any}
 use Rattle.std.specs.declared.net.socket_addr.SocketAddr.{SocketAddr}
@@ -8,8 +9,8 @@ use Rattle.is_candidate.specs.Candidates.{CandidateRecord, base_of, candidate_at
 use Rattle.is_candidate.specs.Kinds.{same_kind}
 use Rattle.is_candidate.specs.declared.candidate.kind.CandidateKind.{CandidateKind}
 use Rattle.is_candidate.specs.declared.candidate.kind.CandidateKind.TheVariants.{Host, PeerReflexive, ServerReflexive, Relayed}
-use Rattle.is_pair.specs.Due.{is_due, GoesBefore}
-use Rattle.is_pair.specs.Pairs.{PairRecord}
+use Rattle.is_pair.specs.Due.{is_due, is_urgent, GoesBefore}
+use Rattle.is_pair.specs.Pairs.{PairRecord, is_valid}
 use Rattle.is_stun.specs.declared.timing.StunTiming.{StunTiming}
 
 -- ---- the kind of a pair
@@ -62,16 +63,22 @@ KINDS = 16
 abbrev pub turn_of : ℕ → ℕ → ℕ
 turn_of next kind = if nat_le next kind then kind else kind + KINDS
 
-module _ (local remote : List CandidateRecord) (next now : ℕ) (t : StunTiming) where
-  abbrev pub turn_of_pair : PairRecord → ℕ
-  turn_of_pair p = turn_of next (kind_of local remote p)
+-- Of the urgent pairs, those that a request brought come last, so that replays from new addresses hold up no others.
+abbrev pub is_brought : List CandidateRecord → PairRecord → Bool
+is_brought remote p = same_kind (candidate_at remote p.remote).kind PeerReflexive && not (is_valid p)
 
-  -- its kind comes earlier, or it is of the same kind and due earlier
+-- `urgent_first`: urgent pairs come before all kinds.
+module _ (local remote : List CandidateRecord) (urgent_first : Bool) (next now : ℕ) (t : StunTiming) where
+  abbrev pub turn_of_pair : PairRecord → ℕ
+  turn_of_pair p =
+      if urgent_first && is_urgent p then (if is_brought remote p then 1 else 0) else 2 + turn_of next (kind_of local remote p)
+
+  -- its turn comes earlier, or they have the same turn and it is due earlier
   abbrev pub TurnsBefore : PairRecord → PairRecord → Type 0
   TurnsBefore p q = (turn_of_pair p < turn_of_pair q) ⊎ ((turn_of_pair p ≡ turn_of_pair q) × GoesBefore now t p q)
 
-  -- Of the due pairs, those of the kind whose turn comes first; of these the pair that is due first. None if no pair is due.
-  abbrev pub IsNextOfKind : List PairRecord → Option PairRecord → Type 0
-  IsNextOfKind pairs None = NonePass (is_due now t) pairs
-  IsNextOfKind pairs (Some p) =
+  -- Of the due pairs, those whose turn comes first; of these the pair that is due first. None if no pair is due.
+  abbrev pub IsNextAhead : List PairRecord → Option PairRecord → Type 0
+  IsNextAhead pairs None = NonePass (is_due now t) pairs
+  IsNextAhead pairs (Some p) =
       Has pairs p × (is_due now t p ≡ true) × ((q : PairRecord) → Has pairs q → is_due now t q ≡ true → TurnsBefore p q)

@@ -1,6 +1,6 @@
 -- Serving a Binding request (RFC 8445, section 7.3). There is one definition for each rule, in the order in which they act; each
 -- ends in the next one. `s` is the state before the rule. `emitted` and `new` are what serving emits, and the state after it.
-use Rattle.std.specs.Prelude.{◌≡◌, ℕ, ◌==◌, ◌&&◌, Bool, true, false, not, List, [], ◌∷◌, ◌++◌, length, slice_set, bytes_eq, Option, Some, None}
+use Rattle.std.specs.Prelude.{◌≡◌, ℕ, ◌==◌, ◌&&◌, Bool, true, false, not, List, [], ◌∷◌, ◌++◌, length, slice_set, bytes_eq, max, unwrap_or, Option, Some, None}
 use Rattle.std.specs.Prelude.{is_some, MatchBool, MatchOption, if◌then◌else◌}
 use Rattle.std.specs.Option.{option_map_or}
 use Rattle.is_proto.specs.Times.{MAX, counted}
@@ -10,6 +10,7 @@ use Rattle.is_candidate.specs.Candidates.{CandidateRecord, candidate_at}
 use Rattle.is_candidate.specs.Making.{peer_reflexive_candidate}
 use Rattle.is_candidate.specs.Equality.{TEMPORARY}
 use Rattle.is_pair.specs.Pairs.{PairRecord, is_nominated, with_request, validated, nominated}
+use Rattle.is_pair.specs.Due.{triggered}
 use Rattle.is_stun.specs.declared.header.Class.TheVariants.{Success, Failure}
 use Rattle.is_stun.specs.Checks.{binding_reply, binding_role_conflict_reply}
 use Rattle.is_stun.specs.Theorems.{IsPut}
@@ -99,11 +100,23 @@ module _ {H P : Type 0} where
   abbrev pub with_sender_at : ℕ → RequestRecord → AgentRecord H P → AgentRecord H P
   with_sender_at r q s = record s { remote = slice_set s.remote r (sender_candidate s q) }
 
+  -- when a request triggers a check: at once, and not before the last `handle_timeout` call
+  abbrev pub trigger_time : RequestRecord → AgentRecord H P → ℕ
+  trigger_time q s = max q.time (unwrap_or s.last_time 0)
+
+  -- the pair after the request
+  abbrev pub after_request : RequestRecord → AgentRecord H P → PairRecord → PairRecord
+  after_request q s p = served s.controlling s.lite q (triggered s.rules.triggered_checks (trigger_time q s) p)
+
   abbrev pub pair_served : RequestRecord → ℕ → AgentRecord H P → AgentRecord H P
   pair_served q number s = record s {
-    pairs = change_pair number (served s.controlling s.lite q) s.pairs;
+    pairs = change_pair number (after_request q s) s.pairs;
     last_nominated = nominated_last s.controlling q number s.last_nominated;
   }
+
+  -- Nomination is evaluated when a request arrives on a valid pair (RFC 8445, sections 7.3.1.5 and 8.1.1).
+  abbrev pub selects_at_requests : AgentRecord H P → Bool
+  selects_at_requests s = if s.rules.selects_at_once then true else s.controlling
 
   -- ---- what serving prepares
 
@@ -133,11 +146,12 @@ module _ {H P : Type 0} where
         IsPut (written (mac s.provider) (Some s.local_creds.pass) (binding_reply q.id q.path.source)) (binding_reply q.id (carried q.path.source))
         × (emitted ≡ emitted_by (Some (issued_as path Success q.id)) selected_paths None) × (new ≡ replied q path s)
 
-    -- The pair records the request. A controlling agent evaluates nomination if the pair is valid. Then the response is sent.
+    -- The pair records the request. A controlling agent evaluates nomination if the pair is valid, and by the rule a controlled one too.
+    -- Then the response is sent.
     abbrev pub RecordsAndResponds : RequestRecord → ℕ → ℕ → ℕ → AgentRecord H P → Emitted → AgentRecord H P → Type 0
     RecordsAndResponds q l r number s emitted new =
         (path : Option Path) × (mid : AgentRecord H P)
-        × NominatesWhere (s.controlling && is_valid_at number s.pairs) (pair_served q number s) path mid
+        × NominatesWhere (selects_at_requests s && is_valid_at number s.pairs) (pair_served q number s) path mid
         × Replies q (path_between s l r) path mid emitted new
 
     -- A pair is added, without regard to the limit and to redundancy. There is a number left for it.

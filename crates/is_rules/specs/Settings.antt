@@ -3,6 +3,7 @@ use Rattle.std.specs.Prelude.{◌≡◌, ℕ, ◌==◌, ◌&&◌, true, false, n
 use Rattle.is_proto.specs.declared.error.IceError.{IceError}
 use Rattle.is_proto.specs.declared.error.IceError.TheVariants.{MtuTooSmall}
 use Rattle.is_pair.specs.Pairs.{undue}
+use Rattle.is_rules.specs.declared.rules.Rules.{Rules}
 use Rattle.is_rules.specs.Fitting.{MTU_FLOOR}
 use Rattle.is_rules.specs.Agent.{AgentRecord}
 
@@ -19,6 +20,10 @@ module _ {H P : Type 0} where
     timing = record a.timing { initial_rto = record { 0 = initial }; max_rto = record { 0 = greatest } };
     pairs = if a.timing.initial_rto.0 == initial && a.timing.max_rto.0 == greatest then a.pairs else map undue a.pairs;
   }
+
+  -- `set_rules`: due times that are fixed stay.
+  abbrev pub with_rules : Rules → AgentRecord H P → AgentRecord H P
+  with_rules rules a = record a { rules = rules; timing = record a.timing { early = rules.early_rto } }
 
   -- `set_max_stun_retransmits`: the list of pending transactions is cut when the next check is added.
   abbrev pub with_retransmits : ℕ → AgentRecord H P → AgentRecord H P

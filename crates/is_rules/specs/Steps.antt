@@ -15,7 +15,7 @@ use Rattle.is_rules.specs.declared.emitted.Emitted.{Emitted}
 use Rattle.is_rules.specs.declared.rules.Rules.{Rules}
 use Rattle.is_rules.specs.Emitted.{nothing_emitted}
 use Rattle.is_rules.specs.Agent.{AgentRecord}
-use Rattle.is_rules.specs.Settings.{SetsMtu, with_rtos, with_retransmits, with_lite_timeout, numbers_skipped}
+use Rattle.is_rules.specs.Settings.{SetsMtu, with_rtos, with_rules, with_retransmits, with_lite_timeout, numbers_skipped}
 use Rattle.is_rules.specs.Credentials.{SetsLocal, SetsRemote}
 use Rattle.is_rules.specs.Discarding.{Invalidates}
 use Rattle.is_rules.specs.Local.{AddsLocal}
@@ -144,7 +144,7 @@ module _ {H P : Type 0} (mac : H → List ℕ → List ℕ → List ℕ) (answer
   Step old s (SetMaxDiscovered limit) e new t = Becomes (record old { max_discovered = limit }) s e new t
   Step old s (SetIceLite lite) e new t = Becomes (record old { lite = lite }) s e new t
   Step old s (SetRenomination renominates) e new t = Becomes (record old { renominates = renominates }) s e new t
-  Step old s (SetRules rules) e new t = Becomes (record old { rules = rules }) s e new t
+  Step old s (SetRules rules) e new t = Becomes (with_rules rules old) s e new t
   Step old s (SetTimingAdvance by) e new t = Becomes (record old { timing_advance = by }) s e new t
   Step old s (SetInitialStunRto rto) e new t = Becomes (with_rtos rto old.timing.max_rto.0 old) s e new t
   Step old s (SetMaxStunRto rto) e new t = Becomes (with_rtos old.timing.initial_rto.0 rto old) s e new t

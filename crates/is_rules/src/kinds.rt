@@ -1,23 +1,24 @@
-//! The kinds of pairs, which take turns; the agent's part: `is_agent::timeout`.
+//! The pairs that go ahead of those that are due earlier: urgent pairs, and kinds of pairs, which take turns; the agent's part:
+//! `is_agent::next_check`.
 
-ghost use Rattle.std.specs.Prelude.{◌≡◌, ◌<◌, true, false, List, ◌∷◌, IfSome};
+ghost use Rattle.std.specs.Prelude.{◌≡◌, ◌<◌, ◌*◌, ◌&&◌, true, false, List, ◌∷◌, length, IfSome};
 ghost use Rattle.std.specs.List.{list_any};
 ghost use Rattle.std.specs.Option.{option_copied};
 ghost use Rattle.is_pair.specs.Pairs.{PairRecord};
-ghost use Rattle.is_pair.specs.Due.{is_due, GoesBefore};
+ghost use Rattle.is_pair.specs.Due.{is_due, is_urgent, GoesBefore};
 ghost use Rattle.is_pair.specs.Checklists.{multiset_of};
 ghost use Rattle.is_rules.specs.Kept.{is_placed, are_placed};
 ghost use Rattle.is_rules.specs.Kinds.{is_reflexive, is_reflexive_of, is_reflexive_like, reaches_out, is_outer, kind_rank, version_rank};
-ghost use Rattle.is_rules.specs.Kinds.{kind_between, kind_of, turn_of, turn_of_pair, KINDS, TurnsBefore, IsNextOfKind};
+ghost use Rattle.is_rules.specs.Kinds.{is_brought, kind_between, kind_of, turn_of, turn_of_pair, KINDS, TurnsBefore, IsNextAhead};
 
 use crate::places::candidate_at;
 use is_candidate::candidate::address::{same_address, same_version};
 use is_candidate::candidate::internals::{base, is_discarded};
 use is_candidate::candidate::kind::same_kind;
 use is_candidate::{Candidate, CandidateKind};
-use is_pair::checklist::Checklist;
-use is_pair::due_time_of;
-use is_pair::pair::CandidatePair;
+use is_pair::checklist::{Checklist, PairTest};
+use is_pair::pair::{CandidatePair, CheckState};
+use is_pair::{due_time_of, is_urgent};
 use is_proto::Instant;
 use is_stun::stun::StunTiming;
 use std::net::SocketAddr;
@@ -120,27 +121,43 @@ pub fn kind_of(local: &[Candidate], remote: &[Candidate], pair: &CandidatePair) 
 /// The place of a kind in the round that begins with `next`: the kinds from `next` on come before the others.
 fn turn_of(next: u8, kind: u8) -> u8
     requires within { kind < KINDS }
-    ensures { result ≡ turn_of next kind }
+    ensures turn { result ≡ turn_of next kind }
+    ensures within { result < 2 * KINDS }
 {
     if next <= kind { kind } else { kind + 16 }
 }
 
-/// The candidates of the pairs, the kind whose turn is next, and what the due time of a pair depends on.
+/// The candidates of the pairs, whether urgent pairs come before all kinds, the kind whose turn is next, and what the due time of a pair
+/// depends on.
 #[derive(Clone, Copy)]
 struct Round<'a> {
     local: &'a [Candidate],
     remote: &'a [Candidate],
+    urgent_first: bool,
     next: u8,
     time: Instant,
     timing: &'a StunTiming,
 }
 
-/// The place of the pair's kind in the round.
+/// Of the urgent pairs, those that a request brought come last.
+fn is_brought(remote: &[Candidate], pair: &CandidatePair) -> bool
+    requires placed { pair.now.remote < length remote.now }
+    ensures { result ≡ is_brought remote.now pair.now }
+{
+    let theirs = candidate_at(remote, pair.remote_idx());
+    same_kind(theirs.kind(), CandidateKind::PeerReflexive) && pair.state() != CheckState::Succeeded
+}
+
+/// The turn of the pair in the round.
 fn turn_of_pair(round: &Round<'_>, pair: &CandidatePair) -> u8
     requires placed { is_placed round.now.local.now round.now.remote.now pair.now ≡ true }
-    ensures { result ≡ turn_of_pair round.now.local.now round.now.remote.now round.now.next round.now.time.0 round.now.timing.now pair.now }
+    ensures { result ≡ turn_of_pair round.now.local.now round.now.remote.now round.now.urgent_first round.now.next round.now.time.0 round.now.timing.now pair.now }
 {
-    turn_of(round.next, kind_of(round.local, round.remote, pair))
+    if round.urgent_first && is_urgent(pair) {
+        if is_brought(round.remote, pair) { 1 } else { 0 }
+    } else {
+        2 + turn_of(round.next, kind_of(round.local, round.remote, pair))
+    }
 }
 
 fn is_due(pair: &CandidatePair, round: &Round<'_>) -> bool
@@ -159,12 +176,12 @@ fn is_due_before(p: &CandidatePair, q: &CandidatePair, round: &Round<'_>) -> boo
     ours < theirs || (ours == theirs && p.prio() >= q.prio())
 }
 
-/// Whether the kind of a pair comes earlier, or is the same and the pair is due earlier.
+/// Whether the turn of a pair comes earlier, or is the same and the pair is due earlier.
 fn turns_before(p: &CandidatePair, q: &CandidatePair, round: &Round<'_>) -> bool
     requires first { is_placed round.now.local.now round.now.remote.now p.now ≡ true }
     requires second { is_placed round.now.local.now round.now.remote.now q.now ≡ true }
-    ensures before { result ≡ true → TurnsBefore round.now.local.now round.now.remote.now round.now.next round.now.time.0 round.now.timing.now p.now q.now }
-    ensures following { result ≡ false → TurnsBefore round.now.local.now round.now.remote.now round.now.next round.now.time.0 round.now.timing.now q.now p.now }
+    ensures before { result ≡ true → TurnsBefore round.now.local.now round.now.remote.now round.now.urgent_first round.now.next round.now.time.0 round.now.timing.now p.now q.now }
+    ensures following { result ≡ false → TurnsBefore round.now.local.now round.now.remote.now round.now.urgent_first round.now.next round.now.time.0 round.now.timing.now q.now p.now }
 {
     let ours = turn_of_pair(round, p);
     let theirs = turn_of_pair(round, q);
@@ -179,8 +196,8 @@ fn earlier<'a>(
 ) -> Option<&'a CandidatePair>
     requires first { IfSome (option_copied first) (λ p. is_placed round.now.local.now round.now.remote.now p ≡ true) }
     requires placed { is_placed round.now.local.now round.now.remote.now pair.now ≡ true }
-    ensures { (done : List PairRecord) → IsNextOfKind round.now.local.now round.now.remote.now round.now.next round.now.time.0 round.now.timing.now done (option_copied first.entry)
-        → IsNextOfKind round.now.local.now round.now.remote.now round.now.next round.now.time.0 round.now.timing.now (pair.now ∷ done) (option_copied result) }
+    ensures { (done : List PairRecord) → IsNextAhead round.now.local.now round.now.remote.now round.now.urgent_first round.now.next round.now.time.0 round.now.timing.now done (option_copied first.entry)
+        → IsNextAhead round.now.local.now round.now.remote.now round.now.urgent_first round.now.next round.now.time.0 round.now.timing.now (pair.now ∷ done) (option_copied result) }
 {
     if !is_due(pair, round) {
         return first;
@@ -191,22 +208,24 @@ fn earlier<'a>(
     }
 }
 
-/// Returns the pair to check in a kind's turn: of the due pairs, those of the kind that comes first from `next` on, and of these the
-/// one that is due first. None if no pair is due.
-pub fn next_of_kind<'a>(
+/// Returns the pair to check ahead: of the due pairs, the urgent ones if these come first, else those of the kind that comes first from
+/// `next` on, and of these the one that is due first. None if no pair is due.
+pub fn next_ahead<'a>(
     pairs: &'a Checklist,
     local: &[Candidate],
     remote: &[Candidate],
+    urgent_first: bool,
     next: u8,
     now: Instant,
     timing: &StunTiming,
 ) -> Option<&'a CandidatePair>
     requires placed { are_placed local.now remote.now (multiset_of pairs.now) ≡ true }
-    ensures { IsNextOfKind local.now remote.now next now.0 timing.now (multiset_of pairs.now) (option_copied result) }
+    ensures { IsNextAhead local.now remote.now urgent_first next now.0 timing.now (multiset_of pairs.now) (option_copied result) }
 {
     let round = Round {
         local,
         remote,
+        urgent_first,
         next,
         time: now,
         timing,
@@ -216,4 +235,29 @@ pub fn next_of_kind<'a>(
         first = earlier(first, pair, &round);
     }
     first
+}
+
+/// Whether an urgent pair is due.
+#[derive(Clone, Copy)]
+struct UrgentDue<'a> {
+    now: Instant,
+    timing: &'a StunTiming,
+}
+
+impl PairTest for UrgentDue<'_> {
+    ghost use Rattle.std.specs.Prelude.{◌&&◌};
+    ghost use Rattle.is_pair.specs.Due.{is_due, is_urgent};
+
+    ghost passes = { λ t p. is_due t.now.0 t.timing.now p && is_urgent p };
+
+    fn passes(&self, pair: &CandidatePair) -> bool {
+        due_time_of(pair, self.now, self.timing) <= self.now && is_urgent(pair)
+    }
+}
+
+/// An urgent pair is due.
+pub fn has_urgent_due(pairs: &Checklist, now: Instant, timing: &StunTiming) -> bool
+    ensures { result ≡ list_any (λ p. is_due now.0 timing.now p && is_urgent p) (multiset_of pairs.now) }
+{
+    pairs.any(&UrgentDue { now, timing })
 }

@@ -4,6 +4,7 @@ ghost use Rattle.std.specs.Prelude.{◌≡◌, ℕ, List, true};
 ghost use Rattle.is_candidate.specs.Candidates.{CandidateRecord};
 ghost use Rattle.is_pair.specs.Multiset.{are_below, change_pair, is_valid_at, IsPairBetween};
 ghost use Rattle.is_pair.specs.Checklists.{multiset_of, HasRoom};
+ghost use Rattle.is_pair.specs.Due.{triggered};
 ghost use Rattle.is_rules.specs.Kept.{are_placed};
 ghost use Rattle.is_rules.specs.RequestView.{request_view};
 ghost use Rattle.is_rules.specs.Serving.{served, validated_by_peer, nominated_by_peer};
@@ -11,6 +12,8 @@ ghost use Rattle.is_rules.specs.Serving.{served, validated_by_peer, nominated_by
 use crate::request::Request;
 use is_pair::checklist::{Checklist, PairChange, PairTest};
 use is_pair::pair::{CandidatePair, CheckState};
+use is_pair::trigger;
+use is_proto::Instant;
 
 /// Whether a pair has these two candidates.
 #[derive(Clone, Copy)]
@@ -69,6 +72,15 @@ pub struct ServingRole {
     pub lite: bool,
 }
 
+/// Whether, and when, the request triggers a check of the pair.
+#[derive(Clone, Copy)]
+pub struct Trigger {
+    /// Each of the first so many requests on a pair does.
+    pub most: Option<u64>,
+    /// When it is due.
+    pub at: Instant,
+}
+
 /// While a lite agent is controlled, each request makes the pair valid.
 fn validate_by_peer(pair: &mut CandidatePair, role: ServingRole)
     ensures { pair.new ≡ validated_by_peer role.controlling role.lite pair.old }
@@ -92,15 +104,18 @@ fn nominate_by_peer(pair: &mut CandidatePair, request: &Request<'_>, role: Servi
 struct Serves<'a> {
     request: Request<'a>,
     role: ServingRole,
+    trigger: Trigger,
 }
 
 impl PairChange for Serves<'_> {
     ghost use Rattle.is_rules.specs.RequestView.{request_view};
     ghost use Rattle.is_rules.specs.Serving.{served};
+    ghost use Rattle.is_pair.specs.Due.{triggered};
 
-    ghost makes = { λ t p. served t.role.controlling t.role.lite (request_view t.request) p };
+    ghost makes = { λ t p. served t.role.controlling t.role.lite (request_view t.request) (triggered t.trigger.most t.trigger.at.0 p) };
 
     fn change(&self, pair: &mut CandidatePair) {
+        trigger(pair, self.trigger.most, self.trigger.at);
         pair.increase_remote_binding_requests(self.request.time);
         validate_by_peer(pair, self.role);
         nominate_by_peer(pair, &self.request, self.role);
@@ -108,12 +123,25 @@ impl PairChange for Serves<'_> {
 }
 
 /// The pair with this number records the request.
-pub fn serve_pair(pairs: &mut Checklist, number: u64, request: &Request<'_>, role: ServingRole)
+pub fn serve_pair(
+    pairs: &mut Checklist,
+    number: u64,
+    request: &Request<'_>,
+    role: ServingRole,
+    trigger: Trigger,
+)
     ensures placed { (local remote : List CandidateRecord) → are_placed local remote (multiset_of pairs.old) ≡ true → are_placed local remote (multiset_of pairs.new) ≡ true }
-    ensures served { multiset_of pairs.new ≡ change_pair number (served role.controlling role.lite (request_view request.now)) (multiset_of pairs.old) }
+    ensures served { multiset_of pairs.new ≡ change_pair number (λ p. served role.controlling role.lite (request_view request.now) (triggered trigger.most trigger.at.0 p)) (multiset_of pairs.old) }
     ensures room { (n : ℕ) → HasRoom n pairs.old → HasRoom n pairs.new }
     ensures below { (n : ℕ) → are_below n (multiset_of pairs.old) ≡ true → are_below n (multiset_of pairs.new) ≡ true }
 {
     let request = *request;
-    pairs.change(number, &Serves { request, role });
+    pairs.change(
+        number,
+        &Serves {
+            request,
+            role,
+            trigger,
+        },
+    );
 }

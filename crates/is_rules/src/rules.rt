@@ -2,6 +2,10 @@
 
 ghost use Rattle.std.specs.Prelude.{◌≡◌};
 ghost use Rattle.is_rules.specs.Agent.{original_rules, modern_rules};
+ghost use Rattle.is_rules.specs.Checking.{goes_ahead};
+
+use is_proto::Duration;
+use is_stun::stun::EarlyRto;
 
 /// What an agent does beyond the original's behaviour, one field for each rule.
 #[derive(Clone, Copy, Debug, PartialEq, Eq)]
@@ -10,9 +14,26 @@ pub struct Rules {
     /// path through a NAT is found soon, however many host candidates there are (RFC 8445, section 6.1.4.2).
     ///
     /// The kind of a pair is that of its remote candidate and the IP version. Pairs whose local base has a server-reflexive
-    /// candidate come before the others.
+    /// candidate come before the others. At the limit of pairs, a pair of the kind that has the most is removed.
     pub kinds_in_turn: bool,
+    /// Each of the first so many requests on a pair triggers a check of it, until the pair is valid (RFC 8445, section 7.3.1.4): the pair
+    /// is due at once. Every second check may go to such a pair, and to one whose nomination was not answered, before pairs that are due
+    /// earlier. No pending transaction is canceled.
+    pub triggered_checks: Option<u64>,
+    /// The first checks of a pair, and those that nominate it, are repeated early, as long as no response arrives. These retransmissions
+    /// end no pair sooner: without any response they are not counted, and after one a pair is kept as long as a whole series of checks
+    /// takes.
+    pub early_rto: Option<EarlyRto>,
+    /// A controlled agent selects a pair when the request arrives that nominates it, if the pair is valid (RFC 8445, section
+    /// 7.3.1.5), and not only in the next `handle_timeout` call.
+    pub selects_at_once: bool,
 }
+
+/// How often, and how far apart.
+const MODERN_EARLY_RTO: EarlyRto = EarlyRto {
+    retransmits: 4,
+    interval: Duration(100_000_000),
+};
 
 impl Rules {
     /// The original's behaviour.
@@ -21,6 +42,9 @@ impl Rules {
     {
         Rules {
             kinds_in_turn: false,
+            triggered_checks: None,
+            early_rto: None,
+            selects_at_once: false,
         }
     }
 
@@ -30,6 +54,16 @@ impl Rules {
     {
         Rules {
             kinds_in_turn: true,
+            triggered_checks: Some(4),
+            early_rto: Some(MODERN_EARLY_RTO),
+            selects_at_once: true,
         }
     }
+}
+
+/// By these rules checks may go ahead of pairs that are due earlier.
+pub fn goes_ahead(rules: &Rules) -> bool
+    ensures { result ≡ goes_ahead rules.now }
+{
+    rules.kinds_in_turn || rules.triggered_checks.is_some()
 }

@@ -1,8 +1,9 @@
 -- The retransmission timing of checks (RFC 8489, section 6.2.1; RFC 8445, section 14.3). Durations are in nanoseconds.
-use Rattle.std.specs.Prelude.{ℕ, ◌+◌, ◌-◌, ◌*◌, ◌/◌, ◌^◌, ◌==◌, min, sum_by, if◌then◌else◌}
+use Rattle.std.specs.Prelude.{ℕ, ◌+◌, ◌-◌, ◌*◌, ◌/◌, ◌^◌, ◌==◌, min, max, nat_le, sum_by, if◌then◌else◌}
 use Rattle.std.specs.List.{range_with_len}
 use Rattle.is_proto.specs.Times.{MAX, MILLISECOND}
 use Rattle.is_stun.specs.declared.timing.StunTiming.{StunTiming}
+use Rattle.is_stun.specs.declared.timing.EarlyRto.{EarlyRto}
 
 -- the delay after the last of n checks, in whole milliseconds: it doubles with each check, up to a bound
 unfoldable pub delay_millis : StunTiming → ℕ → ℕ
@@ -12,6 +13,11 @@ delay_millis t n =
 -- the same in nanoseconds, and zero before the first check
 abbrev pub resend_delay : StunTiming → ℕ → ℕ
 resend_delay t n = if n == 0 then 0 else delay_millis t n * MILLISECOND
+
+-- the delay after the last of n checks, if the first ones are repeated early: the interval after each of these, and at least a
+-- millisecond; then the delays as above
+abbrev pub early_delay : StunTiming → EarlyRto → ℕ → ℕ
+early_delay t e n = if nat_le n e.retransmits then max MILLISECOND e.interval.0 else resend_delay t (n - e.retransmits)
 
 abbrev pub last_resend_delay : StunTiming → ℕ
 last_resend_delay t = resend_delay t t.max_retransmits

@@ -1,14 +1,26 @@
 //! The retransmission timing of checks: the delay before each one, and the time that a full series of checks takes (RFC
 //! 8489, section 6.2.1).
 
-ghost use Rattle.std.specs.Prelude.{◌≡◌, ◌*◌, ◌^◌, ◌/◌, ◌-◌, ◌<◌, ◌≤◌, ℕ, min};
+ghost use Rattle.std.specs.Prelude.{◌≡◌, ◌*◌, ◌^◌, ◌/◌, ◌-◌, ◌<◌, ◌≤◌, ℕ, min, None};
 ghost use Rattle.is_proto.specs.Times.{MILLISECOND, SECOND};
-ghost use Rattle.is_stun.specs.Timing.{resend_delay, last_resend_delay, timeout_of};
+ghost use Rattle.is_stun.specs.Timing.{early_delay, resend_delay, last_resend_delay, timeout_of};
 
 use is_proto::Duration;
 
+/// The least delay between two checks of a pair.
+const LEAST_DELAY: Duration = Duration(1_000_000);
+
 /// How many checks are sent without a response, as in libwebrtc.
 pub const DEFAULT_MAX_RETRANSMITS: usize = 9;
+
+/// How the first checks of a pair are repeated before its RTO counts: so a path is found soon although packets are lost.
+#[derive(Clone, Copy, Debug, PartialEq, Eq)]
+pub struct EarlyRto {
+    /// How many early retransmissions there are.
+    pub retransmits: usize,
+    /// The delay before each of them. Less than a millisecond counts as one.
+    pub interval: Duration,
+}
 
 /// The retransmission timeouts (RTO) of checks, how many checks may go without a response before a path fails, and how
 /// long an ICE-lite agent, which sends no checks, waits for those of its peer. A pair requires at least one retransmit.
@@ -23,11 +35,13 @@ pub struct StunTiming {
     /// How long an ICE-lite agent keeps a pair after the peer's last check on it. Each nanosecond counts. With zero, no check
     /// keeps a pair.
     pub lite_timeout: Duration,
+    /// How the checks of a pair without a response, and those that nominate it, are repeated at first. None: by the RTO.
+    pub early: Option<EarlyRto>,
 }
 
 /// An initial RTO of 250 ms, 9 retransmits, a longest RTO of 3 s, and 15 s for an ICE-lite agent.
 impl Default for StunTiming {
-    ghost is_default = { λ t. t ≡ record { initial_rto = record { 0 = 250 * MILLISECOND }; max_retransmits = 9; max_rto = record { 0 = 3000 * MILLISECOND }; lite_timeout = record { 0 = 15 * SECOND } } };
+    ghost is_default = { λ t. t ≡ record { initial_rto = record { 0 = 250 * MILLISECOND }; max_retransmits = 9; max_rto = record { 0 = 3000 * MILLISECOND }; lite_timeout = record { 0 = 15 * SECOND }; early = None } };
 
     fn default() -> StunTiming {
         StunTiming {
@@ -35,6 +49,7 @@ impl Default for StunTiming {
             max_retransmits: DEFAULT_MAX_RETRANSMITS,
             max_rto: Duration(3_000_000_000),
             lite_timeout: Duration(15_000_000_000),
+            early: None,
         }
     }
 }
@@ -71,6 +86,17 @@ impl StunTiming {
         let first = self.initial_rto.as_millis();
         let greatest = self.max_rto.as_millis();
         Duration::from_millis(doubled(first, doublings, greatest))
+    }
+
+    /// Returns how long to wait after the last of `send_count` checks before the next one, if the first ones are repeated early.
+    pub fn early_delay(&self, early: EarlyRto, send_count: usize) -> Duration
+        ensures { result.0 ≡ early_delay self.now early send_count }
+    {
+        if send_count <= early.retransmits {
+            early.interval.max(LEAST_DELAY)
+        } else {
+            self.stun_resend_delay(send_count - early.retransmits)
+        }
     }
 
     /// Returns how long to wait after the last check before the path fails.

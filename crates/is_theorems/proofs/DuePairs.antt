@@ -1,6 +1,6 @@
 -- Which due pair is checked, and what leaves due times.
 pub mod AfterNominationAndRemoval
-pub mod KindsInTurn
+pub mod ChecksAhead
 pub mod FirstDuePair
 pub mod AfterPackets
 pub mod WithoutValidPair

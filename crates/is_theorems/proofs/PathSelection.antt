@@ -7,3 +7,4 @@ pub mod SelectedAfterFirstResponse
 pub mod FirstResponsePerAgent
 pub mod NominatedByPeer
 pub mod NominatedByPeerPerAgent
+pub mod SelectedAtRequests

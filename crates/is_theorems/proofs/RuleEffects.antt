@@ -4,3 +4,4 @@ pub mod EarlierAndNewPairs
 pub mod SelectedPaths
 pub mod NominatedPairs
 pub mod ChangedPairs
+pub mod TriggeredPairs

@@ -16,7 +16,7 @@ use Rattle.is_rules.specs.Sending.{path_of}
 
 module _ {H P : Type 0} where
   -- The rounds suffice for a pair that is due by the time `by` when they begin. For a bound of n pairs there are at least 2n - 1
-  -- rounds, and one more for each pair that is added in them; with kinds in turn 4n - 1, and two more.
+  -- rounds, and one more for each pair that is added in them; if checks may go ahead, 4n - 1, and two more.
   pub record SufficeWithin (bound by : ℕ) (start : AgentRecord H P) (rounds : List (LoggedRound P)) (last : AgentRecord H P)
       (p : PairRecord) : Type 0 where
     pub at : ℕ

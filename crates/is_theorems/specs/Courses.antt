@@ -59,8 +59,9 @@ module _ {H P : Type 0} (mac : H → List ℕ → List ℕ → List ℕ) (answer
       × (course : Course mac answers r.following mid next) × ControlsAlong r.following mid next course × CourseRounds later next new
 
   -- An execution starts with a newly created agent. At the start of the rounds no pair is valid, and n pairs are due by an
-  -- earlier time `by`, with due times computed at the time of the first round. At least n rounds follow, or with kinds in turn 2n, in
-  -- which the checks of one of these pairs are answered and the agent is controlling. Then it selects a path in one of the rounds.
+  -- earlier time `by`, with due times computed at the time of the first round. At least n rounds follow, or 2n if checks may go
+  -- ahead, in which the checks of one of these pairs are answered and the agent is controlling. Then it selects a path in one of the
+  -- rounds.
   abbrev pub CoursesSelect : Type 0
   CoursesSelect =
       (first start last : AgentRecord H P) (xs : List (Call P × Entry)) (r : CourseRound P) (rounds : List (CourseRound P)) (p : PairRecord) (by : ℕ)

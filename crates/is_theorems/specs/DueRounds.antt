@@ -19,9 +19,9 @@ use Rattle.is_theorems.specs.OpenRounds.{IsAnsweredInRound}
 module _ {H P : Type 0} (mac : H → List ℕ → List ℕ → List ℕ) (answers : P → CandidateRecord → ℕ → ℕ → Type 0) where
   -- At a `handle_timeout` call in the log no pair is valid, and one is due by then, maybe not before. Packets, polls and candidates that
   -- are added follow, and enough rounds, all later (`SufficesFromDue`): none for a single pair, otherwise 2m - 1 for m pairs when the
-  -- second call comes, and one more for each pair that is added in these, or with kinds in turn 4m - 1 and two more. In each round the
-  -- pair's check, if it is sent, is answered. Then a path is selected in one of the rounds, unless a candidate that is added in them may
-  -- remove a pair of the path. This holds whatever else is received.
+  -- second call comes, and one more for each pair that is added in these, or 4m - 1 and two more if checks may go ahead. In each round
+  -- the pair's check, if it is sent, is answered. Then a path is selected in one of the rounds, unless a candidate that is added in them
+  -- may remove a pair of the path. This holds whatever else is received.
   abbrev pub DueRoundsSelect : AgentRecord H P → Stream → List (Logged P) → Type 0
   DueRoundsSelect first s log =
       (before : List (Logged P)) (start second last : AgentRecord H P) (r : LoggedRound P) (later : List (LoggedRound P)) (p : PairRecord) (by : ℕ)

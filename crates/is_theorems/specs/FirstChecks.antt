@@ -14,8 +14,8 @@ use Rattle.is_theorems.specs.Runs.{IsFresh}
 use Rattle.is_rules.specs.Sending.{path_of}
 use Rattle.is_rules.specs.Steps.{Call, Entry, Done}
 
--- There are as many of these times as pairs that are due by the time `by`, with due times computed at the first of them, or with kinds
--- in turn twice as many.
+-- There are as many of these times as pairs that are due by the time `by`, with due times computed at the first of them, or twice
+-- as many if checks may go ahead.
 abbrev pub AreAsManyAsDue : {H P : Type 0} → ℕ → AgentRecord H P → List ℕ → Type 0
 AreAsManyAsDue by a [] = ⊥
 AreAsManyAsDue by a (now ∷ later) = checks_for a.rules (length (due_by by now a.timing a.pairs)) ≤ length (now ∷ later)
@@ -23,7 +23,7 @@ AreAsManyAsDue by a (now ∷ later) = checks_for a.rules (length (due_by by now 
 -- Enough `handle_timeout` calls at these times follow one at the time `now`, for a pair that is due by the time `by`. If `by` is
 -- earlier than the first call, as many calls suffice as pairs are due by then, the first included. A single pair needs only this
 -- one. Otherwise other pairs may become due by then in the first round: as many calls after it suffice as pairs are due by `by`
--- when the second one comes. With kinds in turn it is twice as many.
+-- when the second one comes. If checks may go ahead, it is twice as many.
 abbrev pub SufficeForDue : {H P : Type 0} → ℕ → ℕ → AgentRecord H P → AgentRecord H P → List ℕ → Type 0
 SufficeForDue by now first second later =
     ((by < now) × AreAsManyAsDue by first (now ∷ later)) ⊎ ((length first.pairs ≤ 1) ⊎ AreAsManyAsDue by second later)

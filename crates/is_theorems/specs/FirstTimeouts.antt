@@ -33,15 +33,15 @@ pub record IsOpenRound {P : Type 0} (by : ℕ) (r : CourseRound P) : Type 0 wher
   pub between : AreInRound r.following
 
 -- Enough rounds follow the first one. Let there be n pairs when the first call comes, and m when the second one does. If n is 1, the
--- first round suffices. Otherwise 2m - 1 rounds after it do, and one more for each pair that is added in these; with kinds in turn
--- 4m - 1, and two more for each such pair.
+-- first round suffices. Otherwise 2m - 1 rounds after it do, and one more for each pair that is added in these; if checks may go
+-- ahead, 4m - 1, and two more for each such pair.
 abbrev pub SufficesFromDue : {H P : Type 0} → AgentRecord H P → AgentRecord H P → AgentRecord H P → ℕ → Type 0
 SufficesFromDue first second last later =
     (length first.pairs ≤ 1)
     ⊎ (checks_for second.rules (2 * length second.pairs + last.next_number) ≤ later + 1 + checks_for second.rules second.next_number)
 
 -- The same for a pair that is due by the time `by`, if the first call comes at time `now`. If this is later than `by`, 2n - 1 rounds
--- suffice, the first included, and one more for each pair that is added in them; with kinds in turn 4n - 1, and two more.
+-- suffice, the first included, and one more for each pair that is added in them; if checks may go ahead, 4n - 1, and two more.
 abbrev pub Suffices : {H P : Type 0} → ℕ → ℕ → AgentRecord H P → AgentRecord H P → AgentRecord H P → ℕ → Type 0
 Suffices by now first second last later =
     ((by < now) × (checks_for first.rules (2 * length first.pairs + last.next_number) ≤ later + 2 + checks_for first.rules first.next_number))
@@ -61,8 +61,8 @@ module _ {H P : Type 0} (mac : H → List ℕ → List ℕ → List ℕ) (answer
   IsReached rounds old new run path = ChecksAmong rounds path ⊎ (IsAnsweredAmong rounds path ⊎ EndsAmong rounds old new run path)
 
   -- An execution starts with a newly created agent. One of n pairs waits for its check, due by an earlier time `by`. At least
-  -- 2n - 1 rounds follow, and one more for each pair that is added in them, by the caller or by the peer; with kinds in turn 4n - 1,
-  -- and two more. Then the pair's path is reached. This holds in either role, whatever the agent receives and nominates.
+  -- 2n - 1 rounds follow, and one more for each pair that is added in them, by the caller or by the peer; if checks may go
+  -- ahead, 4n - 1, and two more. Then the pair's path is reached. This holds in either role, whatever the agent receives and nominates.
   abbrev pub OpenCoursesReach : Type 0
   OpenCoursesReach =
       (first start last : AgentRecord H P) (xs : List (Call P × Entry)) (r : CourseRound P) (rounds : List (CourseRound P)) (p : PairRecord) (by : ℕ)

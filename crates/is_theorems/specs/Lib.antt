@@ -15,6 +15,7 @@ pub mod AskedCourses
 pub mod Removing
 pub mod Staying
 pub mod Asked
+pub mod AtOnce
 pub mod Reached
 pub mod BoundedRounds
 pub mod ReachedCourses

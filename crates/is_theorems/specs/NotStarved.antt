@@ -37,8 +37,8 @@ timeout_count part = count_by (λ (x : Logged _). is_timeout x.call) part
 
 module _ {H P : Type 0} where
   -- The rounds suffice for a pair that is due by the time `by` when they begin, whatever pairs requests add in them. For at most n
-  -- pairs and m retransmits, m at least 2, k rounds suffice if k is at least (3n - 1) * m / (m - 1). With kinds in turn m is at least 3,
-  -- and k at least (6n - 1) * m / (m - 2).
+  -- pairs and m retransmits, m at least 2, k rounds suffice if k is at least (3n - 1) * m / (m - 1). If checks may go ahead, m is at
+  -- least 3, and k at least (6n - 1) * m / (m - 2).
   pub record SufficeSteady (bound by : ℕ) (start : AgentRecord H P) (rounds : List (LoggedRound P)) (p : PairRecord) : Type 0 where
     pub at : ℕ
     pub began : began_at rounds ≡ Some at

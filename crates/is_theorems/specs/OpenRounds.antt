@@ -29,7 +29,7 @@ ArePlain rounds = (r : LoggedRound _) → Has rounds r → (x : Logged _) → Ha
 module _ {H P : Type 0} where
   -- The rounds suffice for each pair that is due by the time `by`, with due times computed at the time `at` at which they begin. If n
   -- pairs are due by then, n rounds suffice in which only packets and polls come after the `handle_timeout` calls. For n pairs in
-  -- all 2n - 1 rounds suffice, and one more for each pair that is added in them. With kinds in turn it is 2n, and 4n - 1 and two more.
+  -- all 2n - 1 rounds suffice, and one more for each pair that is added in them. If checks may go ahead, it is 2n, and 4n - 1 and two more.
   abbrev pub OpenRoundsSuffice : ℕ → ℕ → AgentRecord H P → List (LoggedRound P) → AgentRecord H P → Type 0
   OpenRoundsSuffice at by start rounds last =
       ((checks_for start.rules (length (due_by by at start.timing start.pairs)) ≤ length rounds) × ArePlain rounds)

@@ -17,6 +17,7 @@ use Rattle.is_rules.specs.declared.emitted.Emitted.{Emitted}
 use Rattle.is_rules.specs.declared.rules.Rules.{Rules}
 use Rattle.is_rules.specs.Emitted.{issued_as}
 use Rattle.is_rules.specs.Agent.{AgentRecord}
+use Rattle.is_rules.specs.Checking.{goes_ahead}
 use Rattle.is_rules.specs.Sending.{path_of}
 use Rattle.is_stun.specs.Reading.{Reads}
 use Rattle.is_rules.specs.Nominating.{is_eligible}
@@ -55,9 +56,10 @@ pub record Round : Type 0 where
   pub emitted : Emitted
   pub arrivals : List Arrival
 
--- So many checks hold n checks of the pair that is due first: with kinds in turn, of two checks one after another at least one is.
+-- So many checks hold n checks of the pair that is due first: if checks may go ahead, of two checks one after another at least one is
+-- of the pair that is due first.
 abbrev pub checks_for : Rules → ℕ → ℕ
-checks_for rules n = if rules.kinds_in_turn then 2 * n else n
+checks_for rules n = if goes_ahead rules then 2 * n else n
 
 module _ {H P : Type 0} where
   -- The agent checks pairs: it is not lite, and the remote credentials are known.
@@ -171,8 +173,8 @@ TimeoutsAreOfUse {H = H} P mac =
     → IsOfUse old emitted new
 
 -- Starvation freedom: a pair is checked, or removed after timeout, within as many polling cycles as there are pairs that are due
--- no later than it, or with kinds in turn twice as many. The `handle_timeout` calls come at its due time, or later. A nominated pair goes before all others, unless
--- its due time was fixed before; so `poll_timeout` is called before each `handle_timeout` call.
+-- no later than it, or twice as many if checks may go ahead. The `handle_timeout` calls come at its due time, or later. A nominated pair
+-- goes before all others, unless its due time was fixed before; so `poll_timeout` is called before each `handle_timeout` call.
 abbrev pub NoPairIsStarved : {H : Type 0} (P : Type 0) → (H → List ℕ → List ℕ → List ℕ) → Type 0
 NoPairIsStarved {H = H} P mac =
     (first last : AgentRecord H P) (turns : List (ℕ × Emitted)) (p : PairRecord) (at by : ℕ)
@@ -186,7 +188,7 @@ NoPairIsStarved {H = H} P mac =
 
 -- A controlling agent has no valid pair yet, and each check that is sent on the path of a pair is answered in its round. Then the
 -- agent selects a path within as many rounds as there are pairs that are due no later than this one, with due times computed at
--- the time of the first round, or with kinds in turn within twice as many. This holds whatever else it receives, and whether or not
+-- the time of the first round, or within twice as many if checks may go ahead. This holds whatever else it receives, and whether or not
 -- `poll_timeout` is called.
 abbrev pub AnsweredSelect : {H P : Type 0} → (H → List ℕ → List ℕ → List ℕ) → (P → CandidateRecord → ℕ → ℕ → Type 0) → Type 0
 AnsweredSelect {H = H} {P = P} mac answers =

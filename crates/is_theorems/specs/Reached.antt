@@ -68,8 +68,8 @@ module _ {H P : Type 0} where
     pub young : unanswered_count p.checks < a.timing.max_retransmits
 
   -- The rounds suffice for a pair that is due by the time `by` when they begin: their `handle_timeout` calls are later than `by`.
-  -- For n pairs there are at least 2n - 1 rounds, and one more for each pair that is added in them; with kinds in turn 4n - 1, and
-  -- two more for each such pair.
+  -- For n pairs there are at least 2n - 1 rounds, and one more for each pair that is added in them; if checks may go ahead,
+  -- 4n - 1, and two more for each such pair.
   pub record Suffice (by : ℕ) (start : AgentRecord H P) (rounds : List (LoggedRound P)) (last : AgentRecord H P) (p : PairRecord) : Type 0 where
     pub at : ℕ
     pub began : began_at rounds ≡ Some at

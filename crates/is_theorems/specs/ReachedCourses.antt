@@ -45,8 +45,8 @@ module _ {H P : Type 0} (mac : H → List ℕ → List ℕ → List ℕ) (answer
       × Course mac answers r.following mid next × PassRounds later next new
 
   -- An execution starts with a newly created agent. One of n pairs waits for its check, and at least 2n - 1 rounds follow, and
-  -- one more for each pair that is added in them; with kinds in turn 4n - 1, and two more. Then a check is sent on the pair's path in
-  -- one of them, unless a success response is received on the path in one of them. This holds in either role, whatever the agent
+  -- one more for each pair that is added in them; if checks may go ahead, 4n - 1, and two more. Then a check is sent on the pair's
+  -- path in one of them, unless a success response is received on the path in one of them. This holds in either role, whatever the agent
   -- receives and nominates.
   abbrev pub CoursesReach : Type 0
   CoursesReach =
@@ -57,8 +57,9 @@ module _ {H P : Type 0} (mac : H → List ℕ → List ℕ → List ℕ) (answer
       → ChecksAmong (r ∷ rounds) (path_of start p) ⊎ IsAnsweredAmong (r ∷ rounds) (path_of start p)
 
   -- An execution starts with a newly created agent. At the start of the rounds no pair is valid, and n pairs are due by an
-  -- earlier time `by`, with due times computed at the time of the first round. At least n rounds follow, or with kinds in turn 2n, in
-  -- which the agent is controlling. Then a check is sent on the path of each of these pairs in one of the rounds, unless a path is selected in one.
+  -- earlier time `by`, with due times computed at the time of the first round. At least n rounds follow, or 2n if checks may go
+  -- ahead, in which the agent is controlling. Then a check is sent on the path of each of these pairs in one of the rounds,
+  -- unless a path is selected in one.
   abbrev pub CoursesCheck : Type 0
   CoursesCheck =
       (first start last : AgentRecord H P) (xs : List (Call P × Entry)) (r : CourseRound P) (rounds : List (CourseRound P)) (p : PairRecord) (by : ℕ)

@@ -133,8 +133,8 @@ module _ {H P : Type 0} (mac : H → List ℕ → List ℕ → List ℕ) (answer
       → IsChecking start → is_empty start.pairs ≡ false → deadline < MAX
       → IsOfUse start timeout.entry.emitted last
 
-  -- At a `handle_timeout` call in the log n pairs are due by an earlier time `by`. The call begins n rounds, or with kinds in turn
-  -- 2n, all later than `by`, in which the checks of one of these pairs are answered. Then a path is selected in one of the rounds,
+  -- At a `handle_timeout` call in the log n pairs are due by an earlier time `by`. The call begins n rounds, or 2n if checks may
+  -- go ahead, all later than `by`, in which the checks of one of these pairs are answered. Then a path is selected in one of the rounds,
   -- whatever else is received.
   abbrev pub RoundsSelect : AgentRecord H P → Stream → List (Logged P) → Type 0
   RoundsSelect first s log =

@@ -1,6 +1,6 @@
 //! How soon a pair is checked, also if candidates are added meanwhile, or if it is due at the first timeout. The numbers of rounds are
-//! those without kinds in turn (`Rules`). With kinds in turn 2n - 1 becomes 4n - 1, with two more for each pair that is added, and n
-//! becomes 2n, since every second check may be of another pair. A single pair still needs one round.
+//! those if checks may not go ahead of pairs that are due earlier (`Rules`). If they may, 2n - 1 becomes 4n - 1, with two more for each
+//! pair that is added, and n becomes 2n, since every second check may be of another pair. A single pair still needs one round.
 
 ghost use Rattle.is_theorems.specs.BoundedRounds.{LimitsReach};
 ghost use Rattle.is_theorems.specs.FirstChecks.{CoursesCheckFromDue};

@@ -2,6 +2,7 @@
 
 ghost use Rattle.is_theorems.specs.Asked.{AskedAreSelected};
 ghost use Rattle.is_theorems.specs.AskedCourses.{SuccessesSelect, AcceptedNominationsAreSelected};
+ghost use Rattle.is_theorems.specs.AtOnce.{RequestsSelect, NominationsSelectAtOnce};
 ghost use Rattle.is_theorems.specs.Progress.{AnswersSelect, TimeoutsSelect};
 ghost use Rattle.is_theorems.specs.Runs.{SelectedAreAnswered, SelectedAreNominatedByPeer, PointsAreTop, TakersAreValid, AskedAreNominated};
 
@@ -35,6 +36,18 @@ pub fn takers_are_valid<H: Sha1HmacProvider, P: LocalPreference>()
 /// nominated.
 pub fn asked_are_nominated<H: Sha1HmacProvider, P: LocalPreference>()
     ensures { AskedAreNominated H.mac P.answers }
+{}
+
+/// With selection at once: a request gets a success response on a path whose pairs were valid. Then the path that was selected last is
+/// that of an eligible pair of greatest priority, if a pair is eligible. With renomination it is as in `points_are_top`.
+pub fn requests_select<H: Sha1HmacProvider, P: LocalPreference>()
+    ensures { RequestsSelect H.mac P.answers }
+{}
+
+/// With selection at once: a request with USE-CANDIDATE gets a success response on a path whose pairs were valid, and the agent is
+/// controlled. Then a path is selected at once, as in `requests_select`, without a `handle_timeout` call.
+pub fn nominations_select_at_once<H: Sha1HmacProvider, P: LocalPreference>()
+    ensures { NominationsSelectAtOnce H.mac P.answers }
 {}
 
 /// After an accepted success response a controlling agent has selected a path.

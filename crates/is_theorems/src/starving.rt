@@ -22,7 +22,7 @@ pub fn turns_are_of_use<H: Sha1HmacProvider, P: LocalPreference>()
 {}
 
 /// Starvation freedom: a pair is checked, or removed after timeout, within as many polling cycles as there are pairs that are due
-/// no later than it, or with kinds in turn (`Rules`) within twice as many.
+/// no later than it, or within twice as many if checks may go ahead of pairs that are due earlier (`Rules`).
 pub fn no_pair_is_starved<H: Sha1HmacProvider, P: LocalPreference>()
     ensures { NoPairIsStarved P H.mac }
 {}
@@ -36,7 +36,8 @@ pub fn requests_add_few<H: Sha1HmacProvider, P: LocalPreference>()
 
 /// With limits on pairs and on what packets bring, n pairs at most: a check is sent on the path of a pair that is due in one of
 /// (3n - 1) * m / (m - 1) rounds, whatever the agent receives in them and received before, unless a success response is received
-/// on the path in one of them. No candidate is added in the rounds. With kinds in turn it is (6n - 1) * m / (m - 2) rounds.
+/// on the path in one of them. No candidate is added in the rounds. If checks may go ahead, it is (6n - 1) * m / (m - 2)
+/// rounds.
 pub fn none_is_starved<H: Sha1HmacProvider, P: LocalPreference>()
     ensures { NoneIsStarved H.mac P.answers }
 {

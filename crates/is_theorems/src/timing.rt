@@ -1,5 +1,5 @@
-//! How soon a pair is checked in nanoseconds, if the caller is punctual. The numbers of rounds are those of `reaching`, without kinds in
-//! turn.
+//! How soon a pair is checked in nanoseconds, if the caller is punctual. The numbers of rounds are those of `reaching`, if
+//! checks may not go ahead.
 
 ghost use Rattle.is_theorems.specs.InTime.{CoursesCheckInTime, CoursesReachInTime, NextComesInTime, RoundsComeInTime};
 ghost use Rattle.is_theorems.specs.Pacing.{PacingIsSet};

@@ -8,7 +8,8 @@ use super::step::Step::*;
 use super::step::{Outcome, Setting, Shown, Whose};
 use super::story::{Story, play};
 use super::*;
-use is::Rules;
+use is::stun::EarlyRto;
+use is::{Duration, Rules};
 
 #[test]
 fn settings_are_kept(rt: HostRuntime) -> Result<(), Fail> {
@@ -19,13 +20,22 @@ fn settings_are_kept(rt: HostRuntime) -> Result<(), Fail> {
 const TIE: u64 = 0x0102_0304_0506_0708;
 
 /// The original's behaviour, with which an agent begins.
-const ORIGINAL: Rules = Rules {
+pub(super) const ORIGINAL: Rules = Rules {
     kinds_in_turn: false,
+    triggered_checks: None,
+    early_rto: None,
+    selects_at_once: false,
 };
 
 /// What connects fastest.
 const MODERN: Rules = Rules {
     kinds_in_turn: true,
+    triggered_checks: Some(4),
+    early_rto: Some(EarlyRto {
+        retransmits: 4,
+        interval: Duration(100_000_000),
+    }),
+    selects_at_once: true,
 };
 
 const STORIES: [Story; 5] = [

@@ -104,10 +104,10 @@ fn does_in_round(note: &Note, side: Side) -> Result<InRound, Rounds> {
     }
 }
 
-/// So many checks hold n checks of the pair that is due first (`checks_for`): with kinds in turn every second one may be of another
-/// pair.
+/// So many checks hold n checks of the pair that is due first (`checks_for`): if checks may go ahead, every second one may be of
+/// another pair.
 fn checks_for(start: Seen, n: u64) -> u64 {
-    if start.kinds_in_turn {
+    if start.goes_ahead {
         n.saturating_mul(2)
     } else {
         n

@@ -35,8 +35,8 @@ pub struct Seen {
     pub nominated: bool,
     /// It has renomination.
     pub renominates: bool,
-    /// Its pairs are checked by kinds in turn.
-    pub kinds_in_turn: bool,
+    /// Its checks may go ahead of pairs that are due earlier.
+    pub goes_ahead: bool,
     pub awaited: Option<Awaited>,
     /// Its pairs that are due no later than that one.
     pub due: usize,
@@ -82,12 +82,14 @@ fn is_fixed(pair: &CandidatePair) -> Option<bool> {
         max_retransmits: 1,
         max_rto: Duration(0),
         lite_timeout: Duration(0),
+        early: None,
     };
     let hour = StunTiming {
         initial_rto: Duration(3_600_000_000_000),
         max_retransmits: 1,
         max_rto: Duration(3_600_000_000_000),
         lite_timeout: Duration(3_600_000_000_000),
+        early: None,
     };
     let (mut early, mut late) = (pair.try_clone().ok()?, pair.try_clone().ok()?);
     Some(early.next_binding_attempt(Instant(0), &at_once) == late.next_binding_attempt(LATE, &hour))
@@ -102,6 +104,7 @@ fn pair_seen(pair: &CandidatePair, now: Instant, limit: usize) -> Option<Awaited
         max_retransmits: limit,
         max_rto: Duration(3_000_000_000),
         lite_timeout: Duration(15_000_000_000),
+        early: None,
     };
     let mut copy = pair.try_clone().ok()?;
     Some(Awaited {
@@ -127,7 +130,7 @@ pub fn settings(agent: &Agent, limit: usize) -> Seen {
         joined: 0,
         nominated: true,
         renominates: agent.renomination(),
-        kinds_in_turn: agent.rules().kinds_in_turn,
+        goes_ahead: agent.rules().kinds_in_turn || agent.rules().triggered_checks.is_some(),
         awaited: None,
         due: 0,
         is_valid: false,

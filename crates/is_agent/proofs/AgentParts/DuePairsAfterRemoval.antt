@@ -11,9 +11,9 @@ use Rattle.rand_core.specs.Stream.{Stream}
 use Rattle.is_rules.specs.declared.credentials.IceCreds.{IceCreds}
 use Rattle.is_rules.specs.declared.emitted.Issued.{Issued}
 use Rattle.is_rules.specs.Agent.{AgentRecord}
-use Rattle.is_rules.specs.Checking.{all_asked, all_heard, is_kinds_turn, IsNextToCheck, ChecksNext, MayCheck}
+use Rattle.is_rules.specs.Checking.{all_asked, all_heard, is_ahead_turn, IsNextToCheck, ChecksNext, MayCheck}
 use Rattle.is_rules.specs.Due.{awaits_nomination, falls_due}
-use Rattle.is_rules.specs.Kinds.{IsNextOfKind}
+use Rattle.is_rules.specs.Kinds.{IsNextAhead}
 use Rattle.is_rules.proofs.PairLists.PairsByNumber.{numbered-found}
 use Rattle.is_agent.proofs.AgentParts.PairsByNumber.{has-any}
 
@@ -51,12 +51,12 @@ and-third false b c d weaker h = h
 pub all-three : (a b c : Bool) → a ≡ true → b ≡ true → c ≡ true → a && b && c ≡ true
 all-three a b c x y z = rw (x, y) z
 
--- the pair that is checked next is in the list and due, in a turn of kinds too
+-- the pair that is checked next is in the list and due, also if the check goes ahead
 next-is-due : {H P : Type 0} (a : AgentRecord H P) (now : ℕ) (p : PairRecord) → IsNextToCheck now a (Some p) → Has a.pairs p × (is_due now a.timing p ≡ true)
 next-is-due a now p is =
-    elim (is_kinds_turn a) as (λ b. MatchBool b (IsNextOfKind a.local a.remote a.next_kind now a.timing a.pairs (Some p)) (IsNextDue now a.timing a.pairs (Some p))
+    elim (is_ahead_turn now a) as (λ b. MatchBool b (IsNextAhead a.local a.remote (is_some a.rules.triggered_checks) a.next_kind now a.timing a.pairs (Some p)) (IsNextDue now a.timing a.pairs (Some p))
     → Has a.pairs p × (is_due now a.timing p ≡ true)) [
-      | true ↦ λ of_kind. (of_kind.0, of_kind.1)
+      | true ↦ λ ahead. (ahead.0, ahead.1)
       | false ↦ λ first. (first.0.0, first.1)
     ] is
 

@@ -1,5 +1,5 @@
 -- A pair that was checked is due after the time of the check, whenever its due time is computed from then on.
-use Rattle.std.proofs.Common.{◌≡◌, ℕ, zero, suc, ◌+◌, ◌-◌, ◌*◌, ◌/◌, ◌^◌, ◌==◌, ◌<◌, ◌≤◌, Bool, true, false, List, [], ◌∷◌, ◌++◌, length, drop, reverse, position, min, Option, Some, None, unwrap_or, if◌then◌else◌, refl, ap, sym, ◌∙◌, subst, arith}
+use Rattle.std.proofs.Common.{◌≡◌, ℕ, zero, suc, ◌+◌, ◌-◌, ◌*◌, ◌/◌, ◌^◌, ◌==◌, ◌<◌, ◌≤◌, Bool, true, false, List, [], ◌∷◌, ◌++◌, length, drop, reverse, position, min, max, nat_le, Option, Some, None, unwrap_or, if◌then◌else◌, refl, ap, sym, ◌∙◌, subst, arith}
 use Rattle.std.specs.Prelude.{slice_get}
 use Rattle.std.specs.Option.{option_map_or}
 use Rattle.std.proofs.Math.Nat.{one-le-pow, one-le-mul}
@@ -10,13 +10,14 @@ use Rattle.std.proofs.lemmas.List.Quantifiers.{position-Some}
 use Rattle.std.proofs.lemmas.Option.{slice_get-get_or}
 use Rattle.is_proto.specs.Times.{MAX, MILLISECOND, later}
 use Rattle.is_stun.specs.declared.timing.StunTiming.{StunTiming}
-use Rattle.is_stun.specs.Timing.{delay_millis, resend_delay}
+use Rattle.is_stun.specs.declared.timing.EarlyRto.{EarlyRto}
+use Rattle.is_stun.specs.Timing.{delay_millis, resend_delay, early_delay}
 use Rattle.is_pair.specs.declared.pair.states.NominationState.{NominationState}
 use Rattle.is_pair.specs.declared.pair.states.NominationState.TheVariants.{None as Unnominated, Nominated, Attempt, Success}
 use Rattle.is_pair.specs.States.{nomination_once_sent}
 use Rattle.is_pair.specs.Checks.{Check, is_answered, last_checks, last_check, unanswered_count}
-use Rattle.is_pair.specs.Pairs.{check_of}
-use Rattle.is_pair.specs.Due.{is_silent, delaying_count, next_due_time, computed_due_time}
+use Rattle.is_pair.specs.Pairs.{PairRecord, check_of, checked}
+use Rattle.is_pair.specs.Due.{is_silent, delaying_count, usual_delay, is_repeated_early, delay_with, next_due_time, computed_due_time}
 use Rattle.is_pair.specs.Turns.{IsPaced, CheckedIsLater}
 
 -- ---- the delay
@@ -90,36 +91,62 @@ by-silence : (b : Bool) (x y : ℕ) → 0 < x → 0 < y → 0 < (if b then x els
 by-silence true x y h k = h
 by-silence false x y h k = k
 
-delaying : (now : ℕ) (t : StunTiming) (front : List Check) (c : Check) → is_answered c ≡ false → 0 < delaying_count now t (front ++ c ∷ [])
-delaying now t front c open_still =
-    let long : length (front ++ c ∷ []) ≡ length front + 1 = length-last front c in
-    by-silence (is_silent now t (front ++ c ∷ [])) (unanswered_count (front ++ c ∷ [])) (length (front ++ c ∷ [])) (unanswered front c open_still) (omega (arith, long))
+delaying : (now : ℕ) (t : StunTiming) (checks : List Check) → 0 < unanswered_count checks → 0 < length checks → 0 < delaying_count now t checks
+delaying now t checks open_still some = by-silence (is_silent now t checks) (unanswered_count checks) (length checks) open_still some
+
+-- the delay after it, early or not
+early-positive : (t : StunTiming) (e : EarlyRto) (n : ℕ) → IsPaced t → 0 < early_delay t e n
+early-positive t e n paced = of (nat_le n e.retransmits) refl where
+  least : (a b : ℕ) → 0 < a → 0 < max a b
+  least a b h = omega (arith, h)
+
+  more : (n r : ℕ) → nat_le n r ≡ false → 0 < n - r
+  more n r is = grind (arith, nat_tests, is)
+
+  of : (b : Bool) → nat_le n e.retransmits ≡ b → 0 < (if b then max MILLISECOND e.interval.0 else resend_delay t (n - e.retransmits))
+  of true is = least MILLISECOND e.interval.0 (omega arith)
+  of false is = delay-positive t (n - e.retransmits) paced (more n e.retransmits is)
+
+wait-positive : (at : ℕ) (t : StunTiming) (o : Option EarlyRto) (q : PairRecord) → IsPaced t → 0 < unanswered_count q.checks → 0 < length q.checks
+    → 0 < delay_with o at t q
+wait-positive at t o q paced open_still some = with_early o where
+  usual : 0 < usual_delay at t q.checks
+  usual = delay-positive t (delaying_count at t q.checks) paced (delaying at t q.checks open_still some)
+
+  either : (e : EarlyRto) (b : Bool) → 0 < (if b then early_delay t e (unanswered_count q.checks) else usual_delay at t q.checks)
+  either e true = early-positive t e (unanswered_count q.checks) paced
+  either e false = usual
+
+  with_early : (o : Option EarlyRto) → 0 < delay_with o at t q
+  with_early None = usual
+  with_early (Some e) = either e (is_repeated_early t q)
 
 -- so the next one is later
-next-later : (now at : ℕ) (t : StunTiming) (cs : List Check) (c : Check) (front : List Check) → IsPaced t → now < MAX → c.sent ≡ now → is_answered c ≡ false → cs ≡ front ++ c ∷ []
-    → now < next_due_time at t cs
-next-later now at t cs c front paced early sent open_still is =
-    let some : 0 < resend_delay t (delaying_count at t (front ++ c ∷ [])) = delay-positive t (delaying_count at t (front ++ c ∷ [])) paced (delaying at t front c open_still) in
-    let here : next_due_time at t (front ++ c ∷ []) ≡ later c.sent (resend_delay t (delaying_count at t (front ++ c ∷ []))) =
-    ap (λ (o : Option Check). option_map_or (λ (d : Check). later d.sent (resend_delay t (delaying_count at t (front ++ c ∷ [])))) o at) (last-is front c) in
-    subst (λ (xs : List Check). now < next_due_time at t xs) (sym is)
-    (subst (λ n. now < n) (sym here) (following c.sent (resend_delay t (delaying_count at t (front ++ c ∷ []))) sent some)) where
+next-later : (now at : ℕ) (t : StunTiming) (q : PairRecord) (c : Check) (front : List Check) → IsPaced t → now < MAX → c.sent ≡ now → is_answered c ≡ false → q.checks ≡ front ++ c ∷ []
+    → now < next_due_time at t q
+next-later now at t q c front paced early sent open_still is =
+    let long : length q.checks ≡ length front + 1 = ap length is ∙ length-last front c in
+    let counts : 0 < unanswered_count q.checks = subst (λ (xs : List Check). 0 < unanswered_count xs) (sym is) (unanswered front c open_still) in
+    let some : 0 < delay_with t.early at t q = wait-positive at t t.early q paced counts (omega (arith, long)) in
+    let here : next_due_time at t q ≡ later c.sent (delay_with t.early at t q) =
+    ap (λ (o : Option Check). option_map_or (λ (d : Check). later d.sent (delay_with t.early at t q)) o at) (ap last_check is ∙ last-is front c) in
+    subst (λ n. now < n) (sym here) (following c.sent (delay_with t.early at t q) sent some) where
       following : (from by : ℕ) → from ≡ now → 0 < by → now < later from by
       following from by same some = omega (arith, same, some, early)
 
-needed : (at : ℕ) (t : StunTiming) (n : NominationState) (cs : List Check) → computed_due_time (nomination_once_sent n) at t cs ≡ next_due_time at t cs
-needed at t Unnominated cs = refl
-needed at t Nominated cs = refl
-needed at t Attempt cs = refl
-needed at t Success cs = refl
+needed : (at : ℕ) (t : StunTiming) (n : NominationState) (q : PairRecord) → computed_due_time (nomination_once_sent n) at t q ≡ next_due_time at t q
+needed at t Unnominated q = refl
+needed at t Nominated q = refl
+needed at t Attempt q = refl
+needed at t Success q = refl
 
 pub checked-later : CheckedIsLater
 checked-later now at t controlling id p paced early =
     let k = kept-last t.max_retransmits p.checks (check_of now controlling id p) (let m = paced.retransmits in omega (arith, m)) in
-    let kept = last_checks t.max_retransmits (p.checks ++ check_of now controlling id p ∷ []) in
-    let next : now < next_due_time at t kept = next-later now at t kept (check_of now controlling id p) k.0 paced early refl refl k.1 in
-    let is : computed_due_time (nomination_once_sent p.nomination) at t kept ≡ next_due_time at t kept = needed at t p.nomination kept in
+    let q = checked now t controlling id p in
+    let next : now < next_due_time at t q = next-later now at t q (check_of now controlling id p) k.0 paced early refl refl k.1 in
+    let is : computed_due_time (nomination_once_sent p.nomination) at t q ≡ next_due_time at t q = needed at t p.nomination q in
     let some : 0 < t.max_rto.0 = let m = paced.greatest in omega (arith, m) in
-    both (computed_due_time (nomination_once_sent p.nomination) at t kept) t.max_rto.0 (subst (λ n. now < n) (sym is) next) some where
+    both (computed_due_time (nomination_once_sent p.nomination) at t q) t.max_rto.0 (subst (λ n. now < n) (sym is) next) some where
       both : (w by : ℕ) → now < w → 0 < by → min now at < min w (later at by)
       both w by h k = omega (arith, h, k, early)

@@ -2,12 +2,13 @@
 
 ghost use Rattle.std.specs.Prelude.{◌≡◌, ◌<◌, is_some, min};
 ghost use Rattle.is_proto.specs.Times.{later};
-ghost use Rattle.is_pair.specs.Pairs.{undue};
+ghost use Rattle.is_pair.specs.Pairs.{is_valid, undue};
 ghost use Rattle.is_pair.specs.Due.{asked, delaying_count, due_time_of, is_heard, is_in_time, is_possible, long_before, next_due_time, computed_due_time};
+ghost use Rattle.is_pair.specs.Due.{awaits_response, delay_with, has_early_checks, is_early_silence, is_repeated_early, is_triggered, is_urgent, moved_up, triggered, usual_delay};
 
 use super::attempt::BindingAttempt;
 use super::requests::is_recent;
-use super::states::NominationState;
+use super::states::{CheckState, NominationState};
 use super::{CandidatePair, attempts};
 use is_proto::{Duration, Instant};
 use is_stun::stun::StunTiming;
@@ -23,7 +24,8 @@ impl CandidatePair {
     /// A nominated pair without a check since its nomination is due before all others. A pair that was never checked is
     /// due now. Otherwise the check is due one RTO after the last one. The RTO depends on the number of pending
     /// transactions, or, if the peer has been silent for longer than half of `max_rto`, on the number of checks without a
-    /// response. The due time is at most `max_rto` from now.
+    /// response. With `early`, the first checks without a response are due after its interval. The due time is at most
+    /// `max_rto` from now.
     pub fn next_binding_attempt(&mut self, now: Instant, timing_config: &StunTiming) -> Instant
         requires { 0 < timing_config.now.max_retransmits }
         ensures time { result.0 ≡ due_time_of now.0 timing_config.now self.old }
@@ -56,17 +58,18 @@ impl CandidatePair {
     /// Returns the due time that `fix_due_time` would fix now, if none is fixed yet.
     #[inline(never)]
     fn unfixed_due_time(&self, now: Instant, timing_config: &StunTiming) -> Instant
-        ensures { result.0 ≡ min (computed_due_time self.now.nomination now.0 timing_config.now self.now.checks) (later now.0 timing_config.now.max_rto.0) }
+        ensures { result.0 ≡ min (computed_due_time self.now.nomination now.0 timing_config.now self.now) (later now.0 timing_config.now.max_rto.0) }
     {
         let next = match self.nomination_state {
             NominationState::Nominated => long_before(now),
-            _ => next_due_time(&self.binding_attempts, now, timing_config),
+            _ => self.next_due_time(now, timing_config),
         };
         next.min(now + timing_config.max_rto())
     }
 
     /// Whether the path may still work. It fails if no check from the peer arrived for 15 s, `max_retransmits` checks
-    /// had no response, and the delay after the last of them has passed.
+    /// had no response, and the delay after the last of them has passed. Early retransmissions end it no sooner: if there was
+    /// no response at all, they are not counted, and otherwise the time of a whole series of checks has to pass.
     pub fn is_still_possible(&self, now: Instant, timing_config: &StunTiming) -> bool
         requires { 0 < timing_config.now.max_retransmits }
         ensures { result ≡ is_possible now.0 timing_config.now self.now }
@@ -75,6 +78,81 @@ impl CandidatePair {
             || self.binding_attempts.len() < timing_config.max_retransmits()
             || attempts::unanswered(&self.binding_attempts) < timing_config.max_retransmits()
             || is_in_time(&self.binding_attempts, now, timing_config)
+            || self.has_early_checks(now, timing_config)
+    }
+
+    /// Whether the path may still work because early retransmissions end no pair sooner: as long as no response arrived, they are not
+    /// counted; after that, time counts.
+    fn has_early_checks(&self, now: Instant, timing: &StunTiming) -> bool
+        ensures { result ≡ has_early_checks timing.now.early now.0 timing.now self.now }
+    {
+        match timing.early {
+            None => false,
+            Some(early) if self.responses_received == 0 => {
+                let counted = self.checks_sent.saturating_sub(early.retransmits as u64);
+                counted < timing.max_retransmits() as u64
+            }
+            Some(_) => is_early_silence(&self.binding_attempts, now, timing),
+        }
+    }
+
+    /// Whether no response arrived on the pair yet, or none to a check that nominates it.
+    fn awaits_response(&self) -> bool
+        ensures { result ≡ awaits_response self.now }
+    {
+        self.responses_received == 0 || self.nomination_state.is_nominating()
+    }
+
+    /// Whether the first checks are repeated early: until `max_retransmits` checks have no response.
+    fn is_repeated_early(&self, timing: &StunTiming) -> bool
+        ensures { result ≡ is_repeated_early timing.now self.now }
+    {
+        self.awaits_response()
+            && attempts::unanswered(&self.binding_attempts) < timing.max_retransmits()
+    }
+
+    /// Returns the delay after the last check.
+    fn delay(&self, now: Instant, timing: &StunTiming) -> Duration
+        ensures { result.0 ≡ delay_with timing.now.early now.0 timing.now self.now }
+    {
+        match timing.early {
+            Some(early) if self.is_repeated_early(timing) => {
+                timing.early_delay(early, attempts::unanswered(&self.binding_attempts))
+            }
+            _ => usual_delay(&self.binding_attempts, now, timing),
+        }
+    }
+
+    /// Returns the time that long after the last check, or now if there was none.
+    fn next_due_time(&self, now: Instant, timing: &StunTiming) -> Instant
+        ensures { result.0 ≡ next_due_time now.0 timing.now self.now }
+    {
+        match attempts::last(&self.binding_attempts) {
+            Some(last) => last.request_sent + self.delay(now, timing),
+            None => now,
+        }
+    }
+
+    fn is_valid(&self) -> bool
+        ensures { result ≡ is_valid self.now }
+    {
+        self.state == CheckState::Succeeded
+    }
+
+    /// Whether a request triggers a check: it is one of the first `most`, and the pair is not valid.
+    fn is_triggered(&self, most: u64) -> bool
+        ensures { result ≡ is_triggered most self.now }
+    {
+        !self.is_valid() && self.remote_binding_requests < most
+    }
+
+    /// The next check is due at this time, if its due time is fixed and later.
+    fn move_up(&mut self, at: Instant)
+        ensures { self.new ≡ moved_up at.0 self.old }
+    {
+        if let Some(fixed) = self.cached_next_attempt_time {
+            self.cached_next_attempt_time = Some(fixed.min(at));
+        }
     }
 
     /// Whether a check from the peer arrived less than 15 s ago.
@@ -95,16 +173,11 @@ fn long_before(now: Instant) -> Instant
     now.checked_sub(HEAD_START).unwrap_or(now)
 }
 
-/// Returns the time one RTO after the last check, or now if there was none.
-fn next_due_time(attempts: &VecDeque<BindingAttempt>, now: Instant, timing: &StunTiming) -> Instant
-    ensures { result.0 ≡ next_due_time now.0 timing.now attempts.now.items }
+/// Returns the RTO after the last check.
+fn usual_delay(attempts: &VecDeque<BindingAttempt>, now: Instant, timing: &StunTiming) -> Duration
+    ensures { result.0 ≡ usual_delay now.0 timing.now attempts.now.items }
 {
-    match attempts::last(attempts) {
-        Some(last) => {
-            last.request_sent + timing.stun_resend_delay(delaying_count(attempts, now, timing))
-        }
-        None => now,
-    }
+    timing.stun_resend_delay(delaying_count(attempts, now, timing))
 }
 
 /// Returns the number of checks that the RTO depends on.
@@ -116,6 +189,16 @@ fn delaying_count(attempts: &VecDeque<BindingAttempt>, now: Instant, timing: &St
             attempts::unanswered(attempts)
         }
         _ => attempts.len(),
+    }
+}
+
+/// Whether less time has passed since the first check without a response than a whole series of checks takes.
+fn is_early_silence(attempts: &VecDeque<BindingAttempt>, now: Instant, timing: &StunTiming) -> bool
+    ensures { result ≡ is_early_silence now.0 timing.now attempts.now.items }
+{
+    match attempts::first_unanswered(attempts) {
+        Some(first) => now < first.request_sent + timing.timeout(),
+        None => false,
     }
 }
 
@@ -153,4 +236,23 @@ pub fn reset_next_binding_attempt(pair: &mut CandidatePair)
     ensures { pair.new ≡ undue pair.old }
 {
     pair.cached_next_attempt_time = None;
+}
+
+/// After a request on a pair that is not valid, if it is one of the first `most` on the pair: the next check is due at this time, unless it
+/// is due before, or no due time is fixed (triggered checks, RFC 8445, section 7.3.1.4).
+pub fn trigger(pair: &mut CandidatePair, most: Option<u64>, at: Instant)
+    ensures { pair.new ≡ triggered most at.0 pair.old }
+{
+    match most {
+        Some(most) if pair.is_triggered(most) => pair.move_up(at),
+        _ => {}
+    }
+}
+
+/// Whether the pair may be checked before pairs that are due earlier: a request arrived, and the pair is not valid yet, or it is
+/// nominated, and no response arrived to a check that nominates it.
+pub fn is_urgent(pair: &CandidatePair) -> bool
+    ensures { result ≡ is_urgent pair.now }
+{
+    (pair.remote_binding_requests > 0 && !pair.is_valid()) || pair.nomination_state.is_nominating()
 }

@@ -1,7 +1,7 @@
 //! The check state and the nomination state of a pair.
 
 ghost use Rattle.std.specs.Prelude.{◌≡◌};
-ghost use Rattle.is_pair.specs.States.{state_once_sent, state_once_answered, state_from, nomination_once_sent, nomination_once_answered};
+ghost use Rattle.is_pair.specs.States.{is_nominating, state_once_sent, state_once_answered, state_from, nomination_once_sent, nomination_once_answered};
 ghost use Rattle.is_pair.specs.States.{nomination_from};
 
 /// The check state of a pair (RFC 8445, section 6.1.2.6). There is no Frozen state, because every new pair may be
@@ -62,6 +62,16 @@ impl CheckState {
 }
 
 impl NominationState {
+    /// Whether the pair is nominated, and no response arrived to a check that nominates it.
+    pub(crate) fn is_nominating(self) -> bool
+        ensures { result ≡ is_nominating self }
+    {
+        match self {
+            NominationState::Nominated | NominationState::Attempt => true,
+            NominationState::None | NominationState::Success => false,
+        }
+    }
+
     pub(crate) fn once_sent(self) -> NominationState
         ensures { result ≡ nomination_once_sent self }
     {

@@ -1,11 +1,10 @@
 -- Eviction with kinds in turn leaves a cut of each kind, and shares the limit out among the kinds.
-use Rattle.std.proofs.Common.{if◌then◌else◌, ◌≡◌, ◌==◌, ℕ, ◌+◌, ◌<◌, ◌≤◌, ◌&&◌, Bool, true, false, not, List, [], ◌∷◌, count_by, filter, length, nat_lt, inl, inr, ◌⊎◌, refl, sym, ap, subst, ◌∙◌, arith}
+use Rattle.std.proofs.Common.{if◌then◌else◌, ◌≡◌, ◌==◌, ℕ, ◌+◌, ◌≤◌, ◌&&◌, Bool, true, false, not, List, [], ◌∷◌, count_by, filter, inl, inr, refl, sym, ap, subst, ◌∙◌, arith}
 use Rattle.std.proofs.lemmas.Bool.{eqb-true}
-use Rattle.std.proofs.lemmas.Grind.{common_steps}
 use Rattle.is_proto.specs.Lists.{Has}
 use Rattle.is_pair.specs.Pairs.{PairRecord}
 use Rattle.is_pair.specs.Multiset.{is_numbered}
-use Rattle.is_rules.specs.Cuts.{IsCutByKind, CutsEachKind, SharesOut}
+use Rattle.is_rules.specs.Cuts.{IsCutByKind, SharesOut}
 use Rattle.is_rules.specs.Evicting.{is_of_kind, kind_count, EvictsOfMostInTurn, IsLeastOfMost}
 use Rattle.is_rules.specs.Owed.{one_if}
 use Rattle.is_rules.proofs.FunctionProofs.EvictedPairs.{others, filter-all, filter-both, filtered-had, has-filtered, named-once, one-goes, rising-filter}

@@ -1,11 +1,11 @@
 -- There are sixteen kinds of pairs.
-use Rattle.std.proofs.Common.{if◌then◌else◌, ◌≡◌, ℕ, ◌+◌, ◌*◌, ◌<◌, ◌≤◌, Bool, true, false, List, refl, arith}
+use Rattle.std.proofs.Common.{if◌then◌else◌, ◌<◌, ◌≤◌, Bool, true, false, List, arith}
 use Rattle.is_candidate.specs.Addresses.{is_v4}
 use Rattle.is_candidate.specs.Candidates.{CandidateRecord, candidate_at}
 use Rattle.is_candidate.specs.declared.candidate.kind.CandidateKind.{CandidateKind}
 use Rattle.is_candidate.specs.declared.candidate.kind.CandidateKind.TheVariants.{Host, PeerReflexive, ServerReflexive, Relayed}
 use Rattle.is_pair.specs.Pairs.{PairRecord}
-use Rattle.is_rules.specs.Kinds.{is_outer, kind_of, kind_rank, version_rank, KINDS}
+use Rattle.is_rules.specs.Kinds.{is_outer, kind_of, kind_rank, KINDS}
 
 rank-most : (kind : CandidateKind) → kind_rank kind ≤ 3
 rank-most PeerReflexive = omega arith

@@ -6,6 +6,7 @@ use Rattle.std.proofs.lemmas.List.Folds.{list_all-append}
 use Rattle.is_proto.specs.Lists.{Has}
 use Rattle.is_candidate.specs.Candidates.{CandidateRecord}
 use Rattle.is_pair.specs.Pairs.{PairRecord, nominated, taking_over, validated, with_request}
+use Rattle.is_pair.specs.Due.{is_triggered, moved_up, triggered}
 use Rattle.is_pair.specs.Multiset.{is_numbered, change_at, change_pair, is_awaiting, keeps_check, without, IsAwaiting, IsGreatest}
 use Rattle.is_rules.specs.Kept.{is_placed, are_placed}
 use Rattle.is_rules.specs.Nominating.{nominated_by_self}
@@ -158,13 +159,30 @@ nominated-places : (lite : Bool) (p : PairRecord) → ((nominated lite p).local 
 nominated-places true p = (refl, refl)
 nominated-places false p = (refl, refl)
 
-pub served-places : (controlling lite : Bool) (q : RequestRecord) → KeepsPlaces (served controlling lite q)
+triggered-places : (most : Option ℕ) (at : ℕ) → KeepsPlaces (triggered most at)
+triggered-places None at = record { local = λ p. refl; remote = λ p. refl }
+triggered-places (Some most) at = record {
+  local = λ p. if-kept (λ (x : PairRecord). x.local) (is_triggered most p) (moved_up at p) p refl;
+  remote = λ p. if-kept (λ (x : PairRecord). x.remote) (is_triggered most p) (moved_up at p) p refl;
+}
+
+served-places : (controlling lite : Bool) (q : RequestRecord) → KeepsPlaces (served controlling lite q)
 served-places controlling lite q = record {
   local = λ p. if-kept (λ (x : PairRecord). x.local) _ (nominated lite (validated_by_peer controlling lite (with_request q.time p))) _ (nominated-places lite _).0
       ∙ if-kept (λ (x : PairRecord). x.local) (lite && not controlling) (validated (with_request q.time p)) (with_request q.time p) refl;
   remote = λ p. if-kept (λ (x : PairRecord). x.remote) _ (nominated lite (validated_by_peer controlling lite (with_request q.time p))) _ (nominated-places lite _).1
       ∙ if-kept (λ (x : PairRecord). x.remote) (lite && not controlling) (validated (with_request q.time p)) (with_request q.time p) refl;
 }
+
+-- what a request, which may trigger a check, leaves of a pair
+pub request-places : (controlling lite : Bool) (q : RequestRecord) (most : Option ℕ) (at : ℕ)
+    → KeepsPlaces (λ p. served controlling lite q (triggered most at p))
+request-places controlling lite q most at =
+    let first = triggered-places most at in
+    let own = served-places controlling lite q in record {
+      local = λ p. own.local (triggered most at p) ∙ first.local p;
+      remote = λ p. own.remote (triggered most at p) ∙ first.remote p;
+    }
 
 pub self-places : (controlling lite : Bool) → KeepsPlaces (nominated_by_self controlling lite)
 self-places controlling lite = record {

@@ -10,7 +10,7 @@ use Rattle.is_rules.specs.Emitted.{nothing_emitted}
 use Rattle.is_rules.specs.Sound.{KeepsChecks}
 use Rattle.is_rules.specs.Agent.{AgentRecord}
 use Rattle.is_rules.specs.Forming.{Combination, FormsAll}
-use Rattle.is_rules.specs.Settings.{SetsMtu, with_rtos, with_retransmits, with_lite_timeout}
+use Rattle.is_rules.specs.Settings.{with_rules, SetsMtu, with_rtos, with_retransmits, with_lite_timeout}
 use Rattle.is_rules.specs.Credentials.{SetsLocal, SetsRemote}
 use Rattle.is_rules.specs.Discarding.{change_place, discarded, local_discarded, remote_discarded, place_to_discard, InvalidatesAt}
 use Rattle.is_rules.specs.Local.{enabled, enabled_again, appended, AddsLocal}
@@ -137,7 +137,7 @@ module _ {H P : Type 0} where
     calm (SetMaxDiscovered n) is h = becomes (SetMaxDiscovered n) _ (local_alike (Unit {0}) old _ refl refl refl refl) h
     calm (SetIceLite lite) is h = becomes (SetIceLite lite) _ (local_alike (Unit {0}) old _ refl refl refl refl) h
     calm (SetRenomination on) is h = becomes (SetRenomination on) _ (local_alike (Unit {0}) old _ refl refl refl refl) h
-    calm (SetRules rules) is h = becomes (SetRules rules) _ (local_alike (Unit {0}) old _ refl refl refl refl) h
+    calm (SetRules rules) is h = becomes (SetRules rules) (with_rules rules old) (record { selected_paths = refl; last = refl; checks = λ k. k; based = λ _ b. b }) h
     calm (SetTimingAdvance step) is h = becomes (SetTimingAdvance step) _ (local_alike (Unit {0}) old _ refl refl refl refl) h
     calm (SetInitialStunRto rto) is h = becomes (SetInitialStunRto rto) (with_rtos rto old.timing.max_rto.0 old) (record { selected_paths = refl; last = refl; checks = λ k. k; based = λ _ b. b }) h
     calm (SetMaxStunRto rto) is h = becomes (SetMaxStunRto rto) (with_rtos old.timing.initial_rto.0 rto old) (record { selected_paths = refl; last = refl; checks = λ k. k; based = λ _ b. b }) h

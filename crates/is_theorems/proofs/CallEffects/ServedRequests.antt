@@ -27,22 +27,24 @@ use Rattle.is_stun.specs.declared.header.Class.TheVariants.{Success, Failure}
 use Rattle.is_stun.specs.Checks.{binding_reply, binding_role_conflict_reply}
 use Rattle.is_stun.specs.Writing.{written}
 use Rattle.is_rules.specs.Agent.{AgentRecord}
-use Rattle.is_pair.specs.Multiset.{change_at, is_between, is_valid_at, IsPairBetween}
-use Rattle.is_rules.specs.Sending.{path_between, carried}
+use Rattle.is_pair.specs.Multiset.{change_at, is_between, is_numbered, is_valid_at, IsPairBetween}
+use Rattle.is_rules.specs.Sending.{path_between, path_of, carried}
 use Rattle.is_rules.specs.Forming.{formed, with_pair}
-use Rattle.is_rules.specs.Nominating.{NominatesWhere}
+use Rattle.is_rules.specs.Nominating.{nominated_by_self, followed, remains, selection_of, NominatesWhere}
 use Rattle.is_rules.specs.Roles.{conflict_of, switched, switched_sides, with_priority_in}
-use Rattle.is_rules.specs.Serving.{validated_by_peer, nominated_by_peer, served, with_sender, with_sender_at, sender_candidate, request_counted, pair_served, is_misled, Drops, names_another, RecordsAndResponds, FindsOrAddsPair, AddsUnknownSender, CountsAndServes, ResolvesRoleConflictBy, ResolvesRoleConflict, Serves}
+use Rattle.is_rules.specs.Serving.{selects_at_requests, after_request, validated_by_peer, nominated_by_peer, served, with_sender, with_sender_at, sender_candidate, request_counted, pair_served, is_misled, Drops, names_another, RecordsAndResponds, FindsOrAddsPair, AddsUnknownSender, CountsAndServes, ResolvesRoleConflictBy, ResolvesRoleConflict, Serves}
 use Rattle.is_rules.specs.Limit.{is_vacant, IsSenderPlace}
 use Rattle.is_theorems.proofs.BasicLemmas.VacantIndices.{known-in, vacant-at, off-vacant, length-put, put-here, put-elsewhere}
 use Rattle.is_theorems.proofs.RuleEffects.UnchangedSettings.{Frame, either, admits, where_frame, packet_along}
 use Rattle.is_theorems.proofs.RuleEffects.EarlierAndNewPairs.{Parts, path_in, Fit, IsNominatedIn, Onward, here, onward, pushed, Has-push}
-use Rattle.is_theorems.proofs.RuleEffects.ChangedPairs.{self_kept, Changed, unchanged, mapped, one_changed, parts_of, nominates}
+use Rattle.is_theorems.proofs.RuleEffects.TriggeredPairs.{triggered_by, by_trigger}
+use Rattle.is_theorems.proofs.RuleEffects.NominatedPairs.{SelectsPath, selects_path}
+use Rattle.is_theorems.proofs.RuleEffects.ChangedPairs.{Kept_by_self, self_kept, Changed, unchanged, mapped, one_changed, parts_of, nominates}
 use Rattle.is_theorems.proofs.RuleEffects.SelectedPaths.{Evaluates, evaluates_none, Returns, returns_none, returns_one, returns_after, one_pair}
 use Rattle.is_theorems.proofs.CallEffects.ChecksAndResponses.{numbered}
 use Rattle.is_theorems.proofs.BasicLemmas.CandidatesByIndex.{at-append, at-end, found-at, is-listed}
 
-is_at_places : (l r : ℕ) (p : PairRecord) → is_between l r p ≡ true → (p.local ≡ l) × (p.remote ≡ r)
+pub is_at_places : (l r : ℕ) (p : PairRecord) → is_between l r p ≡ true → (p.local ≡ l) × (p.remote ≡ r)
 is_at_places l r p is = let k = both _ _ is in (eqb-true p.local l k.0, eqb-true p.remote r k.1)
 
 false_true : false ≡ true → ⊥
@@ -105,6 +107,15 @@ served_at c l q p =
       validated_kept true p = (refl, refl)
       validated_kept false p = (refl, refl)
 
+-- also if it triggers a check
+pub request_at_places : {H P : Type 0} (q : RequestRecord) (s : AgentRecord H P) (p : PairRecord)
+    → ((after_request q s p).local ≡ p.local) × ((after_request q s p).remote ≡ p.remote)
+request_at_places q s p =
+    let k = served_at s.controlling s.lite q (triggered_by q s p) in (
+      k.0 ∙ by_trigger (λ (x : PairRecord). x.local ≡ p.local) q s p (λ due. refl),
+      k.1 ∙ by_trigger (λ (x : PairRecord). x.remote ≡ p.remote) q s p (λ due. refl),
+    )
+
 -- and nominates it if the request has USE-CANDIDATE
 pub served_nominated : (c l : Bool) (q : RequestRecord) (p : PairRecord) → c ≡ false → q.use_candidate ≡ true → is_nominated (served c l q p) ≡ true
 served_nominated c l q p role uses =
@@ -116,6 +127,46 @@ served_nominated c l q p role uses =
       by false true true l v role uses is = is
       by false true false true v role uses is = refl
       by false true false false v role uses is = refl
+
+-- ---- nomination
+
+-- it leaves a nominated pair nominated
+self_keeps : (b n l : Bool) (p : PairRecord) → is_nominated p ≡ true → is_nominated (if b then (if n then nominated l p else p) else p) ≡ true
+self_keeps true true true p is = refl
+self_keeps true true false p is = refl
+self_keeps true false l p is = is
+self_keeps false n l p is = is
+
+module _ {H P : Type 0} where
+  -- the pair with the number is on the path, and nominated
+  abbrev pub HasNominated : AgentRecord H P → ℕ → Path → Type 0
+  HasNominated a number path = (p : PairRecord) × Has a.pairs p × (p.number ≡ number) × (is_nominated p ≡ true) × (path_of a p ≡ path)
+
+  nominates_keeps : (old new : AgentRecord H P) (path : Option Path) (number : ℕ) (on : Path) → SelectsPath old path new → HasNominated old number on → HasNominated new number on
+  nominates_keeps old new path number on (None, chosen, (is, made)) k = subst (λ (a : AgentRecord H P). HasNominated a number on) (sym made) k
+  nominates_keeps old new path number on (Some top, chosen, h) (p, has, numbers, names, via) = either (remains (followed old) top (selection_of old)) h
+      (λ _ k. subst (λ (a : AgentRecord H P). HasNominated a number on) (sym k.1) (p, has, numbers, names, via))
+      (λ _ k. subst (λ (a : AgentRecord H P). HasNominated a number on) (sym k.1) (
+        f p,
+        Has-mapped f old.pairs p has,
+        same.number ∙ numbers,
+        self_keeps (is_numbered top.number p) (not (is_nominated p) && (old.controlling || old.lite)) old.lite p names,
+        ap (λ n. path_between old n (f p).remote) same.local ∙ ap (λ n. path_between old p.local n) same.remote ∙ via,
+      )) where
+        f : PairRecord → PairRecord
+        f = change_at top.number (nominated_by_self old.controlling old.lite)
+
+        same_if : (b : Bool) → Kept_by_self p (if b then nominated_by_self old.controlling old.lite p else p)
+        same_if true = self_kept (not (is_nominated p) && (old.controlling || old.lite)) old.lite p
+        same_if false = record { number = refl; priority = refl; local = refl; remote = refl; valid = refl; checks = refl }
+
+        same : Kept_by_self p (f p)
+        same = same_if (is_numbered top.number p)
+
+  pub where_nominated : (b : Bool) (old new : AgentRecord H P) (path : Option Path) (number : ℕ) (on : Path) → NominatesWhere b old path new → HasNominated old number on
+      → HasNominated new number on
+  where_nominated true old new path number on h k = nominates_keeps old new path number on (selects_path old new path h) k
+  where_nominated false old new path number on h k = subst (λ (a : AgentRecord H P). HasNominated a number on) (sym h.1) k
 
 module _ (asks met : Path → Type 0) (sent : Path → List ℕ → Bool → Type 0) where
   -- ---- one pair
@@ -205,6 +256,26 @@ module _ (asks met : Path → Type 0) (sent : Path → List ℕ → Bool → Typ
       (changed_again path p w v (requested path q.time p) (validates (lite && not controlling) path w is_met))
       (nominates_if (not controlling && q.use_candidate && not (is_nominated v)) lite path v
       (λ is. let k = asked_by controlling q.use_candidate (is_nominated v) is in asking k.0 k.1))
+
+  -- first the request may trigger a check
+  triggers : {H P : Type 0} (path : Path) (q : RequestRecord) (s : AgentRecord H P) (p : PairRecord) → Changed asks met sent path p (triggered_by q s p)
+  triggers path q s p = by_trigger (λ (x : PairRecord). Changed asks met sent path p x) q s p (λ due. record {
+    number = refl;
+    local = refl;
+    remote = refl;
+    checks = λ c keeps. inl (c, keeps, refl, refl);
+    valid = λ is. inl is;
+    asked = λ is. inl is;
+    still_valid = λ is. is;
+    still_nominated = λ is. is;
+    started = λ k. k;
+  })
+
+  pub request_changes : {H P : Type 0} (path : Path) (q : RequestRecord) (s : AgentRecord H P) (p : PairRecord) → ((s.lite && not s.controlling) ≡ true → met path)
+      → (s.controlling ≡ false → q.use_candidate ≡ true → asks path) → Changed asks met sent path p (after_request q s p)
+  request_changes path q s p is_met asking =
+      changed_again path p (triggered_by q s p) (after_request q s p) (triggers path q s p)
+      (served_changes path s.controlling s.lite q (triggered_by q s p) is_met asking)
 
   -- ---- the rules
 
@@ -336,16 +407,16 @@ module _ (asks met : Path → Type 0) (sent : Path → List ℕ → Bool → Typ
           let y : AgentRecord H P = pair_served q number s in
           let z : Parts = parts_of asks met sent mid in
           let changes : Onward asks met sent x (parts_of asks met sent y) =
-          one_changed asks met sent x number (served s.controlling s.lite q) fit
+          one_changed asks met sent x number (after_request q s) fit
           (λ p has same. (
           let place = at p has (numbered number p same) in
           let path_is : path_between s l r ≡ path_in x p =
           ap (λ k. path_between s k r) (sym place.0) ∙ ap (λ k. path_between s p.local k) (sym place.1) in
-          served_changes (path_in x p) s.controlling s.lite q p
+          request_changes (path_in x p) q s p
           (λ v. subst met path_is (accepts_nomination.valid v))
           (λ c u. subst asks path_is (accepts_nomination.asking c u)))) in
-          let n = where_does (s.controlling && is_valid_at number s.pairs) y mid path changes.fit accepts_nomination.free nominating in
-          let frame = where_frame (s.controlling && is_valid_at number s.pairs) y mid path nominating in
+          let n = where_does (selects_at_requests s && is_valid_at number s.pairs) y mid path changes.fit accepts_nomination.free nominating in
+          let frame = where_frame (selects_at_requests s && is_valid_at number s.pairs) y mid path nominating in
           let via : path_between s l r ≡ reversed q.path = accepts_nomination.via in
           let bytes : reply_bytes mid ≡ reply_bytes s =
           ap (λ (f : Frame H). written (mac f.provider) (Some f.local_creds.pass) (binding_reply q.id q.path.source)) frame.0 in
@@ -364,21 +435,22 @@ module _ (asks met : Path → Type 0) (sent : Path → List ℕ → Bool → Typ
                   ∙ ap (λ o. s.packets ++ o ∷ []) out,
               λ uses controlled. (
                   let role : s.controlling ≡ false = sym (ap (λ (f : Frame H). f.controlling) frame.0) ∙ sym (ap (λ (a : AgentRecord H P). a.controlling) made) ∙ controlled in
-                  let unchanged_y : mid ≡ y = still_at s.controlling (is_valid_at number s.pairs) y mid path role nominating in
-                  let g : PairRecord → PairRecord = change_at number (served s.controlling s.lite q) in
+                  let g : PairRecord → PairRecord = change_at number (after_request q s) in
                   let p : PairRecord = there.0 in
                   let place = at p there.1 there.2 in
-                  let is_served : g p ≡ served s.controlling s.lite q p = ap (λ b. if b then served s.controlling s.lite q p else p) (eq-eqb p.number number there.2) in
-                  let kept = served_at s.controlling s.lite q p in
-                  let own : path_between s (served s.controlling s.lite q p).local (served s.controlling s.lite q p).remote ≡ reversed q.path =
-                  ap (λ k. path_between s k (served s.controlling s.lite q p).remote) (kept.0 ∙ place.0) ∙ ap (λ k. path_between s l k) (kept.1 ∙ place.1) ∙ via in
-                  subst (λ (a : AgentRecord H P). IsNominatedIn (parts_of asks met sent a) (reversed q.path)) (sym made)
-                  (subst (λ (a : AgentRecord H P). IsNominatedIn (parts_of asks met sent a) (reversed q.path)) (sym unchanged_y) (
-                    served s.controlling s.lite q p,
-                    subst (λ (z : PairRecord). Has (map g s.pairs) z) is_served (Has-mapped g s.pairs p there.1),
-                    served_nominated s.controlling s.lite q p role uses,
+                  let v : PairRecord = after_request q s p in
+                  let is_served : g p ≡ v = ap (λ b. if b then v else p) (eq-eqb p.number number there.2) in
+                  let kept = request_at_places q s p in
+                  let own : path_between s v.local v.remote ≡ reversed q.path =
+                  ap (λ k. path_between s k v.remote) (kept.0 ∙ place.0) ∙ ap (λ k. path_between s l k) (kept.1 ∙ place.1) ∙ via in
+                  let on = where_nominated (selects_at_requests s && is_valid_at number s.pairs) y mid path v.number (reversed q.path) nominating (
+                    v,
+                    subst (λ (o : PairRecord). Has (map g s.pairs) o) is_served (Has-mapped g s.pairs p there.1),
+                    refl,
+                    served_nominated s.controlling s.lite q (triggered_by q s p) role uses,
                     own,
-                  ))),
+                  ) in
+                  subst (λ (a : AgentRecord H P). IsNominatedIn (parts_of asks met sent a) (reversed q.path)) (sym made) (on.0, on.1, on.3, on.4)),
             ),
           ) where
             where_does : (b : Bool) (old mid : AgentRecord H P) (path : Option Path) → Fit (parts_of asks met sent old)
@@ -389,10 +461,6 @@ module _ (asks met : Path → Type 0) (sent : Path → List ℕ → Bool → Typ
               subst (λ (a : AgentRecord H P). Onward asks met sent (parts_of asks met sent old) (parts_of asks met sent a)) (sym same) (here asks met sent (parts_of asks met sent old) fit),
               evaluates_none asks met sent (parts_of asks met sent old) (parts_of asks met sent mid) old.selected_pair mid.selected_pair path is (ap (λ (a : AgentRecord H P). a.selected_pair) same),
             )
-
-            still_at : (c v : Bool) (y mid : AgentRecord H P) (path : Option Path) → c ≡ false → NominatesWhere (c && v) y path mid → mid ≡ y
-            still_at true v y mid path role h = let no : true ≡ false = role in cc
-            still_at false v y mid path role h = h.1
 
       -- what a request implies, by its reverse path
       pub record AcceptedNominations (s : AgentRecord H P) : Type 0 where

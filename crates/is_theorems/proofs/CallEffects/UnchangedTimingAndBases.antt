@@ -22,7 +22,7 @@ use Rattle.is_pair.specs.Multiset.{is_valid_at}
 use Rattle.is_rules.specs.Forming.{formed, with_pair}
 use Rattle.is_rules.specs.Nominating.{Nominates, NominatesWhere, with_selection, nominated_emitted}
 use Rattle.is_rules.specs.Roles.{conflict_of, switched}
-use Rattle.is_rules.specs.Serving.{Drops, is_misled, names_another, pair_served, request_counted, with_sender, with_sender_at, RecordsAndResponds, FindsOrAddsPair, AddsUnknownSender, CountsAndServes, ResolvesRoleConflictBy, ResolvesRoleConflict, Serves}
+use Rattle.is_rules.specs.Serving.{selects_at_requests, Drops, is_misled, names_another, pair_served, request_counted, with_sender, with_sender_at, RecordsAndResponds, FindsOrAddsPair, AddsUnknownSender, CountsAndServes, ResolvesRoleConflictBy, ResolvesRoleConflict, Serves}
 use Rattle.is_rules.specs.Checking.{all_asked, ChecksTop, MayCheck}
 use Rattle.is_rules.specs.Timeouts.{is_expired, expired_gone, RemovesExpired, at_timeout, MaintainsPairs}
 use Rattle.is_theorems.proofs.RuleEffects.UnchangedSettings.{either}
@@ -74,7 +74,7 @@ module _ {H P : Type 0} where
   module _ (mac : H → List ℕ → List ℕ → List ℕ) (q : RequestRecord) where
     pair : (l r number : ℕ) (s new : AgentRecord H P) (emitted : Emitted) → RecordsAndResponds mac q l r number s emitted new → Rests s new
     pair l r number s new emitted (path, mid, nominates, (values, is, made)) =
-        ap (λ (a : AgentRecord H P). rest_of a) made ∙ where_rest (s.controlling && is_valid_at number s.pairs) (pair_served q number s) mid path nominates
+        ap (λ (a : AgentRecord H P). rest_of a) made ∙ where_rest (selects_at_requests s && is_valid_at number s.pairs) (pair_served q number s) mid path nominates
 
     takes : (l r : ℕ) (number : Option ℕ) (s new : AgentRecord H P) (emitted : Emitted) → FindsOrAddsPair mac q l r number s emitted new → Rests s new
     takes l r (Some number) s new emitted h = pair l r number s new emitted h

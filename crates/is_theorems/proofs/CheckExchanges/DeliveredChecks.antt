@@ -41,6 +41,7 @@ use Rattle.is_rules.specs.Places.{is_live, is_reached, is_sender, local_place, p
 use Rattle.is_rules.specs.Request.{RequestRecord, request_in, rival_in}
 use Rattle.is_rules.specs.Roles.{conflict_by, conflict_of}
 use Rattle.is_rules.specs.Sending.{carried, path_between}
+use Rattle.is_rules.specs.Forming.{formed, with_pair}
 use Rattle.is_rules.specs.Serving.{is_misled, names_another, request_counted, with_sender, with_sender_at, Drops, Queues, TakesRequest, RecordsAndResponds, AddsPairAndResponds, FindsOrAddsPair, AddsUnknownSender, FindsSender, CountsAndServes, ResolvesRoleConflictBy, ResolvesRoleConflict, ServesHere, Serves}
 use Rattle.is_rules.specs.Sound.{IsSound}
 use Rattle.is_rules.specs.Steps.{answer_by, Call, Entry, Flag, ReceivePacket, Receives, is_rejection}
@@ -173,7 +174,7 @@ module _ {H P : Type 0} (mac : H → List ℕ → List ℕ → List ℕ) (answer
     takes_at l r (Some number) s new emitted live h = at_pair l r number s new emitted h
     takes_at l r None s new emitted live h =
         let k : AddsPairAndResponds mac q l r s emitted new = subst (λ b. MatchBool b (Drops s emitted new) (AddsPairAndResponds mac q l r s emitted new)) live h in
-        at_pair l r s.next_number _ new emitted k.1
+        at_pair l r s.next_number (with_pair (formed s l r) s) new emitted k.1
 
     joins_at : (l : ℕ) (place : RemotePlace) (s new : AgentRecord H P) (emitted : Emitted) → (candidate_at s.local l).discarded ≡ false
         → (place ≡ Barred → ⊥) → (place ≡ Full → ⊥) → AddsUnknownSender mac q l place s emitted new → Replied emitted

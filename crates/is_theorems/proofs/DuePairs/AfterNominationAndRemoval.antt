@@ -142,7 +142,7 @@ pub record Base : Type 0 where
   pub controlling : Bool
   pub next_number : ℕ
   pub rules : Rules
-  pub kind_turn : Bool
+  pub ahead_turn : Bool
 
 self-alike : (c l : Bool) (p : PairRecord) → Alike p (nominated_by_self c l p)
 self-alike c l p = apart (not (is_nominated p) && (c || l)) l where
@@ -157,18 +157,23 @@ at-alike n c l p = apart (is_numbered n p) where
   apart true = self-alike c l p
   apart false = alike-same p
 
-possible : (h b u i : Bool) → u ≡ true → (h || b || u || i) ≡ true
-possible true b u i is = refl
-possible false true u i is = refl
-possible false false true i is = refl
-possible false false false i is = absurd (cc)
+possible : (e h b u i : Bool) → u ≡ true → (e || h || b || u || i) ≡ true
+possible true h b u i is = refl
+possible false true b u i is = refl
+possible false false true u i is = refl
+possible false false false true i is = refl
+possible false false false false i is = absurd (cc)
 
 pub stays-young : (lite : Bool) (now : ℕ) (t : StunTiming) (p : PairRecord) → lite ≡ false → nat_lt (unanswered_count p.checks) t.max_retransmits ≡ true → not (due.is_pair_expired lite now t p) ≡ true
 stays-young true now t p full young = absurd (cc)
 stays-young false now t p full young =
-    ap (λ b. not (not b)) (possible (due.is_heard now p) (nat_lt (length p.checks) t.max_retransmits) (nat_lt (unanswered_count p.checks) t.max_retransmits) (due.is_in_time now t p.checks) young)
+    ap (λ b. not (not b)) (possible (due.has_early_checks t.early now t p) (due.is_heard now p) (nat_lt (length p.checks) t.max_retransmits) (nat_lt (unanswered_count p.checks) t.max_retransmits) (due.is_in_time now t p.checks) young)
 
 module _ {H P : Type 0} where
+  -- the time of the last `handle_timeout` call
+  abbrev pub last_time_of : AgentRecord H P → ℕ
+  last_time_of a = unwrap_or a.last_time 0
+
   abbrev pub base_of : AgentRecord H P → Base
   base_of a = record {
     lite = a.lite;
@@ -181,7 +186,7 @@ module _ {H P : Type 0} where
     controlling = a.controlling;
     next_number = a.next_number;
     rules = a.rules;
-    kind_turn = a.kind_turn;
+    ahead_turn = a.ahead_turn;
   }
 
   abbrev pub Thins : ℕ → AgentRecord H P → AgentRecord H P → Type 0

@@ -1,17 +1,24 @@
 -- A packet that is not an accepted success response leaves a controlling agent's pairs due as they were, and adds
 -- none that is due early.
-use Rattle.std.proofs.Common.{◌≡◌, ℕ, ◌+◌, ◌<◌, ◌≤◌, ◌&&◌, ◌||◌, Bool, true, false, not, List, [], ◌∷◌, ◌++◌, length, map, filter, min, nat_le, Option, Some, None, is_some, Ok, Err, inl, inr, ◌⊎◌, refl, ap, sym, ◌∙◌, subst, arith, if◌then◌else◌}
-use Rattle.std.specs.Prelude.{MatchOption}
+use Rattle.std.proofs.Common.{◌≡◌, ℕ, ◌+◌, ◌<◌, ◌≤◌, ◌==◌, ◌&&◌, ◌||◌, Bool, true, false, not, List, [], ◌∷◌, ◌++◌, length, map, filter, min, Option, Some, None, is_some, option_map, unwrap_or, Ok, Err, inl, inr, ◌⊎◌, refl, ap, sym, ◌∙◌, subst, arith, if◌then◌else◌}
+use Rattle.std.specs.Prelude.{MatchOption, nat_lt}
 use Rattle.std.specs.List.{list_any}
+use Rattle.std.specs.Option.{option_map_or}
 use Rattle.is_proto.specs.Lists.{Has, same}
 use Rattle.is_proto.specs.Times.{MAX, later}
 use Rattle.is_candidate.specs.Candidates.{CandidateRecord, candidate_at}
 use Rattle.is_pair.specs.Pairs.{PairRecord, is_valid, new_pair}
-use Rattle.is_pair.specs.Due.{due_time_of}
+use Rattle.is_pair.specs.Checks.{Check, last_check, unanswered_count}
+use Rattle.is_pair.specs.States.{is_nominating}
+use Rattle.is_pair.specs.declared.pair.states.NominationState.{NominationState}
+use Rattle.is_pair.specs.declared.pair.states.NominationState.TheVariants.{None as Unnominated, Nominated, Attempt, Success}
+use Rattle.is_pair.specs.Due.{computed_due_time, delay_with, due_time_of, is_triggered, moved_up, next_due_time, triggered, usual_delay}
 use Rattle.is_pair.specs.Multiset.{is_numbered, change_at, passes_at, is_valid_at}
 use Rattle.is_stun.specs.declared.header.Class.{Class}
 use Rattle.is_stun.specs.declared.header.Class.TheVariants as class
 use Rattle.is_stun.specs.declared.timing.StunTiming.{StunTiming}
+use Rattle.is_stun.specs.declared.timing.EarlyRto.{EarlyRto}
+use Rattle.is_stun.specs.Timing.{early_delay}
 use Rattle.is_stun.specs.Message.{Message}
 use Rattle.is_rules.specs.declared.credentials.IceCreds.{IceCreds}
 use Rattle.is_rules.specs.declared.places.RemotePlace.{RemotePlace}
@@ -29,7 +36,7 @@ use Rattle.is_rules.specs.Sending.{path_between}
 use Rattle.is_rules.specs.Forming.{formed, with_pair, priority_between}
 use Rattle.is_rules.specs.Nominating.{NominatesWhere}
 use Rattle.is_rules.specs.Roles.{conflict_of, switched}
-use Rattle.is_rules.specs.Serving.{served, is_misled, names_another, pair_served, request_counted, with_sender, with_sender_at, sender_candidate, replied, Drops, Queues, RecordsAndResponds, FindsOrAddsPair, AddsUnknownSender, CountsAndServes, ResolvesRoleConflictBy, ResolvesRoleConflict, Serves}
+use Rattle.is_rules.specs.Serving.{after_request, served, selects_at_requests, trigger_time, is_misled, names_another, pair_served, request_counted, with_sender, with_sender_at, sender_candidate, replied, Drops, Queues, RecordsAndResponds, FindsOrAddsPair, AddsUnknownSender, CountsAndServes, ResolvesRoleConflictBy, ResolvesRoleConflict, Serves}
 use Rattle.is_rules.specs.Answers.{is_role_conflict, LeavesRole, TakesFailure}
 use Rattle.rand_core.specs.Stream.{Stream}
 use Rattle.is_rules.specs.Steps.{Entry, Flag, ReceivePacket, Step}
@@ -43,86 +50,122 @@ use Rattle.is_theorems.proofs.BasicLemmas.VacantIndices.{KeepsRemote, keeps-remo
 use Rattle.is_pair.specs.Turns.{is_due_by, due_by}
 use Rattle.is_pair.proofs.DueTimes.CountOfDuePairs.{no-more, not-by}
 use Rattle.is_theorems.specs.Progress.{Arrival, IsSuccess}
-use Rattle.is_theorems.proofs.DuePairs.AfterNominationAndRemoval.{Distinct}
-use Rattle.is_theorems.proofs.DuePairs.FirstDuePair.{Matches, matches-on, follows-map}
+use Rattle.is_theorems.proofs.DuePairs.AfterNominationAndRemoval.{Distinct, last_time_of}
+use Rattle.is_theorems.proofs.DuePairs.FirstDuePair.{Matches, le-from, le-is, matches-on, follows-map}
+
+-- ---- due times
+
+delay-same : (e : Option EarlyRto) (now : ℕ) (t : StunTiming) (p q : PairRecord) → q.checks ≡ p.checks → q.answers ≡ p.answers → q.nomination ≡ p.nomination
+    → delay_with e now t q ≡ delay_with e now t p
+delay-same None now t p q checks answers nomination = ap (λ cs. usual_delay now t cs) checks
+delay-same (Some e) now t p q checks answers nomination =
+    ap (λ n. by n q.nomination q.checks) answers ∙ (ap (λ s. by p.answers s q.checks) nomination ∙ ap (λ cs. by p.answers p.nomination cs) checks) where
+      by : ℕ → NominationState → List Check → ℕ
+      by n s cs =
+          if (n == 0 || is_nominating s) && nat_lt (unanswered_count cs) t.max_retransmits then early_delay t e (unanswered_count cs) else usual_delay now t cs
+
+next-same : (now : ℕ) (t : StunTiming) (p q : PairRecord) → q.checks ≡ p.checks → q.answers ≡ p.answers → q.nomination ≡ p.nomination
+    → next_due_time now t q ≡ next_due_time now t p
+next-same now t p q checks answers nomination =
+    ap (λ delay. option_map_or (λ (c : Check). later c.sent delay) (last_check q.checks) now) (delay-same t.early now t p q checks answers nomination)
+    ∙ ap (λ cs. option_map_or (λ (c : Check). later c.sent (delay_with t.early now t p)) (last_check cs) now) checks
+
+-- it is computed from these only
+computed-same : (s : NominationState) (now : ℕ) (t : StunTiming) (p q : PairRecord) → q.checks ≡ p.checks → q.answers ≡ p.answers → q.nomination ≡ p.nomination
+    → computed_due_time s now t q ≡ computed_due_time s now t p
+computed-same Unnominated now t p q checks answers nomination = next-same now t p q checks answers nomination
+computed-same Nominated now t p q checks answers nomination = refl
+computed-same Attempt now t p q checks answers nomination = next-same now t p q checks answers nomination
+computed-same Success now t p q checks answers nomination = next-same now t p q checks answers nomination
+
+-- ---- pairs
 
 abbrev pub NoneValid : List PairRecord → Type 0
 NoneValid ps = (p : PairRecord) → Has ps p → is_valid p ≡ false
 
--- the pair is due as it was; computed at another time, its due time is the old pair's at that time, or at this one
-pub record DueAlike (at : ℕ) (t : StunTiming) (p q : PairRecord) : Type 0 where
+-- The pair is due by a time exactly if it was. Computed at another time, its due time is by then only if the old pair's was, as computed
+-- at that time or at this one.
+pub record DueAlike (by at : ℕ) (t : StunTiming) (p q : PairRecord) : Type 0 where
   pub matches : Matches p q
   pub checks : q.checks ≡ p.checks
-  pub due : due_time_of at t q ≡ due_time_of at t p
-  pub whenever : (m : ℕ) → (due_time_of m t q ≡ due_time_of m t p) ⊎ (due_time_of m t q ≡ due_time_of at t p)
+  pub before : (m : ℕ) → due_time_of m t q ≤ by → (due_time_of m t p ≤ by) ⊎ (due_time_of at t p ≤ by)
+  pub stays : (m : ℕ) → due_time_of m t p ≤ by → due_time_of at t p ≤ by → due_time_of m t q ≤ by
 
-due-same : (at : ℕ) (t : StunTiming) (p : PairRecord) → DueAlike at t p p
-due-same at t p = record { matches = record { number = refl; local = refl; remote = refl; valid = refl }; checks = refl; due = refl; whenever = λ m. inl refl }
+due-same : (by at : ℕ) (t : StunTiming) (p : PairRecord) → DueAlike by at t p p
+due-same by at t p = record {
+  matches = record { number = refl; local = refl; remote = refl; valid = refl };
+  checks = refl;
+  before = λ m le. inl le;
+  stays = λ m le now. le;
+}
 
-pub due-on : (at : ℕ) (t : StunTiming) (p q r : PairRecord) → DueAlike at t p q → DueAlike at t q r → DueAlike at t p r
-due-on at t p q r a b = record {
+-- computed at the same time
+due-before : (by at : ℕ) (t : StunTiming) (p q : PairRecord) → DueAlike by at t p q → due_time_of at t q ≤ by → due_time_of at t p ≤ by
+due-before by at t p q a le = elim (a.before at le) [ inl now ↦ now | inr now ↦ now ]
+
+pub due-on : (by at : ℕ) (t : StunTiming) (p q r : PairRecord) → DueAlike by at t p q → DueAlike by at t q r → DueAlike by at t p r
+due-on by at t p q r a b = record {
   matches = matches-on p q r a.matches b.matches;
   checks = b.checks ∙ a.checks;
-  due = b.due ∙ a.due;
-  whenever = λ m. elim (b.whenever m) [
-    | inl e ↦ elim (a.whenever m) [ inl k ↦ inl (e ∙ k) | inr k ↦ inr (e ∙ k) ]
-    | inr e ↦ inr (e ∙ a.due)
-  ];
+  before = λ m le. elim (b.before m le) [ inl then_le ↦ a.before m then_le | inr now ↦ inr (due-before by at t p q a now) ];
+  stays = λ m le now. b.stays m (a.stays m le now) (a.stays at now now);
 }
 
 -- a pair that is due by a time, as computed at any later time, is also due by it as computed at this one
 abbrev pub Held : ℕ → ℕ → StunTiming → List PairRecord → Type 0
 Held by at t ps = (p : PairRecord) → Has ps p → (m : ℕ) → by < m → due_time_of m t p ≤ by → due_time_of at t p ≤ by
 
-held-alike : (by at m : ℕ) (t : StunTiming) (p q : PairRecord) → DueAlike at t p q → (due_time_of m t p ≤ by → due_time_of at t p ≤ by) → due_time_of m t q ≤ by → due_time_of at t q ≤ by
-held-alike by at m t p q a held le = subst (λ n. n ≤ by) (sym a.due) (elim (a.whenever m) [
-  | inl e ↦ held (subst (λ n. n ≤ by) e le)
-  | inr e ↦ subst (λ n. n ≤ by) e le
-])
+held-alike : (by at m : ℕ) (t : StunTiming) (p q : PairRecord) → DueAlike by at t p q → (due_time_of m t p ≤ by → due_time_of at t p ≤ by) → due_time_of m t q ≤ by → due_time_of at t q ≤ by
+held-alike by at m t p q a held le = elim (a.before m le) [
+  | inl then_le ↦ a.stays at (held then_le) (held then_le)
+  | inr now ↦ a.stays at now now
+]
 
--- the effect of a packet on pairs and on the counter
-pub record Spares (by at : ℕ) (t : StunTiming) (n : ℕ) (xs : List PairRecord) (m : ℕ) (ys : List PairRecord) : Type 0 where
+-- the effect of a packet on pairs and on the counter: what it leaves due if the time is before that of the last `handle_timeout` call
+pub record Spares (by last at : ℕ) (t : StunTiming) (n : ℕ) (xs : List PairRecord) (m : ℕ) (ys : List PairRecord) : Type 0 where
   pub distinct : AllBelow n xs → Distinct xs → Distinct ys
   pub below : AllBelow n xs → AllBelow m ys
   pub invalid : NoneValid xs → NoneValid ys
-  pub forth : (p : PairRecord) → Has xs p → (q : PairRecord) × Has ys q × DueAlike at t p q
-  pub held : Held by at t xs → Held by at t ys
-  pub count : length (due_by by at t ys) ≤ length (due_by by at t xs)
+  pub forth : by < last → (p : PairRecord) → Has xs p → (q : PairRecord) × Has ys q × DueAlike by at t p q
+  pub held : by < last → Held by at t xs → Held by at t ys
+  pub count : by < last → length (due_by by at t ys) ≤ length (due_by by at t xs)
 
-pub spares-same : (by at : ℕ) (t : StunTiming) (n : ℕ) (xs : List PairRecord) → Spares by at t n xs n xs
-spares-same by at t n xs = record {
+pub spares-same : (by last at : ℕ) (t : StunTiming) (n : ℕ) (xs : List PairRecord) → Spares by last at t n xs n xs
+spares-same by last at t n xs = record {
   distinct = λ b d. d;
   below = λ b. b;
   invalid = λ v. v;
-  forth = λ p has. (p, has, due-same at t p);
-  held = λ h. h;
-  count = omega arith;
+  forth = λ late p has. (p, has, due-same by at t p);
+  held = λ late h. h;
+  count = λ late. omega arith;
 }
 
-spares-on : (by at : ℕ) (t : StunTiming) (k m n : ℕ) (xs ys zs : List PairRecord) → Spares by at t k xs m ys → Spares by at t m ys n zs → Spares by at t k xs n zs
-spares-on by at t k m n xs ys zs a b = record {
+spares-on : (by last at : ℕ) (t : StunTiming) (k m n : ℕ) (xs ys zs : List PairRecord) → Spares by last at t k xs m ys → Spares by last at t m ys n zs → Spares by last at t k xs n zs
+spares-on by last at t k m n xs ys zs a b = record {
   distinct = λ low d. b.distinct (a.below low) (a.distinct low d);
   below = λ low. b.below (a.below low);
   invalid = λ v. b.invalid (a.invalid v);
-  forth = λ p has. (let x = a.forth p has in let y = b.forth x.0 x.1 in (y.0, y.1, due-on at t p x.0 y.0 x.2 y.2));
-  held = λ h. b.held (a.held h);
-  count = (let c = a.count in let d = b.count in omega (arith, c, d));
+  forth = λ late p has. (let x = a.forth late p has in let y = b.forth late x.0 x.1 in (y.0, y.1, due-on by at t p x.0 y.0 x.2 y.2));
+  held = λ late h. b.held late (a.held late h);
+  count = λ late. (let c = a.count late in let d = b.count late in omega (arith, c, d));
 }
 
-pub spares-map : (by at : ℕ) (t : StunTiming) (n : ℕ) (f : PairRecord → PairRecord) (xs : List PairRecord) → ((p : PairRecord) → DueAlike at t p (f p)) → Spares by at t n xs n (map f xs)
-spares-map by at t n f xs alike = record {
-  distinct = λ low d. (follows-map f xs (λ p. (alike p).matches)).distinct d;
+pub spares-map : (by last at : ℕ) (t : StunTiming) (n : ℕ) (f : PairRecord → PairRecord) (xs : List PairRecord) → ((p : PairRecord) → Matches p (f p))
+    → (by < last → (p : PairRecord) → DueAlike by at t p (f p)) → Spares by last at t n xs n (map f xs)
+spares-map by last at t n f xs matches alike = record {
+  distinct = λ low d. (follows-map f xs matches).distinct d;
   below = λ low q has. (let o = Has-map f xs q has in
       let was : o.0.number < n = low o.0 o.1 in
-      let same : q.number ≡ o.0.number = ap (λ (x : PairRecord). x.number) (sym o.2) ∙ (alike o.0).matches.number in
+      let same : q.number ≡ o.0.number = ap (λ (x : PairRecord). x.number) (sym o.2) ∙ (matches o.0).number in
       omega (arith, was, same));
-  invalid = λ v q has. (let o = Has-map f xs q has in ap (λ (x : PairRecord). is_valid x) (sym o.2) ∙ ((alike o.0).matches.valid ∙ v o.0 o.1));
-  forth = λ p has. (f p, Has-mapped f xs p has, alike p);
-  held = λ h q has m above le.
+  invalid = λ v q has. (let o = Has-map f xs q has in ap (λ (x : PairRecord). is_valid x) (sym o.2) ∙ ((matches o.0).valid ∙ v o.0 o.1));
+  forth = λ late p has. (f p, Has-mapped f xs p has, alike late p);
+  held = λ late h q has m above le.
       (let o = Has-map f xs q has in
       subst (λ (x : PairRecord). due_time_of at t x ≤ by) o.2
-      (held-alike by at m t o.0 (f o.0) (alike o.0) (h o.0 o.1 m above) (subst (λ (x : PairRecord). due_time_of m t x ≤ by) (sym o.2) le)));
-  count = no-more (is_due_by by at t) (is_due_by by at t) f xs (λ p has is. ap (λ n. nat_le n by) (sym (alike p).due) ∙ is);
+      (held-alike by at m t o.0 (f o.0) (alike late o.0) (h o.0 o.1 m above) (subst (λ (x : PairRecord). due_time_of m t x ≤ by) (sym o.2) le)));
+  count = λ late. no-more (is_due_by by at t) (is_due_by by at t) f xs
+      (λ p has is. le-is (due_time_of at t p) by (due-before by at t p (f p) (alike late p) (le-from (due_time_of at t (f p)) by is)));
 }
 
 has-front : (xs : List PairRecord) (x y : PairRecord) → Has xs y → Has (xs ++ x ∷ []) y
@@ -149,9 +192,9 @@ new-due by at by_rto h early = omega (arith, h, early)
 never-due : (by m by_rto : ℕ) → by < m → by < MAX → min m (later m by_rto) ≤ by → ⊥
 never-due by m by_rto h early le = omega (arith, h, early, le)
 
-spares-push : (by at : ℕ) (t : StunTiming) (n l r priority : ℕ) (xs : List PairRecord) → by < at → at < MAX
-    → Spares by at t n xs (n + 1) (xs ++ new_pair n l r priority ∷ [])
-spares-push by at t n l r priority xs following early = record {
+spares-push : (by last at : ℕ) (t : StunTiming) (n l r priority : ℕ) (xs : List PairRecord) → by < at → at < MAX
+    → Spares by last at t n xs (n + 1) (xs ++ new_pair n l r priority ∷ [])
+spares-push by last at t n l r priority xs following early = record {
   distinct = λ low d x y has_x has_y same. apart low d x y (Has-push xs (new_pair n l r priority) x has_x) (Has-push xs (new_pair n l r priority) y has_y) same;
   below = λ low q has. elim (Has-push xs (new_pair n l r priority) q has) [
     | inl k ↦ (let was : q.number < n = low q k in omega (arith, was))
@@ -161,12 +204,12 @@ spares-push by at t n l r priority xs following early = record {
     | inl k ↦ v q k
     | inr e ↦ ap (λ (x : PairRecord). is_valid x) (sym e)
   ];
-  forth = λ p has. (p, has-front xs (new_pair n l r priority) p has, due-same at t p);
-  held = λ h q has m above le. elim (Has-push xs (new_pair n l r priority) q has) [
+  forth = λ late p has. (p, has-front xs (new_pair n l r priority) p has, due-same by at t p);
+  held = λ late h q has m above le. elim (Has-push xs (new_pair n l r priority) q has) [
     | inl k ↦ h q k m above le
     | inr e ↦ absurd (never-due by m t.max_rto.0 above (omega (arith, following, early)) (subst (λ (x : PairRecord). due_time_of m t x ≤ by) (sym e) le))
   ];
-  count = pushed (is_due_by by at t) (new_pair n l r priority) (not-by (due_time_of at t (new_pair n l r priority)) by (new-due by at t.max_rto.0 following (omega (arith, following, early)))) xs;
+  count = λ late. pushed (is_due_by by at t) (new_pair n l r priority) (not-by (due_time_of at t (new_pair n l r priority)) by (new-due by at t.max_rto.0 following (omega (arith, following, early)))) xs;
 } where
   differ : AllBelow n xs → (x y : PairRecord) → Has xs x → new_pair n l r priority ≡ y → x.number ≡ y.number → ⊥
   differ low x y has e same =
@@ -180,14 +223,68 @@ spares-push by at t n l r priority xs following early = record {
   apart low d x y (inr e) (inl m) same = absurd (differ low y x m e (sym same))
   apart low d x y (inr e) (inr f) same = sym e ∙ f
 
--- a request leaves the pair due as it was, while the agent is controlling and not ICE-lite
-served-alike : (at : ℕ) (t : StunTiming) (n : ℕ) (c l : Bool) (q : RequestRecord) (p : PairRecord) → c ≡ true → l ≡ false → DueAlike at t p (change_at n (served c l q) p)
-served-alike at t n true false q p is full = numbered (is_numbered n p) where
-  numbered : (b : Bool) → DueAlike at t p (if b then served true false q p else p)
-  numbered true = record { matches = record { number = refl; local = refl; remote = refl; valid = refl }; checks = refl; due = refl; whenever = λ m. inl refl }
-  numbered false = due-same at t p
-served-alike at t n true true q p is full = absurd (cc)
-served-alike at t n false l q p is full = absurd (cc)
+-- a due time that is moved up to a later time than this one is by it exactly if it was
+moved-before : (by to x : ℕ) (o : Option ℕ) → by < to → unwrap_or (option_map (min to) o) x ≤ by → unwrap_or o x ≤ by
+moved-before by to x None late le = le
+moved-before by to x (Some d) late le = omega (arith, late, le)
+
+moved-stays : (by to x : ℕ) (o : Option ℕ) → unwrap_or o x ≤ by → unwrap_or (option_map (min to) o) x ≤ by
+moved-stays by to x None le = le
+moved-stays by to x (Some d) le = omega (arith, le)
+
+moved-due : (now to : ℕ) (t : StunTiming) (p : PairRecord)
+    → due_time_of now t (moved_up to p) ≡ unwrap_or (option_map (min to) p.due) (min (computed_due_time p.nomination now t p) (later now t.max_rto.0))
+moved-due now to t p =
+    ap (λ n. unwrap_or (option_map (min to) p.due) (min n (later now t.max_rto.0))) (computed-same p.nomination now t p (moved_up to p) refl refl refl)
+
+triggered-alike : (by at to : ℕ) (t : StunTiming) (most : Option ℕ) (p : PairRecord) → by < to → DueAlike by at t p (triggered most to p)
+triggered-alike by at to t None p late = due-same by at t p
+triggered-alike by at to t (Some most) p late = moved (is_triggered most p) where
+  moved : (b : Bool) → DueAlike by at t p (if b then moved_up to p else p)
+  moved true = record {
+    matches = record { number = refl; local = refl; remote = refl; valid = refl };
+    checks = refl;
+    before = λ m le. inl (moved-before by to (min (computed_due_time p.nomination m t p) (later m t.max_rto.0)) p.due late (subst (λ n. n ≤ by) (moved-due m to t p) le));
+    stays = λ m le now. subst (λ n. n ≤ by) (sym (moved-due m to t p)) (moved-stays by to (min (computed_due_time p.nomination m t p) (later m t.max_rto.0)) p.due le);
+  }
+  moved false = due-same by at t p
+
+triggered-matches : (most : Option ℕ) (to : ℕ) (p : PairRecord) → Matches p (triggered most to p)
+triggered-matches None to p = record { number = refl; local = refl; remote = refl; valid = refl }
+triggered-matches (Some most) to p = moved (is_triggered most p) where
+  moved : (b : Bool) → Matches p (if b then moved_up to p else p)
+  moved true = record { number = refl; local = refl; remote = refl; valid = refl }
+  moved false = record { number = refl; local = refl; remote = refl; valid = refl }
+
+-- a request leaves the pair due by that time if it was, while the agent is controlling and not ICE-lite
+module _ (to : ℕ) (n : ℕ) (q : RequestRecord) (most : Option ℕ) where
+  served-matches : (c l : Bool) (p : PairRecord) → c ≡ true → l ≡ false → Matches p (change_at n (λ x. served c l q (triggered most to x)) p)
+  served-matches true false p is full = numbered (is_numbered n p) where
+    numbered : (b : Bool) → Matches p (if b then served true false q (triggered most to p) else p)
+    numbered true =
+        matches-on p (triggered most to p) (served true false q (triggered most to p)) (triggered-matches most to p) (record { number = refl; local = refl; remote = refl; valid = refl })
+    numbered false = record { number = refl; local = refl; remote = refl; valid = refl }
+  served-matches true true p is full = absurd (cc)
+  served-matches false l p is full = absurd (cc)
+
+  served-alike : (by at : ℕ) (t : StunTiming) (c l : Bool) (p : PairRecord) → c ≡ true → l ≡ false → by < to → DueAlike by at t p (change_at n (λ x. served c l q (triggered most to x)) p)
+  served-alike by at t true false p is full late = numbered (is_numbered n p) where
+    recorded-due : (m : ℕ) (x : PairRecord) → due_time_of m t (served true false q x) ≡ due_time_of m t x
+    recorded-due m x = ap (λ k. unwrap_or x.due (min k (later m t.max_rto.0))) (computed-same x.nomination m t x (served true false q x) refl refl refl)
+
+    recorded : (x : PairRecord) → DueAlike by at t x (served true false q x)
+    recorded x = record {
+      matches = record { number = refl; local = refl; remote = refl; valid = refl };
+      checks = refl;
+      before = λ m le. inl (subst (λ k. k ≤ by) (recorded-due m x) le);
+      stays = λ m le now. subst (λ k. k ≤ by) (sym (recorded-due m x)) le;
+    }
+
+    numbered : (b : Bool) → DueAlike by at t p (if b then served true false q (triggered most to p) else p)
+    numbered true = due-on by at t p (triggered most to p) (served true false q (triggered most to p)) (triggered-alike by at to t most p late) (recorded (triggered most to p))
+    numbered false = due-same by at t p
+  served-alike by at t true true p is full late = absurd (cc)
+  served-alike by at t false l p is full late = absurd (cc)
 
 none-passes : (n : ℕ) (ps : List PairRecord) → NoneValid ps → is_valid_at n ps ≡ false
 none-passes n [] none = refl
@@ -212,7 +309,7 @@ pub record Core : Type 0 where
   pub last_time : Option ℕ
   pub controlling : Bool
   pub rules : Rules
-  pub kind_turn : Bool
+  pub ahead_turn : Bool
 
 -- remote candidates are only appended
 abbrev pub Grown : List CandidateRecord → List CandidateRecord → Type 0
@@ -229,19 +326,19 @@ module _ {H P : Type 0} where
     last_time = a.last_time;
     controlling = a.controlling;
     rules = a.rules;
-    kind_turn = a.kind_turn;
+    ahead_turn = a.ahead_turn;
   }
 
   module _ (mac : H → List ℕ → List ℕ → List ℕ) (by at : ℕ) (following : by < at) (early : at < MAX) where
     -- the lists of candidates stay too
     abbrev Rests : AgentRecord H P → AgentRecord H P → Type 0
-    Rests old new = (core_of new ≡ core_of old) × (new.remote ≡ old.remote) × Spares by at old.timing old.next_number old.pairs new.next_number new.pairs
+    Rests old new = (core_of new ≡ core_of old) × (new.remote ≡ old.remote) × Spares by (last_time_of old) at old.timing old.next_number old.pairs new.next_number new.pairs
 
     abbrev pub Arrived : AgentRecord H P → AgentRecord H P → Type 0
-    Arrived old new = (core_of new ≡ core_of old) × KeepsRemote old.pairs old.remote new.remote × Spares by at old.timing old.next_number old.pairs new.next_number new.pairs
+    Arrived old new = (core_of new ≡ core_of old) × KeepsRemote old.pairs old.remote new.remote × Spares by (last_time_of old) at old.timing old.next_number old.pairs new.next_number new.pairs
 
     rests-same : (old new : AgentRecord H P) → new ≡ old → Rests old new
-    rests-same old new e = subst (λ (a : AgentRecord H P). Rests old a) (sym e) (refl, refl, spares-same by at old.timing old.next_number old.pairs)
+    rests-same old new e = subst (λ (a : AgentRecord H P). Rests old a) (sym e) (refl, refl, spares-same by (last_time_of old) at old.timing old.next_number old.pairs)
 
     arrived : (old new : AgentRecord H P) → Rests old new → Arrived old new
     arrived old new r = (r.0, keeps-remote-same old.pairs old.remote new.remote r.1, r.2)
@@ -253,18 +350,23 @@ module _ {H P : Type 0} where
       pair : (l r number : ℕ) (s new : AgentRecord H P) (emitted : Emitted) → s.controlling ≡ true → s.lite ≡ false → NoneValid s.pairs → RecordsAndResponds mac q l r number s emitted new → Rests s new
       pair l r number s new emitted role full none (path, mid, nominates, (values, is, made)) =
           let k : (path ≡ None) × (mid ≡ pair_served q number s) =
-          subst (λ b. NominatesWhere b (pair_served q number s) path mid) (and-false s.controlling (is_valid_at number s.pairs) (none-passes number s.pairs none)) nominates in
-          subst (λ (a : AgentRecord H P). Rests s a) (sym (made ∙ ap (λ (a : AgentRecord H P). replied mac q (path_between s l r) a) k.1))
-          (refl, refl, spares-map by at s.timing s.next_number (change_at number (served s.controlling s.lite q)) s.pairs (λ p. served-alike at s.timing number s.controlling s.lite q p role full))
+          subst (λ b. NominatesWhere b (pair_served q number s) path mid) (and-false (selects_at_requests s) (is_valid_at number s.pairs) (none-passes number s.pairs none)) nominates in
+          subst (λ (a : AgentRecord H P). Rests s a) (sym (made ∙ ap (λ (a : AgentRecord H P). replied mac q (path_between s l r) a) k.1)) (
+            refl,
+            refl,
+            spares-map by (last_time_of s) at s.timing s.next_number (change_at number (after_request q s)) s.pairs
+                (λ p. served-matches (trigger_time q s) number q s.rules.triggered_checks s.controlling s.lite p role full)
+                (λ late p. served-alike (trigger_time q s) number q s.rules.triggered_checks by at s.timing s.controlling s.lite p role full (omega (arith, late))),
+          )
 
       takes : (l r : ℕ) (number : Option ℕ) (s new : AgentRecord H P) (emitted : Emitted) → s.controlling ≡ true → s.lite ≡ false → NoneValid s.pairs → FindsOrAddsPair mac q l r number s emitted new → Rests s new
       takes l r (Some number) s new emitted role full none h = pair l r number s new emitted role full none h
       takes l r None s new emitted role full none h = either (candidate_at s.local l).discarded h
           (λ _ k. rests-same s new k.1)
           (λ _ k. (
-          let push = spares-push by at s.timing s.next_number l r (priority_between s l r) s.pairs following early in
+          let push = spares-push by (last_time_of s) at s.timing s.next_number l r (priority_between s l r) s.pairs following early in
           let rest = pair l r s.next_number (with_pair (formed s l r) s) new emitted role full (push.invalid none) k.1 in
-          (rest.0, rest.1, spares-on by at s.timing s.next_number (s.next_number + 1) new.next_number s.pairs (s.pairs ++ formed s l r ∷ []) new.pairs push rest.2)))
+          (rest.0, rest.1, spares-on by (last_time_of s) at s.timing s.next_number (s.next_number + 1) new.next_number s.pairs (s.pairs ++ formed s l r ∷ []) new.pairs push rest.2)))
 
       joins_at : (l : ℕ) (place : RemotePlace) (s new : AgentRecord H P) (emitted : Emitted) → s.controlling ≡ true → s.lite ≡ false → NoneValid s.pairs → IsSenderPlace s q place → AddsUnknownSender mac q l place s emitted new → Arrived s new
       joins_at l (Known r) s new emitted role full none is (number, between, h) = arrived s new (takes l r number s new emitted role full none h)
@@ -286,7 +388,7 @@ module _ {H P : Type 0} where
           → ResolvesRoleConflictBy mac conflict q l s emitted new → Arrived s new
       resolves_by Absent l s new emitted role full none stays h = admitted l s new emitted role full none h
       resolves_by Send487 l s new emitted role full none stays (values, emitted_is, made) =
-          subst (λ (a : AgentRecord H P). Arrived s a) (sym made) (refl, keeps-remote-same s.pairs s.remote s.remote refl, spares-same by at s.timing s.next_number s.pairs)
+          subst (λ (a : AgentRecord H P). Arrived s a) (sym made) (refl, keeps-remote-same s.pairs s.remote s.remote refl, spares-same by (last_time_of s) at s.timing s.next_number s.pairs)
       resolves_by SwitchRole l s new emitted role full none stays h =
           let f : new.controlling ≡ not s.controlling = ap (λ (f : Frame H). f.controlling) (admits mac q l (switched s) new emitted h).0 in
           let no : true ≡ false = sym stays ∙ (f ∙ ap not role) in absurd (cc)

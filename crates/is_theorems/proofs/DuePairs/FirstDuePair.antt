@@ -1,19 +1,19 @@
--- A `handle_timeout` call checks the pair that is due first, or in a kind's turn another one that is due, and leaves the others due as
+-- A `handle_timeout` call checks the pair that is due first, or another one that is due and goes ahead, and leaves the others due as
 -- they were.
-use Rattle.std.proofs.Common.{◌≡◌, ℕ, ◌<◌, ◌≤◌, Bool, true, false, not, List, length, map, filter, nat_le, nat_lt, Option, Some, None, is_some, unwrap_or, inl, inr, ◌⊎◌, refl, ap, sym, ◌∙◌, subst, arith, if◌then◌else◌}
+use Rattle.std.proofs.Common.{◌≡◌, ℕ, ◌<◌, ◌≤◌, ◌||◌, Bool, true, false, not, List, length, map, filter, min, nat_le, nat_lt, Option, Some, None, is_some, unwrap_or, inl, inr, ◌⊎◌, refl, ap, sym, ◌∙◌, subst, arith, if◌then◌else◌}
 use Rattle.std.specs.Prelude.{MatchBool}
 use Rattle.std.proofs.lemmas.Bool.{eqb-true}
 use Rattle.std.proofs.lemmas.Bool.Decides.{nat_tests}
 use Rattle.rand_core.specs.Stream.{Stream}
 use Rattle.is_proto.specs.Lists.{Has}
-use Rattle.is_proto.specs.Times.{MAX}
+use Rattle.is_proto.specs.Times.{MAX, later}
 use Rattle.is_candidate.specs.Candidates.{CandidateRecord, base_of, candidate_at}
 use Rattle.is_pair.specs.Checks.{unanswered_count}
 use Rattle.is_pair.specs.declared.pair.states.CheckState.{CheckState}
 use Rattle.is_pair.specs.declared.pair.states.CheckState.TheVariants.{Waiting, InProgress, Succeeded}
 use Rattle.is_pair.specs.States.{is_valid_state, state_once_sent}
 use Rattle.is_pair.specs.Pairs.{PairRecord, is_valid, checked}
-use Rattle.is_pair.specs.Due.{asked, due_time_of, is_due, GoesBefore}
+use Rattle.is_pair.specs.Due.{asked, computed_due_time, due_time_of, is_due, GoesBefore}
 use Rattle.is_pair.specs.Multiset.{is_numbered, change_at, change_pair}
 use Rattle.is_stun.specs.declared.header.Class.TheVariants as class
 use Rattle.is_stun.specs.declared.timing.StunTiming.{StunTiming}
@@ -23,9 +23,8 @@ use Rattle.is_rules.specs.declared.emitted.Path.{Path}
 use Rattle.is_rules.specs.declared.emitted.Emitted.{Emitted}
 use Rattle.is_rules.specs.Emitted.{issued_as}
 use Rattle.is_rules.specs.Agent.{AgentRecord}
-use Rattle.is_rules.specs.Connecting.{is_connected}
 use Rattle.is_rules.specs.Sending.{path_of}
-use Rattle.is_rules.specs.Checking.{all_asked, all_heard, check_sent, is_kinds_turn, IsNextToCheck, ChecksTop, ChecksNext, MayCheck}
+use Rattle.is_rules.specs.Checking.{goes_ahead, all_asked, all_heard, are_kinds_in_turn, check_sent, has_urgent, is_ahead_turn, IsNextToCheck, ChecksTop, ChecksNext, MayCheck}
 use Rattle.is_rules.specs.Timeouts.{at_timeout, MaintainsPairs}
 use Rattle.is_theorems.proofs.RuleEffects.ChangedPairs.{Has-map}
 use Rattle.is_theorems.proofs.CallEffects.ServedRequests.{Has-mapped}
@@ -34,7 +33,7 @@ use Rattle.is_theorems.proofs.BasicLemmas.PairsInTurn.{none-is-due, next-is-due,
 use Rattle.is_pair.specs.Turns.{IsPaced, is_due_by, due_by}
 use Rattle.is_pair.proofs.DueTimes.CountOfDuePairs.{no-more, fewer-due}
 use Rattle.is_theorems.specs.Progress.{IsGone, ChecksOn}
-use Rattle.is_theorems.proofs.DuePairs.KindsInTurn.{Falls, falls-from, is-turn, no-more-due}
+use Rattle.is_theorems.proofs.DuePairs.ChecksAhead.{Falls, falls-from, is-turn, no-more-due}
 use Rattle.is_theorems.proofs.DuePairs.AfterNominationAndRemoval.{Distinct, Alike, Thinned, is_fixed_by, Base, Thins, base_of as agent_base, thins-on, nominates-thins, gives-up-thins, nominates-has, gives-up-has}
 
 -- ---- pairs
@@ -63,10 +62,14 @@ pub fixed-is : (o : Option ℕ) (x : ℕ) → is_some o ≡ true → unwrap_or o
 fixed-is None x is = absurd (cc)
 fixed-is (Some e) x is = refl
 
-le-is : (n m : ℕ) → n ≤ m → nat_le n m ≡ true
+-- a pair is due at the time that is fixed
+pub due-at : (now d : ℕ) (t : StunTiming) (p : PairRecord) → p.due ≡ Some d → due_time_of now t p ≡ d
+due-at now d t p is = ap (λ o. unwrap_or o (min (computed_due_time p.nomination now t p) (later now t.max_rto.0))) is
+
+pub le-is : (n m : ℕ) → n ≤ m → nat_le n m ≡ true
 le-is n m h = grind (arith, nat_tests, h)
 
-le-from : (n m : ℕ) → nat_le n m ≡ true → n ≤ m
+pub le-from : (n m : ℕ) → nat_le n m ≡ true → n ≤ m
 le-from n m h = grind (arith, nat_tests, h)
 
 sent-valid : (state : CheckState) → is_valid_state (state_once_sent state) ≡ is_valid_state state
@@ -141,17 +144,17 @@ module _ {H P : Type 0} where
         (peer, k.0, k.1, k.2)
 
     pub check-follows : (now : ℕ) (remote : Option IceCreds) (old new : AgentRecord H P) (s t : Stream) (issued : Option Issued) → is_some remote ≡ true → old.lite ≡ false
-        → MayCheck mac now remote old s issued new t → (agent_base new ≡ record (agent_base old) { kind_turn = new.kind_turn }) × Follows old.pairs new.pairs
+        → MayCheck mac now remote old s issued new t → (agent_base new ≡ record (agent_base old) { ahead_turn = new.ahead_turn }) × Follows old.pairs new.pairs
     check-follows now remote old new s t issued known full h = let k = next-check now remote old new s t issued known full h in by-next k.0 k.1 k.3 where
       by-next : (peer : IceCreds) (next : Option PairRecord) → ChecksTop mac now peer next (all_asked now old) s issued new t
-          → (agent_base new ≡ record (agent_base old) { kind_turn = new.kind_turn }) × Follows old.pairs new.pairs
+          → (agent_base new ≡ record (agent_base old) { ahead_turn = new.ahead_turn }) × Follows old.pairs new.pairs
       by-next peer None (is, made, drawn) = (
-        subst (λ (a : AgentRecord H P). agent_base a ≡ record (agent_base old) { kind_turn = a.kind_turn }) (sym made) refl,
+        subst (λ (a : AgentRecord H P). agent_base a ≡ record (agent_base old) { ahead_turn = a.ahead_turn }) (sym made) refl,
         subst (λ ps. Follows old.pairs ps) (sym (ap (λ (a : AgentRecord H P). a.pairs) made))
             (follows-map (asked now old.timing) old.pairs (λ p. record { number = refl; local = refl; remote = refl; valid = refl })),
       )
       by-next peer (Some q) (id, drawn, values, is, made) = (
-        subst (λ (a : AgentRecord H P). agent_base a ≡ record (agent_base old) { kind_turn = a.kind_turn }) (sym made) refl,
+        subst (λ (a : AgentRecord H P). agent_base a ≡ record (agent_base old) { ahead_turn = a.ahead_turn }) (sym made) refl,
         subst (λ ps. Follows old.pairs ps) (sym (ap (λ (a : AgentRecord H P). a.pairs) made))
             (follows-on old.pairs (map (asked now old.timing) old.pairs) (change_pair q.number (checked now old.timing old.controlling id) (map (asked now old.timing) old.pairs))
             (follows-map (asked now old.timing) old.pairs (λ p. record { number = refl; local = refl; remote = refl; valid = refl }))
@@ -161,13 +164,13 @@ module _ {H P : Type 0} where
         once p true = record { number = refl; local = refl; remote = refl; valid = sent-valid p.state }
         once p false = record { number = refl; local = refl; remote = refl; valid = refl }
 
-    -- a pair still waits, due as it was, and fewer than n go before it, or a kind's turn is over
+    -- a pair still waits, due as it was, and fewer than n go before it, or a check went ahead
     abbrev pub WaitsOn : ℕ → ℕ → ℕ → AgentRecord H P → AgentRecord H P → PairRecord → Type 0
     WaitsOn now by n old new p =
         (q : PairRecord) × Has new.pairs q × Matches p q × (q.checks ≡ p.checks) × ((at : ℕ) → due_time_of at old.timing q ≤ by)
-        × (IsPaced old.timing → now < MAX → Falls old.rules.kinds_in_turn old.kind_turn new.kind_turn n (length (due_by by now old.timing new.pairs)))
+        × (IsPaced old.timing → now < MAX → Falls (goes_ahead old.rules) old.ahead_turn new.ahead_turn n (length (due_by by now old.timing new.pairs)))
 
-    -- a pair is checked: this one, or one before it, or in a kind's turn another one
+    -- a pair is checked: this one, or one before it, or another one that goes ahead
     abbrev pub Checked : ℕ → ℕ → ℕ → AgentRecord H P → Option Issued → AgentRecord H P → PairRecord → Type 0
     Checked now by n old issued new p =
         (o : PairRecord) × Has old.pairs o × ((id : List ℕ) × (issued ≡ Some (issued_as (path_of old o) class.Request id)))
@@ -185,7 +188,7 @@ module _ {H P : Type 0} where
           → new ≡ check_sent mac now peer q id (all_asked now old) → (o : PairRecord) → Has old.pairs o → o.number ≡ q.number
           → (b : Bool) → is_numbered q.number (asked now old.timing p) ≡ b
           → (IsPaced old.timing → now < MAX
-          → Falls old.rules.kinds_in_turn old.kind_turn new.kind_turn n
+          → Falls (goes_ahead old.rules) old.ahead_turn new.ahead_turn n
           (length (due_by by now old.timing (change_pair q.number (checked now old.timing old.controlling id) (map (asked now old.timing) old.pairs)))))
           → (o ≡ p) ⊎ WaitsOn now by n old new p
       by-number new s t issued peer q id made o there same true is fewer =
@@ -201,7 +204,7 @@ module _ {H P : Type 0} where
             record { number = refl; local = refl; remote = refl; valid = refl },
             refl,
             (λ at. own-due),
-            (λ paced early. subst (λ ps. Falls old.rules.kinds_in_turn old.kind_turn new.kind_turn n (length (due_by by now old.timing ps))) (sym (ap (λ (a : AgentRecord H P). a.pairs) made)) (fewer paced early)),
+            (λ paced early. subst (λ ps. Falls (goes_ahead old.rules) old.ahead_turn new.ahead_turn n (length (due_by by now old.timing ps))) (sym (ap (λ (a : AgentRecord H P). a.pairs) made)) (fewer paced early)),
           )
 
       by-next : (new : AgentRecord H P) (s t : Stream) (issued : Option Issued) (peer : IceCreds) (next : Option PairRecord)
@@ -217,16 +220,16 @@ module _ {H P : Type 0} where
             o.1,
             (id, is ∙ ap (λ (x : PairRecord). Some (issued_as (path_of old x) class.Request id)) (sym o.2)),
             by-number new s t issued peer q id made o.0 o.1 (ap (λ (x : PairRecord). x.number) o.2) (is_numbered q.number (asked now old.timing p)) refl
-                (λ paced early. fewer there paced early (is_kinds_turn (all_asked now old)) refl),
+                (λ paced early. fewer there paced early (is_ahead_turn now (all_asked now old)) refl),
           ) where
-            fewer : Has (map (asked now old.timing) old.pairs) q → IsPaced old.timing → now < MAX → (b : Bool) → is_kinds_turn (all_asked now old) ≡ b
-                → Falls old.rules.kinds_in_turn old.kind_turn new.kind_turn n
+            fewer : Has (map (asked now old.timing) old.pairs) q → IsPaced old.timing → now < MAX → (b : Bool) → is_ahead_turn now (all_asked now old) ≡ b
+                → Falls (goes_ahead old.rules) old.ahead_turn new.ahead_turn n
                 (length (due_by by now old.timing (change_pair q.number (checked now old.timing old.controlling id) (map (asked now old.timing) old.pairs))))
             fewer there paced early true on =
-                let turn = is-turn old.rules.kinds_in_turn old.kind_turn (not (is_connected old.state)) on in
+                let turn = is-turn (goes_ahead old.rules) old.ahead_turn (are_kinds_in_turn (all_asked now old) || has_urgent now (all_asked now old)) on in
                 let le = no-more-due now by old.timing old.controlling id paced early from q.number (map (asked now old.timing) old.pairs) in
                 let counted = count-asked in
-                inr (omega (arith, le, counted), turn.0, turn.1, ap (λ (a : AgentRecord H P). a.kind_turn) made ∙ ap not on)
+                inr (omega (arith, le, counted), turn.0, turn.1, ap (λ (a : AgentRecord H P). a.ahead_turn) made ∙ ap not on)
             fewer there paced early false off =
                 let next = next-in-turn now (all_asked now old) (Some q) off chosen in
                 let before : GoesBefore now old.timing q (asked now old.timing p) = next.0.1 (asked now old.timing p) (Has-mapped (asked now old.timing) old.pairs p has) in
@@ -243,13 +246,13 @@ module _ {H P : Type 0} where
 
     -- it removes the pair, or checks one
     pub record Moved (now by : ℕ) (old : AgentRecord H P) (emitted : Emitted) (new : AgentRecord H P) (p : PairRecord) : Type 0 where
-      pub base : agent_base new ≡ record (agent_base old) { last_time = Some now; kind_turn = new.kind_turn }
+      pub base : agent_base new ≡ record (agent_base old) { last_time = Some now; ahead_turn = new.ahead_turn }
       pub follows : Follows old.pairs new.pairs
       pub does : IsGone p.number new.pairs ⊎ ((o : PairRecord) × Has old.pairs o × ChecksOn old emitted o × ((o ≡ p) ⊎ WaitsOn now by (length (filter (is_fixed_by by) old.pairs)) old new p))
 
     -- what it leaves, for any pair
     pub timeout-follows : (now : ℕ) (old new : AgentRecord H P) (s t : Stream) (emitted : Emitted) → is_some old.remote_creds ≡ true → old.lite ≡ false
-        → MaintainsPairs mac now old s emitted new t → (agent_base new ≡ record (agent_base old) { last_time = Some now; kind_turn = new.kind_turn }) × Follows old.pairs new.pairs
+        → MaintainsPairs mac now old s emitted new t → (agent_base new ≡ record (agent_base old) { last_time = Some now; ahead_turn = new.ahead_turn }) × Follows old.pairs new.pairs
     timeout-follows now old new s t emitted known full (first, second, issued, named, kept, nominating, giving, checking, is) =
         let a = nominates-thins 0 (at_timeout now old) named first nominating in
         let b = gives-up-thins 0 now named kept second giving in
@@ -257,7 +260,7 @@ module _ {H P : Type 0} where
         let known_kept : is_some kept.remote_creds ≡ true = ap (λ (x : Base). is_some x.remote_creds) c.0 ∙ known in
         let full_kept : kept.lite ≡ false = ap (λ (x : Base). x.lite) c.0 ∙ full in
         let d = check-follows now kept.remote_creds kept new s t issued known_kept full_kept checking in
-        (d.0 ∙ ap (λ (x : Base). record x { kind_turn = new.kind_turn }) c.0, follows-on old.pairs kept.pairs new.pairs (thinned-follows 0 old.pairs kept.pairs c.1) d.1)
+        (d.0 ∙ ap (λ (x : Base). record x { ahead_turn = new.ahead_turn }) c.0, follows-on old.pairs kept.pairs new.pairs (thinned-follows 0 old.pairs kept.pairs c.1) d.1)
 
     fixed-due : (now by : ℕ) (a : AgentRecord H P) (p : PairRecord) → is_some p.due ≡ true → unwrap_or p.due 0 ≤ by → due_time_of now a.timing p ≤ by
     fixed-due now by a p fixed due = subst (λ n. n ≤ by) (sym (fixed-is p.due _ fixed)) due
@@ -278,7 +281,7 @@ module _ {H P : Type 0} where
         let timing : kept.timing ≡ old.timing = ap (λ (x : Base). x.timing) c.0 in
         let d = check-follows now kept.remote_creds kept new s t issued known_kept full_kept checking in
         record {
-          base = d.0 ∙ ap (λ (x : Base). record x { kind_turn = new.kind_turn }) c.0;
+          base = d.0 ∙ ap (λ (x : Base). record x { ahead_turn = new.ahead_turn }) c.0;
           follows = follows-on old.pairs kept.pairs new.pairs (thinned-follows by old.pairs kept.pairs c.1) d.1;
           does = elim (c.1.forth distinct p has) [
             | inr gone ↦ inl (gone-follows kept.pairs new.pairs p.number d.1 gone)
@@ -307,10 +310,10 @@ module _ {H P : Type 0} where
                   | inr (r, r_there, matches, checks, r_due, fewer) ↦
                       (let counted = c.1.fewer in
                       let fewer_old : IsPaced kept.timing → now < MAX
-                      → Falls old.rules.kinds_in_turn old.kind_turn new.kind_turn (length (filter (is_fixed_by by) old.pairs)) (length (due_by by now kept.timing new.pairs)) =
-                      λ paced early. falls-from kept.rules.kinds_in_turn old.rules.kinds_in_turn kept.kind_turn old.kind_turn new.kind_turn
+                      → Falls (goes_ahead old.rules) old.ahead_turn new.ahead_turn (length (filter (is_fixed_by by) old.pairs)) (length (due_by by now kept.timing new.pairs)) =
+                      λ paced early. falls-from (goes_ahead kept.rules) (goes_ahead old.rules) kept.ahead_turn old.ahead_turn new.ahead_turn
                       (length (filter (is_fixed_by by) kept.pairs)) (length (filter (is_fixed_by by) old.pairs)) (length (due_by by now kept.timing new.pairs))
-                      (ap (λ (x : Base). x.rules.kinds_in_turn) (sym c.0)) (ap (λ (x : Base). x.kind_turn) (sym c.0)) counted (fewer paced early) in
+                      (ap (λ (x : Base). goes_ahead x.rules) (sym c.0)) (ap (λ (x : Base). x.ahead_turn) (sym c.0)) counted (fewer paced early) in
                       inr (
                         r,
                         r_there,
@@ -318,7 +321,7 @@ module _ {H P : Type 0} where
                         checks ∙ alike.checks,
                         (λ at. subst (λ (x : StunTiming). due_time_of at x r ≤ by) timing (r_due at)),
                         subst (λ (x : StunTiming). IsPaced x → now < MAX
-                            → Falls old.rules.kinds_in_turn old.kind_turn new.kind_turn (length (filter (is_fixed_by by) old.pairs)) (length (due_by by now x new.pairs))) timing fewer_old,
+                            → Falls (goes_ahead old.rules) old.ahead_turn new.ahead_turn (length (filter (is_fixed_by by) old.pairs)) (length (due_by by now x new.pairs))) timing fewer_old,
                       ))
                 ],
               )

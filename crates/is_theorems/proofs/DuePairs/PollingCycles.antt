@@ -1,5 +1,5 @@
 -- Starvation freedom: a pair that is due is checked within as many polling cycles as there are pairs that are due no
--- later, or with kinds in turn within twice as many.
+-- later, or within twice as many if checks may go ahead.
 use Rattle.std.proofs.Common.{◌≡◌, ℕ, suc, ◌+◌, ◌<◌, ◌≤◌, Bool, true, false, List, [], ◌∷◌, length, map, filter, drop, take_while, max, nat_le, nat_lt, Option, Some, None, is_some, Ok, inl, inr, ◌⊎◌, refl, ap, sym, ◌∙◌, subst, arith}
 use Rattle.std.specs.Prelude.{MatchOption}
 use Rattle.std.proofs.lemmas.Bool.Decides.{nat_tests}
@@ -17,6 +17,7 @@ use Rattle.is_rules.specs.declared.emitted.Emitted.{Emitted}
 use Rattle.is_rules.specs.Emitted.{issued_as}
 use Rattle.is_rules.specs.Request.{RequestRecord}
 use Rattle.is_rules.specs.Agent.{AgentRecord}
+use Rattle.is_rules.specs.Checking.{goes_ahead}
 use Rattle.is_rules.specs.declared.rules.Rules.{Rules}
 use Rattle.is_rules.specs.Sending.{path_of}
 use Rattle.is_rules.specs.Queue.{is_outdated, queue_left, next_request, first_taken, request_at}
@@ -33,7 +34,7 @@ use Rattle.is_pair.proofs.DueTimes.CountOfDuePairs.{no-more, some-pass}
 use Rattle.is_theorems.specs.Progress.{IsGone, IsChecking, ChecksOn, IsOfUse, TimeoutsAreOfUse, Turn, Turns, IsIdle, NoPairIsStarved}
 use Rattle.is_rules.proofs.PollsAndResponses.NextTimeout.{timeouts-from, all-are-asked, least-is}
 use Rattle.is_theorems.proofs.DuePairs.AfterNominationAndRemoval.{Distinct, is_fixed_by, Base, base_of}
-use Rattle.is_theorems.proofs.DuePairs.KindsInTurn.{calls_left, Falls, falls-from, calls-fall, calls-some, calls-from}
+use Rattle.is_theorems.proofs.DuePairs.ChecksAhead.{calls_left, Falls, falls-from, calls-fall, calls-some, calls-from}
 use Rattle.is_theorems.proofs.DuePairs.FirstDuePair.{Matches, Follows, follows-on, follows-same, follows-map, gone-follows, same-path, Moved, timeout-follows, timeout-moves, timeout-keeps}
 
 le-is : (n m : ℕ) → n ≤ m → nat_le n m ≡ true
@@ -147,12 +148,12 @@ module _ {H P : Type 0} where
           ap (λ (x : Base). x.rules) taken ∙ (ap (λ (x : Base). x.rules) m.0 ∙ ap (λ (x : Base). x.rules) a.0),
         )
 
-    -- a pair that is due still waits, and one fewer goes before it, or a kind's turn is over
+    -- a pair that is due still waits, and one fewer goes before it, or a check went ahead
     abbrev pub StillWaits : ℕ → ℕ → ℕ → AgentRecord H P → AgentRecord H P → PairRecord → Type 0
     StillWaits at now by old new p =
         (q : PairRecord) × Has new.pairs q × Matches p q × (q.checks ≡ p.checks) × (due_time_of now new.timing q ≤ by)
         × (IsPaced old.timing → now < MAX
-        → Falls old.rules.kinds_in_turn old.kind_turn new.kind_turn (length (due_by by at old.timing old.pairs)) (length (due_by by now new.timing new.pairs)))
+        → Falls (goes_ahead old.rules) old.ahead_turn new.ahead_turn (length (due_by by at old.timing old.pairs)) (length (due_by by now new.timing new.pairs)))
 
     abbrev pub Does : ℕ → ℕ → ℕ → AgentRecord H P → Emitted → AgentRecord H P → PairRecord → Type 0
     Does at now by old emitted new p =
@@ -189,8 +190,8 @@ module _ {H P : Type 0} where
                     | inl same ↦ inl (ap (λ (y : PairRecord). y.number) x.2 ∙ ap (λ (y : PairRecord). y.number) same)
                     | inr (q, q_there, matches, checks, q_due, fewer) ↦
                         (let fewer_old : IsPaced old.timing → now < MAX
-                        → Falls old.rules.kinds_in_turn old.kind_turn new.kind_turn (length (due_by by at old.timing old.pairs)) (length (due_by by now old.timing new.pairs)) =
-                        λ paced early. falls-from old.rules.kinds_in_turn old.rules.kinds_in_turn old.kind_turn old.kind_turn new.kind_turn
+                        → Falls (goes_ahead old.rules) old.ahead_turn new.ahead_turn (length (due_by by at old.timing old.pairs)) (length (due_by by now old.timing new.pairs)) =
+                        λ paced early. falls-from (goes_ahead old.rules) (goes_ahead old.rules) old.ahead_turn old.ahead_turn new.ahead_turn
                         (length (filter (is_fixed_by by) (map (asked at old.timing) old.pairs))) (length (due_by by at old.timing old.pairs))
                         (length (due_by by now old.timing new.pairs)) refl refl (counted at by old) (fewer paced early) in
                         inr (
@@ -200,7 +201,7 @@ module _ {H P : Type 0} where
                           checks,
                           subst (λ (y : StunTiming). due_time_of now y q ≤ by) (sym timing) (q_due now),
                           subst (λ (y : StunTiming). IsPaced old.timing → now < MAX
-                              → Falls old.rules.kinds_in_turn old.kind_turn new.kind_turn (length (due_by by at old.timing old.pairs)) (length (due_by by now y new.pairs)))
+                              → Falls (goes_ahead old.rules) old.ahead_turn new.ahead_turn (length (due_by by at old.timing old.pairs)) (length (due_by by now y new.pairs)))
                               (sym timing) fewer_old,
                         ))
                   ],
@@ -241,11 +242,11 @@ module _ {H P : Type 0} where
 
     starves-not : (turns : List (ℕ × Emitted)) (first last : AgentRecord H P) (p : PairRecord) (at by : ℕ) → Fits at first → IsPaced first.timing → Has first.pairs p
         → due_time_of at first.timing p ≤ by → ((x : ℕ × Emitted) → Has turns x → (by ≤ x.0) × (x.0 < MAX)) → Turns mac turns first last
-        → calls_left first.rules.kinds_in_turn first.kind_turn (length (due_by by at first.timing first.pairs)) ≤ length turns + 1 → Reached turns first last p
+        → calls_left (goes_ahead first.rules) first.ahead_turn (length (due_by by at first.timing first.pairs)) ≤ length turns + 1 → Reached turns first last p
     starves-not [] first last p at by f paced has due timeouts is enough =
         let some : 0 < length (due_by by at first.timing first.pairs) = some-pass (is_due_by by at first.timing) first.pairs p has (le-is (due_time_of at first.timing p) by due) in
-        absurd (none-left-over (calls_left first.rules.kinds_in_turn first.kind_turn (length (due_by by at first.timing first.pairs)))
-        (calls-some first.rules.kinds_in_turn first.kind_turn (length (due_by by at first.timing first.pairs)) some) enough) where
+        absurd (none-left-over (calls_left (goes_ahead first.rules) first.ahead_turn (length (due_by by at first.timing first.pairs)))
+        (calls-some (goes_ahead first.rules) first.ahead_turn (length (due_by by at first.timing first.pairs)) some) enough) where
           none-left-over : (n : ℕ) → 2 ≤ n → n ≤ 0 + 1 → ⊥
           none-left-over n some enough = omega (arith, some, enough)
     starves-not (x ∷ rest) first last p at by f paced has due timeouts (mid, turn, more) enough =
@@ -258,11 +259,11 @@ module _ {H P : Type 0} where
               inl (x, inl refl, subst (λ (y : PairRecord). ChecksOn first x.1 y) one out))
           | inr (o, there, out, inr (q, q_there, matches, checks, q_due, fewer)) ↦
               onward matches (starves-not rest mid last q x.0 by k.0 (subst (λ (t : StunTiming). IsPaced t) (sym k.2) paced) q_there q_due (λ y has_y. timeouts y (inr has_y)) more
-              (one-call (calls_left mid.rules.kinds_in_turn mid.kind_turn (length (due_by by x.0 mid.timing mid.pairs)))
-              (calls_left first.rules.kinds_in_turn first.kind_turn (length (due_by by at first.timing first.pairs))) (length rest)
-              (subst (λ (r : Rules). calls_left r.kinds_in_turn mid.kind_turn (length (due_by by x.0 mid.timing mid.pairs)) + 1
-              ≤ calls_left first.rules.kinds_in_turn first.kind_turn (length (due_by by at first.timing first.pairs))) (sym k.7)
-              (calls-fall first.rules.kinds_in_turn first.kind_turn mid.kind_turn (length (due_by by at first.timing first.pairs)) (length (due_by by x.0 mid.timing mid.pairs))
+              (one-call (calls_left (goes_ahead mid.rules) mid.ahead_turn (length (due_by by x.0 mid.timing mid.pairs)))
+              (calls_left (goes_ahead first.rules) first.ahead_turn (length (due_by by at first.timing first.pairs))) (length rest)
+              (subst (λ (r : Rules). calls_left (goes_ahead r) mid.ahead_turn (length (due_by by x.0 mid.timing mid.pairs)) + 1
+              ≤ calls_left (goes_ahead first.rules) first.ahead_turn (length (due_by by at first.timing first.pairs))) (sym k.7)
+              (calls-fall (goes_ahead first.rules) first.ahead_turn mid.ahead_turn (length (due_by by at first.timing first.pairs)) (length (due_by by x.0 mid.timing mid.pairs))
               (fewer paced times_of_call.1))) enough))
               (same-path first mid p q k.3 k.4 matches)
         ] where
@@ -337,4 +338,4 @@ module _ {H P : Type 0} where
         })
         waits.paced waits.there (let due = waits.due in omega (arith, due))
         (λ x has. (let from = (timeouts x has).0 in let early = (timeouts x has).1 in (omega (arith, from), omega (arith, early)))) turning
-        (calls-from first.rules.kinds_in_turn first.kind_turn (length (due_by by at first.timing first.pairs)) (length turns) (omega (arith, enough)))
+        (calls-from (goes_ahead first.rules) first.ahead_turn (length (due_by by at first.timing first.pairs)) (length turns) (omega (arith, enough)))

@@ -1,6 +1,6 @@
 -- A `handle_timeout` call of a controlling agent without a valid pair, with or without `poll_timeout` before it: the
--- pair that is due first is checked, or in a kind's turn another one, and a waiting pair is due as it was.
-use Rattle.std.proofs.Common.{◌≡◌, ℕ, ◌+◌, ◌<◌, ◌≤◌, ◌&&◌, ◌||◌, Bool, true, false, not, suc, List, [], length, map, filter, min, nat_le, nat_lt, Option, Some, None, is_some, Ok, inl, inr, ◌⊎◌, refl, ap, sym, ◌∙◌, subst, arith, if◌then◌else◌}
+-- pair that is due first is checked, or another one that goes ahead, and a waiting pair is due as it was.
+use Rattle.std.proofs.Common.{◌≡◌, ℕ, ◌+◌, ◌<◌, ◌≤◌, ◌&&◌, ◌||◌, Bool, true, false, not, suc, List, [], length, map, filter, min, nat_lt, Option, Some, None, is_some, Ok, inl, inr, ◌⊎◌, refl, ap, sym, ◌∙◌, subst, arith, if◌then◌else◌}
 use Rattle.std.specs.List.{list_any}
 use Rattle.std.proofs.lemmas.Bool.Decides.{nat_tests}
 use Rattle.rand_core.specs.Stream.{Stream}
@@ -27,7 +27,7 @@ use Rattle.is_rules.specs.Emitted.{issued_as}
 use Rattle.is_rules.specs.Agent.{AgentRecord}
 use Rattle.is_rules.specs.Sending.{path_of}
 use Rattle.is_rules.specs.Nominating.{Nominates, followed, selection_of}
-use Rattle.is_rules.specs.Checking.{all_asked, ChecksTop, MayCheck}
+use Rattle.is_rules.specs.Checking.{goes_ahead, all_asked, ChecksTop, MayCheck}
 use Rattle.is_rules.specs.Timeouts.{timeout_begun, at_timeout, is_expired, expired_gone, RemovesExpired, MaintainsPairs}
 use Rattle.is_rules.specs.States.{evaluated}
 use Rattle.is_rules.specs.Sound.{IsSound}
@@ -42,16 +42,10 @@ use Rattle.is_rules.proofs.PairLists.ChosenPair.{chosen-able}
 use Rattle.is_theorems.proofs.RuleEffects.NominatedPairs.{SelectsPath, selects_path}
 use Rattle.is_rules.proofs.PairLists.RisingNumbers.{AllBelow, below-each}
 use Rattle.is_theorems.proofs.DuePairs.AfterNominationAndRemoval.{Distinct, Base, base_of as agent_base, gives-up-has}
-use Rattle.is_theorems.proofs.DuePairs.KindsInTurn.{calls_left, Falls, falls-from, calls-kept, calls-go-on, calls-some}
-use Rattle.is_theorems.proofs.DuePairs.FirstDuePair.{Follows, same-path, WaitsOn, next-check, check-moves, timeout-follows}
+use Rattle.is_theorems.proofs.DuePairs.ChecksAhead.{calls_left, Falls, falls-from, calls-kept, calls-go-on, calls-some}
+use Rattle.is_theorems.proofs.DuePairs.FirstDuePair.{Follows, le-from, le-is, same-path, WaitsOn, next-check, check-moves, timeout-follows}
 use Rattle.is_theorems.proofs.DuePairs.PollingCycles.{none-left, maintains_pairs-from, distinct-sound}
 use Rattle.is_theorems.proofs.DuePairs.AfterPackets.{NoneValid, Held}
-
-le-from : (n m : ℕ) → nat_le n m ≡ true → n ≤ m
-le-from n m h = grind (arith, nat_tests, h)
-
-le-is : (n m : ℕ) → n ≤ m → nat_le n m ≡ true
-le-is n m h = grind (arith, nat_tests, h)
 
 lt-is : (n m : ℕ) → n < m → nat_lt n m ≡ true
 lt-is n m h = grind (arith, nat_tests, h)
@@ -193,10 +187,10 @@ module _ {H P : Type 0} where
                     checks,
                     (λ at. subst (λ (x : StunTiming). due_time_of at x r ≤ by) timing (r_due at)),
                     subst (λ (x : StunTiming). IsPaced x → now < MAX
-                        → Falls old.rules.kinds_in_turn old.kind_turn new.kind_turn (length (due_by by now old.timing old.pairs)) (length (due_by by now x new.pairs))) timing
-                        (λ is_paced is_early. falls-from kept.rules.kinds_in_turn old.rules.kinds_in_turn kept.kind_turn old.kind_turn new.kind_turn
+                        → Falls (goes_ahead old.rules) old.ahead_turn new.ahead_turn (length (due_by by now old.timing old.pairs)) (length (due_by by now x new.pairs))) timing
+                        (λ is_paced is_early. falls-from (goes_ahead kept.rules) (goes_ahead old.rules) kept.ahead_turn old.ahead_turn new.ahead_turn
                         (length (due_by by now old.timing old.pairs)) (length (due_by by now old.timing old.pairs)) (length (due_by by now kept.timing new.pairs))
-                        (ap (λ (x : Base). x.rules.kinds_in_turn) (sym base)) (ap (λ (x : Base). x.kind_turn) (sym base)) (omega arith) (fewer is_paced is_early)),
+                        (ap (λ (x : Base). goes_ahead x.rules) (sym base)) (ap (λ (x : Base). x.ahead_turn) (sym base)) (omega arith) (fewer is_paced is_early)),
                   ))
             ],
           )
@@ -233,7 +227,7 @@ module _ {H P : Type 0} where
     pub due : due_time_of now a.timing pair ≤ by
     pub placed : pair.remote < length a.remote
     pub on : path_of a pair ≡ path
-    pub count : calls_left a.rules.kinds_in_turn a.kind_turn (length (due_by by now a.timing a.pairs)) + k ≤ n
+    pub count : calls_left (goes_ahead a.rules) a.ahead_turn (length (due_by by now a.timing a.pairs)) + k ≤ n
 
   -- the same after a `handle_timeout` call, whenever the due time is computed
   pub record Waits (by n : ℕ) (path : Path) (at k : ℕ) (a : AgentRecord H P) : Type 0 where
@@ -247,7 +241,7 @@ module _ {H P : Type 0} where
     pub held : Held by at a.timing a.pairs
     pub placed : pair.remote < length a.remote
     pub on : path_of a pair ≡ path
-    pub count : calls_left a.rules.kinds_in_turn a.kind_turn (length (due_by by at a.timing a.pairs)) + k ≤ n
+    pub count : calls_left (goes_ahead a.rules) a.ahead_turn (length (due_by by at a.timing a.pairs)) + k ≤ n
 
   pub persists : (by n : ℕ) (path : Path) (at k now : ℕ) (a : AgentRecord H P) → by < now → Waits by n path at k a → Persists by n path now k a
   persists by n path at k now a late w = record {
@@ -261,21 +255,21 @@ module _ {H P : Type 0} where
     on = w.on;
     count = (let less = no-more-pass (is_due_by by at a.timing) (is_due_by by now a.timing) a.pairs
         (λ q has is. le-is (due_time_of at a.timing q) by (w.held q has now late (le-from (due_time_of now a.timing q) by is))) in
-        calls-kept a.rules.kinds_in_turn a.kind_turn (length (due_by by at a.timing a.pairs)) (length (due_by by now a.timing a.pairs)) k n less w.count);
+        calls-kept (goes_ahead a.rules) a.ahead_turn (length (due_by by at a.timing a.pairs)) (length (due_by by now a.timing a.pairs)) k n less w.count);
   }
 
   -- once all rounds are over, no pair waits
   pub never : (by n : ℕ) (path : Path) (at k : ℕ) (a : AgentRecord H P) → by < at → Waits by n path at k a → n ≤ k + 1 → ⊥
   never by n path at k a following w enough =
       let some : 0 < length (due_by by at a.timing a.pairs) = some-pass (is_due_by by at a.timing) a.pairs w.pair w.there (le-is (due_time_of at a.timing w.pair) by (w.due at following)) in
-      over (calls_left a.rules.kinds_in_turn a.kind_turn (length (due_by by at a.timing a.pairs)))
-      (calls-some a.rules.kinds_in_turn a.kind_turn (length (due_by by at a.timing a.pairs)) some) w.count enough where
+      over (calls_left (goes_ahead a.rules) a.ahead_turn (length (due_by by at a.timing a.pairs)))
+      (calls-some (goes_ahead a.rules) a.ahead_turn (length (due_by by at a.timing a.pairs)) some) w.count enough where
         over : (left : ℕ) → 2 ≤ left → left + k ≤ n → n ≤ k + 1 → ⊥
         over left some counted enough = omega (arith, some, counted, enough)
 
   module _ (mac : H → List ℕ → List ℕ → List ℕ) (answers : P → CandidateRecord → ℕ → ℕ → Type 0) where
     pub begins : (now by : ℕ) (a : AgentRecord H P) (p : PairRecord) → IsSound a → a.controlling ≡ true → Awaits now by a p → IsUnanswered a p
-        → Persists by (calls_left a.rules.kinds_in_turn a.kind_turn (length (due_by by now a.timing a.pairs))) (path_of a p) now 0 a
+        → Persists by (calls_left (goes_ahead a.rules) a.ahead_turn (length (due_by by now a.timing a.pairs))) (path_of a p) now 0 a
     begins now by a p sound role waits unanswered = record {
       calm = record {
         sound = sound;
@@ -293,7 +287,7 @@ module _ {H P : Type 0} where
       due = (let due = waits.due in omega (arith, due));
       placed = (sound.placed p waits.there).1;
       on = refl;
-      count = none-over (calls_left a.rules.kinds_in_turn a.kind_turn (length (due_by by now a.timing a.pairs)));
+      count = none-over (calls_left (goes_ahead a.rules) a.ahead_turn (length (due_by by now a.timing a.pairs)));
     }
 
     pub asked-sound : (old new : AgentRecord H P) (deadline : Option ℕ) → IsSound old → PollsTimeout old deadline new → IsSound new
@@ -340,7 +334,7 @@ module _ {H P : Type 0} where
           rules = ap (λ (x : Base). x.rules) taken ∙ ap (λ (x : Base). x.rules) m.0;
         }
 
-    -- a check is sent on the path, or the pair still waits, with one fewer before it, or a kind's turn is over
+    -- a check is sent on the path, or the pair still waits, with one fewer before it, or after a check that went ahead
     pub pass-on : (by n : ℕ) (path : Path) (now k : ℕ) (emitted : Emitted) (old new : AgentRecord H P) → Persists by n path now k old → by < now → now < MAX → Passes mac old now emitted new
         → ((id : List ℕ) × (emitted.issued ≡ Some (issued_as path class.Request id))) ⊎ Waits by n path now (suc k) new
     pass-on by n path now k emitted old new st late early pass =
@@ -356,10 +350,10 @@ module _ {H P : Type 0} where
           by-check x (o, there, (id, out), inl one) held =
               inl (id, out ∙ ap (λ p. Some (issued_as p class.Request id)) (ap (λ (y : PairRecord). path_of old y) one ∙ st.on))
           by-check x (o, there, out, inr (q, q_there, matches, checks, q_due, fewer)) held =
-              let falls : Falls old.rules.kinds_in_turn old.kind_turn new.kind_turn (length (due_by by now old.timing old.pairs)) (length (due_by by now old.timing new.pairs)) =
-              subst (λ (b : Bool). Falls old.rules.kinds_in_turn old.kind_turn b (length (due_by by now old.timing old.pairs)) (length (due_by by now old.timing new.pairs)))
-              (sym (ap (λ (a : AgentRecord H P). a.kind_turn) pass.taken))
-              (subst (λ ps. Falls old.rules.kinds_in_turn old.kind_turn pass.after.kind_turn (length (due_by by now old.timing old.pairs)) (length (due_by by now old.timing ps)))
+              let falls : Falls (goes_ahead old.rules) old.ahead_turn new.ahead_turn (length (due_by by now old.timing old.pairs)) (length (due_by by now old.timing new.pairs)) =
+              subst (λ (b : Bool). Falls (goes_ahead old.rules) old.ahead_turn b (length (due_by by now old.timing old.pairs)) (length (due_by by now old.timing new.pairs)))
+              (sym (ap (λ (a : AgentRecord H P). a.ahead_turn) pass.taken))
+              (subst (λ ps. Falls (goes_ahead old.rules) old.ahead_turn pass.after.ahead_turn (length (due_by by now old.timing old.pairs)) (length (due_by by now old.timing ps)))
               (sym pairs) (fewer st.paced early)) in
               inr (record {
                 calm = x.calm;
@@ -373,7 +367,7 @@ module _ {H P : Type 0} where
                 held = subst (λ (t : StunTiming). Held by now t new.pairs) (sym x.timing) held;
                 placed = subst (λ (cs : List CandidateRecord). q.remote < length cs) (sym x.remote) (subst (λ j. j < length old.remote) (sym matches.remote) st.placed);
                 on = same-path old new st.pair q x.local x.remote matches ∙ st.on;
-                count = subst (λ (t : StunTiming). calls_left new.rules.kinds_in_turn new.kind_turn (length (due_by by now t new.pairs)) + suc k ≤ n) (sym x.timing)
-                    (subst (λ (r : Rules). calls_left r.kinds_in_turn new.kind_turn (length (due_by by now old.timing new.pairs)) + suc k ≤ n) (sym x.rules)
-                    (calls-go-on old.rules.kinds_in_turn old.kind_turn new.kind_turn (length (due_by by now old.timing old.pairs)) (length (due_by by now old.timing new.pairs)) k n falls st.count));
+                count = subst (λ (t : StunTiming). calls_left (goes_ahead new.rules) new.ahead_turn (length (due_by by now t new.pairs)) + suc k ≤ n) (sym x.timing)
+                    (subst (λ (r : Rules). calls_left (goes_ahead r) new.ahead_turn (length (due_by by now old.timing new.pairs)) + suc k ≤ n) (sym x.rules)
+                    (calls-go-on (goes_ahead old.rules) old.ahead_turn new.ahead_turn (length (due_by by now old.timing old.pairs)) (length (due_by by now old.timing new.pairs)) k n falls st.count));
               })

@@ -1,28 +1,26 @@
 -- A candidate that is added between two `handle_timeout` calls leaves no more checks of other pairs before a pair, except for
 -- one by each pair that it adds.
-use Rattle.std.proofs.Common.{◌≡◌, ℕ, ◌+◌, ◌≤◌, ◌==◌, Bool, true, false, not, nat_lt, List, [], ◌∷◌, ◌++◌, filter, Option, Some, None, Ok, Err, inl, inr, ◌⊎◌, refl, ap, sym, ◌∙◌, subst, arith, if◌then◌else◌}
+use Rattle.std.proofs.Common.{◌≡◌, ℕ, ◌+◌, ◌≤◌, ◌==◌, Bool, true, false, not, nat_lt, List, [], ◌∷◌, ◌++◌, Some, None, Ok, inl, inr, ◌⊎◌, refl, sym, ◌∙◌, subst, arith, if◌then◌else◌}
 use Rattle.is_proto.specs.Lists.{Has}
 use Rattle.is_candidate.specs.Candidates.{CandidateRecord}
 use Rattle.is_pair.specs.Multiset.{is_numbered, without}
-use Rattle.is_pair.specs.Checks.{Check}
 use Rattle.is_pair.specs.Pairs.{PairRecord, taking_over}
 use Rattle.is_pair.specs.declared.pair.states.NominationState.{NominationState}
 use Rattle.is_pair.specs.declared.pair.states.NominationState.TheVariants.{None as Unnominated, Nominated, Attempt, Success}
 use Rattle.is_rules.specs.Agent.{AgentRecord}
 use Rattle.is_rules.specs.Discarding.{is_local_at, local_discarded}
 use Rattle.is_rules.specs.Each.{Each}
-use Rattle.is_rules.specs.Forming.{SidesRecord, Formed, Combination, combined_priority, local_combinations, pair_of, remote_combinations, sides_of, formed_of, Tries, FormsAll}
-use Rattle.is_rules.specs.Local.{appended, enabled, enabled_again, AddsLocal}
+use Rattle.is_rules.specs.Forming.{SidesRecord, Formed, Combination, combined_priority, pair_of, sides_of, formed_of, Tries, FormsAll}
+use Rattle.is_rules.specs.Local.{appended, enabled_again, AddsLocal}
 use Rattle.is_rules.specs.Remote.{as_remote, with_remote, AddsRemote}
 use Rattle.is_theorems.specs.Removing.{MayEndByLocal, MayEndByRemote}
 use Rattle.is_rules.specs.Sound.{IsSound}
 use Rattle.is_theorems.proofs.CallEffects.AddedCandidates.{by_adding_local, by_adding_remote}
-use Rattle.is_theorems.proofs.EarlierChecks.ChecksOfOtherPairs.{own, lead, leads, leads-filter, leads-push, weight}
-use Rattle.is_theorems.proofs.EarlierChecks.ChangedPairs.{Onward, Fixed}
-use Rattle.is_theorems.proofs.EarlierChecks.BetweenTimeouts.{Ground, ground_of, Goes, goes-same}
+use Rattle.is_theorems.proofs.EarlierChecks.ChecksOfOtherPairs.{own, leads, leads-filter, leads-push, weight}
+use Rattle.is_theorems.proofs.EarlierChecks.BetweenTimeouts.{ground_of, Goes, goes-same}
 use Rattle.is_theorems.proofs.StoredPairs.PairsAfterForming.{local-leaves, remote-leaves}
 use Rattle.is_rules.proofs.PairLists.RemovedInTurn.{removes, RemovesInTurn}
-use Rattle.is_rules.proofs.PairLists.RisingNumbers.{AreRising, rising-each}
+use Rattle.is_rules.proofs.PairLists.RisingNumbers.{rising-each}
 use Rattle.is_theorems.proofs.RuleEffects.SelectedPaths.{one_pair}
 
 -- ---- one pair
@@ -98,8 +96,8 @@ module _ (n by : ℕ) where
     goes old new p sound has number l there = (
       l.0,
       record {
-        less = l.1;
-        fixed = λ d cs (q, q_there, is, due, checks). (
+        less = λ late. l.1;
+        fixed = λ d cs le (q, q_there, is, due, checks). (
             let one : q ≡ p = one_pair old.pairs q p (rising-each old.pairs sound.rising) q_there has (is ∙ sym number) in
             (p, there, number, subst (λ (x : PairRecord). x.due ≡ Some d) one due, subst (λ (x : PairRecord). x.checks ≡ cs) one checks));
       },

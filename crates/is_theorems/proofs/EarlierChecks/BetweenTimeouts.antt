@@ -1,11 +1,12 @@
 -- Whatever happens between two `handle_timeout` calls leaves no more checks of other pairs before a pair, except for
 -- one by each added pair, unless the pair itself is answered.
-use Rattle.std.proofs.Common.{◌≡◌, ℕ, ◌≤◌, ◌&&◌, ◌||◌, Bool, true, false, List, Option, Some, None, is_some, Ok, Err, inl, inr, ◌⊎◌, refl, ap, sym, ◌∙◌, subst}
+use Rattle.std.proofs.Common.{◌≡◌, ℕ, ◌≤◌, ◌&&◌, ◌||◌, Bool, true, false, List, Option, Some, None, is_some, unwrap_or, Ok, Err, inl, inr, ◌⊎◌, refl, ap, sym, ◌∙◌, subst, arith}
 use Rattle.std.specs.Prelude.{MatchOption}
 use Rattle.std.proofs.lemmas.Bool.{eq-eqb, eqb-true}
 use Rattle.is_proto.specs.Lists.{Has, same}
 use Rattle.is_candidate.specs.Candidates.{CandidateRecord, candidate_at}
 use Rattle.is_pair.specs.Multiset.{is_numbered, change_at, is_valid_at, keeps_check}
+use Rattle.is_pair.specs.Due.{triggered}
 use Rattle.is_pair.specs.Pairs.{PairRecord, is_nominated}
 use Rattle.is_stun.specs.declared.header.Class.{Class}
 use Rattle.is_stun.specs.declared.header.Class.TheVariants as class
@@ -28,15 +29,16 @@ use Rattle.is_rules.specs.Places.{local_place}
 use Rattle.is_rules.specs.Request.{RequestRecord, request_in}
 use Rattle.is_rules.specs.Roles.{conflict_of, switched, switched_sides, with_priority_in}
 use Rattle.is_rules.specs.Sending.{path_of}
-use Rattle.is_rules.specs.Serving.{served, is_misled, names_another, pair_served, request_counted, with_sender, with_sender_at, Drops, Queues, RecordsAndResponds, FindsOrAddsPair, AddsUnknownSender, CountsAndServes, ResolvesRoleConflictBy, ResolvesRoleConflict, Serves}
+use Rattle.is_rules.specs.Serving.{after_request, served, selects_at_requests, trigger_time, is_misled, names_another, pair_served, request_counted, with_sender, with_sender_at, Drops, Queues, RecordsAndResponds, FindsOrAddsPair, AddsUnknownSender, CountsAndServes, ResolvesRoleConflictBy, ResolvesRoleConflict, Serves}
 use Rattle.is_rules.specs.States.{evaluated}
 use Rattle.is_rules.specs.Steps.{Entry, Flag, Receives}
 use Rattle.is_stun.specs.Reading.{Reads}
 use Rattle.is_theorems.proofs.BasicLemmas.EqualAddresses.{both}
 use Rattle.is_theorems.proofs.CallEffects.ChecksAndResponses.{Has-get}
 use Rattle.is_theorems.proofs.RuleEffects.UnchangedSettings.{either}
+use Rattle.is_theorems.proofs.DuePairs.AfterNominationAndRemoval.{last_time_of}
 use Rattle.is_theorems.proofs.EarlierChecks.ChecksOfOtherPairs.{lead, own-le, lead-answered}
-use Rattle.is_theorems.proofs.EarlierChecks.ChangedPairs.{self-mild, served-mild, at-mild, Onward, onward-same, onward-on, onward-each, onward-adds, onward-set}
+use Rattle.is_theorems.proofs.EarlierChecks.ChangedPairs.{MovedUp, moved-mild, triggered-mild, at-moved, self-mild, served-mild, at-mild, Onward, onward-same, onward-on, onward-each, onward-adds, onward-set}
 use Rattle.is_theorems.proofs.RuleEffects.NominatedPairs.{SelectsPath, selects_path}
 
 -- what stays of the agent, in either role
@@ -47,7 +49,7 @@ pub record Ground : Type 0 where
   pub queue : List RequestRecord
   pub last_time : Option ℕ
   pub rules : Rules
-  pub kind_turn : Bool
+  pub ahead_turn : Bool
 
 module _ {H P : Type 0} where
   abbrev pub ground_of : AgentRecord H P → Ground
@@ -58,43 +60,56 @@ module _ {H P : Type 0} where
     queue = a.queue;
     last_time = a.last_time;
     rules = a.rules;
-    kind_turn = a.kind_turn;
+    ahead_turn = a.ahead_turn;
   }
 
   module _ (n by : ℕ) where
+    abbrev pub GoesFrom : ℕ → AgentRecord H P → AgentRecord H P → Type 0
+    GoesFrom at old new = (ground_of new ≡ ground_of old) × Onward n by at old.pairs old.next_number new.pairs new.next_number
+
     abbrev pub Goes : AgentRecord H P → AgentRecord H P → Type 0
-    Goes old new = (ground_of new ≡ ground_of old) × Onward n by old.pairs old.next_number new.pairs new.next_number
+    Goes old new = GoesFrom (last_time_of old) old new
 
     pub goes-to : (old needed new : AgentRecord H P) → Goes old needed → new ≡ needed → Goes old new
     goes-to old needed new h made = subst (λ (a : AgentRecord H P). Goes old a) (sym made) h
 
     pub goes-same : (old new : AgentRecord H P) → new ≡ old → Goes old new
-    goes-same old new made = goes-to old old new (refl, onward-same n by old.pairs old.next_number) made
+    goes-same old new made = goes-to old old new (refl, onward-same n by (last_time_of old) old.pairs old.next_number) made
 
     pub goes-on : (x y z : AgentRecord H P) → Goes x y → Goes y z → Goes x z
-    goes-on x y z a b = (b.0 ∙ a.0, onward-on n by x.pairs y.pairs z.pairs x.next_number y.next_number z.next_number a.1 b.1)
+    goes-on x y z a b =
+        let same : last_time_of y ≡ last_time_of x = ap (λ (g : Ground). unwrap_or g.last_time 0) a.0 in
+        let following : Onward n by (last_time_of x) y.pairs y.next_number z.pairs z.next_number = subst (λ at. Onward n by at y.pairs y.next_number z.pairs z.next_number) same b.1 in
+        (b.0 ∙ a.0, onward-on n by (last_time_of x) x.pairs y.pairs z.pairs x.next_number y.next_number z.next_number a.1 following)
 
     -- ---- nomination
 
-    pub nominates-goes : (old new : AgentRecord H P) (path : Option Path) → Nominates old path new → Goes old new
-    nominates-goes old new path h = from (selects_path old new path h) where
-      from : SelectsPath old path new → Goes old new
-      from (None, greatest, (is, made)) = goes-same old new made
+    pub nominates-onward : (at : ℕ) (old new : AgentRecord H P) (path : Option Path) → Nominates old path new → GoesFrom at old new
+    nominates-onward at old new path h = from (selects_path old new path h) where
+      unchanged : new ≡ old → GoesFrom at old new
+      unchanged made = subst (λ (a : AgentRecord H P). GoesFrom at old a) (sym made) (refl, onward-same n by at old.pairs old.next_number)
+
+      from : SelectsPath old path new → GoesFrom at old new
+      from (None, greatest, (is, made)) = unchanged made
       from (Some top, greatest, k) = either (remains (followed old) top (selection_of old)) k
-          (λ _ l. goes-same old new l.1)
-          (λ _ l. goes-to old _ new (
+          (λ _ l. unchanged l.1)
+          (λ _ l. subst (λ (a : AgentRecord H P). GoesFrom at old a) (sym l.1) (
             refl,
-            onward-each n by (change_at top.number (nominated_by_self old.controlling old.lite)) old.pairs old.next_number
-                (λ p. at-mild top.number (nominated_by_self old.controlling old.lite) p (self-mild (old.controlling || old.lite) old.lite (is_nominated p) p refl)),
-          ) l.1)
+            onward-each n by at (change_at top.number (nominated_by_self old.controlling old.lite)) old.pairs old.next_number
+                (λ p. moved-mild by at p (change_at top.number (nominated_by_self old.controlling old.lite) p)
+                (at-mild top.number (nominated_by_self old.controlling old.lite) p (self-mild (old.controlling || old.lite) old.lite (is_nominated p) p refl))),
+          ))
+
+    pub nominates-goes : (old new : AgentRecord H P) (path : Option Path) → Nominates old path new → Goes old new
+    nominates-goes old new path h = nominates-onward (last_time_of old) old new path h
 
     -- ---- roles
 
     switches : (s : AgentRecord H P) → Goes s (switched s)
     switches s = (
       refl,
-      onward-each n by (with_priority_in (switched_sides s)) s.pairs s.next_number
-          (λ p. record { number = refl; due = refl; checks = refl; nomination = inl refl }),
+      onward-each n by (last_time_of s) (with_priority_in (switched_sides s)) s.pairs s.next_number
+          (λ p. moved-mild by (last_time_of s) p (with_priority_in (switched_sides s) p) (record { number = refl; due = refl; checks = refl; nomination = inl refl })),
     )
 
     failure : (old new : AgentRecord H P) (via : Path) (m : Message) (emitted : Emitted) → TakesFailure old via m emitted new → Goes old new
@@ -119,7 +134,7 @@ module _ {H P : Type 0} where
           inr (goes-on old recorded new
           (goes-to old _ recorded (
             refl,
-            onward-set n by old.pairs old.next_number place p after at (λ one. (let no : true ≡ false = sym (eq-eqb p.number n one) ∙ numbered in cc))
+            onward-set n by (last_time_of old) old.pairs old.next_number place p after at (λ one. (let no : true ≡ false = sym (eq-eqb p.number n one) ∙ numbered in cc))
                 (own-le n by p after (ap (λ (x : PairRecord). x.number) is) (subst (λ (x : PairRecord). lead by x ≤ lead by p) (sym is) (lead-answered by now i c p c_at))),
           ) made)
           (goes-to recorded (evaluated now mid) new (let k = nominates-goes recorded mid named nominates in (k.0, k.1)) done))
@@ -133,18 +148,22 @@ module _ {H P : Type 0} where
             goes-to s _ new
             (let k = goes-on s (pair_served q number s) mid (
               refl,
-              onward-each n by (change_at number (served s.controlling s.lite q)) s.pairs s.next_number
-                  (λ p. at-mild number (served s.controlling s.lite q) p (served-mild s.controlling s.lite q p)),
+              onward-each n by (last_time_of s) (change_at number (after_request q s)) s.pairs s.next_number
+                  (λ p. at-moved by (last_time_of s) number (after_request q s) p (request-moves p)),
             )
-            (either (s.controlling && is_valid_at number s.pairs) nominates
+            (either (selects_at_requests s && is_valid_at number s.pairs) nominates
             (λ _ k. nominates-goes (pair_served q number s) mid path k)
-            (λ _ k. goes-same (pair_served q number s) mid k.1)) in (k.0, k.1)) made
+            (λ _ k. goes-same (pair_served q number s) mid k.1)) in (k.0, k.1)) made where
+              request-moves : (p : PairRecord) → MovedUp by (last_time_of s) p (after_request q s p)
+              request-moves p =
+                  let first : PairRecord = triggered s.rules.triggered_checks (trigger_time q s) p in
+                  triggered-mild by (last_time_of s) (trigger_time q s) s.rules.triggered_checks p (served s.controlling s.lite q first) (omega arith) (served-mild s.controlling s.lite q first)
 
         takes : (l r : ℕ) (number : Option ℕ) (s new : AgentRecord H P) (emitted : Emitted) → FindsOrAddsPair mac q l r number s emitted new → Goes s new
         takes l r (Some number) s new emitted h = pair l r number s new emitted h
         takes l r None s new emitted h = either (candidate_at s.local l).discarded h
             (λ _ k. goes-same s new k.1)
-            (λ _ k. goes-on s (with_pair (formed s l r) s) new (refl, onward-adds n by s.pairs s.next_number l r (priority_between s l r))
+            (λ _ k. goes-on s (with_pair (formed s l r) s) new (refl, onward-adds n by (last_time_of s) s.pairs s.next_number l r (priority_between s l r))
             (pair l r s.next_number (with_pair (formed s l r) s) new emitted k.1))
 
         joins : (l : ℕ) (place : RemotePlace) (s new : AgentRecord H P) (emitted : Emitted) → AddsUnknownSender mac q l place s emitted new → Goes s new
@@ -161,7 +180,7 @@ module _ {H P : Type 0} where
 
         resolves : (conflict : Conflict) (l : ℕ) (s new : AgentRecord H P) (emitted : Emitted) → ResolvesRoleConflictBy mac conflict q l s emitted new → Goes s new
         resolves Absent l s new emitted h = admitted l s new emitted h
-        resolves Send487 l s new emitted (values, is, made) = goes-to s _ new (refl, onward-same n by s.pairs s.next_number) made
+        resolves Send487 l s new emitted (values, is, made) = goes-to s _ new (refl, onward-same n by (last_time_of s) s.pairs s.next_number) made
         resolves SwitchRole l s new emitted h = goes-on s (switched s) new (switches s) (admitted l (switched s) new emitted h)
 
         here : (place : Option ℕ) (s new : AgentRecord H P) (emitted : Emitted) → MatchOption place (Drops s emitted new) (λ l. ResolvesRoleConflict mac q l s emitted new) → Goes s new

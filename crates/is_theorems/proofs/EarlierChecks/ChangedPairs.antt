@@ -1,7 +1,8 @@
 -- The effects of nomination and of requests on a pair. Which changes of a list of pairs leave no more checks of other
 -- pairs before one, except for one by each added pair.
-use Rattle.std.proofs.Common.{◌≡◌, ℕ, zero, suc, ◌+◌, ◌≤◌, ◌==◌, ◌&&◌, Bool, true, false, not, List, [], ◌∷◌, ◌++◌, map, Some, inl, inr, ◌⊎◌, refl, ap, sym, ◌∙◌, subst, arith, if◌then◌else◌}
+use Rattle.std.proofs.Common.{◌≡◌, ℕ, zero, suc, ◌+◌, ◌<◌, ◌≤◌, ◌==◌, ◌&&◌, ◌||◌, Bool, true, false, not, nat_le, List, [], ◌∷◌, ◌++◌, map, min, Option, Some, None, option_map, unwrap_or, inl, inr, ◌⊎◌, refl, ap, sym, ◌∙◌, subst, arith, if◌then◌else◌}
 use Rattle.std.specs.Prelude.{slice_get, slice_set}
+use Rattle.std.specs.Option.{option_map_or}
 use Rattle.is_proto.specs.Lists.{Has}
 use Rattle.is_pair.specs.Multiset.{is_numbered, change_at}
 use Rattle.is_pair.specs.Checks.{Check}
@@ -9,9 +10,10 @@ use Rattle.is_pair.specs.Pairs.{PairRecord, is_nominated, with_request, validate
 use Rattle.is_pair.specs.States.{is_nominated_state}
 use Rattle.is_pair.specs.declared.pair.states.NominationState.{NominationState}
 use Rattle.is_pair.specs.declared.pair.states.NominationState.TheVariants.{None as Unnominated, Nominated, Attempt, Success}
+use Rattle.is_pair.specs.Due.{is_triggered, moved_up, triggered}
 use Rattle.is_rules.specs.Request.{RequestRecord}
 use Rattle.is_rules.specs.Serving.{served}
-use Rattle.is_theorems.proofs.EarlierChecks.ChecksOfOtherPairs.{Becomes, lead, leads, own, own-le, weight-becomes, is_early, weight, leads-map, leads-push, leads-set}
+use Rattle.is_theorems.proofs.EarlierChecks.ChecksOfOtherPairs.{Becomes, le-from, le-is, le-fails, le-not, lead, leads, own, own-le, sent_by, weight-becomes, is_early, weight, leads-map, leads-push, leads-set}
 use Rattle.is_theorems.proofs.CallEffects.ServedRequests.{Has-mapped}
 use Rattle.is_theorems.proofs.RuleEffects.SelectedPaths.{some_is}
 
@@ -79,9 +81,61 @@ at-mild n f p m = by (is_numbered n p) where
   by true = m
   by false = mild-same p
 
-pub lead-mild : (by : ℕ) (p q : PairRecord) → Mild p q → lead by q ≤ lead by p
-lead-mild by p q m =
-    let e : is_early by q.due q.checks ≡ is_early by p.due p.checks = ap (λ o. is_early by o q.checks) m.due ∙ ap (λ cs. is_early by p.due cs) m.checks in
+-- The same pair, which a request may have moved up to the time `at` or a later one: it is due by an earlier time exactly if it was, and due
+-- as it was if that is by then.
+pub record MovedUp (by at : ℕ) (p q : PairRecord) : Type 0 where
+  pub number : q.number ≡ p.number
+  pub checks : q.checks ≡ p.checks
+  pub nomination : (q.nomination ≡ p.nomination) ⊎ Becomes p.nomination q.nomination
+  pub early : by < at → option_map_or (λ d. nat_le d by) q.due false ≡ option_map_or (λ d. nat_le d by) p.due false
+  pub fixed : (d : ℕ) → d ≤ at → p.due ≡ Some d → q.due ≡ Some d
+
+pub moved-mild : (by at : ℕ) (p q : PairRecord) → Mild p q → MovedUp by at p q
+moved-mild by at p q m = record {
+  number = m.number;
+  checks = m.checks;
+  nomination = m.nomination;
+  early = λ late. ap (λ o. option_map_or (λ d. nat_le d by) o false) m.due;
+  fixed = λ d le is. m.due ∙ is;
+}
+
+min-le : (by to d : ℕ) → by < to → nat_le (min to d) by ≡ nat_le d by
+min-le by to d late = from (nat_le d by) refl where
+  from : (b : Bool) → nat_le d by ≡ b → nat_le (min to d) by ≡ b
+  from true is = let le = le-from d by is in le-is (min to d) by (omega (arith, le))
+  from false is = let over = le-fails d by is in le-not (min to d) by (omega (arith, over, late))
+
+moved-early : (by to : ℕ) (o : Option ℕ) → by < to → option_map_or (λ d. nat_le d by) (option_map (min to) o) false ≡ option_map_or (λ d. nat_le d by) o false
+moved-early by to None late = refl
+moved-early by to (Some d) late = min-le by to d late
+
+moved-fixed : (to d : ℕ) (o : Option ℕ) → d ≤ to → o ≡ Some d → option_map (min to) o ≡ Some d
+moved-fixed to d None le is = absurd (cc)
+moved-fixed to d (Some e) le is = let same : e ≡ d = ap (λ o. unwrap_or o 0) is in ap Some (omega (arith, same, le))
+
+-- a request may move the pair up before it is served
+pub triggered-mild : (by at to : ℕ) (most : Option ℕ) (p q : PairRecord) → at ≤ to → Mild (triggered most to p) q → MovedUp by at p q
+triggered-mild by at to None p q late m = moved-mild by at p q m
+triggered-mild by at to (Some most) p q late m = moves (is_triggered most p) m where
+  moves : (b : Bool) → Mild (if b then moved_up to p else p) q → MovedUp by at p q
+  moves false m = moved-mild by at p q m
+  moves true m = record {
+    number = m.number;
+    checks = m.checks;
+    nomination = m.nomination;
+    early = λ before. ap (λ o. option_map_or (λ d. nat_le d by) o false) m.due ∙ moved-early by to p.due (omega (arith, before, late));
+    fixed = λ d le is. m.due ∙ moved-fixed to d p.due (omega (arith, le, late)) is;
+  }
+
+pub at-moved : (by at n : ℕ) (f : PairRecord → PairRecord) (p : PairRecord) → MovedUp by at p (f p) → MovedUp by at p (change_at n f p)
+at-moved by at n f p m = from (is_numbered n p) where
+  from : (b : Bool) → MovedUp by at p (if b then f p else p)
+  from true = m
+  from false = moved-mild by at p p (mild-same p)
+
+lead-moved : (by at : ℕ) (p q : PairRecord) → by < at → MovedUp by at p q → lead by q ≤ lead by p
+lead-moved by at p q late m =
+    let e : is_early by q.due q.checks ≡ is_early by p.due p.checks = ap (λ b. b || sent_by by q.checks) (m.early late) ∙ ap (λ cs. is_early by p.due cs) m.checks in
     subst (λ b. weight q.nomination b ≤ lead by p) (sym e) (weight-becomes p.nomination q.nomination (is_early by p.due p.checks) m.nomination)
 
 -- ---- lists of pairs
@@ -90,28 +144,28 @@ lead-mild by p q m =
 abbrev pub Fixed : ℕ → ℕ → List Check → List PairRecord → Type 0
 Fixed n d cs ps = (q : PairRecord) × Has ps q × (q.number ≡ n) × (q.due ≡ Some d) × (q.checks ≡ cs)
 
--- no more checks go before the pair with the number than before, except for one by each added pair, and it is due as
--- it was
-pub record Onward (n by : ℕ) (xs : List PairRecord) (k : ℕ) (ys : List PairRecord) (m : ℕ) : Type 0 where
-  pub less : leads n by ys + k ≤ leads n by xs + m
-  pub fixed : (d : ℕ) (cs : List Check) → Fixed n d cs xs → Fixed n d cs ys
+-- If the time is before `at`, no more checks go before the pair with the number than before, except for one by each added pair. If the pair
+-- was due by then, it is due as it was.
+pub record Onward (n by at : ℕ) (xs : List PairRecord) (k : ℕ) (ys : List PairRecord) (m : ℕ) : Type 0 where
+  pub less : by < at → leads n by ys + k ≤ leads n by xs + m
+  pub fixed : (d : ℕ) (cs : List Check) → d ≤ at → Fixed n d cs xs → Fixed n d cs ys
 
-module _ (n by : ℕ) where
-  pub onward-same : (xs : List PairRecord) (k : ℕ) → Onward n by xs k xs k
-  onward-same xs k = record { less = omega arith; fixed = λ d cs f. f }
+module _ (n by at : ℕ) where
+  pub onward-same : (xs : List PairRecord) (k : ℕ) → Onward n by at xs k xs k
+  onward-same xs k = record { less = λ late. omega arith; fixed = λ d cs le f. f }
 
-  pub onward-on : (xs ys zs : List PairRecord) (i k m : ℕ) → Onward n by xs i ys k → Onward n by ys k zs m → Onward n by xs i zs m
+  pub onward-on : (xs ys zs : List PairRecord) (i k m : ℕ) → Onward n by at xs i ys k → Onward n by at ys k zs m → Onward n by at xs i zs m
   onward-on xs ys zs i k m a b = record {
-    less = joined (leads n by xs) (leads n by ys) (leads n by zs) a.less b.less;
-    fixed = λ d cs f. b.fixed d cs (a.fixed d cs f);
+    less = λ late. joined (leads n by xs) (leads n by ys) (leads n by zs) (a.less late) (b.less late);
+    fixed = λ d cs le f. b.fixed d cs le (a.fixed d cs le f);
   } where
     joined : (x y z : ℕ) → y + i ≤ x + k → z + k ≤ y + m → z + i ≤ x + m
     joined x y z h l = omega (arith, h, l)
 
-  pub onward-each : (f : PairRecord → PairRecord) (xs : List PairRecord) (k : ℕ) → ((p : PairRecord) → Mild p (f p)) → Onward n by xs k (map f xs) k
-  onward-each f xs k mild = record {
-    less = (let le : leads n by (map f xs) ≤ leads n by xs = leads-map n by f xs (λ p. own-le n by p (f p) (mild p).number (lead-mild by p (f p) (mild p))) in omega (arith, le));
-    fixed = λ d cs (q, has, is, due, checks). (f q, Has-mapped f xs q has, (mild q).number ∙ is, (mild q).due ∙ due, (mild q).checks ∙ checks);
+  pub onward-each : (f : PairRecord → PairRecord) (xs : List PairRecord) (k : ℕ) → ((p : PairRecord) → MovedUp by at p (f p)) → Onward n by at xs k (map f xs) k
+  onward-each f xs k moved = record {
+    less = λ late. (let le : leads n by (map f xs) ≤ leads n by xs = leads-map n by f xs (λ p. own-le n by p (f p) (moved p).number (lead-moved by at p (f p) late (moved p))) in omega (arith, le));
+    fixed = λ d cs le (q, has, is, due, checks). (f q, Has-mapped f xs q has, (moved q).number ∙ is, (moved q).fixed d le due, (moved q).checks ∙ checks);
   }
 
   has-front : (xs : List PairRecord) (x y : PairRecord) → Has xs y → Has (xs ++ x ∷ []) y
@@ -119,10 +173,10 @@ module _ (n by : ℕ) where
   has-front (z ∷ zs) x y (inl e) = inl e
   has-front (z ∷ zs) x y (inr h) = inr (has-front zs x y h)
 
-  pub onward-adds : (xs : List PairRecord) (k l r priority : ℕ) → Onward n by xs k (xs ++ new_pair k l r priority ∷ []) (k + 1)
+  pub onward-adds : (xs : List PairRecord) (k l r priority : ℕ) → Onward n by at xs k (xs ++ new_pair k l r priority ∷ []) (k + 1)
   onward-adds xs k l r priority = record {
-    less = (let le : leads n by (xs ++ new_pair k l r priority ∷ []) ≤ leads n by xs + 1 = leads-push n by (new_pair k l r priority) xs (one (k == n)) in omega (arith, le));
-    fixed = λ d cs (q, has, is, due, checks). (q, has-front xs (new_pair k l r priority) q has, is, due, checks);
+    less = λ late. (let le : leads n by (xs ++ new_pair k l r priority ∷ []) ≤ leads n by xs + 1 = leads-push n by (new_pair k l r priority) xs (one (k == n)) in omega (arith, le));
+    fixed = λ d cs le (q, has, is, due, checks). (q, has-front xs (new_pair k l r priority) q has, is, due, checks);
   } where
     one : (b : Bool) → (if b then 0 else 1) ≤ 1
     one true = omega arith
@@ -136,8 +190,8 @@ module _ (n by : ℕ) where
   has-set (x ∷ xs) (suc i) p after q at apart (inr has) = inr (has-set xs i p after q at apart has)
 
   pub onward-set : (xs : List PairRecord) (k i : ℕ) (p after : PairRecord) → slice_get xs i ≡ Some p → (p.number ≡ n → ⊥) → own n by after ≤ own n by p
-      → Onward n by xs k (slice_set xs i after) k
-  onward-set xs k i p after at apart le = record {
-    less = (let less : leads n by (slice_set xs i after) ≤ leads n by xs = leads-set n by xs i p after at le in omega (arith, less));
-    fixed = λ d cs (q, has, is, due, checks). (q, has-set xs i p after q at (λ one. apart (sym (ap (λ (x : PairRecord). x.number) one) ∙ is)) has, is, due, checks);
+      → Onward n by at xs k (slice_set xs i after) k
+  onward-set xs k i p after place apart le = record {
+    less = λ late. (let less : leads n by (slice_set xs i after) ≤ leads n by xs = leads-set n by xs i p after place le in omega (arith, less));
+    fixed = λ d cs before (q, has, is, due, checks). (q, has-set xs i p after q place (λ one. apart (sym (ap (λ (x : PairRecord). x.number) one) ∙ is)) has, is, due, checks);
   }

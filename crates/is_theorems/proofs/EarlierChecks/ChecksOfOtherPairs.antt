@@ -21,14 +21,17 @@ use Rattle.is_stun.specs.declared.timing.StunTiming.{StunTiming}
 use Rattle.is_rules.specs.Owed.{one_if}
 use Rattle.is_theorems.proofs.RuleEffects.SelectedPaths.{some_is}
 
-le-from : (n m : ℕ) → nat_le n m ≡ true → n ≤ m
+pub le-from : (n m : ℕ) → nat_le n m ≡ true → n ≤ m
 le-from n m h = grind (arith, nat_tests, h)
 
-le-is : (n m : ℕ) → n ≤ m → nat_le n m ≡ true
+pub le-is : (n m : ℕ) → n ≤ m → nat_le n m ≡ true
 le-is n m h = grind (arith, nat_tests, h)
 
-le-not : (n m : ℕ) → m < n → nat_le n m ≡ false
+pub le-not : (n m : ℕ) → m < n → nat_le n m ≡ false
 le-not n m h = grind (arith, nat_tests, h)
+
+pub le-fails : (n m : ℕ) → nat_le n m ≡ false → m < n
+le-fails n m h = grind (arith, nat_tests, h)
 
 -- ---- the last check
 
@@ -140,8 +143,8 @@ weight-two Success true = omega arith
 weight-two Success false = omega arith
 
 -- if its due time is computed later, a pair is due by a time only if its last check was sent by then
-unfixed-early : (by now most : ℕ) (t : StunTiming) (cs : List Check) → by < now → now < MAX → nat_le (min (next_due_time now t cs) (later now most)) by ≡ true → sent_by by cs ≡ true
-unfixed-early by now most t cs late early is = by-last (last_check cs) _ (le-from (min (next_due_time now t cs) (later now most)) by is) where
+unfixed-early : (by now most : ℕ) (t : StunTiming) (p : PairRecord) → by < now → now < MAX → nat_le (min (next_due_time now t p) (later now most)) by ≡ true → sent_by by p.checks ≡ true
+unfixed-early by now most t p late early is = by-last (last_check p.checks) _ (le-from (min (next_due_time now t p) (later now most)) by is) where
   by-last : (o : Option Check) (delay : ℕ) → min (option_map_or (λ (c : Check). later c.sent delay) o now) (later now most) ≤ by → option_map_or (λ c. nat_le c.sent by) o false ≡ true
   by-last None delay le = absurd (following le) where
     following : min now (later now most) ≤ by → ⊥
@@ -154,16 +157,16 @@ or-left : (a b : Bool) → (a ≡ true → b ≡ true) → (a || b) ≡ true →
 or-left true b h is = h refl
 or-left false b h is = is
 
-asked-weight : (by now : ℕ) (t : StunTiming) (n : NominationState) (o : Option ℕ) (cs : List Check) → by < now → now < MAX
-    → weight n (is_early by (Some (unwrap_or o (min (computed_due_time n now t cs) (later now t.max_rto.0)))) cs) ≤ weight n (is_early by o cs)
-asked-weight by now t n (Some d) cs late early = omega arith
-asked-weight by now t Nominated None cs late early = omega arith
-asked-weight by now t Unnominated None cs late early = less-early Unnominated _ _ (or-left _ _ (unfixed-early by now t.max_rto.0 t cs late early))
-asked-weight by now t Attempt None cs late early = less-early Attempt _ _ (or-left _ _ (unfixed-early by now t.max_rto.0 t cs late early))
-asked-weight by now t Success None cs late early = less-early Success _ _ (or-left _ _ (unfixed-early by now t.max_rto.0 t cs late early))
+asked-weight : (by now : ℕ) (t : StunTiming) (n : NominationState) (o : Option ℕ) (p : PairRecord) → by < now → now < MAX
+    → weight n (is_early by (Some (unwrap_or o (min (computed_due_time n now t p) (later now t.max_rto.0)))) p.checks) ≤ weight n (is_early by o p.checks)
+asked-weight by now t n (Some d) p late early = omega arith
+asked-weight by now t Nominated None p late early = omega arith
+asked-weight by now t Unnominated None p late early = less-early Unnominated _ _ (or-left _ _ (unfixed-early by now t.max_rto.0 t p late early))
+asked-weight by now t Attempt None p late early = less-early Attempt _ _ (or-left _ _ (unfixed-early by now t.max_rto.0 t p late early))
+asked-weight by now t Success None p late early = less-early Success _ _ (or-left _ _ (unfixed-early by now t.max_rto.0 t p late early))
 
 pub lead-asked : (by now : ℕ) (t : StunTiming) (p : PairRecord) → by < now → now < MAX → lead by (asked now t p) ≤ lead by p
-lead-asked by now t p late early = asked-weight by now t p.nomination p.due p.checks late early
+lead-asked by now t p late early = asked-weight by now t p.nomination p.due p late early
 
 pub lead-checked-is : (by now : ℕ) (t : StunTiming) (c : Bool) (id : List ℕ) (p : PairRecord) → by < now → 0 < t.max_retransmits
     → lead by (checked now t c id p) ≡ weight (nomination_once_sent p.nomination) false

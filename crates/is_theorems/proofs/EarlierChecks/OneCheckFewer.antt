@@ -1,6 +1,6 @@
 -- A `handle_timeout` call checks a pair that is due, or another one before it, and then one check fewer goes before
--- it; or it is a kind's turn, and then no more checks go before it and the next call is none.
-use Rattle.std.proofs.Common.{◌≡◌, ℕ, ◌+◌, ◌<◌, ◌≤◌, ◌==◌, ◌&&◌, ◌||◌, Bool, true, false, not, List, map, nat_le, nat_lt, Option, Some, None, is_some, unwrap_or, inl, inr, ◌⊎◌, refl, ap, sym, ◌∙◌, subst, arith, if◌then◌else◌}
+-- it; or a check goes ahead, and then no more checks go before it and the next check may not go ahead.
+use Rattle.std.proofs.Common.{◌≡◌, ℕ, suc, ◌+◌, ◌<◌, ◌≤◌, ◌==◌, ◌&&◌, ◌||◌, Bool, true, false, not, List, map, nat_le, nat_lt, Option, Some, None, is_some, unwrap_or, inl, inr, ◌⊎◌, refl, ap, sym, ◌∙◌, subst, arith, if◌then◌else◌}
 use Rattle.std.specs.List.{list_any}
 use Rattle.std.proofs.lemmas.Bool.{eq-eqb, eqb-true}
 use Rattle.std.proofs.lemmas.Bool.Decides.{nat_tests}
@@ -15,8 +15,7 @@ use Rattle.is_pair.specs.States.{nomination_once_sent}
 use Rattle.is_stun.specs.declared.header.Class.TheVariants as class
 use Rattle.is_stun.specs.declared.timing.StunTiming.{StunTiming}
 use Rattle.is_rules.specs.Agent.{AgentRecord}
-use Rattle.is_rules.specs.Checking.{all_asked, is_kinds_turn, IsNextToCheck, ChecksTop, MayCheck}
-use Rattle.is_rules.specs.Connecting.{is_connected}
+use Rattle.is_rules.specs.Checking.{goes_ahead, all_asked, are_kinds_in_turn, has_urgent, is_ahead_turn, IsNextToCheck, ChecksTop, MayCheck}
 use Rattle.is_rules.specs.declared.credentials.IceCreds.{IceCreds}
 use Rattle.is_rules.specs.declared.emitted.Issued.{Issued}
 use Rattle.is_rules.specs.declared.emitted.Path.{Path}
@@ -29,11 +28,11 @@ use Rattle.is_rules.specs.Emitted.{issued_as}
 use Rattle.is_theorems.proofs.RuleEffects.UnchangedSettings.{either}
 use Rattle.is_theorems.proofs.EarlierChecks.ChecksOfOtherPairs.{lead, leads, own, own-le, weight, weight-sent, weight-sent-no-more, lead-asked, lead-checked-is, leads-map, leads-less, leads-filter, is_early, sent_by}
 use Rattle.is_theorems.proofs.EarlierChecks.ChangedPairs.{Fixed}
-use Rattle.is_theorems.proofs.EarlierChecks.BetweenTimeouts.{nominates-goes}
+use Rattle.is_theorems.proofs.EarlierChecks.BetweenTimeouts.{nominates-onward}
 use Rattle.is_theorems.proofs.RuleEffects.ChangedPairs.{Has-map}
 use Rattle.is_theorems.proofs.BasicLemmas.PairsInTurn.{none-is-due, next-is-due, next-in-turn}
 use Rattle.is_theorems.proofs.DuePairs.FirstDuePair.{fixed-is, same-path, next-check}
-use Rattle.is_theorems.proofs.DuePairs.KindsInTurn.{Falls, falls-from, is-turn}
+use Rattle.is_theorems.proofs.DuePairs.ChecksAhead.{Falls, falls-from, is-turn}
 use Rattle.is_rules.proofs.PairLists.ChosenPair.{chosen-able, none_pass}
 use Rattle.is_theorems.proofs.RuleEffects.NominatedPairs.{SelectsPath, selects_path}
 use Rattle.is_theorems.proofs.CallEffects.ServedRequests.{Has-mapped}
@@ -144,7 +143,7 @@ module _ (now by : ℕ) (late : by < now) (early : now < MAX) where
     module _ (n : ℕ) where
       named-less : (old new : AgentRecord H P) (path : Option Path) → Nominates old path new → leads n by new.pairs ≤ leads n by old.pairs
       named-less old new path h =
-          let le : leads n by new.pairs + old.next_number ≤ leads n by old.pairs + new.next_number = (nominates-goes n by old new path h).1.less in
+          let le : leads n by new.pairs + old.next_number ≤ leads n by old.pairs + new.next_number = (nominates-onward n by (suc by) old new path h).1.less (omega arith) in
           let same : new.next_number ≡ old.next_number = ap (λ (b : Base). b.next_number) (nominates-thins 0 old new path h).0 in
           omega (arith, le, same)
 
@@ -158,15 +157,15 @@ module _ (now by : ℕ) (late : by < now) (early : now < MAX) where
 
     -- ---- the check
 
-    -- its due time is fixed, and one check fewer goes before it, or a kind's turn is over
+    -- its due time is fixed, and one check fewer goes before it, or a check went ahead
     abbrev pub WaitsOn : AgentRecord H P → AgentRecord H P → PairRecord → Type 0
     WaitsOn old new p =
         (d : ℕ) × (d ≤ by) × Fixed p.number d p.checks new.pairs
-        × Falls old.rules.kinds_in_turn old.kind_turn new.kind_turn (leads p.number by old.pairs) (leads p.number by new.pairs)
+        × Falls (goes_ahead old.rules) old.ahead_turn new.ahead_turn (leads p.number by old.pairs) (leads p.number by new.pairs)
 
-    -- it is a kind's turn, or the pair is due by the time
+    -- the check goes ahead, or the pair is due by the time
     abbrev Chosen : AgentRecord H P → PairRecord → Type 0
-    Chosen old q = (is_kinds_turn (all_asked now old) ≡ true) ⊎ (due_time_of now old.timing q ≤ by)
+    Chosen old q = (is_ahead_turn now (all_asked now old) ≡ true) ⊎ (due_time_of now old.timing q ≤ by)
 
     module _ (mac : H → List ℕ → List ℕ → List ℕ) where
       check-goes : (old new : AgentRecord H P) (s u : Stream) (issued : Option Issued) (remote : Option IceCreds) → is_some remote ≡ true → old.lite ≡ false
@@ -178,7 +177,7 @@ module _ (now by : ℕ) (late : by < now) (early : now < MAX) where
             in_asked : Has (map (asked now old.timing) old.pairs) (asked now old.timing p)
             in_asked = Has-mapped (asked now old.timing) old.pairs p has
 
-            whose : (peer : IceCreds) (q : PairRecord) (id : List ℕ) → new.kind_turn ≡ not (is_kinds_turn (all_asked now old)) → new.pairs ≡ change_pair q.number (checked now old.timing old.controlling id) (map (asked now old.timing) old.pairs)
+            whose : (peer : IceCreds) (q : PairRecord) (id : List ℕ) → new.ahead_turn ≡ not (is_ahead_turn now (all_asked now old)) → new.pairs ≡ change_pair q.number (checked now old.timing old.controlling id) (map (asked now old.timing) old.pairs)
                 → issued ≡ Some (issued_as (path_of old q) class.Request id) → Has (map (asked now old.timing) old.pairs) q
                 → (o : PairRecord) × Has old.pairs o × (asked now old.timing o ≡ q) → Chosen old q
                 → (b : Bool) → (p.number == q.number) ≡ b
@@ -232,10 +231,10 @@ module _ (now by : ℕ) (late : by < now) (early : now < MAX) where
                       let b = asked-less in
                       subst (λ ps. leads p.number by ps < leads p.number by old.pairs) (sym made) (omega (arith, a, b))
 
-                  falls : Falls old.rules.kinds_in_turn old.kind_turn new.kind_turn (leads p.number by old.pairs) (leads p.number by new.pairs)
+                  falls : Falls (goes_ahead old.rules) old.ahead_turn new.ahead_turn (leads p.number by old.pairs) (leads p.number by new.pairs)
                   falls = elim chosen [
                     | inl on ↦
-                        (let turn = is-turn old.rules.kinds_in_turn old.kind_turn (not (is_connected old.state)) on in
+                        (let turn = is-turn (goes_ahead old.rules) old.ahead_turn (are_kinds_in_turn (all_asked now old) || has_urgent now (all_asked now old)) on in
                         inr (no-more, turn.0, turn.1, turned ∙ ap not on))
                     | inr q_due ↦ inl (one-fewer q_due)
                   ]
@@ -247,9 +246,9 @@ module _ (now by : ℕ) (late : by < now) (early : now < MAX) where
                 absurd (none_pass (is_due now old.timing) (map (asked now old.timing) old.pairs) (asked now old.timing p) (none-is-due now (all_asked now old) chosen) in_asked it)
             by-next peer (Some q) chosen (id, drawn, values, is, made) =
                 let there : Has (map (asked now old.timing) old.pairs) q = (next-is-due now (all_asked now old) q chosen).0 in
-                whose peer q id (ap (λ (a : AgentRecord H P). a.kind_turn) made) (ap (λ (a : AgentRecord H P). a.pairs) made) is there (Has-map (asked now old.timing) old.pairs q there)
-                (in-turn (is_kinds_turn (all_asked now old)) refl) (p.number == q.number) refl where
-                  in-turn : (b : Bool) → is_kinds_turn (all_asked now old) ≡ b → Chosen old q
+                whose peer q id (ap (λ (a : AgentRecord H P). a.ahead_turn) made) (ap (λ (a : AgentRecord H P). a.pairs) made) is there (Has-map (asked now old.timing) old.pairs q there)
+                (in-turn (is_ahead_turn now (all_asked now old)) refl) (p.number == q.number) refl where
+                  in-turn : (b : Bool) → is_ahead_turn now (all_asked now old) ≡ b → Chosen old q
                   in-turn true on = inl on
                   in-turn false off =
                       let next = next-in-turn now (all_asked now old) (Some q) off chosen in
@@ -288,14 +287,14 @@ module _ (now by : ℕ) (late : by < now) (early : now < MAX) where
                       (record { number = alike.number; local = alike.local; remote = alike.remote; valid = alike.valid }))),
                 )
             | inr (d, due, fixed, falls) ↦
-                (let falls_for : Falls kept.rules.kinds_in_turn kept.kind_turn new.kind_turn (leads p.number by kept.pairs) (leads p.number by new.pairs) =
-                subst (λ k. Falls kept.rules.kinds_in_turn kept.kind_turn new.kind_turn (leads k by kept.pairs) (leads k by new.pairs)) alike.number falls in
+                (let falls_for : Falls (goes_ahead kept.rules) kept.ahead_turn new.ahead_turn (leads p.number by kept.pairs) (leads p.number by new.pairs) =
+                subst (λ k. Falls (goes_ahead kept.rules) kept.ahead_turn new.ahead_turn (leads k by kept.pairs) (leads k by new.pairs)) alike.number falls in
                 inr (
                   d,
                   due,
                   subst (λ cs. Fixed p.number d cs new.pairs) alike.checks (subst (λ k. Fixed k d y.0.checks new.pairs) alike.number fixed),
-                  falls-from kept.rules.kinds_in_turn old.rules.kinds_in_turn kept.kind_turn old.kind_turn new.kind_turn
+                  falls-from (goes_ahead kept.rules) (goes_ahead old.rules) kept.ahead_turn old.ahead_turn new.ahead_turn
                       (leads p.number by kept.pairs) (leads p.number by old.pairs) (leads p.number by new.pairs)
-                      (ap (λ (z : Base). z.rules.kinds_in_turn) (sym base)) (ap (λ (z : Base). z.kind_turn) (sym base)) lessened falls_for,
+                      (ap (λ (z : Base). goes_ahead z.rules) (sym base)) (ap (λ (z : Base). z.ahead_turn) (sym base)) lessened falls_for,
                 ))
           ]

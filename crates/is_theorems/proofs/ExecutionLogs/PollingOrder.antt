@@ -36,7 +36,7 @@ use Rattle.is_rules.specs.Remote.{AddsRemote, as_remote, with_remote}
 use Rattle.is_rules.specs.Restarting.{restarted, emptied}
 use Rattle.is_rules.specs.States.{same_state, with_state, evaluated}
 use Rattle.is_rules.specs.Nominating.{with_selection, nominated_emitted, Nominates, NominatesWhere}
-use Rattle.is_rules.specs.Serving.{pair_served, request_counted, with_sender, with_sender_at, is_misled, names_another, RecordsAndResponds, FindsOrAddsPair, AddsUnknownSender, CountsAndServes, ResolvesRoleConflictBy, ResolvesRoleConflict, Drops, Serves}
+use Rattle.is_rules.specs.Serving.{selects_at_requests, pair_served, request_counted, with_sender, with_sender_at, is_misled, names_another, RecordsAndResponds, FindsOrAddsPair, AddsUnknownSender, CountsAndServes, ResolvesRoleConflictBy, ResolvesRoleConflict, Drops, Serves}
 use Rattle.is_rules.specs.Queue.{first_taken, request_at, queued}
 use Rattle.is_rules.specs.Answers.{TakesSuccess, TakesFailure, LeavesRole, is_role_conflict}
 use Rattle.is_rules.specs.Accepting.{Takes, discovered_emitted, is_passed_over, HandlesPacket}
@@ -110,7 +110,7 @@ module _ {H P : Type 0} where
   module _ (mac : H → List ℕ → List ℕ → List ℕ) (q : RequestRecord) where
     pair_grows : (l r number : ℕ) (s new : AgentRecord H P) (emitted : Emitted) → RecordsAndResponds mac q l r number s emitted new → Grows s new
     pair_grows l r number s new emitted (path, mid, nominates, (put, is, made)) =
-        let k : Grows s mid = where_grows (s.controlling && is_valid_at number s.pairs) (pair_served q number s) mid path nominates in
+        let k : Grows s mid = where_grows (selects_at_requests s && is_valid_at number s.pairs) (pair_served q number s) mid path nominates in
         both s mid new k (same_events mid new (ap (λ (a : AgentRecord H P). a.events) made))
 
     takes_grows : (l r : ℕ) (number : Option ℕ) (s new : AgentRecord H P) (emitted : Emitted) → FindsOrAddsPair mac q l r number s emitted new → Grows s new

@@ -50,7 +50,7 @@ module _ {H P : Type 0} where
   uses-too old _ e q r serving_q serving_r uses = absurd serving_q.3
 
   module _ (mac : H → List ℕ → List ℕ → List ℕ) (answers : P → CandidateRecord → ℕ → ℕ → Type 0) where
-    nominated-on : (old new : AgentRecord H P) (x : Logged P) (path : Path) → PathEffect mac old x.call x.entry new → IsAskedOn old x new path → IsNominatedOn new path
+    pub nominated-on : (old new : AgentRecord H P) (x : Logged P) (path : Path) → PathEffect mac old x.call x.entry new → IsAskedOn old x new path → IsNominatedOn new path
     nominated-on old new x path f (q, id, serving, uses, out, controlled) =
         let k = f.replied (issued_as path class.Success id) out refl in
         let on = k.3 (uses-too old x.call x.entry q k.0 serving k.1 uses) controlled in

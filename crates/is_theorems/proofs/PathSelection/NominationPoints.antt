@@ -208,10 +208,10 @@ valid_once_answered Waiting h = let no : false ≡ true = h in cc
 valid_once_answered InProgress h = refl
 valid_once_answered Succeeded h = refl
 
-abbrev All1 : Path → Type 0
+abbrev pub All1 : Path → Type 0
 All1 path = Unit {0}
 
-abbrev All3 : Path → List ℕ → Bool → Type 0
+abbrev pub All3 : Path → List ℕ → Bool → Type 0
 All3 path id role = Unit {0}
 
 kept_if_numbered : (b c l : Bool) (p : PairRecord) → Kept_by_self p (if b then nominated_by_self c l p else p)
@@ -235,8 +235,16 @@ module _ {H P : Type 0} where
             (top_mapped old.controlling (followed old) (change_at p.number (checked now old.timing old.controlling id)) (map (asked now old.timing) old.pairs) old.selected_pair
             (λ q. alike_if (is_numbered p.number q) old.controlling q (checked now old.timing old.controlling id q) (checked_alike old.controlling now old.timing old.controlling id q)) all_top)
 
-  abbrev FitOf : AgentRecord H P → Type 0
+  abbrev pub FitOf : AgentRecord H P → Type 0
   FitOf a = Fit (parts_of All1 All1 All3 a)
+
+  pub fit_of : (a : AgentRecord H P) → IsSound a → FitOf a
+  fit_of a sound = record {
+    placed = sound.placed;
+    rising = rising-each a.pairs sound.rising;
+    below = below-each a.next_number a.pairs sound.below;
+    started = λ p has c keeps. sound.started p c has keeps;
+  }
 
   removes_expired_top : (now : ℕ) (old new : AgentRecord H P) (path : Option Path) → FitOf old → RemovesExpired now old path new → IsTopSelected old → IsTopSelected new
   removes_expired_top now old new path fit h top = either (list_any (is_expired now old) old.pairs) h
@@ -257,12 +265,13 @@ module _ {H P : Type 0} where
   pub record Still (p : PairRecord) (a b : AgentRecord H P) : Type 0 where
     pub now : PairRecord
     pub there : Has b.pairs now
+    pub number : now.number ≡ p.number
     pub checks : now.checks ≡ p.checks
     pub valid : is_valid now ≡ is_valid p
     pub path : path_of b now ≡ path_of a p
 
-  stays_still : (p : PairRecord) (a b : AgentRecord H P) → Has a.pairs p → b ≡ a → Still p a b
-  stays_still p a b has same = subst (λ (x : AgentRecord H P). Still p a x) (sym same) (record { now = p; there = has; checks = refl; valid = refl; path = refl })
+  pub stays_still : (p : PairRecord) (a b : AgentRecord H P) → Has a.pairs p → b ≡ a → Still p a b
+  stays_still p a b has same = subst (λ (x : AgentRecord H P). Still p a x) (sym same) (record { now = p; there = has; number = refl; checks = refl; valid = refl; path = refl })
 
   selects_still : (old new : AgentRecord H P) (path : Option Path) (p : PairRecord) → Has old.pairs p → SelectsPath old path new → Still p old new
   selects_still old new path p has (None, none, (is, same)) = stays_still p old new has same
@@ -274,12 +283,13 @@ module _ {H P : Type 0} where
       subst (λ (x : AgentRecord H P). Still p old x) (sym k.1) (record {
         now = q;
         there = Has-mapped (change_at top.number (nominated_by_self old.controlling old.lite)) old.pairs p has;
+        number = kept.number;
         checks = kept.checks;
         valid = kept.valid;
         path = ap (λ l. path_of old (record q { local = l })) kept.local ∙ ap (λ r. path_of old (record q { local = p.local; remote = r })) kept.remote;
       })))
 
-  nominates_still : (old new : AgentRecord H P) (path : Option Path) (p : PairRecord) → Has old.pairs p → Nominates old path new → Still p old new
+  pub nominates_still : (old new : AgentRecord H P) (path : Option Path) (p : PairRecord) → Has old.pairs p → Nominates old path new → Still p old new
   nominates_still old new path p has h = selects_still old new path p has (selects_path old new path h)
 
   -- the pair that takes the response is valid, and stores the check on its path
@@ -319,7 +329,7 @@ module _ {H P : Type 0} where
 
   module _ (mac : H → List ℕ → List ℕ → List ℕ) (answers : P → CandidateRecord → ℕ → ℕ → Type 0) (old new : AgentRecord H P) (s t : Stream) (e : Entry) (sound : IsSound old) where
     fit : FitOf old
-    fit = record { placed = sound.placed; rising = rising-each old.pairs sound.rising; below = below-each old.next_number old.pairs sound.below; started = λ p has c keeps. sound.started p c has keeps }
+    fit = fit_of old sound
 
     -- the success response of a packet
     abbrev Succeeds : ℕ → Path → Message → Type 0

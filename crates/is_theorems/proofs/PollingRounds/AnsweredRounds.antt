@@ -1,6 +1,6 @@
 -- Round after round: if the checks of a pair are answered, a response is accepted within as many rounds as there are
--- pairs that are due no later, or with kinds in turn within twice as many.
-use Rattle.std.proofs.Common.{◌≡◌, ℕ, ◌+◌, ◌<◌, ◌≤◌, true, suc, List, [], ◌∷◌, length, map, nat_lt, Option, Some, None, is_some, inl, inr, ◌⊎◌, refl, ap, sym, ◌∙◌, subst, arith}
+-- pairs that are due no later, or within twice as many if checks may go ahead.
+use Rattle.std.proofs.Common.{◌≡◌, ℕ, ◌+◌, ◌<◌, ◌≤◌, true, suc, List, [], ◌∷◌, length, map, nat_lt, Option, Some, None, is_some, unwrap_or, inl, inr, ◌⊎◌, refl, ap, sym, ◌∙◌, subst, arith}
 use Rattle.std.specs.Prelude.{IsSomeAnd}
 use Rattle.is_proto.specs.Lists.{Has}
 use Rattle.is_proto.specs.Times.{MAX}
@@ -14,6 +14,7 @@ use Rattle.is_stun.specs.declared.timing.StunTiming.{StunTiming}
 use Rattle.is_rules.specs.declared.emitted.Path.{Path}
 use Rattle.is_rules.specs.Emitted.{issued_as}
 use Rattle.is_rules.specs.Agent.{AgentRecord}
+use Rattle.is_rules.specs.Checking.{goes_ahead}
 use Rattle.is_rules.specs.Sending.{path_of}
 use Rattle.is_rules.specs.Sound.{IsSound}
 use Rattle.is_rules.specs.Polls.{PollsTimeout, NextTimeoutFrom, NextTimeouts, is_waiting, is_idle}
@@ -25,7 +26,8 @@ use Rattle.is_theorems.proofs.RuleEffects.UnchangedSettings.{either}
 use Rattle.is_pair.specs.Turns.{IsPaced, due_by}
 use Rattle.is_theorems.specs.Progress.{Passes, MayBeAsked, Arrival, HasSuccess, Round, IsSuccess, MatchesTop, ArriveInTurn, Rounds, SelectsAfter, RoundSelects, AnsweredSelect}
 use Rattle.is_theorems.proofs.DuePairs.WithoutValidPair.{Calm, Persists, Waits, polled-sound, asked-sound, begins, persists, passed, pass-on, never}
-use Rattle.is_theorems.proofs.DuePairs.KindsInTurn.{calls_left, calls-kept, calls-from}
+use Rattle.is_theorems.proofs.DuePairs.ChecksAhead.{calls_left, calls-kept, calls-from}
+use Rattle.is_theorems.proofs.DuePairs.AfterNominationAndRemoval.{last_time_of}
 use Rattle.is_theorems.proofs.DuePairs.AfterPackets.{Core, DueAlike, Held, Arrived, arrived-same, receives, spares-map}
 use Rattle.is_theorems.proofs.PathSelection.SelectedAfterResponse.{eligible}
 use Rattle.is_theorems.proofs.BasicLemmas.VacantIndices.{keeps-remote-same}
@@ -63,7 +65,8 @@ module _ {H P : Type 0} where
 
       pub waits-on : (n : ℕ) (path : Path) (k : ℕ) (old new : AgentRecord H P) → Waits by n path at k old → IsSound new → Arrived mac by at following early old new → Waits by n path at k new
       waits-on n path k old new w sound (core, grown, spares) =
-          let x = spares.forth w.pair w.there in
+          let late : by < last_time_of old = (let last : last_time_of old ≡ at = ap (λ o. unwrap_or o 0) w.last in omega (arith, last, following)) in
+          let x = spares.forth late w.pair w.there in
           let timing : new.timing ≡ old.timing = ap (λ (c : Core). c.timing) core in
           let g = grown w.pair w.there w.placed in
           record {
@@ -74,18 +77,15 @@ module _ {H P : Type 0} where
             there = x.1;
             young = ap (λ cs. nat_lt (unanswered_count cs) new.timing.max_retransmits) x.2.checks ∙ (ap (λ (t : StunTiming). nat_lt (unanswered_count w.pair.checks) t.max_retransmits) timing ∙ w.young);
             due = λ m above. subst (λ (t : StunTiming). due_time_of m t x.0 ≤ by) (sym timing) (due_still m above x.0 x.2);
-            held = subst (λ (t : StunTiming). Held by at t new.pairs) (sym timing) (spares.held w.held);
+            held = subst (λ (t : StunTiming). Held by at t new.pairs) (sym timing) (spares.held late w.held);
             placed = subst (λ r. r < length new.remote) (sym x.2.matches.remote) g.1;
             on = grown-path old new w.pair x.0 (ap (λ (c : Core). c.local) core) (ap (λ r. candidate_at new.remote r) x.2.matches.remote ∙ g.0) x.2.matches.local ∙ w.on;
-            count = subst (λ (t : StunTiming). calls_left new.rules.kinds_in_turn new.kind_turn (length (due_by by at t new.pairs)) + k ≤ n) (sym timing)
-                (subst (λ (c : Core). calls_left c.rules.kinds_in_turn c.kind_turn (length (due_by by at old.timing new.pairs)) + k ≤ n) (sym core)
-                (calls-kept old.rules.kinds_in_turn old.kind_turn (length (due_by by at old.timing old.pairs)) (length (due_by by at old.timing new.pairs)) k n spares.count w.count));
+            count = subst (λ (t : StunTiming). calls_left (goes_ahead new.rules) new.ahead_turn (length (due_by by at t new.pairs)) + k ≤ n) (sym timing)
+                (subst (λ (c : Core). calls_left (goes_ahead c.rules) c.ahead_turn (length (due_by by at old.timing new.pairs)) + k ≤ n) (sym core)
+                (calls-kept (goes_ahead old.rules) old.ahead_turn (length (due_by by at old.timing old.pairs)) (length (due_by by at old.timing new.pairs)) k n (spares.count late) w.count));
           } where
-            due_still : (m : ℕ) → by < m → (q : PairRecord) → DueAlike at old.timing w.pair q → due_time_of m old.timing q ≤ by
-            due_still m above q a = elim (a.whenever m) [
-              | inl e ↦ subst (λ d. d ≤ by) (sym e) (w.due m above)
-              | inr e ↦ subst (λ d. d ≤ by) (sym e) (w.due at following)
-            ]
+            due_still : (m : ℕ) → by < m → (q : PairRecord) → DueAlike by at old.timing w.pair q → due_time_of m old.timing q ≤ by
+            due_still m above q a = a.stays m (w.due m above) (w.due at following)
 
       -- `poll_timeout`
       pub asks : (old new : AgentRecord H P) (deadline : Option ℕ) → old.last_time ≡ Some at → PollsTimeout old deadline new → Arrived mac by at following early old new
@@ -94,8 +94,9 @@ module _ {H P : Type 0} where
         fixed made = subst (λ (a : AgentRecord H P). Arrived mac by at following early old a) (sym made) (
           refl,
           keeps-remote-same old.pairs old.remote old.remote refl,
-          spares-map by at old.timing old.next_number (asked at old.timing) old.pairs
-              (λ p. record { matches = record { number = refl; local = refl; remote = refl; valid = refl }; checks = refl; due = refl; whenever = λ m. inr refl }),
+          spares-map by (last_time_of old) at old.timing old.next_number (asked at old.timing) old.pairs
+              (λ p. record { number = refl; local = refl; remote = refl; valid = refl })
+              (λ late p. record { matches = record { number = refl; local = refl; remote = refl; valid = refl }; checks = refl; before = λ m le. inr le; stays = λ m le now. now }),
         )
 
         some : (deadline : Option ℕ) → IsSomeAnd deadline (λ w. NextTimeouts old at w new) → Arrived mac by at following early old new
@@ -189,9 +190,9 @@ module _ {H P : Type 0} where
 
     pub answered-announce : AnsweredSelect mac answers
     answered-announce first last r rounds p by sound role waits unanswered timeouts rounding echoes enough =
-        met-in by (calls_left first.rules.kinds_in_turn first.kind_turn (length (due_by by r.now first.timing first.pairs))) (path_of first p) 0 r rounds first last (begins mac answers r.now by first p sound role waits unanswered)
+        met-in by (calls_left (goes_ahead first.rules) first.ahead_turn (length (due_by by r.now first.timing first.pairs))) (path_of first p) 0 r rounds first last (begins mac answers r.now by first p sound role waits unanswered)
         (λ x has. (let late = (timeouts x has).0 in let early = (timeouts x has).1 in (omega (arith, late), omega (arith, early)))) rounding echoes
-        (at-first (calls_left first.rules.kinds_in_turn first.kind_turn (length (due_by by r.now first.timing first.pairs))) (length (r ∷ rounds))
-        (calls-from first.rules.kinds_in_turn first.kind_turn (length (due_by by r.now first.timing first.pairs)) (length (r ∷ rounds)) (omega (arith, enough)))) where
+        (at-first (calls_left (goes_ahead first.rules) first.ahead_turn (length (due_by by r.now first.timing first.pairs))) (length (r ∷ rounds))
+        (calls-from (goes_ahead first.rules) first.ahead_turn (length (due_by by r.now first.timing first.pairs)) (length (r ∷ rounds)) (omega (arith, enough)))) where
           at-first : (n k : ℕ) → n ≤ k + 1 → n ≤ 0 + k + 1
           at-first n k enough = omega (arith, enough)

@@ -1,5 +1,5 @@
 -- Rounds in a log: if the checks of a pair are answered, a path is selected within as many rounds as there are pairs
--- that are due no later, or with kinds in turn within twice as many.
+-- that are due no later, or within twice as many if checks may go ahead.
 use Rattle.std.proofs.Common.{◌≡◌, ℕ, ◌+◌, ◌<◌, ◌≤◌, true, List, [], ◌∷◌, ◌++◌, length, Some, inl, inr, ◌⊎◌, refl, ap, sym, ◌∙◌, subst, arith, append_assoc}
 use Rattle.rand_core.specs.Stream.{Stream}
 use Rattle.is_proto.specs.Lists.{Has}
@@ -10,6 +10,7 @@ use Rattle.is_stun.specs.declared.header.Class.TheVariants as class
 use Rattle.is_stun.specs.Message.{Message}
 use Rattle.is_rules.specs.declared.emitted.Path.{Path}
 use Rattle.is_rules.specs.Agent.{AgentRecord}
+use Rattle.is_rules.specs.Checking.{goes_ahead}
 use Rattle.is_rules.specs.Sending.{path_of}
 use Rattle.is_rules.specs.Steps.{Call, Entry, ReceivePacket, HandleTimeout, PollTransmit, PollTimeout, PollEvent, Step}
 use Rattle.is_rules.specs.Sound.{IsSound}
@@ -20,7 +21,8 @@ use Rattle.is_theorems.specs.Progress.{Passes}
 use Rattle.is_theorems.specs.Rounds.{LoggedRound, entries_of, began_at, is_between, BringsSuccess, IsRound, RunsOn, IsControllingIn, SegmentSelects, AnsweredRoundsSelect}
 use Rattle.is_theorems.proofs.CallEffects.PathAndTradeEffects.{path_theorem}
 use Rattle.is_theorems.proofs.ExecutionLogs.LogTheorems.{runs_sound}
-use Rattle.is_theorems.proofs.DuePairs.KindsInTurn.{calls_left, calls-from}
+use Rattle.is_theorems.proofs.DuePairs.ChecksAhead.{calls_left, calls-from}
+use Rattle.is_theorems.proofs.DuePairs.AfterNominationAndRemoval.{last_time_of}
 use Rattle.is_theorems.proofs.DuePairs.AfterPackets.{Core, Arrived, receives, spares-same}
 use Rattle.is_theorems.proofs.DuePairs.WithoutValidPair.{Calm, Persists, Waits, begins, persists, passed, pass-on, never}
 use Rattle.is_theorems.proofs.PollingRounds.AnsweredRounds.{calm-on, waits-on, asks}
@@ -53,10 +55,10 @@ module _ {H P : Type 0} where
             | inr k ↦ inr k
           ]
       between-by PollTransmit e old new s t rests is stays (given, emitted, (polled, made), drawn) =
-          inr (subst (λ (a : AgentRecord H P). Arrived mac by at following early old a) (sym made) (refl, keeps-remote-same old.pairs old.remote old.remote refl, spares-same by at old.timing old.next_number old.pairs))
+          inr (subst (λ (a : AgentRecord H P). Arrived mac by at following early old a) (sym made) (refl, keeps-remote-same old.pairs old.remote old.remote refl, spares-same by (last_time_of old) at old.timing old.next_number old.pairs))
       between-by PollTimeout e old new s t (calm, last) is stays (deadline, emitted, timed_out, drawn) = inr (asks mac answers by at following early old new deadline last timed_out)
       between-by PollEvent e old new s t rests is stays (given, emitted, (polled, made), drawn) =
-          inr (subst (λ (a : AgentRecord H P). Arrived mac by at following early old a) (sym made) (refl, keeps-remote-same old.pairs old.remote old.remote refl, spares-same by at old.timing old.next_number old.pairs))
+          inr (subst (λ (a : AgentRecord H P). Arrived mac by at following early old a) (sym made) (refl, keeps-remote-same old.pairs old.remote old.remote refl, spares-same by (last_time_of old) at old.timing old.next_number old.pairs))
       between-by _ e old new s t rests is stays step = no-case is
 
     -- after the rounds so far the pair still waits
@@ -212,17 +214,17 @@ module _ {H P : Type 0} where
         let begin = begins mac answers at by start p sound
         (starts-controlling mac answers before start last part.at part.following (entries_of rounds) part.run role) waiting unanswered in
         by-rounds rounds began are
-        (calls-from start.rules.kinds_in_turn start.kind_turn (length (due_by by at start.timing start.pairs)) (length rounds) (omega (arith, enough)))
+        (calls-from (goes_ahead start.rules) start.ahead_turn (length (due_by by at start.timing start.pairs)) (length rounds) (omega (arith, enough)))
         (rounds-go first s log fresh before start part.at part.led (entries_of rounds) by
-        (calls_left start.rules.kinds_in_turn start.kind_turn (length (due_by by at start.timing start.pairs))) at (path_of start p) begin
+        (calls_left (goes_ahead start.rules) start.ahead_turn (length (due_by by at start.timing start.pairs))) at (path_of start p) begin
         rounds last part.following part.rest part.split (λ x has. has) (inr began) are part.run role) where
           by-rounds : (rs : List (LoggedRound P)) → began_at rs ≡ Some at → ((r : LoggedRound P) → Has rs r → IsRound by (path_of start p) r)
-              → calls_left start.rules.kinds_in_turn start.kind_turn (length (due_by by at start.timing start.pairs)) ≤ length rs + 1
+              → calls_left (goes_ahead start.rules) start.ahead_turn (length (due_by by at start.timing start.pairs)) ≤ length rs + 1
               → SegmentSelects mac answers first s log (entries_of rounds)
-              ⊎ WaitsAfter start by (calls_left start.rules.kinds_in_turn start.kind_turn (length (due_by by at start.timing start.pairs))) (path_of start p) rs last
+              ⊎ WaitsAfter start by (calls_left (goes_ahead start.rules) start.ahead_turn (length (due_by by at start.timing start.pairs))) (path_of start p) rs last
               → SegmentSelects mac answers first s log (entries_of rounds)
           by-rounds rs none are enough (inl selected_paths) = selected_paths
           by-rounds [] none are enough (inr w) = absurd (cc)
           by-rounds (r ∷ older) began are enough (inr w) =
-              absurd (never by (calls_left start.rules.kinds_in_turn start.kind_turn (length (due_by by at start.timing start.pairs))) (path_of start p) r.now (length (r ∷ older)) last
+              absurd (never by (calls_left (goes_ahead start.rules) start.ahead_turn (length (due_by by at start.timing start.pairs))) (path_of start p) r.now (length (r ∷ older)) last
               (falls-late by (path_of start p) r (are r (inl refl))) w enough)

@@ -8,11 +8,12 @@ use Rattle.is_proto.specs.Lists.{Has}
 use Rattle.is_proto.specs.Times.{MAX}
 use Rattle.is_candidate.specs.Candidates.{CandidateRecord}
 use Rattle.is_pair.specs.Checks.{unanswered_count}
-use Rattle.is_pair.specs.Due.{asked, due_time_of}
+use Rattle.is_pair.specs.Due.{asked}
 use Rattle.is_pair.specs.Pairs.{PairRecord}
 use Rattle.is_stun.specs.declared.header.Class.TheVariants as class
 use Rattle.is_stun.specs.declared.timing.StunTiming.{StunTiming}
 use Rattle.is_rules.specs.Agent.{AgentRecord}
+use Rattle.is_rules.specs.Checking.{goes_ahead}
 use Rattle.is_theorems.specs.Asked.{IsAnsweredOn, IsAnsweredIn, MayEndIn}
 use Rattle.is_theorems.specs.AskedCourses.{Ends}
 use Rattle.is_rules.specs.Brought.{Brings}
@@ -37,8 +38,8 @@ use Rattle.is_theorems.proofs.ExecutionLogs.LogTheorems.{runs_sound}
 use Rattle.is_theorems.proofs.ExecutionLogs.LogSegments.{no-case, run-on, passed as passed-at}
 use Rattle.is_theorems.proofs.EarlierChecks.ChangedPairs.{onward-same}
 use Rattle.is_theorems.proofs.EarlierChecks.BetweenTimeouts.{Ground, Goes, goes-to, goes-same, receives-goes}
-use Rattle.is_theorems.proofs.DuePairs.FirstDuePair.{timeout-follows}
-use Rattle.is_theorems.proofs.DuePairs.KindsInTurn.{times, calls_left, Falls, calls-fall, calls-added, calls-over}
+use Rattle.is_theorems.proofs.DuePairs.FirstDuePair.{due-at, timeout-follows}
+use Rattle.is_theorems.proofs.DuePairs.ChecksAhead.{times, calls_left, Falls, calls-fall, calls-added, calls-over}
 use Rattle.is_theorems.proofs.EarlierChecks.OneCheckFewer.{Ready, timeout-goes}
 use Rattle.is_rules.proofs.PairLists.RisingNumbers.{rising-each}
 use Rattle.is_theorems.proofs.CallEffects.ServedRequests.{Has-mapped}
@@ -46,7 +47,7 @@ use Rattle.is_theorems.proofs.DuePairs.PollingCycles.{none-left, maintains_pairs
 use Rattle.is_theorems.proofs.CallEffects.FailedCallsAndNewAgents.{mtu_kept, local_kept, enrolment_kept, storing_kept}
 use Rattle.is_theorems.proofs.StoredPairs.PairsThatStay.{none-entered, pairs-stay}
 use Rattle.is_theorems.proofs.RuleEffects.SelectedPaths.{one_pair}
-use Rattle.is_theorems.proofs.DuePairs.AfterNominationAndRemoval.{Base, stays-young}
+use Rattle.is_theorems.proofs.DuePairs.AfterNominationAndRemoval.{Base, last_time_of, stays-young}
 use Rattle.is_theorems.proofs.EarlierChecks.AddedCandidates.{local-goes, remote-goes}
 
 lt-is : (n m : ℕ) → n < m → nat_lt n m ≡ true
@@ -87,11 +88,11 @@ module _ {H P : Type 0} where
     fixed made = goes-to n by old _ new (
       refl,
       record {
-        less = (let le : leads n by (map (asked at old.timing) old.pairs) ≤ leads n by old.pairs =
+        less = λ late. (let le : leads n by (map (asked at old.timing) old.pairs) ≤ leads n by old.pairs =
             leads-map n by (asked at old.timing) old.pairs (λ y. own-le n by y (asked at old.timing y) refl (lead-asked by at old.timing y following early)) in
             omega (arith, le));
-        fixed = λ d cs (q, has, is, due, checks).
-            (asked at old.timing q, Has-mapped (asked at old.timing) old.pairs q has, is, ap (λ o. Some (unwrap_or o (due_time_of at old.timing (record q { due = None })))) due, checks);
+        fixed = λ d cs le (q, has, is, due, checks).
+            (asked at old.timing q, Has-mapped (asked at old.timing) old.pairs q has, is, ap Some (due-at at d old.timing q due), checks);
       },
     ) made
 
@@ -104,7 +105,7 @@ module _ {H P : Type 0} where
   -- ---- a pair that waits for its check
 
   -- before a `handle_timeout` call
-  record Persists (by n : ℕ) (path : Path) (in_turn : Bool) (total base now k : ℕ) (a : AgentRecord H P) : Type 0 where
+  record Persists (by n : ℕ) (path : Path) (ahead : Bool) (total base now k : ℕ) (a : AgentRecord H P) : Type 0 where
     checking : IsChecking a
     queue : a.queue ≡ []
     pair : PairRecord
@@ -115,11 +116,11 @@ module _ {H P : Type 0} where
     late : by < now
     early : now < MAX
     ready : Ready now by late early a.timing pair
-    rules : a.rules.kinds_in_turn ≡ in_turn
-    count : calls_left in_turn a.kind_turn (leads n by a.pairs) + k + times in_turn base ≤ total + times in_turn a.next_number
+    rules : goes_ahead a.rules ≡ ahead
+    count : calls_left ahead a.ahead_turn (leads n by a.pairs) + k + times ahead base ≤ total + times ahead a.next_number
 
   -- after it
-  record Waits (by n : ℕ) (path : Path) (in_turn : Bool) (total base at k : ℕ) (a : AgentRecord H P) : Type 0 where
+  record Waits (by n : ℕ) (path : Path) (ahead : Bool) (total base at k : ℕ) (a : AgentRecord H P) : Type 0 where
     checking : IsChecking a
     queue : a.queue ≡ []
     last : a.last_time ≡ Some at
@@ -131,11 +132,11 @@ module _ {H P : Type 0} where
     timeout : ℕ
     before : timeout ≤ by
     due : pair.due ≡ Some timeout
-    rules : a.rules.kinds_in_turn ≡ in_turn
-    count : calls_left in_turn a.kind_turn (leads n by a.pairs) + k + times in_turn base ≤ total + times in_turn a.next_number
+    rules : goes_ahead a.rules ≡ ahead
+    count : calls_left ahead a.ahead_turn (leads n by a.pairs) + k + times ahead base ≤ total + times ahead a.next_number
 
-  persists : (by n : ℕ) (path : Path) (in_turn : Bool) (total base at k now : ℕ) (a : AgentRecord H P) → by < now → now < MAX → Waits by n path in_turn total base at k a → Persists by n path in_turn total base now k a
-  persists by n path in_turn total base at k now a late early w = record {
+  persists : (by n : ℕ) (path : Path) (ahead : Bool) (total base at k now : ℕ) (a : AgentRecord H P) → by < now → now < MAX → Waits by n path ahead total base at k a → Persists by n path ahead total base now k a
+  persists by n path ahead total base at k now a late early w = record {
     checking = w.checking;
     queue = w.queue;
     pair = w.pair;
@@ -145,17 +146,18 @@ module _ {H P : Type 0} where
     young = w.young;
     late = late;
     early = early;
-    ready = (subst (λ d. d ≤ by) (sym (ap (λ o. unwrap_or o (due_time_of now a.timing (record w.pair { due = None }))) w.due)) w.before, inr (ap is_some w.due));
+    ready = (subst (λ d. d ≤ by) (sym (due-at now w.timeout a.timing w.pair w.due)) w.before, inr (ap is_some w.due));
     rules = w.rules;
     count = w.count;
   }
 
-  module _ (mac : H → List ℕ → List ℕ → List ℕ) (answers : P → CandidateRecord → ℕ → ℕ → Type 0) (by n : ℕ) (path : Path) (in_turn : Bool) (total base : ℕ) where
+  module _ (mac : H → List ℕ → List ℕ → List ℕ) (answers : P → CandidateRecord → ℕ → ℕ → Type 0) (by n : ℕ) (path : Path) (ahead : Bool) (total base : ℕ) where
     -- ---- between two `handle_timeout` calls
 
-    waits-on : (at k : ℕ) (old new : AgentRecord H P) (w : Waits by n path in_turn total base at k old) → IsSound new → Goes n by old new → Stays old w.pair new → Waits by n path in_turn total base at k new
-    waits-on at k old new w sound (ground, goes) stays =
-        let f = goes.fixed w.timeout w.pair.checks (w.pair, w.there, w.number, w.due, refl) in
+    waits-on : (at k : ℕ) → by < at → (old new : AgentRecord H P) (w : Waits by n path ahead total base at k old) → IsSound new → Goes n by old new → Stays old w.pair new → Waits by n path ahead total base at k new
+    waits-on at k following old new w sound (ground, goes) stays =
+        let at_last : last_time_of old ≡ at = ap (λ o. unwrap_or o 0) w.last in
+        let f = goes.fixed w.timeout w.pair.checks (let before = w.before in omega (arith, at_last, before, following)) (w.pair, w.there, w.number, w.due, refl) in
         let one : stays.pair ≡ f.0 = one_pair new.pairs stays.pair f.0 (rising-each new.pairs sound.rising) stays.there f.1 (stays.number ∙ (w.number ∙ sym f.2)) in
         let timing : new.timing ≡ old.timing = ap (λ (g : Ground). g.timing) ground in
         record {
@@ -173,10 +175,10 @@ module _ {H P : Type 0} where
           timeout = w.timeout;
           before = w.before;
           due = f.3;
-          rules = ap (λ (g : Ground). g.rules.kinds_in_turn) ground ∙ w.rules;
-          count = subst (λ b. calls_left in_turn b (leads n by new.pairs) + k + times in_turn base ≤ total + times in_turn new.next_number)
-              (sym (ap (λ (g : Ground). g.kind_turn) ground))
-              (calls-added in_turn old.kind_turn (leads n by old.pairs) (leads n by new.pairs) old.next_number new.next_number k base total goes.less w.count);
+          rules = ap (λ (g : Ground). goes_ahead g.rules) ground ∙ w.rules;
+          count = subst (λ b. calls_left ahead b (leads n by new.pairs) + k + times ahead base ≤ total + times ahead new.next_number)
+              (sym (ap (λ (g : Ground). g.ahead_turn) ground))
+              (calls-added ahead old.ahead_turn (leads n by old.pairs) (leads n by new.pairs) old.next_number new.next_number k base total (goes.less (omega (arith, at_last, following))) w.count);
         }
 
     between-goes : (at : ℕ) → by < at → at < MAX → (x : Logged P) (call : Call P) → x.call ≡ call → (old new : AgentRecord H P) (s t : Stream) → is_some old.remote_creds ≡ true → old.last_time ≡ Some at
@@ -188,9 +190,9 @@ module _ {H P : Type 0} where
           | inl (m, reads, flag, success, back) ↦ inl (now, via, m, subst (λ (c : Call P). Brings c x.entry now via m) (sym called) (refl, refl, reads, flag), success, back)
           | inr k ↦ inr (inr k)
         ]
-    between-goes at following early x PollTransmit called old new s t known last p sound has number on is (given, emitted, (polled, made), drawn) = inr (inr (goes-to n by old _ new (refl, onward-same n by old.pairs old.next_number) made))
+    between-goes at following early x PollTransmit called old new s t known last p sound has number on is (given, emitted, (polled, made), drawn) = inr (inr (goes-to n by old _ new (refl, onward-same n by (last_time_of old) old.pairs old.next_number) made))
     between-goes at following early x PollTimeout called old new s t known last p sound has number on is (deadline, emitted, timed_out, drawn) = inr (inr (asks-goes n by at following early old new deadline last timed_out))
-    between-goes at following early x PollEvent called old new s t known last p sound has number on is (given, emitted, (polled, made), drawn) = inr (inr (goes-to n by old _ new (refl, onward-same n by old.pairs old.next_number) made))
+    between-goes at following early x PollEvent called old new s t known last p sound has number on is (given, emitted, (polled, made), drawn) = inr (inr (goes-to n by old _ new (refl, onward-same n by (last_time_of old) old.pairs old.next_number) made))
     between-goes at following early x (AddLocalCandidate c) called old new s t known last p sound has number on is (Ok (Some place), reported, h, drawn) = elim (local-goes n by answers old new c place p sound has number h) [
       | inl ends ↦ inr (inl (ap (λ (e : Entry). e.answer) reported, ends))
       | inr k ↦ inr (inr k)
@@ -202,17 +204,17 @@ module _ {H P : Type 0} where
       | inr k ↦ inr (inr k)
     ]
     between-goes at following early x (AddRemoteCandidate c) called old new s t known last p sound has number on is (Err error, reported, h, drawn) = inr (inr (goes-same n by old new (storing_kept old new c error h)))
-    between-goes at following early x (SetMtu target warn) called old new s t known last p sound has number on is (Ok _, reported, h, drawn) = inr (inr (goes-to n by old _ new (refl, onward-same n by old.pairs old.next_number) h.1))
+    between-goes at following early x (SetMtu target warn) called old new s t known last p sound has number on is (Ok _, reported, h, drawn) = inr (inr (goes-to n by old _ new (refl, onward-same n by (last_time_of old) old.pairs old.next_number) h.1))
     between-goes at following early x (SetMtu target warn) called old new s t known last p sound has number on is (Err error, reported, h, drawn) = inr (inr (goes-same n by old new (mtu_kept old new target warn error h)))
-    between-goes at following early x (SetLocalCredentials creds) called old new s t known last p sound has number on is (Ok _, reported, h, drawn) = inr (inr (goes-to n by old _ new (refl, onward-same n by old.pairs old.next_number) h.1))
+    between-goes at following early x (SetLocalCredentials creds) called old new s t known last p sound has number on is (Ok _, reported, h, drawn) = inr (inr (goes-to n by old _ new (refl, onward-same n by (last_time_of old) old.pairs old.next_number) h.1))
     between-goes at following early x (SetLocalCredentials creds) called old new s t known last p sound has number on is (Err error, reported, h, drawn) = inr (inr (goes-same n by old new (local_kept old new creds error h)))
-    between-goes at following early x (SetControlTieBreaker tie) called old new s t known last p sound has number on is (reported, made, drawn) = inr (inr (goes-to n by old _ new (refl, onward-same n by old.pairs old.next_number) made))
-    between-goes at following early x (SetMaxCandidatePairs k) called old new s t known last p sound has number on is (reported, made, drawn) = inr (inr (goes-to n by old _ new (refl, onward-same n by old.pairs old.next_number) made))
-    between-goes at following early x (SetMaxDiscovered limit) called old new s t known last p sound has number on is (reported, made, drawn) = inr (inr (goes-to n by old _ new (refl, onward-same n by old.pairs old.next_number) made))
-    between-goes at following early x (SetRenomination renominates) called old new s t known last p sound has number on is (reported, made, drawn) = inr (inr (goes-to n by old _ new (refl, onward-same n by old.pairs old.next_number) made))
-    between-goes at following early x (SetTimingAdvance advance) called old new s t known last p sound has number on is (reported, made, drawn) = inr (inr (goes-to n by old _ new (refl, onward-same n by old.pairs old.next_number) made))
-    between-goes at following early x (SetLocalPreference object) called old new s t known last p sound has number on is (reported, made, drawn) = inr (inr (goes-to n by old _ new (refl, onward-same n by old.pairs old.next_number) made))
-    between-goes at following early x (SetControlling controlling) called old new s t known last p sound has number on is (reported, made, drawn) = inr (inr (goes-to n by old _ new (refl, onward-same n by old.pairs old.next_number) made))
+    between-goes at following early x (SetControlTieBreaker tie) called old new s t known last p sound has number on is (reported, made, drawn) = inr (inr (goes-to n by old _ new (refl, onward-same n by (last_time_of old) old.pairs old.next_number) made))
+    between-goes at following early x (SetMaxCandidatePairs k) called old new s t known last p sound has number on is (reported, made, drawn) = inr (inr (goes-to n by old _ new (refl, onward-same n by (last_time_of old) old.pairs old.next_number) made))
+    between-goes at following early x (SetMaxDiscovered limit) called old new s t known last p sound has number on is (reported, made, drawn) = inr (inr (goes-to n by old _ new (refl, onward-same n by (last_time_of old) old.pairs old.next_number) made))
+    between-goes at following early x (SetRenomination renominates) called old new s t known last p sound has number on is (reported, made, drawn) = inr (inr (goes-to n by old _ new (refl, onward-same n by (last_time_of old) old.pairs old.next_number) made))
+    between-goes at following early x (SetTimingAdvance advance) called old new s t known last p sound has number on is (reported, made, drawn) = inr (inr (goes-to n by old _ new (refl, onward-same n by (last_time_of old) old.pairs old.next_number) made))
+    between-goes at following early x (SetLocalPreference object) called old new s t known last p sound has number on is (reported, made, drawn) = inr (inr (goes-to n by old _ new (refl, onward-same n by (last_time_of old) old.pairs old.next_number) made))
+    between-goes at following early x (SetControlling controlling) called old new s t known last p sound has number on is (reported, made, drawn) = inr (inr (goes-to n by old _ new (refl, onward-same n by (last_time_of old) old.pairs old.next_number) made))
     between-goes at following early x _ called old new s t known last p sound has number on is step = no-case is
 
     module _ (first : AgentRecord H P) (s : Stream) (fresh : IsFresh first) where
@@ -220,9 +222,9 @@ module _ {H P : Type 0} where
       sound-at log a t run = runs_sound mac answers (path_theorem mac answers) first a s t log fresh run
 
       walk : (at k : ℕ) → by < at → at < MAX → (before : List (Logged P)) (start last : AgentRecord H P) (u t : Stream) (xs : List (Logged P)) → ((x : Logged P) → Has xs x → is_in_round x.call ≡ true)
-          → Run mac answers first s before start u → (run : RunsOn mac answers before start u xs last t) → Waits by n path in_turn total base at k start
-          → IsAnsweredIn xs path ⊎ (IsEndedIn mac answers before start u xs last t run path ⊎ Waits by n path in_turn total base at k last)
-      walk at k following early before start last u t [] fits led (is, same) w = inr (inr (subst (λ (a : AgentRecord H P). Waits by n path in_turn total base at k a) (sym is) w))
+          → Run mac answers first s before start u → (run : RunsOn mac answers before start u xs last t) → Waits by n path ahead total base at k start
+          → IsAnsweredIn xs path ⊎ (IsEndedIn mac answers before start u xs last t run path ⊎ Waits by n path ahead total base at k last)
+      walk at k following early before start last u t [] fits led (is, same) w = inr (inr (subst (λ (a : AgentRecord H P). Waits by n path ahead total base at k a) (sym is) w))
       walk at k following early before start last u t (x ∷ xs) fits led (mid, v, run, number, given, step) w =
           elim (walk at k following early before start mid u v xs (λ y has. fits y (inr has)) led run w) [
             | inl answered ↦ inl (answered-later path x xs answered)
@@ -236,7 +238,7 @@ module _ {H P : Type 0} where
                   | inl answered ↦ inl (x, inl refl, answered)
                   | inr (inl ends) ↦ inr (inl (inl (fits x (inl refl), ends-here ends)))
                   | inr (inr goes) ↦ elim (pairs-stay mac answers mid last v t x.call x.entry m.pair sound given step m.there) [
-                    | inl stays ↦ inr (inr (waits-on at k mid last m sound_last goes stays))
+                    | inl stays ↦ inr (inr (waits-on at k following mid last m sound_last goes stays))
                     | inr ends ↦ inr (inl (inl (fits x (inl refl), ends-here ends)))
                   ]
                 ])
@@ -245,8 +247,8 @@ module _ {H P : Type 0} where
     -- ---- a `handle_timeout` call
 
     timeout-on : (now k : ℕ) (e : Entry) (old new : AgentRecord H P) (s t : Stream) → e.answer ≡ Done → Step mac answers old s (HandleTimeout now) e new t → IsSound old → IsSound new
-        → Persists by n path in_turn total base now k old
-        → ((id : List ℕ) × (e.emitted.issued ≡ Some (issued_as path class.Request id))) ⊎ Waits by n path in_turn total base now (suc k) new
+        → Persists by n path ahead total base now k old
+        → ((id : List ℕ) × (e.emitted.issued ≡ Some (issued_as path class.Request id))) ⊎ Waits by n path ahead total base now (suc k) new
     timeout-on now k e old new s t done step sound sound_new st =
         let h = passed-at mac answers old new s t now e done step in
         let p = maintains_pairs-from mac now old s t e.emitted new st.queue h in
@@ -261,9 +263,9 @@ module _ {H P : Type 0} where
               let one : stays.pair ≡ q = one_pair new.pairs stays.pair q (rising-each new.pairs sound_new.rising) stays.there has (stays.number ∙ sym is) in
               let next : new.next_number ≡ old.next_number = ap (λ (b : Base). b.next_number) m.0 in
               let timing : new.timing ≡ old.timing = ap (λ (b : Base). b.timing) m.0 in
-              let falls_for : Falls in_turn old.kind_turn new.kind_turn (leads n by old.pairs) (leads n by new.pairs) =
-              subst (λ b. Falls b old.kind_turn new.kind_turn (leads n by old.pairs) (leads n by new.pairs)) st.rules
-              (subst (λ i. Falls old.rules.kinds_in_turn old.kind_turn new.kind_turn (leads i by old.pairs) (leads i by new.pairs)) st.number falls) in
+              let falls_for : Falls ahead old.ahead_turn new.ahead_turn (leads n by old.pairs) (leads n by new.pairs) =
+              subst (λ b. Falls b old.ahead_turn new.ahead_turn (leads n by old.pairs) (leads n by new.pairs)) st.rules
+              (subst (λ i. Falls (goes_ahead old.rules) old.ahead_turn new.ahead_turn (leads i by old.pairs) (leads i by new.pairs)) st.number falls) in
               inr (record {
                 checking = record {
                   full = ap (λ (b : Base). b.lite) m.0 ∙ st.checking.full;
@@ -279,10 +281,10 @@ module _ {H P : Type 0} where
                 timeout = d;
                 before = before;
                 due = due;
-                rules = ap (λ (b : Base). b.rules.kinds_in_turn) m.0 ∙ st.rules;
-                count = subst (λ j. calls_left in_turn new.kind_turn (leads n by new.pairs) + suc k + times in_turn base ≤ total + times in_turn j) (sym next)
-                    (counted-on (calls_left in_turn old.kind_turn (leads n by old.pairs)) (calls_left in_turn new.kind_turn (leads n by new.pairs)) (times in_turn base) (total + times in_turn old.next_number)
-                    (calls-fall in_turn old.kind_turn new.kind_turn (leads n by old.pairs) (leads n by new.pairs) falls_for) st.count);
+                rules = ap (λ (b : Base). goes_ahead b.rules) m.0 ∙ st.rules;
+                count = subst (λ j. calls_left ahead new.ahead_turn (leads n by new.pairs) + suc k + times ahead base ≤ total + times ahead j) (sym next)
+                    (counted-on (calls_left ahead old.ahead_turn (leads n by old.pairs)) (calls_left ahead new.ahead_turn (leads n by new.pairs)) (times ahead base) (total + times ahead old.next_number)
+                    (calls-fall ahead old.ahead_turn new.ahead_turn (leads n by old.pairs) (leads n by new.pairs) falls_for) st.count);
               }))
         ] where
           counted-on : (x y i z : ℕ) → y + 1 ≤ x → x + k + i ≤ z → y + suc k + i ≤ z
@@ -316,23 +318,23 @@ module _ {H P : Type 0} where
     reached-later r older (inr answered) = inr (has-following path r.following (r.timeout ∷ entries_of older) (answered-later path r.timeout (entries_of older) answered))
 
     module _ (first : AgentRecord H P) (s : Stream) (fresh : IsFresh first) (before : List (Logged P)) (start : AgentRecord H P) (u : Stream) (led : Run mac answers first s before start u) (at : ℕ)
-        (begin : (late : by < at) (early : at < MAX) → Persists by n path in_turn total base at 0 start) where
+        (begin : (late : by < at) (early : at < MAX) → Persists by n path ahead total base at 0 start) where
       abbrev WaitsAfter : List (LoggedRound P) → AgentRecord H P → Type 0
       WaitsAfter [] a = a ≡ start
-      WaitsAfter (r ∷ older) a = Waits by n path in_turn total base r.now (length (r ∷ older)) a
+      WaitsAfter (r ∷ older) a = Waits by n path ahead total base r.now (length (r ∷ older)) a
 
       some-is : (x y : ℕ) → Some x ≡ Some y → x ≡ y
       some-is x y e = cc
 
       persists-at : (r : LoggedRound P) (older : List (LoggedRound P)) (old : AgentRecord H P) → began_at (r ∷ older) ≡ Some at → IsPassing by r → WaitsAfter older old
-          → Persists by n path in_turn total base r.now (length older) old
+          → Persists by n path ahead total base r.now (length older) old
       persists-at r [] old began passing same =
           let now : r.now ≡ at = some-is r.now at began in
           let late : by < r.now = falls-late by r passing in
           let early : r.now < MAX = falls-early by r passing in
-          subst (λ (a : AgentRecord H P). Persists by n path in_turn total base r.now 0 a) (sym same)
-          (subst (λ m. Persists by n path in_turn total base m 0 start) (sym now) (begin (omega (arith, late, now)) (omega (arith, early, now))))
-      persists-at r (x ∷ older) old began passing w = persists by n path in_turn total base x.now (length (x ∷ older)) r.now old (falls-late by r passing) (falls-early by r passing) w
+          subst (λ (a : AgentRecord H P). Persists by n path ahead total base r.now 0 a) (sym same)
+          (subst (λ m. Persists by n path ahead total base m 0 start) (sym now) (begin (omega (arith, late, now)) (omega (arith, early, now))))
+      persists-at r (x ∷ older) old began passing w = persists by n path ahead total base x.now (length (x ∷ older)) r.now old (falls-late by r passing) (falls-early by r passing) w
 
       older-began : (r : LoggedRound P) (rs : List (LoggedRound P)) → began_at (r ∷ rs) ≡ Some at → (rs ≡ [] ⊎ began_at rs ≡ Some at)
       older-began r [] is = inl refl
@@ -359,7 +361,7 @@ module _ {H P : Type 0} where
                 → Reached older ⊎ (IsEndedIn mac answers before start u (entries_of older) h.2.0 h.2.1 h.2.2 path ⊎ WaitsAfter older h.2.0)
                 → Reached (r ∷ older)
                 ⊎ ((IsEndedIn mac answers ((r.timeout ∷ entries_of older) ++ before) h.0 h.1 r.following last t h.3 path ⊎ IsEndedIn mac answers before start u (r.timeout ∷ entries_of older) h.0 h.1 h.2 path)
-                ⊎ Waits by n path in_turn total base r.now (length (r ∷ older)) last)
+                ⊎ Waits by n path ahead total base r.now (length (r ∷ older)) last)
             on-halves began (mid, v, (old, z, run_older, number, given, step), back) so_far =
                 elim so_far [
                   | inl reached ↦ inl (reached-later r older reached)
@@ -385,11 +387,11 @@ module _ {H P : Type 0} where
     pub pairs-are-reached : PairsAreReached {H = H} {P = P} mac answers
     pairs-are-reached first s log fresh before start last rounds p by found f =
         by-rounds (IsEndedIn mac answers before start found.at (entries_of rounds) last found.following found.run (path_of start p)) rounds f.began (let enough = f.enough in omega (arith, enough))
-        (rounds-go mac answers by p.number (path_of start p) start.rules.kinds_in_turn total start.next_number first s fresh before start found.at found.led f.at begin rounds last found.following (inr f.began) f.passing found.run) where
+        (rounds-go mac answers by p.number (path_of start p) (goes_ahead start.rules) total start.next_number first s fresh before start found.at found.led f.at begin rounds last found.following (inr f.began) f.passing found.run) where
           total : ℕ
-          total = calls_left start.rules.kinds_in_turn start.kind_turn (leads p.number by start.pairs)
+          total = calls_left (goes_ahead start.rules) start.ahead_turn (leads p.number by start.pairs)
 
-          begin : (late : by < f.at) (early : f.at < MAX) → Persists by p.number (path_of start p) start.rules.kinds_in_turn total start.next_number f.at 0 start
+          begin : (late : by < f.at) (early : f.at < MAX) → Persists by p.number (path_of start p) (goes_ahead start.rules) total start.next_number f.at 0 start
           begin late early = record {
             checking = f.line.checking;
             queue = f.line.queue;
@@ -402,22 +404,22 @@ module _ {H P : Type 0} where
             early = early;
             ready = (let due = f.line.due in omega (arith, due), f.line.settled);
             rules = refl;
-            count = at-first total (times start.rules.kinds_in_turn start.next_number);
+            count = at-first total (times (goes_ahead start.rules) start.next_number);
           } where
             at-first : (x i : ℕ) → x + 0 + i ≤ x + i
             at-first x i = omega arith
 
           by-rounds : (Gone : Type 0) (rs : List (LoggedRound P)) → began_at rs ≡ Some f.at
-              → times start.rules.kinds_in_turn (2 * length start.pairs + last.next_number) ≤ length rs + 1 + times start.rules.kinds_in_turn start.next_number
-              → Reached mac answers by p.number (path_of start p) start.rules.kinds_in_turn total start.next_number rs
-              ⊎ (Gone ⊎ WaitsAfter mac answers by p.number (path_of start p) start.rules.kinds_in_turn total start.next_number first s fresh before start found.at found.led f.at begin rs last)
+              → times (goes_ahead start.rules) (2 * length start.pairs + last.next_number) ≤ length rs + 1 + times (goes_ahead start.rules) start.next_number
+              → Reached mac answers by p.number (path_of start p) (goes_ahead start.rules) total start.next_number rs
+              ⊎ (Gone ⊎ WaitsAfter mac answers by p.number (path_of start p) (goes_ahead start.rules) total start.next_number first s fresh before start found.at found.led f.at begin rs last)
               → ChecksIn rs (path_of start p) ⊎ (IsAnsweredIn (entries_of rs) (path_of start p) ⊎ Gone)
           by-rounds Gone rs none enough (inl (inl checks)) = inl checks
           by-rounds Gone rs none enough (inl (inr answered)) = inr (inl answered)
           by-rounds Gone rs none enough (inr (inl gone)) = inr (inr gone)
           by-rounds Gone [] none enough (inr (inr w)) = absurd (cc)
           by-rounds Gone (r ∷ older) began enough (inr (inr w)) =
-              absurd (calls-over start.rules.kinds_in_turn start.kind_turn last.kind_turn (leads p.number by start.pairs) (leads p.number by last.pairs) (length start.pairs) start.next_number last.next_number
+              absurd (calls-over (goes_ahead start.rules) start.ahead_turn last.ahead_turn (leads p.number by start.pairs) (leads p.number by last.pairs) (length start.pairs) start.next_number last.next_number
               (length (r ∷ older)) w.count (leads-others by start.pairs p f.line.there) enough)
 
     -- what may end the pair is an entry of the log

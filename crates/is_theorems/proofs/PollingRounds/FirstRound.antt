@@ -13,6 +13,7 @@ use Rattle.is_pair.specs.Pairs.{PairRecord}
 use Rattle.is_stun.specs.declared.header.Class.TheVariants as class
 use Rattle.is_stun.specs.declared.timing.StunTiming.{StunTiming}
 use Rattle.is_rules.specs.Agent.{AgentRecord}
+use Rattle.is_rules.specs.Checking.{goes_ahead}
 use Rattle.is_theorems.specs.Asked.{IsAnsweredIn}
 use Rattle.is_theorems.specs.AskedCourses.{AcceptsSuccessOn, Ends}
 use Rattle.is_rules.specs.declared.emitted.Path.{Path}
@@ -34,15 +35,15 @@ use Rattle.is_theorems.proofs.ExecutionLogs.LogTheorems.{runs_sound}
 use Rattle.is_theorems.proofs.ExecutionLogs.LogSegments.{no-case, run-on, passed as passed-at}
 use Rattle.is_theorems.proofs.EarlierChecks.BetweenTimeouts.{Ground, Goes, ground_of, receives-goes}
 use Rattle.is_theorems.proofs.EarlierChecks.ChangedPairs.{Fixed}
-use Rattle.is_theorems.proofs.DuePairs.FirstDuePair.{timeout-follows}
-use Rattle.is_theorems.proofs.DuePairs.KindsInTurn.{times, none-suffices}
+use Rattle.is_theorems.proofs.DuePairs.FirstDuePair.{due-at, timeout-follows}
+use Rattle.is_theorems.proofs.DuePairs.ChecksAhead.{times, none-suffices}
 use Rattle.is_theorems.proofs.CallEffects.FailedCallsAndNewAgents.{mtu_kept, local_kept, enrolment_kept, storing_kept}
 use Rattle.is_rules.proofs.PairLists.RisingNumbers.{rising-each}
 use Rattle.is_theorems.proofs.CallEffects.ServedRequests.{Has-mapped}
 use Rattle.is_theorems.proofs.DuePairs.PollingCycles.{none-left, maintains_pairs-from, distinct-sound}
 use Rattle.is_theorems.proofs.StoredPairs.PairsThatStay.{none-entered, pairs-stay}
 use Rattle.is_theorems.proofs.RuleEffects.SelectedPaths.{one_pair}
-use Rattle.is_theorems.proofs.DuePairs.AfterNominationAndRemoval.{Base, stays-young}
+use Rattle.is_theorems.proofs.DuePairs.AfterNominationAndRemoval.{Base, last_time_of, stays-young}
 use Rattle.is_theorems.proofs.EarlierChecks.AddedCandidates.{local-goes, remote-goes}
 use Rattle.is_theorems.specs.FirstTimeouts.{IsReachedIn, PairsAreReachedFromDue}
 use Rattle.is_theorems.proofs.EarlierChecks.FirstTimeout.{Other, timeout-goes}
@@ -69,13 +70,13 @@ only-one (z ∷ w ∷ zs) x y few has there = absurd (let no : ⊥ = omega (arit
 module _ {H P : Type 0} where
   -- what the pair depends on, and the pair with the number, is as it was
   abbrev pub Keeps : ℕ → AgentRecord H P → AgentRecord H P → Type 0
-  Keeps n old new = (ground_of new ≡ ground_of old) × ((d : ℕ) (cs : List Check) → Fixed n d cs old.pairs → Fixed n d cs new.pairs)
+  Keeps n old new = (ground_of new ≡ ground_of old) × ((d : ℕ) (cs : List Check) → d ≤ last_time_of old → Fixed n d cs old.pairs → Fixed n d cs new.pairs)
 
   pub keeps-to : (n : ℕ) (old needed new : AgentRecord H P) → Keeps n old needed → new ≡ needed → Keeps n old new
   keeps-to n old needed new h made = subst (λ (a : AgentRecord H P). Keeps n old a) (sym made) h
 
   keeps-same : (n : ℕ) (old new : AgentRecord H P) → new ≡ old → Keeps n old new
-  keeps-same n old new made = keeps-to n old old new (refl, λ d cs f. f) made
+  keeps-same n old new made = keeps-to n old old new (refl, λ d cs le f. f) made
 
   keeps-from : (n : ℕ) (old new : AgentRecord H P) → Goes n 0 old new → Keeps n old new
   keeps-from n old new k = (k.0, k.1.fixed)
@@ -85,8 +86,8 @@ module _ {H P : Type 0} where
     fixed : new ≡ record old { pairs = map (asked at old.timing) old.pairs } → Keeps n old new
     fixed made = keeps-to n old _ new (
       refl,
-      λ d cs (q, has, is, due, checks).
-          (asked at old.timing q, Has-mapped (asked at old.timing) old.pairs q has, is, ap (λ o. Some (unwrap_or o (due_time_of at old.timing (record q { due = None })))) due, checks),
+      λ d cs le (q, has, is, due, checks).
+          (asked at old.timing q, Has-mapped (asked at old.timing) old.pairs q has, is, ap Some (due-at at d old.timing q due), checks),
     ) made
 
     some : (deadline : Option ℕ) → IsSomeAnd deadline (λ w. NextTimeouts old at w new) → Keeps n old new
@@ -154,9 +155,10 @@ module _ {H P : Type 0} where
 
     -- ---- what comes after it
 
-    pub waits-on : (old new : AgentRecord H P) (w : Waits by n path at old) → IsSound new → Keeps n old new → Stays old w.pair new → Waits by n path at new
-    waits-on old new w sound (ground, fixed) stays =
-        let f = fixed w.timeout w.pair.checks (w.pair, w.there, w.number, w.due, refl) in
+    pub waits-on : by ≤ at → (old new : AgentRecord H P) (w : Waits by n path at old) → IsSound new → Keeps n old new → Stays old w.pair new → Waits by n path at new
+    waits-on from old new w sound (ground, fixed) stays =
+        let last : last_time_of old ≡ at = ap (λ o. unwrap_or o 0) w.last in
+        let f = fixed w.timeout w.pair.checks (let before = w.before in omega (arith, last, before, from)) (w.pair, w.there, w.number, w.due, refl) in
         let one : stays.pair ≡ f.0 = one_pair new.pairs stays.pair f.0 (rising-each new.pairs sound.rising) stays.there f.1 (stays.number ∙ (w.number ∙ sym f.2)) in
         let timing : new.timing ≡ old.timing = ap (λ (g : Ground). g.timing) ground in
         record {
@@ -185,9 +187,9 @@ module _ {H P : Type 0} where
           | inl (m, reads, flag, success, back) ↦ inl (now, via, m, (refl, refl, reads, flag), success, back)
           | inr k ↦ inr (inr (keeps-from n old new k))
         ]
-    between-keeps PollTransmit e old new s t known last p sound has number on is (given, emitted, (polled, made), drawn) = inr (inr (keeps-to n old _ new (refl, λ d cs f. f) made))
+    between-keeps PollTransmit e old new s t known last p sound has number on is (given, emitted, (polled, made), drawn) = inr (inr (keeps-to n old _ new (refl, λ d cs le f. f) made))
     between-keeps PollTimeout e old new s t known last p sound has number on is (deadline, emitted, timed_out, drawn) = inr (inr (asks-keeps n at old new deadline last timed_out))
-    between-keeps PollEvent e old new s t known last p sound has number on is (given, emitted, (polled, made), drawn) = inr (inr (keeps-to n old _ new (refl, λ d cs f. f) made))
+    between-keeps PollEvent e old new s t known last p sound has number on is (given, emitted, (polled, made), drawn) = inr (inr (keeps-to n old _ new (refl, λ d cs le f. f) made))
     between-keeps (AddLocalCandidate c) e old new s t known last p sound has number on is (Ok (Some place), reported, h, drawn) = elim (local-goes n 0 answers old new c place p sound has number h) [
       | inl ends ↦ inr (inl (ap (λ (x : Entry). x.answer) reported, ends))
       | inr k ↦ inr (inr (keeps-from n old new k))
@@ -199,17 +201,17 @@ module _ {H P : Type 0} where
       | inr k ↦ inr (inr (keeps-from n old new k))
     ]
     between-keeps (AddRemoteCandidate c) e old new s t known last p sound has number on is (Err error, reported, h, drawn) = inr (inr (keeps-same n old new (storing_kept old new c error h)))
-    between-keeps (SetMtu target warn) e old new s t known last p sound has number on is (Ok _, reported, h, drawn) = inr (inr (keeps-to n old _ new (refl, λ d cs f. f) h.1))
+    between-keeps (SetMtu target warn) e old new s t known last p sound has number on is (Ok _, reported, h, drawn) = inr (inr (keeps-to n old _ new (refl, λ d cs le f. f) h.1))
     between-keeps (SetMtu target warn) e old new s t known last p sound has number on is (Err error, reported, h, drawn) = inr (inr (keeps-same n old new (mtu_kept old new target warn error h)))
-    between-keeps (SetLocalCredentials creds) e old new s t known last p sound has number on is (Ok _, reported, h, drawn) = inr (inr (keeps-to n old _ new (refl, λ d cs f. f) h.1))
+    between-keeps (SetLocalCredentials creds) e old new s t known last p sound has number on is (Ok _, reported, h, drawn) = inr (inr (keeps-to n old _ new (refl, λ d cs le f. f) h.1))
     between-keeps (SetLocalCredentials creds) e old new s t known last p sound has number on is (Err error, reported, h, drawn) = inr (inr (keeps-same n old new (local_kept old new creds error h)))
-    between-keeps (SetControlTieBreaker tie) e old new s t known last p sound has number on is (reported, made, drawn) = inr (inr (keeps-to n old _ new (refl, λ d cs f. f) made))
-    between-keeps (SetMaxCandidatePairs k) e old new s t known last p sound has number on is (reported, made, drawn) = inr (inr (keeps-to n old _ new (refl, λ d cs f. f) made))
-    between-keeps (SetMaxDiscovered limit) e old new s t known last p sound has number on is (reported, made, drawn) = inr (inr (keeps-to n old _ new (refl, λ d cs f. f) made))
-    between-keeps (SetRenomination renominates) e old new s t known last p sound has number on is (reported, made, drawn) = inr (inr (keeps-to n old _ new (refl, λ d cs f. f) made))
-    between-keeps (SetTimingAdvance advance) e old new s t known last p sound has number on is (reported, made, drawn) = inr (inr (keeps-to n old _ new (refl, λ d cs f. f) made))
-    between-keeps (SetLocalPreference object) e old new s t known last p sound has number on is (reported, made, drawn) = inr (inr (keeps-to n old _ new (refl, λ d cs f. f) made))
-    between-keeps (SetControlling controlling) e old new s t known last p sound has number on is (reported, made, drawn) = inr (inr (keeps-to n old _ new (refl, λ d cs f. f) made))
+    between-keeps (SetControlTieBreaker tie) e old new s t known last p sound has number on is (reported, made, drawn) = inr (inr (keeps-to n old _ new (refl, λ d cs le f. f) made))
+    between-keeps (SetMaxCandidatePairs k) e old new s t known last p sound has number on is (reported, made, drawn) = inr (inr (keeps-to n old _ new (refl, λ d cs le f. f) made))
+    between-keeps (SetMaxDiscovered limit) e old new s t known last p sound has number on is (reported, made, drawn) = inr (inr (keeps-to n old _ new (refl, λ d cs le f. f) made))
+    between-keeps (SetRenomination renominates) e old new s t known last p sound has number on is (reported, made, drawn) = inr (inr (keeps-to n old _ new (refl, λ d cs le f. f) made))
+    between-keeps (SetTimingAdvance advance) e old new s t known last p sound has number on is (reported, made, drawn) = inr (inr (keeps-to n old _ new (refl, λ d cs le f. f) made))
+    between-keeps (SetLocalPreference object) e old new s t known last p sound has number on is (reported, made, drawn) = inr (inr (keeps-to n old _ new (refl, λ d cs le f. f) made))
+    between-keeps (SetControlling controlling) e old new s t known last p sound has number on is (reported, made, drawn) = inr (inr (keeps-to n old _ new (refl, λ d cs le f. f) made))
     between-keeps _ e old new s t known last p sound has number on is step = no-case is
 
     -- ---- the first round
@@ -253,7 +255,7 @@ module _ {H P : Type 0} where
                   | inl accepts ↦ inr (inl (x, inl refl, accepts))
                   | inr (inl ends) ↦ inr (inr (inl (inl (fits x (inl refl), ends-here ends))))
                   | inr (inr keeps) ↦ elim (pairs-stay mac answers mid last v t x.call x.entry w.pair sound given step w.there) [
-                    | inl stays ↦ inr (inr (inr (other, waits-on mid last w sound_last keeps stays)))
+                    | inl stays ↦ inr (inr (inr (other, waits-on from mid last w sound_last keeps stays)))
                     | inr ends ↦ inr (inr (inl (inl (fits x (inl refl), ends-here ends))))
                   ]
                 ])
@@ -285,15 +287,15 @@ module _ {H P : Type 0} where
 
           from-second : (rounds : List (LoggedRound P)) → (found : Part mac answers first s log (entries_of (r ∷ []) ++ before) second (entries_of rounds) last)
               → Waits by p.number (path_of start p) r.now second → ((x : LoggedRound P) → Has rounds x → IsPassing by x)
-              → times second.rules.kinds_in_turn (2 * length second.pairs + last.next_number) ≤ length rounds + 1 + times second.rules.kinds_in_turn second.next_number
+              → times (goes_ahead second.rules) (2 * length second.pairs + last.next_number) ≤ length rounds + 1 + times (goes_ahead second.rules) second.next_number
               → IsReachedIn mac answers rounds found (path_of start p)
           from-second [] found v passing enough =
               let some = some-there second.pairs v.pair v.there in
               let same : last.next_number ≡ second.next_number = ap (λ (a : AgentRecord H P). a.next_number) found.run.0 in
-              absurd (none-suffices second.rules.kinds_in_turn (length second.pairs) second.next_number last.next_number some same enough)
+              absurd (none-suffices (goes_ahead second.rules) (length second.pairs) second.next_number last.next_number some same enough)
           from-second (x ∷ older) found v passing enough =
               let began = oldest x older in
-              let due : due_time_of began.0 second.timing v.pair ≡ v.timeout = ap (λ o. unwrap_or o (due_time_of began.0 second.timing (record v.pair { due = None }))) v.due in
+              let due : due_time_of began.0 second.timing v.pair ≡ v.timeout = due-at began.0 v.timeout second.timing v.pair v.due in
               subst (λ w. IsReachedIn mac answers (x ∷ older) found w) v.on
               (reach first s log fresh (entries_of (r ∷ []) ++ before) second last (x ∷ older) v.pair by found (record {
                 at = began.0;

@@ -1,6 +1,6 @@
 -- A controlling agent without a valid pair that is due by its first `handle_timeout` call has none after the round either, or selects
 -- a path in it. So what holds of pairs that are due before the rounds holds of it from the second round on.
-use Rattle.std.proofs.Common.{◌≡◌, ℕ, ◌<◌, ◌≤◌, true, List, [], ◌∷◌, ◌++◌, length, map, Option, Some, None, is_some, unwrap_or, inl, inr, ◌⊎◌, refl, ap, sym, ◌∙◌, subst, arith}
+use Rattle.std.proofs.Common.{◌≡◌, ℕ, ◌<◌, ◌≤◌, true, List, [], ◌∷◌, ◌++◌, length, map, Option, Some, None, is_some, inl, inr, ◌⊎◌, refl, ap, sym, ◌∙◌, subst, arith}
 use Rattle.std.proofs.lemmas.Bool.{eq-eqb}
 use Rattle.rand_core.specs.Stream.{Stream}
 use Rattle.is_proto.specs.Lists.{Has}
@@ -37,7 +37,7 @@ use Rattle.is_theorems.proofs.CallEffects.AddedCandidates.{by_waking}
 use Rattle.is_theorems.proofs.ExecutionLogs.LogSegments.{no-case, passed as passed-at}
 use Rattle.is_theorems.proofs.EarlierChecks.BetweenTimeouts.{Ground}
 use Rattle.is_theorems.proofs.RuleEffects.ChangedPairs.{Has-map}
-use Rattle.is_theorems.proofs.DuePairs.FirstDuePair.{Follows, timeout-follows}
+use Rattle.is_theorems.proofs.DuePairs.FirstDuePair.{Follows, due-at, timeout-follows}
 use Rattle.is_theorems.proofs.CallEffects.FailedCallsAndNewAgents.{fresh_sound}
 use Rattle.is_theorems.proofs.DuePairs.PollingCycles.{maintains_pairs-from}
 use Rattle.is_theorems.proofs.StoredPairs.PairsThatStay.{pairs-stay}
@@ -70,13 +70,13 @@ module _ {H P : Type 0} where
     plain-stays old _ e p is ends = no-case is
 
     -- the pair still waits, if none became valid
-    still : (call : Call P) (e : Entry) (old new : AgentRecord H P) (s t : Stream) → is_between call ≡ true → GivesBased call → Calm by n path at old → IsSound old → IsSound new
+    still : by ≤ at → (call : Call P) (e : Entry) (old new : AgentRecord H P) (s t : Stream) → is_between call ≡ true → GivesBased call → Calm by n path at old → IsSound old → IsSound new
         → Step mac answers old s call e new t → new.controlling ≡ true → NoneValid new.pairs → Keeps n old new → Calm by n path at new
-    still call e old new s t is given c sound sound_new step role invalid keeps =
+    still from call e old new s t is given c sound sound_new step role invalid keeps =
         elim (pairs-stay mac answers old new s t call e c.waits.pair sound given step c.waits.there) [
           | inr ends ↦ absurd (plain-stays old call e c.waits.pair is ends)
           | inl stays ↦ record {
-            waits = waits-on mac answers by n path at old new c.waits sound_new keeps stays;
+            waits = waits-on mac answers by n path at from old new c.waits sound_new keeps stays;
             invalid = invalid;
             role = role;
             paced = subst (λ (z : StunTiming). IsPaced z) (sym (ap (λ (g : Ground). g.timing) keeps.0)) c.paced;
@@ -110,36 +110,36 @@ module _ {H P : Type 0} where
         of-said (y, inl is, selected_paths) = ap (λ (z : Call P × Entry). is_some (last_of z.1.emitted.selected_paths)) is ∙ selected_paths
         of-said (y, inr none, selected_paths) = absurd none
 
-      pub on-call : (call : Call P) (e : Entry) (old new : AgentRecord H P) (s t : Stream) (zs : List (Call P × Entry)) → Course mac answers zs first old → is_between call ≡ true → GivesBased call
+      pub on-call : by ≤ at → (call : Call P) (e : Entry) (old new : AgentRecord H P) (s t : Stream) (zs : List (Call P × Entry)) → Course mac answers zs first old → is_between call ≡ true → GivesBased call
           → Calm by n path at old → IsSound old → IsSound new → Step mac answers old s call e new t → new.controlling ≡ true → Selects call e ⊎ Calm by n path at new
-      on-call (ReceivePacket now via bytes) e old new s t zs led is given c sound sound_new step role =
+      on-call from (ReceivePacket now via bytes) e old new s t zs led is given c sound sound_new step role =
           elim (receives mac 0 1 (omega arith) (omega arith) answers (record { at = now; via = via; bytes = bytes; entry = e }) old new s t c.waits.checking.peer c.role c.waits.checking.full c.invalid role step) [
             | inl (m, reads, flag, success) ↦ inl (selects now via bytes e m old new s t zs led c.invalid step role reads flag success)
             | inr (core, grown, spares) ↦
                 elim (between-keeps mac answers by n path at (ReceivePacket now via bytes) e old new s t c.waits.checking.peer c.waits.last c.waits.pair sound c.waits.there c.waits.number c.waits.on refl step) [
                   | inl (when, by_path, m, (now_is, path_is, reads, flag), success, back) ↦ inl (selects now via bytes e m old new s t zs led c.invalid step role reads flag success)
                   | inr (inl ends) ↦ absurd ends
-                  | inr (inr keeps) ↦ inr (still (ReceivePacket now via bytes) e old new s t is given c sound sound_new step role (spares.invalid c.invalid) keeps)
+                  | inr (inr keeps) ↦ inr (still from (ReceivePacket now via bytes) e old new s t is given c sound sound_new step role (spares.invalid c.invalid) keeps)
                 ]
           ]
-      on-call PollTransmit e old new s t zs led is given c sound sound_new (packet, emitted, (polled, made), drawn) role =
-          inr (still PollTransmit e old new s t is given c sound sound_new (packet, emitted, (polled, made), drawn) role (as-invalid old _ new c.invalid made) (keeps-to n old _ new (refl, λ d cs f. f) made))
-      on-call PollTimeout e old new s t zs led is given c sound sound_new (deadline, emitted, timed_out, drawn) role =
-          inr (still PollTimeout e old new s t is given c sound sound_new (deadline, emitted, timed_out, drawn) role (timed_out-invalid old new deadline c.invalid timed_out) (asks-keeps n at old new deadline c.waits.last timed_out))
-      on-call PollEvent e old new s t zs led is given c sound sound_new (event, emitted, (polled, made), drawn) role =
-          inr (still PollEvent e old new s t is given c sound sound_new (event, emitted, (polled, made), drawn) role (as-invalid old _ new c.invalid made) (keeps-to n old _ new (refl, λ d cs f. f) made))
-      on-call _ e old new s t zs led is given c sound sound_new step role = no-case is
+      on-call from PollTransmit e old new s t zs led is given c sound sound_new (packet, emitted, (polled, made), drawn) role =
+          inr (still from PollTransmit e old new s t is given c sound sound_new (packet, emitted, (polled, made), drawn) role (as-invalid old _ new c.invalid made) (keeps-to n old _ new (refl, λ d cs le f. f) made))
+      on-call from PollTimeout e old new s t zs led is given c sound sound_new (deadline, emitted, timed_out, drawn) role =
+          inr (still from PollTimeout e old new s t is given c sound sound_new (deadline, emitted, timed_out, drawn) role (timed_out-invalid old new deadline c.invalid timed_out) (asks-keeps n at old new deadline c.waits.last timed_out))
+      on-call from PollEvent e old new s t zs led is given c sound sound_new (event, emitted, (polled, made), drawn) role =
+          inr (still from PollEvent e old new s t is given c sound sound_new (event, emitted, (polled, made), drawn) role (as-invalid old _ new c.invalid made) (keeps-to n old _ new (refl, λ d cs le f. f) made))
+      on-call from _ e old new s t zs led is given c sound sound_new step role = no-case is
 
-      walk : (xs : List (Call P × Entry)) (old new : AgentRecord H P) (zs : List (Call P × Entry)) → Course mac answers zs first old → AreBetween xs → IsSound old
+      walk : by ≤ at → (xs : List (Call P × Entry)) (old new : AgentRecord H P) (zs : List (Call P × Entry)) → Course mac answers zs first old → AreBetween xs → IsSound old
           → (course : Course mac answers xs old new) → ControlsAlong mac answers xs old new course → Calm by n path at old
           → ((x : Call P × Entry) × Has xs x × Selects x.0 x.1) ⊎ Calm by n path at new
-      walk [] old new zs led fits sound is along c = inr (subst (λ (a : AgentRecord H P). Calm by n path at a) (sym is) c)
-      walk (x ∷ rest) old new zs led fits sound (mid, s, t, given, step, more) along c =
+      walk from [] old new zs led fits sound is along c = inr (subst (λ (a : AgentRecord H P). Calm by n path at a) (sym is) c)
+      walk from (x ∷ rest) old new zs led fits sound (mid, s, t, given, step, more) along c =
           let sound_mid : IsSound mid = (path_theorem mac answers old mid s t x.0 x.1 sound given step).1 in
-          elim (on-call x.0 x.1 old mid s t zs led (fits x (inl refl)) given c sound sound_mid step along.0) [
+          elim (on-call from x.0 x.1 old mid s t zs led (fits x (inl refl)) given c sound sound_mid step along.0) [
             | inl selected ↦ inl (x, inl refl, selected)
             | inr calm ↦
-                elim (walk rest mid new (zs ++ x ∷ []) (course_on mac answers zs (x ∷ []) first old mid led (mid, s, t, given, step, refl)) (λ y has. fits y (inr has)) sound_mid more along.1 calm) [
+                elim (walk from rest mid new (zs ++ x ∷ []) (course_on mac answers zs (x ∷ []) first old mid led (mid, s, t, given, step, refl)) (λ y has. fits y (inr has)) sound_mid more along.1 calm) [
                   | inl (y, has, selected) ↦ inl (y, inr has, selected)
                   | inr after ↦ inr after
                 ]
@@ -181,7 +181,7 @@ module _ {H P : Type 0} where
       }
 
       -- what the call leaves of the others
-      after-call : (agent_base run.0 ≡ record (agent_base (timeout_begun r.now start)) { last_time = Some r.now; kind_turn = run.0.kind_turn }) × Follows start.pairs run.0.pairs
+      after-call : (agent_base run.0 ≡ record (agent_base (timeout_begun r.now start)) { last_time = Some r.now; ahead_turn = run.0.ahead_turn }) × Follows start.pairs run.0.pairs
       after-call = timeout-follows mac r.now (timeout_begun r.now start) run.0 run.2 run.3 r.timeout.emitted waits.checking.peer waits.checking.full
           (maintains_pairs-from mac r.now start run.2 run.3 r.timeout.emitted run.0 waits.queue (passed-at mac answers start run.0 run.2 run.3 r.now r.timeout done run.4))
 
@@ -197,7 +197,7 @@ module _ {H P : Type 0} where
       from-second (second ∷ rounds) c more passing enough =
           let v = c.waits in
           let many = many-times rounds in
-          let due : due_time_of second.now run.1.timing v.pair ≡ v.timeout = ap (λ o. unwrap_or o (due_time_of second.now run.1.timing (record v.pair { due = None }))) v.due in
+          let due : due_time_of second.now run.1.timing v.pair ≡ v.timeout = due-at second.now v.timeout run.1.timing v.pair v.due in
           subst (λ w. ChecksAmong (second ∷ rounds) w ⊎ SelectsAmong (second ∷ rounds)) v.on
           (check first run.1 last ((xs ++ (HandleTimeout r.now, r.timeout) ∷ []) ++ r.following) second rounds v.pair by fresh to-next c.role
           (record {
@@ -214,7 +214,7 @@ module _ {H P : Type 0} where
         | inl (id, out) ↦ inl (r, id, inl refl, out)
         | inr (other, w) ↦ elim enough [
           | inl few ↦ absurd (apart other (omega (arith, few)))
-          | inr many ↦ elim (walk mac answers by p.number path r.now select first fresh r.following run.0 run.1 (xs ++ (HandleTimeout r.now, r.timeout) ∷ []) to-mid (λ x has. between x has) sound_mid run.6 run.7
+          | inr many ↦ elim (walk mac answers by p.number path r.now select first fresh (omega (arith, from)) r.following run.0 run.1 (xs ++ (HandleTimeout r.now, r.timeout) ∷ []) to-mid (λ x has. between x has) sound_mid run.6 run.7
               (record {
                 waits = w;
                 invalid = λ q has. (let o = after-call.1.back q has in o.2.valid ∙ (let none = unanswered.invalid in none o.0 o.1));

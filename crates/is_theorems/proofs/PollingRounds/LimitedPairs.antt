@@ -1,11 +1,12 @@
 -- With limits on pairs and on what packets bring, a bound on the rounds before a pair that is due is checked.
 use Rattle.std.proofs.Common.{◌≡◌, ℕ, ◌+◌, ◌*◌, ◌≤◌, List, ◌++◌, length, sym, ◌∙◌, arith, append_assoc}
 use Rattle.is_candidate.specs.Candidates.{CandidateRecord}
+use Rattle.is_rules.specs.Checking.{goes_ahead}
 use Rattle.is_theorems.specs.BoundedRounds.{LimitsReach}
 use Rattle.is_theorems.specs.Bounds.{gathered_count, pair_bound, signal_count}
 use Rattle.is_theorems.specs.Reached.{PairsAreReached}
 use Rattle.is_theorems.specs.Rounds.{entries_of}
-use Rattle.is_theorems.proofs.DuePairs.KindsInTurn.{times, times-kept}
+use Rattle.is_theorems.proofs.DuePairs.ChecksAhead.{times, times-kept}
 use Rattle.is_theorems.proofs.StorageBounds.NumberOfPairs.{pairs_within}
 use Rattle.is_theorems.proofs.ExecutionLogs.PointsOfSegments.{deeper}
 
@@ -23,9 +24,9 @@ module _ {H P : Type 0} (mac : H → List ℕ → List ℕ → List ℕ) (answer
         line = enough.line;
         passing = enough.passing;
         enough = (let all = enough.enough in
-            let needed : times start.rules.kinds_in_turn (2 * pair_bound limit most (gathered_count before) (signal_count before) + last.next_number)
-            ≤ length rounds + 1 + times start.rules.kinds_in_turn start.next_number = omega (arith, all) in
-            let fewer = times-kept start.rules.kinds_in_turn (2 * pair_bound limit most (gathered_count before) (signal_count before) + last.next_number)
-            (2 * length start.pairs + last.next_number) (length rounds + 1 + times start.rules.kinds_in_turn start.next_number) (omega (arith, pairs)) needed in
+            let needed : times (goes_ahead start.rules) (2 * pair_bound limit most (gathered_count before) (signal_count before) + last.next_number)
+            ≤ length rounds + 1 + times (goes_ahead start.rules) start.next_number = omega (arith, all) in
+            let fewer = times-kept (goes_ahead start.rules) (2 * pair_bound limit most (gathered_count before) (signal_count before) + last.next_number)
+            (2 * length start.pairs + last.next_number) (length rounds + 1 + times (goes_ahead start.rules) start.next_number) (omega (arith, pairs)) needed in
             omega (arith, fewer));
       })

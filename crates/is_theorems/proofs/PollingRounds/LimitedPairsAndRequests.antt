@@ -7,6 +7,7 @@ use Rattle.is_proto.specs.Lists.{Has}
 use Rattle.is_candidate.specs.Candidates.{CandidateRecord}
 use Rattle.is_pair.specs.Pairs.{PairRecord}
 use Rattle.is_rules.specs.Agent.{AgentRecord}
+use Rattle.is_rules.specs.Checking.{goes_ahead}
 use Rattle.is_theorems.specs.Bounds.{gathered_count, is_gathered, is_signal, pair_bound, signal_count}
 use Rattle.is_theorems.specs.Logs.{Logged}
 use Rattle.is_theorems.specs.Reached.{IsEndedIn, IsPassing, PairsAreReached, is_in_round}
@@ -17,7 +18,7 @@ use Rattle.is_rules.specs.Sound.{IsSound}
 use Rattle.is_theorems.specs.Staying.{MayEnd}
 use Rattle.is_rules.specs.Steps.{Call, AddLocalCandidate, AddRemoteCandidate, InvalidateCandidate, RestartIce, RecreateCandidatePairs, HandleTimeout, Entry}
 use Rattle.is_rules.specs.declared.emitted.Path.{Path}
-use Rattle.is_theorems.proofs.DuePairs.KindsInTurn.{times}
+use Rattle.is_theorems.proofs.DuePairs.ChecksAhead.{times}
 use Rattle.is_theorems.proofs.StorageBounds.BoundedLists.{at-most-one}
 use Rattle.is_theorems.proofs.StorageBounds.NumberOfPairs.{pairs_within}
 use Rattle.is_theorems.proofs.CallEffects.PathAndTradeEffects.{path_theorem}
@@ -45,8 +46,8 @@ none-of : (b : Bool) → b ≡ false → cond b 1 0 ≤ 0
 none-of true is = no-case (sym is)
 none-of false is = omega arith
 
-enough-rounds-in-turn : (in_turn : Bool) (was now next_was next rounds bound m : ℕ) → was ≤ bound → now ≤ bound → 0 < m → next * m ≤ (next_was + now) * m + rounds
-    → times in_turn (3 * bound) * m + times in_turn rounds ≤ (rounds + 1) * m → times in_turn (2 * was + next) ≤ rounds + 1 + times in_turn next_was
+enough-rounds-in-turn : (ahead : Bool) (was now next_was next rounds bound m : ℕ) → was ≤ bound → now ≤ bound → 0 < m → next * m ≤ (next_was + now) * m + rounds
+    → times ahead (3 * bound) * m + times ahead rounds ≤ (rounds + 1) * m → times ahead (2 * was + next) ≤ rounds + 1 + times ahead next_was
 enough-rounds-in-turn false was now next_was next rounds bound m was_few now_few some added enough = enough-rounds was now next_was next rounds bound m was_few now_few some added enough
 enough-rounds-in-turn true was now next_was next rounds bound m was_few now_few some added enough =
     let all : (2 * was + now) * m ≤ 3 * bound * m = mul-le-mul_right m (omega (arith, was_few, now_few)) in
@@ -159,12 +160,12 @@ module _ {H P : Type 0} (mac : H → List ℕ → List ℕ → List ℕ) (answer
             (λ b m a y k. limited b m a y (deeper mac answers first s log (entries_of rounds ++ before) part.rest b m y a part.split k))
             (λ b m a y k. few b m a y (deeper mac answers first s log (entries_of rounds ++ before) part.rest b m y a part.split k)) led))
 
-        enough : times start.rules.kinds_in_turn (2 * length start.pairs + last.next_number) ≤ length rounds + 1 + times start.rules.kinds_in_turn start.next_number
+        enough : times (goes_ahead start.rules) (2 * length start.pairs + last.next_number) ≤ length rounds + 1 + times (goes_ahead start.rules) start.next_number
         enough =
             let added = requests-add-few mac answers first s log fresh before (entries_of rounds) start last part f.line.checking.full f.steady in
             let timeouts = few-timeouts by rounds f.passing in
             let sound : IsSound start = runs_sound mac answers (path_theorem mac answers) first start s part.at before fresh part.led in
             let all = f.enough in
-            enough-rounds-in-turn start.rules.kinds_in_turn (length start.pairs) (length last.pairs) start.next_number last.next_number (length rounds)
+            enough-rounds-in-turn (goes_ahead start.rules) (length start.pairs) (length last.pairs) start.next_number last.next_number (length rounds)
             (pair_bound limit most (gathered_count before) (signal_count before)) start.timing.max_retransmits was now sound.checks
             (omega (arith, added, timeouts)) (omega (arith, all))

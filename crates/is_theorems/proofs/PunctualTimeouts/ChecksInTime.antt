@@ -1,6 +1,6 @@
 -- A pair that waits for its check is due at each `poll_timeout` call, so this returns a time at most one pacing interval after the last
 -- `handle_timeout` call.
-use Rattle.std.proofs.Common.{◌≡◌, ℕ, zero, suc, ◌+◌, ◌*◌, ◌<◌, ◌≤◌, max, true, List, [], ◌∷◌, ◌++◌, length, Option, Some, None, is_some, unwrap_or, inl, inr, ◌⊎◌, refl, ap, sym, ◌∙◌, subst, arith}
+use Rattle.std.proofs.Common.{◌≡◌, ℕ, zero, suc, ◌+◌, ◌*◌, ◌<◌, ◌≤◌, max, true, List, [], ◌∷◌, ◌++◌, length, Option, Some, is_some, inl, inr, ◌⊎◌, refl, ap, sym, ◌∙◌, subst, arith}
 use Rattle.std.proofs.Math.Nat.{suc-mul}
 use Rattle.rand_core.specs.Stream.{Stream}
 use Rattle.is_proto.specs.Lists.{Has}
@@ -13,6 +13,7 @@ use Rattle.is_pair.specs.Turns.{IsPaced}
 use Rattle.is_stun.specs.declared.timing.StunTiming.{StunTiming}
 use Rattle.is_rules.specs.declared.emitted.Path.{Path}
 use Rattle.is_rules.specs.Agent.{AgentRecord}
+use Rattle.is_rules.specs.Checking.{goes_ahead}
 use Rattle.is_theorems.specs.AskedCourses.{Ends, EndsAlong, IsAnsweredAlong, SuccessesSelect}
 use Rattle.is_theorems.specs.Courses.{SelectsAmong, ControlsAlong, CourseRound, CourseRounds}
 use Rattle.is_theorems.specs.Exchange.{AreBetween, Course}
@@ -27,8 +28,8 @@ use Rattle.is_rules.specs.Steps.{Call, Entry, HandleTimeout, PollTimeout, SetTim
 use Rattle.is_rules.specs.Timeouts.{timeout_begun}
 use Rattle.is_theorems.proofs.CallEffects.PathAndTradeEffects.{path_theorem}
 use Rattle.is_theorems.proofs.ExecutionLogs.LogSegments.{passed as passed-at}
-use Rattle.is_theorems.proofs.DuePairs.FirstDuePair.{timeout-follows}
-use Rattle.is_theorems.proofs.DuePairs.KindsInTurn.{times, times-kept}
+use Rattle.is_theorems.proofs.DuePairs.FirstDuePair.{due-at, timeout-follows}
+use Rattle.is_theorems.proofs.DuePairs.ChecksAhead.{times, times-kept}
 use Rattle.is_theorems.proofs.CallEffects.FailedCallsAndNewAgents.{fresh_sound}
 use Rattle.is_theorems.proofs.DuePairs.PollingCycles.{maintains_pairs-from}
 use Rattle.is_theorems.proofs.DuePairs.AfterNominationAndRemoval.{Base}
@@ -81,7 +82,7 @@ module _ {H P : Type 0} where
         → deadline ≤ at + pace
     deadline-soon at from old new deadline w slow h =
         let k : deadline ≤ max (due_time_of at old.timing w.pair) (soon old at) = timeouts-in-time old new (Some deadline) h at w.last w.checking.full w.pair w.there in
-        let due : due_time_of at old.timing w.pair ≡ w.timeout = ap (λ o. unwrap_or o (due_time_of at old.timing (record w.pair { due = None }))) w.due in
+        let due : due_time_of at old.timing w.pair ≡ w.timeout = due-at at w.timeout old.timing w.pair w.due in
         let l : deadline ≤ max w.timeout (soon old at) = subst (λ d. deadline ≤ max d (soon old at)) due k in
         let before = w.before in
         omega (arith, l, before, from, slow)
@@ -121,7 +122,7 @@ module _ {H P : Type 0} where
           | inr (inr kept) ↦ elim (pairs-stay mac answers old mid s t x.0 x.1 w.pair sound given step w.there) [
             | inr ends ↦ inr (inl (inl (ends-here ends)))
             | inl stays ↦
-                elim (walk at from rest mid new (waits-on mac answers by n path at old mid w sound_mid kept stays) sound_mid slow_mid (λ y k has. keeps y k (inr has)) (λ y has. fits y (inr has)) more) [
+                elim (walk at from rest mid new (waits-on mac answers by n path at from old mid w sound_mid kept stays) sound_mid slow_mid (λ y k has. keeps y k (inr has)) (λ y has. fits y (inr has)) more) [
                   | inl (y, has, accepts) ↦ inl (y, inr has, accepts)
                   | inr (inl ends) ↦ inr (inl (inr ends))
                   | inr (inr (after, slow_after, prompt)) ↦
@@ -144,7 +145,7 @@ module _ {H P : Type 0} where
 
     in-line : (at now : ℕ) (a : AgentRecord H P) → (w : Waits by n path at a) → IsInLine now by a w.pair
     in-line at now a w =
-        let due : due_time_of now a.timing w.pair ≡ w.timeout = ap (λ o. unwrap_or o (due_time_of now a.timing (record w.pair { due = None }))) w.due in
+        let due : due_time_of now a.timing w.pair ≡ w.timeout = due-at now w.timeout a.timing w.pair w.due in
         record {
           checking = w.checking;
           queue = w.queue;
@@ -275,17 +276,17 @@ module _ {H P : Type 0} where
     suffices-earlier by now many first second end last fewer (inl (late, enough)) =
         inl (
           omega (arith, late),
-          (let needed : times first.rules.kinds_in_turn (2 * length first.pairs + last.next_number) ≤ many + 2 + times first.rules.kinds_in_turn first.next_number = omega (arith, enough) in
-              let kept = times-kept first.rules.kinds_in_turn (2 * length first.pairs + last.next_number) (2 * length first.pairs + end.next_number)
-              (many + 2 + times first.rules.kinds_in_turn first.next_number) (omega (arith, fewer)) needed in
+          (let needed : times (goes_ahead first.rules) (2 * length first.pairs + last.next_number) ≤ many + 2 + times (goes_ahead first.rules) first.next_number = omega (arith, enough) in
+              let kept = times-kept (goes_ahead first.rules) (2 * length first.pairs + last.next_number) (2 * length first.pairs + end.next_number)
+              (many + 2 + times (goes_ahead first.rules) first.next_number) (omega (arith, fewer)) needed in
               omega (arith, kept)),
         )
     suffices-earlier by now many first second end last fewer (inr (inl few)) = inr (inl (omega (arith, few)))
     suffices-earlier by now many first second end last fewer (inr (inr enough)) =
         inr (inr
-        (let needed : times second.rules.kinds_in_turn (2 * length second.pairs + last.next_number) ≤ many + 1 + times second.rules.kinds_in_turn second.next_number = omega (arith, enough) in
-        let kept = times-kept second.rules.kinds_in_turn (2 * length second.pairs + last.next_number) (2 * length second.pairs + end.next_number)
-        (many + 1 + times second.rules.kinds_in_turn second.next_number) (omega (arith, fewer)) needed in
+        (let needed : times (goes_ahead second.rules) (2 * length second.pairs + last.next_number) ≤ many + 1 + times (goes_ahead second.rules) second.next_number = omega (arith, enough) in
+        let kept = times-kept (goes_ahead second.rules) (2 * length second.pairs + last.next_number) (2 * length second.pairs + end.next_number)
+        (many + 1 + times (goes_ahead second.rules) second.next_number) (omega (arith, fewer)) needed in
         omega (arith, kept)))
 
     -- all of them
@@ -337,7 +338,7 @@ module _ {H P : Type 0} where
       calm-walk at from (x ∷ rest) old new zs led fits sound (mid, s, t, given, step, more) along c slow keeps =
           let sound_mid : IsSound mid = (path_theorem mac answers old mid s t x.0 x.1 sound given step).1 in
           let slow_mid : mid.timing_advance ≤ pace = stays-slow x.0 old.timing_advance mid.timing_advance pace (pacing-is-set mac answers old mid s t x.0 x.1 step) (omega (arith, slow)) (λ k is. keeps x k (inl refl) is) in
-          elim (on-call mac answers by n path at select first fresh x.0 x.1 old mid s t zs led (fits x (inl refl)) given c sound sound_mid step along.0) [
+          elim (on-call mac answers by n path at select first fresh from x.0 x.1 old mid s t zs led (fits x (inl refl)) given c sound sound_mid step along.0) [
             | inl selected ↦ inl (x, inl refl, selected)
             | inr calm ↦
                 elim (calm-walk at from rest mid new (zs ++ x ∷ []) (course_on mac answers zs (x ∷ []) first old mid led (mid, s, t, given, step, refl)) (λ y has. fits y (inr has)) sound_mid more along.1 calm slow_mid

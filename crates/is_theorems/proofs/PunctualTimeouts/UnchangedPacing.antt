@@ -28,7 +28,7 @@ use Rattle.is_rules.specs.Nominating.{followed, remains, selection_of, Nominates
 use Rattle.is_rules.specs.Places.{local_place}
 use Rattle.is_rules.specs.Request.{RequestRecord, request_in}
 use Rattle.is_rules.specs.Roles.{conflict_of, switched}
-use Rattle.is_rules.specs.Serving.{is_misled, names_another, pair_served, request_counted, with_sender, with_sender_at, Drops, Queues, RecordsAndResponds, FindsOrAddsPair, AddsUnknownSender, CountsAndServes, ResolvesRoleConflictBy, ResolvesRoleConflict, Serves}
+use Rattle.is_rules.specs.Serving.{is_misled, names_another, pair_served, request_counted, selects_at_requests, with_sender, with_sender_at, Drops, Queues, RecordsAndResponds, FindsOrAddsPair, AddsUnknownSender, CountsAndServes, ResolvesRoleConflictBy, ResolvesRoleConflict, Serves}
 use Rattle.is_rules.specs.Steps.{SetMtu, SetControlTieBreaker, SetMaxCandidatePairs, SetMaxDiscovered, SetIceLite, SetRenomination, SetRules, SetTimingAdvance, SetInitialStunRto, SetMaxStunRto, SetMaxStunRetransmits, SetLiteTimeout, SetLocalPreference, SetControlling, SetLocalCredentials, SetRemoteCredentials, SkipPairIds, AddLocalCandidate, AddRemoteCandidate, InvalidateCandidate, RestartIce, RecreateCandidatePairs, ReceivePacket, HandleTimeout, PollTransmit, PollTimeout, PollEvent, Entry, Becomes, Receives, NotCalled, quiet}
 use Rattle.is_rules.specs.Settings.{with_retransmits}
 use Rattle.is_rules.specs.Timeouts.{at_timeout, is_expired, expired_gone, timeout_begun, RemovesExpired, MaintainsPairs, ServesQueued}
@@ -82,7 +82,7 @@ module _ {H P : Type 0} where
     module _ (q : RequestRecord) where
       pair : (l r number : ℕ) (s new : AgentRecord H P) (emitted : Emitted) → RecordsAndResponds mac q l r number s emitted new → Same s new
       pair l r number s new emitted (path, mid, nominates, (values, is, made)) =
-          made-of _ new made ∙ either (s.controlling && is_valid_at number s.pairs) nominates
+          made-of _ new made ∙ either (selects_at_requests s && is_valid_at number s.pairs) nominates
           (λ _ k. nominates-same (pair_served q number s) mid path k)
           (λ _ k. made-of (pair_served q number s) mid k.1)
 

@@ -10,9 +10,9 @@ use Rattle.rand_core.specs.Stream.{Stream}
 use Rattle.is_proto.specs.Lists.{same}
 use Rattle.is_proto.specs.declared.error.IceError.{IceError}
 use Rattle.is_candidate.specs.Candidates.{CandidateRecord, candidate_at}
-use Rattle.is_pair.specs.Multiset.{change_at, is_valid_at, rises}
+use Rattle.is_pair.specs.Multiset.{change_at, is_numbered, is_valid_at, rises}
 use Rattle.is_pair.specs.Due.{asked}
-use Rattle.is_pair.specs.Pairs.{PairRecord, is_nominated, checked}
+use Rattle.is_pair.specs.Pairs.{PairRecord, is_nominated, checked, validated, with_request}
 use Rattle.is_pair.proofs.PairEntries.ChangedEntry.{rises-changed, rises-filter}
 use Rattle.is_stun.specs.declared.header.Class.{Class}
 use Rattle.is_stun.specs.declared.header.Class.TheVariants as class
@@ -36,12 +36,13 @@ use Rattle.is_rules.specs.Places.{local_place}
 use Rattle.is_rules.specs.Queue.{first_taken, request_at}
 use Rattle.is_rules.specs.Request.{RequestRecord, request_in}
 use Rattle.is_rules.specs.Roles.{conflict_of, switched, switched_sides, with_priority_in}
-use Rattle.is_rules.specs.Serving.{served, is_misled, names_another, pair_served, request_counted, with_sender, with_sender_at, Drops, Queues, RecordsAndResponds, FindsOrAddsPair, AddsUnknownSender, CountsAndServes, ResolvesRoleConflictBy, ResolvesRoleConflict, Serves}
+use Rattle.is_rules.specs.Serving.{selects_at_requests, after_request, validated_by_peer, is_misled, names_another, pair_served, request_counted, with_sender, with_sender_at, Drops, Queues, RecordsAndResponds, FindsOrAddsPair, AddsUnknownSender, CountsAndServes, ResolvesRoleConflictBy, ResolvesRoleConflict, Serves}
 use Rattle.is_rules.specs.States.{evaluated}
 use Rattle.is_rules.specs.Steps.{Entry, Receives}
 use Rattle.is_rules.specs.Timeouts.{at_timeout, expired_gone, is_expired, timeout_begun, RemovesExpired, MaintainsPairs, TimesOut}
 use Rattle.is_theorems.proofs.RuleEffects.UnchangedSettings.{either}
-use Rattle.is_theorems.proofs.EarlierChecks.ChangedPairs.{Mild, self-mild, served-mild, at-mild}
+use Rattle.is_theorems.proofs.RuleEffects.ChangedPairs.{self_kept}
+use Rattle.is_theorems.proofs.RuleEffects.TriggeredPairs.{triggered_by, by_trigger}
 use Rattle.is_theorems.proofs.RuleEffects.NominatedPairs.{SelectsPath, selects_path}
 use Rattle.is_rules.proofs.PairLists.RisingNumbers.{rising-each}
 use Rattle.is_theorems.proofs.RemainingChecks.RemainingOfPairs.{unspent, unspent-alike, unspent-answered, unspent-checked, all-spent, unspents, unspents-map, unspents-push, unspents-filter, unspents-set, unspents-change}
@@ -56,8 +57,31 @@ one-more : (n m : ℕ) → (n + 1) * m ≡ n * m + m
 one-more n m = ap (λ (k : ℕ). k * m) (omega arith) ∙ suc-mul n m
 
 -- the pairs are changed each by itself, and store the same checks
-each : (m : ℕ) (f : PairRecord → PairRecord) (xs : List PairRecord) (n : ℕ) → ((p : PairRecord) → Mild p (f p)) → unspents m xs + n ≤ unspents m (map f xs) + n + 0
-each m f xs n mild = let le = unspents-map m f xs (λ p. unspent-alike m p (f p) (mild p).checks) in omega (arith, le)
+each : (m : ℕ) (f : PairRecord → PairRecord) (xs : List PairRecord) (n : ℕ) → ((p : PairRecord) → (f p).checks ≡ p.checks) → unspents m xs + n ≤ unspents m (map f xs) + n + 0
+each m f xs n same = let le = unspents-map m f xs (λ p. unspent-alike m p (f p) (same p)) in omega (arith, le)
+
+at-checks : (n : ℕ) (f : PairRecord → PairRecord) (p : PairRecord) → (f p).checks ≡ p.checks → (change_at n f p).checks ≡ p.checks
+at-checks n f p same = by (is_numbered n p) where
+  by : (b : Bool) → (if b then f p else p).checks ≡ p.checks
+  by true = same
+  by false = refl
+
+at-number : (n : ℕ) (f : PairRecord → PairRecord) (p : PairRecord) → (f p).number ≡ p.number → (change_at n f p).number ≡ p.number
+at-number n f p same = by (is_numbered n p) where
+  by : (b : Bool) → (if b then f p else p).number ≡ p.number
+  by true = same
+  by false = refl
+
+-- a request leaves the checks of its pair
+request-checks : {H P : Type 0} (q : RequestRecord) (s : AgentRecord H P) (p : PairRecord) → (after_request q s p).checks ≡ p.checks
+request-checks q s p =
+    let w : PairRecord = with_request q.time (triggered_by q s p) in
+    let v : PairRecord = validated_by_peer s.controlling s.lite w in
+    (self_kept (not s.controlling && q.use_candidate && not (is_nominated v)) s.lite v).checks
+    ∙ (valid (s.lite && not s.controlling) w ∙ by_trigger (λ (x : PairRecord). x.checks ≡ p.checks) q s p (λ due. refl)) where
+      valid : (b : Bool) (p : PairRecord) → (if b then validated p else p).checks ≡ p.checks
+      valid true p = refl
+      valid false p = refl
 
 module _ {H P : Type 0} where
   abbrev pub held_of : AgentRecord H P → Held
@@ -94,7 +118,7 @@ module _ {H P : Type 0} where
             refl,
             omega arith,
             each m (change_at top.number (nominated_by_self old.controlling old.lite)) old.pairs (old.next_number * m)
-                (λ p. at-mild top.number (nominated_by_self old.controlling old.lite) p (self-mild (old.controlling || old.lite) old.lite (is_nominated p) p refl)),
+                (λ p. at-checks top.number (nominated_by_self old.controlling old.lite) p (self_kept (not (is_nominated p) && (old.controlling || old.lite)) old.lite p).checks),
           ) l.1)
 
     nominates-rises : (old new : AgentRecord H P) (path : Option Path) → Nominates old path new → rises new.pairs ≡ rises old.pairs
@@ -105,7 +129,7 @@ module _ {H P : Type 0} where
           (λ _ l. ap (λ (a : AgentRecord H P). rises a.pairs) l.1)
           (λ _ l. ap (λ (a : AgentRecord H P). rises a.pairs) l.1
           ∙ rises-changed (change_at top.number (nominated_by_self old.controlling old.lite))
-          (λ p. (at-mild top.number (nominated_by_self old.controlling old.lite) p (self-mild (old.controlling || old.lite) old.lite (is_nominated p) p refl)).number) old.pairs)
+          (λ p. at-number top.number (nominated_by_self old.controlling old.lite) p (self_kept (not (is_nominated p) && (old.controlling || old.lite)) old.lite p).number) old.pairs)
 
     -- ---- roles
 
@@ -113,7 +137,7 @@ module _ {H P : Type 0} where
     switches s = (
       refl,
       omega arith,
-      each m (with_priority_in (switched_sides s)) s.pairs (s.next_number * m) (λ p. record { number = refl; due = refl; checks = refl; nomination = inl refl }),
+      each m (with_priority_in (switched_sides s)) s.pairs (s.next_number * m) (λ p. refl),
     )
 
     failure : (old new : AgentRecord H P) (via : Path) (message : Message) (emitted : Emitted) → TakesFailure old via message emitted new → Spends 0 old new
@@ -152,9 +176,9 @@ module _ {H P : Type 0} where
             (let k = spends-on 0 0 s (pair_served q number s) mid (
               refl,
               omega arith,
-              each m (change_at number (served s.controlling s.lite q)) s.pairs (s.next_number * m) (λ p. at-mild number (served s.controlling s.lite q) p (served-mild s.controlling s.lite q p)),
+              each m (change_at number (after_request q s)) s.pairs (s.next_number * m) (λ p. at-checks number (after_request q s) p (request-checks q s p)),
             )
-            (either (s.controlling && is_valid_at number s.pairs) nominates
+            (either (selects_at_requests s && is_valid_at number s.pairs) nominates
             (λ _ k. nominates-spends (pair_served q number s) mid path k)
             (λ _ k. spends-none (pair_served q number s) mid k.1)) in (k.0, k.1, k.2)) made
 

@@ -43,17 +43,18 @@ pub unspent-checked : (m now : ℕ) (t : StunTiming) (b : Bool) (id : List ℕ) 
 unspent-checked m now t b id p = let k = checked-length t.max_retransmits p.checks (check_of now b id p) in omega (arith, k)
 
 -- a pair that is removed after timeout
-spent-by : (h b u i : Bool) → not (not (h || b || u || i)) ≡ false → b ≡ false
-spent-by true b u i is = absurd (cc)
-spent-by false true u i is = absurd (cc)
-spent-by false false u i is = refl
+spent-by : (e h b u i : Bool) → not (not (e || h || b || u || i)) ≡ false → b ≡ false
+spent-by true h b u i is = absurd (cc)
+spent-by false true b u i is = absurd (cc)
+spent-by false false true u i is = absurd (cc)
+spent-by false false false u i is = refl
 
 pub all-spent : (lite : Bool) (now : ℕ) (t : StunTiming) (p : PairRecord) → lite ≡ false → not (due.is_pair_expired lite now t p) ≡ false → unspent t.max_retransmits p ≡ 0
 all-spent true now t p full gone = absurd (cc)
 all-spent false now t p full gone =
     let many : t.max_retransmits ≤ length p.checks =
     ltb-false (length p.checks) t.max_retransmits
-    (spent-by (due.is_heard now p) (nat_lt (length p.checks) t.max_retransmits) (nat_lt (unanswered_count p.checks) t.max_retransmits) (due.is_in_time now t p.checks) gone) in
+    (spent-by (due.has_early_checks t.early now t p) (due.is_heard now p) (nat_lt (length p.checks) t.max_retransmits) (nat_lt (unanswered_count p.checks) t.max_retransmits) (due.is_in_time now t p.checks) gone) in
     omega (arith, many)
 
 -- ---- lists of pairs

@@ -37,7 +37,7 @@ use Rattle.is_rules.specs.Queue.{first_taken, queued, request_at}
 use Rattle.is_rules.specs.Request.{RequestRecord, request_in}
 use Rattle.is_rules.specs.Roles.{conflict_of, switched}
 use Rattle.is_rules.specs.Sending.{path_between, path_of}
-use Rattle.is_rules.specs.Serving.{Drops, is_misled, names_another, nominated_last, pair_served, replied, request_counted, sender_candidate, served, validated_by_peer, with_sender, with_sender_at, RecordsAndResponds, FindsOrAddsPair, AddsUnknownSender, CountsAndServes, ResolvesRoleConflictBy, ResolvesRoleConflict, Serves}
+use Rattle.is_rules.specs.Serving.{selects_at_requests, after_request, Drops, is_misled, names_another, nominated_last, pair_served, replied, request_counted, sender_candidate, served, validated_by_peer, with_sender, with_sender_at, RecordsAndResponds, FindsOrAddsPair, AddsUnknownSender, CountsAndServes, ResolvesRoleConflictBy, ResolvesRoleConflict, Serves}
 use Rattle.is_rules.specs.Sound.{IsSound}
 use Rattle.is_rules.specs.Steps.{Call, Entry, ReceivePacket, HandleTimeout, Done, Flag, answer_by, done, Receives, Step}
 use Rattle.is_rules.specs.Timeouts.{at_timeout, expired_gone, is_expired, timeout_begun, RemovesExpired, MaintainsPairs, ServesQueued, TimesOut}
@@ -46,10 +46,11 @@ use Rattle.is_theorems.proofs.PathSelection.NominatedByPeer.{uses-too}
 use Rattle.is_theorems.proofs.CallEffects.CallsThatEmitNothing.{is_calm, calm}
 use Rattle.is_theorems.proofs.RuleEffects.UnchangedSettings.{Frame, either, where_frame}
 use Rattle.is_theorems.proofs.RuleEffects.ChangedPairs.{self_kept}
-use Rattle.is_theorems.proofs.CallEffects.ServedRequests.{reached, known_at, served_nominated, Has-last, Has-mapped}
+use Rattle.is_theorems.proofs.CallEffects.ServedRequests.{reached, known_at, served_nominated, HasNominated, where_nominated, Has-last, Has-mapped}
 use Rattle.is_theorems.proofs.RuleEffects.SelectedPaths.{some_is}
 use Rattle.is_theorems.proofs.BasicLemmas.VacantIndices.{known-in, vacant-at, put-here}
 use Rattle.is_theorems.proofs.BasicLemmas.CandidatesByIndex.{at-end}
+use Rattle.is_theorems.proofs.RuleEffects.TriggeredPairs.{triggered_by, by_trigger}
 
 -- a request leaves the number and the indices of its pair
 pub record SamePlace (p q : PairRecord) : Type 0 where
@@ -67,6 +68,12 @@ served-same c l q p =
       valid-same : (b : Bool) (p : PairRecord) → SamePlace p (if b then validated p else p)
       valid-same true p = record { number = refl; local = refl; remote = refl }
       valid-same false p = record { number = refl; local = refl; remote = refl }
+
+request-same : {H P : Type 0} (q : RequestRecord) (s : AgentRecord H P) (p : PairRecord) → SamePlace p (after_request q s p)
+request-same q s p =
+    let k = served-same s.controlling s.lite q (triggered_by q s p) in
+    let t = by_trigger (λ (x : PairRecord). SamePlace p x) q s p (λ due. record { number = refl; local = refl; remote = refl }) in
+    record { number = k.number ∙ t.number; local = k.local ∙ t.local; remote = k.remote ∙ t.remote }
 
 true-false : {A : Type 0} → true ≡ false → A
 true-false h = absurd (cc)
@@ -147,40 +154,50 @@ module _ {H P : Type 0} where
 
     module _ (l r number : ℕ) (s new : AgentRecord H P) (emitted : Emitted) (via : path_between s l r ≡ reversed q.path) (there : IsThere s l r number)
         (path : Option Path) (mid : AgentRecord H P)
-        (nominating : NominatesWhere (s.controlling && is_valid_at number s.pairs) (pair_served q number s) path mid)
+        (nominating : NominatesWhere (selects_at_requests s && is_valid_at number s.pairs) (pair_served q number s) path mid)
         (out : emitted.issued ≡ Some (issued_as (path_between s l r) class.Success q.id)) (made : new ≡ replied mac q (path_between s l r) mid) where
       record-is : new.last_nominated ≡ nominated_last s.controlling q number s.last_nominated
-      record-is = ap (λ (a : AgentRecord H P). a.last_nominated) made ∙ where-last (s.controlling && is_valid_at number s.pairs) (pair_served q number s) mid path nominating
+      record-is = ap (λ (a : AgentRecord H P). a.last_nominated) made ∙ where-last (selects_at_requests s && is_valid_at number s.pairs) (pair_served q number s) mid path nominating
 
       role-is : new.controlling ≡ s.controlling
       role-is = ap (λ (a : AgentRecord H P). a.controlling) made
-          ∙ ap (λ (f : Frame H). f.controlling) (where_frame (s.controlling && is_valid_at number s.pairs) (pair_served q number s) mid path nominating).0
-
-      still : s.controlling ≡ false → mid ≡ pair_served q number s
-      still role = (subst (λ c. NominatesWhere (c && is_valid_at number s.pairs) (pair_served q number s) path mid) role nominating).1
+          ∙ ap (λ (f : Frame H). f.controlling) (where_frame (selects_at_requests s && is_valid_at number s.pairs) (pair_served q number s) mid path nominating).0
 
       abbrev after : PairRecord
-      after = served s.controlling s.lite q there.0
+      after = after_request q s there.0
 
-      after-has : Has (change_pair number (served s.controlling s.lite q) s.pairs) after
-      after-has = subst (λ (z : PairRecord). Has (change_pair number (served s.controlling s.lite q) s.pairs) z)
+      after-has : Has (change_pair number (after_request q s) s.pairs) after
+      after-has = subst (λ (z : PairRecord). Has (change_pair number (after_request q s) s.pairs) z)
           (ap (λ b. if b then after else there.0) (eq-eqb there.0.number number there.2))
-          (Has-mapped (change_at number (served s.controlling s.lite q)) s.pairs there.0 there.1)
+          (Has-mapped (change_at number (after_request q s)) s.pairs there.0 there.1)
 
       after-path : path_between s after.local after.remote ≡ reversed q.path
       after-path =
-          let k = served-same s.controlling s.lite q there.0 in
+          let k = request-same q s there.0 in
           ap (λ n. path_between s n after.remote) (k.local ∙ there.3) ∙ ap (λ n. path_between s l n) (k.remote ∙ there.4) ∙ via
 
-      recorded : s.controlling ≡ false → q.use_candidate ≡ true → IsRecordedOn (replied mac q (path_between s l r) (pair_served q number s)) (reversed q.path)
-      recorded role uses = (
+      -- the pair may be selected by the request
+      named : s.controlling ≡ false → q.use_candidate ≡ true → HasNominated mid number (reversed q.path)
+      named role uses = where_nominated (selects_at_requests s && is_valid_at number s.pairs) (pair_served q number s) mid path number (reversed q.path) nominating (
         after,
         after-has,
-        ap (λ c. if not c && q.use_candidate then Some number else s.last_nominated) role
-            ∙ (ap (λ u. if u then Some number else s.last_nominated) uses ∙ ap Some (sym ((served-same s.controlling s.lite q there.0).number ∙ there.2))),
+        (request-same q s there.0).number ∙ there.2,
+        served_nominated s.controlling s.lite q (triggered_by q s there.0) role uses,
         after-path,
-        served_nominated s.controlling s.lite q there.0 role uses,
       )
+
+      recorded : s.controlling ≡ false → q.use_candidate ≡ true → IsRecordedOn new (reversed q.path)
+      recorded role uses =
+          let k = named role uses in
+          let is : new.last_nominated ≡ Some k.0.number =
+          record-is ∙ (ap (λ c. if not c && q.use_candidate then Some number else s.last_nominated) role
+          ∙ (ap (λ u. if u then Some number else s.last_nominated) uses ∙ ap Some (sym k.2))) in (
+            k.0,
+            subst (λ (a : AgentRecord H P). Has a.pairs k.0) (sym made) k.1,
+            is,
+            subst (λ (a : AgentRecord H P). path_of a k.0 ≡ reversed q.path) (sym made) k.4,
+            k.3,
+          )
 
       noted : (c u : Bool) → s.controlling ≡ c → q.use_candidate ≡ u → Notes s emitted new
       noted true u role uses = inl (
@@ -194,8 +211,7 @@ module _ {H P : Type 0} where
       noted false true role uses = inr (
         uses,
         role-is ∙ role,
-        subst (λ (a : AgentRecord H P). IsRecordedOn a (reversed q.path))
-            (sym (made ∙ ap (λ (a : AgentRecord H P). replied mac q (path_between s l r) a) (still role))) (recorded role uses),
+        recorded role uses,
         out ∙ ap (λ w. Some (issued_as w class.Success q.id)) via,
       )
 

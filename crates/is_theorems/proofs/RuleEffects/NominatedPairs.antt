@@ -1,7 +1,13 @@
 -- What nomination leaves, by the pair that it selects.
-use Rattle.std.proofs.Common.{◌≡◌, Bool, true, false, Option, Some, None, ap, ◌∙◌}
+use Rattle.std.proofs.Common.{◌≡◌, ℕ, ◌||◌, Bool, true, false, not, length, nat_lt, Option, Some, None, refl, ap, ◌∙◌, if◌then◌else◌}
 use Rattle.std.specs.Prelude.{MatchBool}
-use Rattle.is_pair.specs.Pairs.{PairRecord}
+use Rattle.is_stun.specs.declared.timing.StunTiming.{StunTiming}
+use Rattle.is_stun.specs.declared.timing.EarlyRto.{EarlyRto}
+use Rattle.is_pair.specs.declared.pair.states.NominationState.{NominationState}
+use Rattle.is_pair.specs.declared.pair.states.NominationState.TheVariants.{Nominated, Success}
+use Rattle.is_pair.specs.Checks.{unanswered_count}
+use Rattle.is_pair.specs.Due as due
+use Rattle.is_pair.specs.Pairs.{PairRecord, is_lite_alive, nominated}
 use Rattle.is_rules.specs.declared.emitted.Path.{Path}
 use Rattle.is_rules.specs.Agent.{AgentRecord}
 use Rattle.is_pair.specs.Multiset.{change_pair}
@@ -11,6 +17,23 @@ use Rattle.is_rules.specs.Nominating.{nominated_by_self, Selection, selection, w
 both_ways : (b : Bool) {P Q R S : Type 0} → MatchBool b P Q → (P → R) → (Q → S) → MatchBool b R S
 both_ways true h f g = f h
 both_ways false h f g = g h
+
+-- Nomination does not change whether the pair is to be removed.
+
+early_nominated : (o : Option EarlyRto) (now : ℕ) (t : StunTiming) (n : NominationState) (p : PairRecord) → due.has_early_checks o now t (record p { nomination = n }) ≡ due.has_early_checks o now t p
+early_nominated None now t n p = refl
+early_nominated (Some e) now t n p = refl
+
+pub expired_nominated : (lite l : Bool) (now : ℕ) (t : StunTiming) (p : PairRecord) → due.is_pair_expired lite now t (nominated l p) ≡ due.is_pair_expired lite now t p
+expired_nominated lite l now t p = by l where
+  expires : Bool → Bool
+  expires early =
+      not (if lite then is_lite_alive now t p else (early || due.is_heard now p || nat_lt (length p.checks) t.max_retransmits
+      || nat_lt (unanswered_count p.checks) t.max_retransmits || due.is_in_time now t p.checks))
+
+  by : (l : Bool) → due.is_pair_expired lite now t (nominated l p) ≡ due.is_pair_expired lite now t p
+  by true = ap (λ b. expires b) (early_nominated t.early now t Success p)
+  by false = ap (λ b. expires b) (early_nominated t.early now t Nominated p)
 
 module _ {H P : Type 0} where
   -- the pair becomes the selected one

@@ -24,7 +24,7 @@ use Rattle.is_rules.specs.Forming.{formed, with_pair}
 use Rattle.is_pair.specs.Multiset.{is_valid_at}
 use Rattle.is_rules.specs.Nominating.{Nominates, NominatesWhere, with_selection, nominated_emitted}
 use Rattle.is_rules.specs.Roles.{conflict_of, switched}
-use Rattle.is_rules.specs.Serving.{is_misled, names_another, request_counted, with_sender, with_sender_at, pair_served, Drops, RecordsAndResponds, FindsOrAddsPair, AddsUnknownSender, CountsAndServes, ResolvesRoleConflictBy, ResolvesRoleConflict, ServesHere, Serves}
+use Rattle.is_rules.specs.Serving.{selects_at_requests, is_misled, names_another, request_counted, with_sender, with_sender_at, pair_served, Drops, RecordsAndResponds, FindsOrAddsPair, AddsUnknownSender, CountsAndServes, ResolvesRoleConflictBy, ResolvesRoleConflict, ServesHere, Serves}
 use Rattle.is_rules.specs.Answers.{TakesSuccess}
 use Rattle.is_rules.specs.Timeouts.{is_expired, expired_gone, RemovesExpired}
 use Rattle.is_rules.specs.Issuing.{IsQueued}
@@ -87,7 +87,7 @@ module _ {H P : Type 0} where
   module _ (mac : H → List ℕ → List ℕ → List ℕ) (q : RequestRecord) where
     pair : (l r number : ℕ) (s new : AgentRecord H P) (emitted : Emitted) → RecordsAndResponds mac q l r number s emitted new → Stays s emitted new
     pair l r number s new emitted (path, mid, nominates, (values, is, made)) =
-        let k = where_frame (s.controlling && is_valid_at number s.pairs) (pair_served q number s) mid path nominates in
+        let k = where_frame (selects_at_requests s && is_valid_at number s.pairs) (pair_served q number s) mid path nominates in
         let out = packet_along (path_between s l r) (written (mac mid.provider) (Some mid.local_creds.pass) (binding_reply q.id q.path.source)) in (
           ap (λ (a : AgentRecord H P). frame_of a) made ∙ k.0,
           subst (λ (t : Emitted). IsQueued t.issued s.packets new.packets) (sym is)

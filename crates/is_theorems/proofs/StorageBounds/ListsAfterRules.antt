@@ -1,5 +1,5 @@
 -- How requests, packets and timeouts change the lists that a limit bounds.
-use Rattle.std.proofs.Common.{◌≡◌, ℕ, ◌+◌, ◌-◌, ◌<◌, ◌≤◌, ◌&&◌, Bool, true, false, not, List, [], ◌∷◌, ◌++◌, length, Option, Some, None, Result, Ok, Err, inl, inr, refl, sym, subst, ap, ◌∙◌, arith, if◌then◌else◌}
+use Rattle.std.proofs.Common.{◌≡◌, ℕ, ◌-◌, ◌<◌, ◌≤◌, ◌&&◌, Bool, true, false, not, List, [], ◌∷◌, ◌++◌, length, Option, Some, None, Result, Ok, Err, inl, inr, refl, sym, subst, ap, ◌∙◌, arith, if◌then◌else◌}
 use Rattle.std.specs.Prelude.{MatchOption}
 use Rattle.std.specs.declared.net.socket_addr.SocketAddr.{SocketAddr}
 use Rattle.std.proofs.lemmas.Bool.{ltb-true}
@@ -31,7 +31,7 @@ use Rattle.is_rules.specs.Places.{local_place}
 use Rattle.is_rules.specs.Queue.{first_taken, request_at}
 use Rattle.is_rules.specs.Request.{RequestRecord, request_in}
 use Rattle.is_rules.specs.Roles.{conflict_of, switched}
-use Rattle.is_rules.specs.Serving.{is_misled, names_another, pair_served, request_counted, sender_candidate, with_sender, with_sender_at, Drops, Queues, RecordsAndResponds, FindsOrAddsPair, AddsUnknownSender, CountsAndServes, ResolvesRoleConflictBy, ResolvesRoleConflict, Serves}
+use Rattle.is_rules.specs.Serving.{selects_at_requests, is_misled, names_another, pair_served, request_counted, sender_candidate, with_sender, with_sender_at, Drops, Queues, RecordsAndResponds, FindsOrAddsPair, AddsUnknownSender, CountsAndServes, ResolvesRoleConflictBy, ResolvesRoleConflict, Serves}
 use Rattle.is_rules.specs.Steps.{Entry, Receives}
 use Rattle.is_rules.specs.Timeouts.{MaintainsPairs, TimesOut, timeout_begun}
 use Rattle.is_theorems.proofs.RuleEffects.UnchangedSettings.{either}
@@ -87,7 +87,7 @@ module _ {H P : Type 0} where
     module _ (mac : H → List ℕ → List ℕ → List ℕ) (q : RequestRecord) where
       pair : (l r number : ℕ) (s new : AgentRecord H P) (emitted : Emitted) → RecordsAndResponds mac q l r number s emitted new → Same s new
       pair l r number s new emitted (path, mid, nominates, (values, is, made)) =
-          ap (λ (a : AgentRecord H P). lists_of a) made ∙ where_same (s.controlling && is_valid_at number s.pairs) (pair_served q number s) mid path nominates
+          ap (λ (a : AgentRecord H P). lists_of a) made ∙ where_same (selects_at_requests s && is_valid_at number s.pairs) (pair_served q number s) mid path nominates
 
       takes : (l r : ℕ) (number : Option ℕ) (s new : AgentRecord H P) (emitted : Emitted) → FindsOrAddsPair mac q l r number s emitted new → Same s new
       takes l r (Some number) s new emitted h = pair l r number s new emitted h

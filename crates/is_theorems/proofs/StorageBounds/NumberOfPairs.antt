@@ -1,5 +1,5 @@
 -- With limits on pairs and on what packets bring, how many pairs there are.
-use Rattle.std.proofs.Common.{◌≡◌, ℕ, ◌+◌, ◌*◌, ◌≤◌, List, ◌∷◌, length, count_by, arith}
+use Rattle.std.proofs.Common.{ℕ, ◌+◌, ◌*◌, ◌≤◌, List, ◌∷◌, length, count_by, arith}
 use Rattle.std.proofs.Math.Nat.{mul-le-mul}
 use Rattle.rand_core.specs.Stream.{Stream}
 use Rattle.is_candidate.specs.Candidates.{CandidateRecord}

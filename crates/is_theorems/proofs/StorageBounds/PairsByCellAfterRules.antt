@@ -37,7 +37,7 @@ use Rattle.is_rules.specs.Places.{is_at, is_live, is_reached, local_place}
 use Rattle.is_rules.specs.Queue.{first_taken, request_at}
 use Rattle.is_rules.specs.Request.{RequestRecord, request_in}
 use Rattle.is_rules.specs.Roles.{conflict_of, switched, switched_sides, with_priority_in}
-use Rattle.is_rules.specs.Serving.{is_misled, names_another, pair_served, request_counted, served, validated_by_peer, with_sender, with_sender_at, Drops, Queues, RecordsAndResponds, FindsOrAddsPair, AddsUnknownSender, CountsAndServes, ResolvesRoleConflictBy, ResolvesRoleConflict, Serves}
+use Rattle.is_rules.specs.Serving.{selects_at_requests, after_request, is_misled, names_another, pair_served, request_counted, served, validated_by_peer, with_sender, with_sender_at, Drops, Queues, RecordsAndResponds, FindsOrAddsPair, AddsUnknownSender, CountsAndServes, ResolvesRoleConflictBy, ResolvesRoleConflict, Serves}
 use Rattle.is_rules.specs.States.{evaluated}
 use Rattle.is_rules.specs.Steps.{Entry, Receives}
 use Rattle.is_rules.specs.Timeouts.{RemovesExpired, MaintainsPairs, TimesOut, at_timeout, expired_gone, is_expired, timeout_begun}
@@ -51,6 +51,7 @@ use Rattle.is_rules.proofs.PairLists.PairsByNumber.{none-any}
 use Rattle.is_rules.proofs.PairLists.RemovedInTurn.{removes, RemovesInTurn}
 use Rattle.is_theorems.proofs.RuleEffects.SelectedPaths.{some_is}
 use Rattle.is_theorems.proofs.BasicLemmas.CandidatesByIndex.{at-append, found-at}
+use Rattle.is_theorems.proofs.RuleEffects.TriggeredPairs.{triggered_by, by_trigger}
 
 -- the local candidate at the index was not brought by a response
 abbrev pub own_at : List CandidateRecord → ℕ → Bool
@@ -74,6 +75,9 @@ served-cell : (c l : Bool) (q : RequestRecord) (p : PairRecord) → cell_of (ser
 served-cell c l q p =
     let x : PairRecord = validated_by_peer c l (with_request q.time p) in
     unless-cell (not c && q.use_candidate && not (is_nominated x)) l x ∙ validated-cell (l && not c) (with_request q.time p)
+
+request-cell : {H P : Type 0} (q : RequestRecord) (s : AgentRecord H P) (p : PairRecord) → cell_of (after_request q s p) ≡ cell_of p
+request-cell q s p = served-cell s.controlling s.lite q (triggered_by q s p) ∙ by_trigger (λ (x : PairRecord). cell_of x ≡ cell_of p) q s p (λ due. refl)
 
 heard-cell : (now : ℕ) (last : Option ℕ) (p : PairRecord) → cell_of (heard_at now last p) ≡ cell_of p
 heard-cell now None p = refl
@@ -251,9 +255,9 @@ module _ {H P : Type 0} where
   module _ (mac : H → List ℕ → List ℕ → List ℕ) (q : RequestRecord) where
     pair : (l r number : ℕ) (s new : AgentRecord H P) (emitted : Emitted) → RecordsAndResponds mac q l r number s emitted new → Fewer s new
     pair l r number s new emitted (path, mid, nominates, (values, is, made)) =
-        let f = where_fewer (s.controlling && is_valid_at number s.pairs) (pair_served q number s) mid path nominates in
+        let f = where_fewer (selects_at_requests s && is_valid_at number s.pairs) (pair_served q number s) mid path nominates in
         let e : grid_of (pair_served q number s) ≡ grid_of s =
-        recast s (pair_served q number s).pairs (cells-map (change_at number (served s.controlling s.lite q)) (λ p. at-cell number (served s.controlling s.lite q) p (served-cell s.controlling s.lite q p)) s.pairs) in
+        recast s (pair_served q number s).pairs (cells-map (change_at number (after_request q s)) (λ p. at-cell number (after_request q s) p (request-cell q s p)) s.pairs) in
         on s (pair_served q number s) new (alike s (pair_served q number s) e)
         (on (pair_served q number s) mid new f (alike mid new (ap (λ (a : AgentRecord H P). grid_of a) made)))
 

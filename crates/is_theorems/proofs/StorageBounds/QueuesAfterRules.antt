@@ -31,7 +31,7 @@ use Rattle.is_rules.specs.Nominating.{Nominates, NominatesWhere, nominated_emitt
 use Rattle.is_rules.specs.Places.{local_place}
 use Rattle.is_rules.specs.Request.{RequestRecord}
 use Rattle.is_rules.specs.Roles.{conflict_of, switched}
-use Rattle.is_rules.specs.Serving.{is_misled, names_another, pair_served, request_counted, with_sender, with_sender_at, Drops, Queues, RecordsAndResponds, FindsOrAddsPair, AddsUnknownSender, CountsAndServes, ResolvesRoleConflictBy, ResolvesRoleConflict, Serves}
+use Rattle.is_rules.specs.Serving.{selects_at_requests, is_misled, names_another, pair_served, request_counted, with_sender, with_sender_at, Drops, Queues, RecordsAndResponds, FindsOrAddsPair, AddsUnknownSender, CountsAndServes, ResolvesRoleConflictBy, ResolvesRoleConflict, Serves}
 use Rattle.is_rules.specs.States.{evaluated, has_nominated, has_possible, next_state, same_state, with_state}
 use Rattle.is_rules.specs.Timeouts.{RemovesExpired, MaintainsPairs, at_timeout, expired_gone, is_expired, start_emitted, timeout_begun}
 use Rattle.is_theorems.proofs.RuleEffects.UnchangedSettings.{either}
@@ -203,7 +203,7 @@ module _ {H P : Type 0} where
     pair : (l r number : ℕ) (s new : AgentRecord H P) (emitted : Emitted) → RecordsAndResponds mac q l r number s emitted new → Adds 1 1 s new
     pair l r number s new emitted (path, mid, nominates, (values, is, made)) =
         more 0 1 1 0 s mid new
-        (where_adds (s.controlling && is_valid_at number s.pairs) (pair_served q number s) mid path nominates)
+        (where_adds (selects_at_requests s && is_valid_at number s.pairs) (pair_served q number s) mid path nominates)
         (as-made 1 0 mid _ new made (one-packet (lines_of mid) _))
 
     takes : (l r : ℕ) (number : Option ℕ) (s new : AgentRecord H P) (emitted : Emitted) → FindsOrAddsPair mac q l r number s emitted new → Adds 1 1 s new

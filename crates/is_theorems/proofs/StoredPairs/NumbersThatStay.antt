@@ -26,17 +26,18 @@ use Rattle.is_rules.specs.Places.{local_place}
 use Rattle.is_rules.specs.Forming.{formed, with_pair}
 use Rattle.is_rules.specs.Nominating.{nominated_by_self, Nominates, followed, remains, selection_of}
 use Rattle.is_rules.specs.Roles.{conflict_of, switched, switched_sides, with_priority_in}
-use Rattle.is_rules.specs.Serving.{served, is_misled, names_another, pair_served, request_counted, with_sender, with_sender_at, validated_by_peer, Drops, Queues, RecordsAndResponds, FindsOrAddsPair, AddsUnknownSender, CountsAndServes, ResolvesRoleConflictBy, ResolvesRoleConflict, Serves}
+use Rattle.is_rules.specs.Serving.{selects_at_requests, after_request, served, is_misled, names_another, pair_served, request_counted, with_sender, with_sender_at, validated_by_peer, Drops, Queues, RecordsAndResponds, FindsOrAddsPair, AddsUnknownSender, CountsAndServes, ResolvesRoleConflictBy, ResolvesRoleConflict, Serves}
 use Rattle.is_rules.specs.Answers.{is_role_conflict, TakesSuccess, LeavesRole, TakesFailure}
 use Rattle.is_rules.specs.Accepting.{Takes}
 use Rattle.is_rules.specs.Checking.{all_asked, ChecksTop, MayCheck}
 use Rattle.is_rules.specs.Timeouts.{at_timeout, is_expired, expired_gone, RemovesExpired, MaintainsPairs}
 use Rattle.is_rules.specs.States.{evaluated}
 use Rattle.is_theorems.proofs.RuleEffects.UnchangedSettings.{either}
-use Rattle.is_theorems.proofs.RuleEffects.NominatedPairs.{SelectsPath, selects_path}
+use Rattle.is_theorems.proofs.RuleEffects.NominatedPairs.{SelectsPath, selects_path, expired_nominated}
 use Rattle.is_theorems.proofs.CallEffects.ServedRequests.{Has-mapped}
 use Rattle.is_theorems.proofs.RuleEffects.SelectedPaths.{some_is}
 use Rattle.is_theorems.proofs.DuePairs.AfterNominationAndRemoval.{Base, Has-kept, nominates-thins}
+use Rattle.is_theorems.proofs.RuleEffects.TriggeredPairs.{triggered_by, by_trigger}
 
 -- ---- lists
 
@@ -88,6 +89,9 @@ served-number c l q p =
     (nominated-number l (validated_by_peer c l (with_request q.time p)))
     ∙ if-number (l && not c) (validated (with_request q.time p)) (with_request q.time p) refl
 
+request-number : {H P : Type 0} (q : RequestRecord) (s : AgentRecord H P) (p : PairRecord) → (after_request q s p).number ≡ p.number
+request-number q s p = served-number s.controlling s.lite q (triggered_by q s p) ∙ by_trigger (λ (x : PairRecord). x.number ≡ p.number) q s p (λ due. refl)
+
 heard-number : (now : ℕ) (at : Option ℕ) (p : PairRecord) → (heard_at now at p).number ≡ p.number
 heard-number now None p = refl
 heard-number now (Some at) p = refl
@@ -98,8 +102,7 @@ self-kept : (c l : Bool) (n : ℕ) (p : PairRecord) (lite : Bool) (now : ℕ) (t
 self-kept c l n p lite now t = apart (is_numbered n p) (not (is_nominated p) && (c || l)) l where
   apart : (a b l : Bool) → ((if a then (if b then nominated l p else p) else p).number ≡ p.number)
       × (due.is_pair_expired lite now t (if a then (if b then nominated l p else p) else p) ≡ due.is_pair_expired lite now t p)
-  apart true true true = (refl, refl)
-  apart true true false = (refl, refl)
+  apart true true l = (nominated-number l p, expired_nominated lite l now t p)
   apart true false l = (refl, refl)
   apart false b l = (refl, refl)
 
@@ -189,9 +192,9 @@ module _ {H P : Type 0} where
       pair l r number s new emitted (path, mid, nominates, (values, is, made)) =
           keep-as s _ new
           (keeps-on s.pairs (pair_served q number s).pairs mid.pairs
-          (keeps-map (change_at number (served s.controlling s.lite q)) s.pairs
-          (λ p. if-number (is_numbered number p) (served s.controlling s.lite q p) p (served-number s.controlling s.lite q p)))
-          (either (s.controlling && is_valid_at number s.pairs) nominates
+          (keeps-map (change_at number (after_request q s)) s.pairs
+          (λ p. if-number (is_numbered number p) (after_request q s p) p (request-number q s p)))
+          (either (selects_at_requests s && is_valid_at number s.pairs) nominates
           (λ _ k. keep-nominates (pair_served q number s) mid path k)
           (λ _ k. keep-same (pair_served q number s) mid k.1))) made
 

@@ -16,12 +16,12 @@ use Rattle.is_rules.specs.Agent.{AgentRecord}
 use Rattle.is_rules.specs.Discarding.{is_local_at, local_discarded}
 use Rattle.is_rules.specs.Each.{Each}
 use Rattle.is_rules.specs.Evicting.{kind_count, EvictsOfMost, EvictsOfMostInTurn, IsLeastOfMost}
-use Rattle.is_rules.specs.Forming.{SidesRecord, Formed, Combination, combined_priority, is_redundant, pair_of, local_combinations, remote_combinations, sides_of, formed_of, EvictsFor, Tries, FormsAll}
+use Rattle.is_rules.specs.Forming.{SidesRecord, Formed, Combination, combined_priority, pair_of, local_combinations, remote_combinations, sides_of, formed_of, EvictsFor, Tries, FormsAll}
 use Rattle.is_rules.specs.Kinds.{kind_of, KINDS}
 use Rattle.is_rules.specs.Local.{as_own, appended, comes_again, enabled, enabled_again, is_too_high, is_unwanted, preferred, AddsLocal, EnrolsAt, EntersAgain, EntersNew, IsNotAdded}
 use Rattle.is_rules.specs.Owed.{one_if}
 use Rattle.is_rules.specs.Remote.{as_remote, is_ignored, is_placeholder, place_or_end, with_remote, AddsRemote}
-use Rattle.is_theorems.specs.Removing.{is_replaced_by, is_rival, ranks_with, combines_with, most_pairs, MayBeRemoved, MayEndByAppending, MayEndByRemote, MayEndByStoring, MayEndByEnrolling, MayEndByLocal}
+use Rattle.is_theorems.specs.Removing.{is_replaced_by, is_rival, ranks_with, combines_with, most_pairs, MayBeRemoved, MayEndByAppending, MayEndByRemote, MayEndByEnrolling, MayEndByLocal}
 use Rattle.is_rules.specs.Sound.{IsSound}
 use Rattle.is_theorems.proofs.RuleEffects.UnchangedSettings.{either}
 use Rattle.is_theorems.proofs.RuleEffects.EarlierAndNewPairs.{Has-filter, Has-push, rising-filter, rising-push}

@@ -30,7 +30,7 @@ use Rattle.is_rules.specs.Places.{local_place}
 use Rattle.is_rules.specs.Forming.{formed, with_pair}
 use Rattle.is_rules.specs.Nominating.{nominated_by_self, Nominates, followed, remains, selection_of}
 use Rattle.is_rules.specs.Roles.{conflict_of, switched, switched_sides, with_priority_in}
-use Rattle.is_rules.specs.Serving.{served, is_misled, names_another, pair_served, request_counted, with_sender, with_sender_at, validated_by_peer, Drops, Queues, RecordsAndResponds, FindsOrAddsPair, AddsUnknownSender, CountsAndServes, ResolvesRoleConflictBy, ResolvesRoleConflict, Serves}
+use Rattle.is_rules.specs.Serving.{selects_at_requests, after_request, served, is_misled, names_another, pair_served, request_counted, with_sender, with_sender_at, validated_by_peer, Drops, Queues, RecordsAndResponds, FindsOrAddsPair, AddsUnknownSender, CountsAndServes, ResolvesRoleConflictBy, ResolvesRoleConflict, Serves}
 use Rattle.is_rules.specs.Answers.{is_role_conflict, TakesSuccess, LeavesRole, TakesFailure}
 use Rattle.is_rules.specs.Accepting.{Takes}
 use Rattle.is_rules.specs.Checking.{all_asked, check_sent, IsNextToCheck, ChecksTop, MayCheck}
@@ -38,7 +38,7 @@ use Rattle.is_rules.specs.Emitted.{issued_as}
 use Rattle.is_rules.specs.Timeouts.{at_timeout, is_expired, expired_gone, RemovesExpired, MaintainsPairs}
 use Rattle.is_rules.specs.States.{evaluated}
 use Rattle.is_theorems.proofs.RuleEffects.UnchangedSettings.{either}
-use Rattle.is_theorems.proofs.RuleEffects.NominatedPairs.{SelectsPath, selects_path}
+use Rattle.is_theorems.proofs.RuleEffects.NominatedPairs.{SelectsPath, selects_path, expired_nominated}
 use Rattle.is_theorems.proofs.BasicLemmas.PairsInTurn.{next-is-due}
 use Rattle.is_theorems.proofs.CallEffects.ServedRequests.{Has-mapped}
 use Rattle.is_theorems.proofs.RuleEffects.SelectedPaths.{some_is}
@@ -46,6 +46,7 @@ use Rattle.is_theorems.proofs.DuePairs.AfterNominationAndRemoval.{Base, Has-kept
 use Rattle.is_theorems.proofs.StoredPairs.StoredChecks.{number_same}
 use Rattle.is_theorems.specs.Pending.{as_sent, sent_of}
 use Rattle.is_rules.specs.Sending.{path_of}
+use Rattle.is_theorems.proofs.RuleEffects.TriggeredPairs.{triggered_by, by_trigger}
 
 -- ---- lists
 
@@ -116,6 +117,11 @@ served-same c l q p =
     let third : Same v (served c l q p) = if-same (not c && q.use_candidate && not (is_nominated v)) (nominated l v) v (nominated-same l v) in
     same-on p w (served c l q p) first (same-on w v (served c l q p) second third)
 
+request-same : {H P : Type 0} (q : RequestRecord) (s : AgentRecord H P) (p : PairRecord) → Same p (after_request q s p)
+request-same q s p =
+    same-on p (triggered_by q s p) (after_request q s p) (by_trigger (λ (x : PairRecord). Same p x) q s p (λ due. (refl, refl)))
+    (served-same s.controlling s.lite q (triggered_by q s p))
+
 heard-same : (now : ℕ) (at : Option ℕ) (p : PairRecord) → Same p (heard_at now at p)
 heard-same now None p = (refl, refl)
 heard-same now (Some at) p = (refl, refl)
@@ -129,8 +135,7 @@ self-due : (c l : Bool) (n : ℕ) (p : PairRecord) (lite : Bool) (now : ℕ) (t 
     → due.is_pair_expired lite now t (change_at n (nominated_by_self c l) p) ≡ due.is_pair_expired lite now t p
 self-due c l n p lite now t = apart (is_numbered n p) (not (is_nominated p) && (c || l)) l where
   apart : (a b l : Bool) → due.is_pair_expired lite now t (if a then (if b then nominated l p else p) else p) ≡ due.is_pair_expired lite now t p
-  apart true true true = refl
-  apart true true false = refl
+  apart true true l = expired_nominated lite l now t p
   apart true false l = refl
   apart false b l = refl
 
@@ -287,9 +292,9 @@ module _ {H P : Type 0} where
       pair l r number s new emitted (path, mid, nominates, (values, is, made)) =
           keep-as s _ new
           (keeps-on s.pairs (pair_served q number s).pairs mid.pairs
-          (keeps-map (change_at number (served s.controlling s.lite q)) s.pairs
-          (λ p. if-same (is_numbered number p) (served s.controlling s.lite q p) p (served-same s.controlling s.lite q p)))
-          (either (s.controlling && is_valid_at number s.pairs) nominates
+          (keeps-map (change_at number (after_request q s)) s.pairs
+          (λ p. if-same (is_numbered number p) (after_request q s p) p (request-same q s p)))
+          (either (selects_at_requests s && is_valid_at number s.pairs) nominates
           (λ _ k. keep-nominates (pair_served q number s) mid path k)
           (λ _ k. keep-same (pair_served q number s) mid k.1))) made
 

@@ -35,7 +35,7 @@ use Rattle.is_rules.specs.Request.{RequestRecord, request_in}
 use Rattle.is_rules.specs.Roles.{conflict_of, switched, switched_sides, with_priority_in}
 use Rattle.is_theorems.specs.Rounds.{is_between}
 use Rattle.is_rules.specs.Sending.{path_of, path_between}
-use Rattle.is_rules.specs.Serving.{served, validated_by_peer, is_misled, names_another, pair_served, request_counted, with_sender, with_sender_at, sender_candidate, replied, Drops, Queues, RecordsAndResponds, FindsOrAddsPair, AddsUnknownSender, CountsAndServes, ResolvesRoleConflictBy, ResolvesRoleConflict, Serves}
+use Rattle.is_rules.specs.Serving.{selects_at_requests, after_request, served, validated_by_peer, is_misled, names_another, pair_served, request_counted, with_sender, with_sender_at, sender_candidate, replied, Drops, Queues, RecordsAndResponds, FindsOrAddsPair, AddsUnknownSender, CountsAndServes, ResolvesRoleConflictBy, ResolvesRoleConflict, Serves}
 use Rattle.is_rules.specs.Sound.{IsSound, IsPlaced}
 use Rattle.is_rules.specs.Steps.{Call, Entry, ReceivePacket, PollTransmit, PollTimeout, PollEvent, Step}
 use Rattle.is_theorems.proofs.BasicLemmas.EqualAddresses.{both}
@@ -50,6 +50,7 @@ use Rattle.is_theorems.proofs.CallEffects.ServedRequests.{Has-mapped}
 use Rattle.is_theorems.proofs.RuleEffects.SelectedPaths.{some_is}
 use Rattle.is_theorems.proofs.BasicLemmas.VacantIndices.{KeepsRemote, keeps-remote-put, vacant-at}
 use Rattle.is_theorems.proofs.BasicLemmas.CandidatesByIndex.{at-append}
+use Rattle.is_theorems.proofs.RuleEffects.TriggeredPairs.{triggered_by, by_trigger}
 
 -- ---- lists
 
@@ -115,6 +116,12 @@ served_alike c l q p =
     let first : Alike p w = record { local = refl; remote = refl; checks = λ id. refl } in
     alike_on p w (served c l q p) first
     (alike_on w v (served c l q p) (validated_alike (l && not c) w) (self_alike (not c && q.use_candidate && not (is_nominated v)) l v))
+
+request_alike : {H P : Type 0} (q : RequestRecord) (s : AgentRecord H P) (p : PairRecord) → Alike p (after_request q s p)
+request_alike q s p =
+    alike_on p (triggered_by q s p) (after_request q s p)
+    (by_trigger (λ (x : PairRecord). Alike p x) q s p (λ due. record { local = refl; remote = refl; checks = λ id. refl }))
+    (served_alike s.controlling s.lite q (triggered_by q s p))
 
 at_alike : (n : ℕ) (f : PairRecord → PairRecord) (p : PairRecord) → Alike p (f p) → Alike p (change_at n f p)
 at_alike n f p a = by (is_numbered n p) where
@@ -217,8 +224,8 @@ module _ {H P : Type 0} where
       at_pair l r number s new emitted (path, mid, nominates, (values, is, made)) =
           stays_on s (pair_served q number s) new
           (stays_by s (pair_served q number s) (inl refl) (inl refl)
-          (mapped_pairs (change_at number (served s.controlling s.lite q)) s.pairs (λ p. at_alike number (served s.controlling s.lite q) p (served_alike s.controlling s.lite q p))))
-          (stays_on (pair_served q number s) mid new (nominates_where (s.controlling && is_valid_at number s.pairs) (pair_served q number s) mid path nominates)
+          (mapped_pairs (change_at number (after_request q s)) s.pairs (λ p. at_alike number (after_request q s) p (request_alike q s p))))
+          (stays_on (pair_served q number s) mid new (nominates_where (selects_at_requests s && is_valid_at number s.pairs) (pair_served q number s) mid path nominates)
           (subst (λ (a : AgentRecord H P). Stays mid a) (sym made) (stays_by mid (replied mac q (path_between s l r) mid) (inl refl) (inl refl) (same_pairs mid.pairs))))
 
       takes_at : (l r : ℕ) (number : Option ℕ) (s new : AgentRecord H P) (emitted : Emitted) → FindsOrAddsPair mac q l r number s emitted new → Stays s new

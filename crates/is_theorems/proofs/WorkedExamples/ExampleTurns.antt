@@ -1,4 +1,5 @@
--- Kinds in turn in a worked example: two pairs are due, and whose turn it is decides which one is checked.
+-- Checks that go ahead, in a worked example: two pairs are due. Whose turn it is decides which one is checked; but an urgent pair comes
+-- before all turns.
 use Rattle.std.proofs.Common.{◌≡◌, ℕ, ◌<◌, true, false, List, [], ◌∷◌, Some, None, inl, inr, refl, subst, arith}
 use Rattle.std.specs.Prelude.{codes}
 use Rattle.is_proto.specs.Lists.{Has}
@@ -41,29 +42,42 @@ host_first q (inr (inr none)) = absurd none
 
 -- Kind 3 comes before kind 7 in a round that begins with kind 0.
 reflexive_first : (q : PairRecord) → Has due_pairs q
-    → TurnsBefore (own_1 ∷ []) remote_candidates 0 0 default_timing (asked 0 default_timing reflexive_pair) q
+    → TurnsBefore (own_1 ∷ []) remote_candidates true 0 0 default_timing (asked 0 default_timing reflexive_pair) q
 reflexive_first q (inl same) =
-    let earlier : 3 < 7 = omega arith in
-    subst (λ x. TurnsBefore (own_1 ∷ []) remote_candidates 0 0 default_timing (asked 0 default_timing reflexive_pair) x) same (inl earlier)
+    let earlier : 5 < 9 = omega arith in
+    subst (λ x. TurnsBefore (own_1 ∷ []) remote_candidates true 0 0 default_timing (asked 0 default_timing reflexive_pair) x) same (inl earlier)
 reflexive_first q (inr (inl same)) =
-    subst (λ x. TurnsBefore (own_1 ∷ []) remote_candidates 0 0 default_timing (asked 0 default_timing reflexive_pair) x) same (inr (refl, inr (refl, omega arith)))
+    subst (λ x. TurnsBefore (own_1 ∷ []) remote_candidates true 0 0 default_timing (asked 0 default_timing reflexive_pair) x) same (inr (refl, inr (refl, omega arith)))
 reflexive_first q (inr (inr none)) = absurd none
 
 -- After kind 3, the round goes on with kind 7.
-host_next : (q : PairRecord) → Has due_pairs q → TurnsBefore (own_1 ∷ []) remote_candidates 4 0 default_timing (asked 0 default_timing host_pair) q
+host_next : (q : PairRecord) → Has due_pairs q → TurnsBefore (own_1 ∷ []) remote_candidates true 4 0 default_timing (asked 0 default_timing host_pair) q
 host_next q (inl same) =
-    subst (λ x. TurnsBefore (own_1 ∷ []) remote_candidates 4 0 default_timing (asked 0 default_timing host_pair) x) same (inr (refl, inr (refl, omega arith)))
+    subst (λ x. TurnsBefore (own_1 ∷ []) remote_candidates true 4 0 default_timing (asked 0 default_timing host_pair) x) same (inr (refl, inr (refl, omega arith)))
 host_next q (inr (inl same)) =
-    let earlier : 7 < 19 = omega arith in
-    subst (λ x. TurnsBefore (own_1 ∷ []) remote_candidates 4 0 default_timing (asked 0 default_timing host_pair) x) same (inl earlier)
+    let earlier : 9 < 21 = omega arith in
+    subst (λ x. TurnsBefore (own_1 ∷ []) remote_candidates true 4 0 default_timing (asked 0 default_timing host_pair) x) same (inl earlier)
 host_next q (inr (inr none)) = absurd none
+
+-- A request arrived on the pair, which is not valid: it is urgent, and comes before kind 7.
+abbrev urgent_pair : PairRecord
+urgent_pair = record reflexive_pair { requests = 1; last_request = Some 0 }
+
+urgent_first : (q : PairRecord) → Has (asked 0 default_timing host_pair ∷ asked 0 default_timing urgent_pair ∷ []) q
+    → TurnsBefore (own_1 ∷ []) remote_candidates true 4 0 default_timing (asked 0 default_timing urgent_pair) q
+urgent_first q (inl same) =
+    let earlier : 0 < 9 = omega arith in
+    subst (λ x. TurnsBefore (own_1 ∷ []) remote_candidates true 4 0 default_timing (asked 0 default_timing urgent_pair) x) same (inl earlier)
+urgent_first q (inr (inl same)) =
+    subst (λ x. TurnsBefore (own_1 ∷ []) remote_candidates true 4 0 default_timing (asked 0 default_timing urgent_pair) x) same (inr (refl, inr (refl, omega arith)))
+urgent_first q (inr (inr none)) = absurd none
 
 module _ {H : Type 0} (P : Type 0) (mac : H → List ℕ → List ℕ → List ℕ) (provider : H) where
   -- a kind's turn
   abbrev with_turn : AgentRecord H P
   with_turn = record (with_host mac provider) {
     rules = modern_rules;
-    kind_turn = true;
+    ahead_turn = true;
     remote = remote_candidates;
     pairs = host_pair ∷ reflexive_pair ∷ [];
     next_number = 2;
@@ -76,10 +90,10 @@ module _ {H : Type 0} (P : Type 0) (mac : H → List ℕ → List ℕ → List �
   after_turn id = check_sent mac 0 creds_2 (asked 0 default_timing reflexive_pair) id (all_asked 0 with_turn)
 
   -- The next check is of the pair that is due first, and the next turn begins with the kind after this one.
-  turn_ends : (id : List ℕ) → ((after_turn id).kind_turn ≡ false) × ((after_turn id).next_kind ≡ 4)
+  turn_ends : (id : List ℕ) → ((after_turn id).ahead_turn ≡ false) × ((after_turn id).next_kind ≡ 4)
   turn_ends id = (refl, refl)
 
-  checks_host : IsNextToCheck 0 (all_asked 0 (record with_turn { kind_turn = false })) (Some (asked 0 default_timing host_pair))
+  checks_host : IsNextToCheck 0 (all_asked 0 (record with_turn { ahead_turn = false })) (Some (asked 0 default_timing host_pair))
   checks_host = ((inl refl, λ q has. host_first q has), refl)
 
   checks_next_kind : IsNextToCheck 0 (all_asked 0 (record with_turn { next_kind = 4 })) (Some (asked 0 default_timing host_pair))
@@ -95,3 +109,23 @@ module _ {H : Type 0} (P : Type 0) (mac : H → List ℕ → List ℕ → List �
   -- After the path is lost, kinds take turns again.
   checks_reflexive_if_disconnected : IsNextToCheck 0 (all_asked 0 (record with_turn { state = Disconnected })) (Some (asked 0 default_timing reflexive_pair))
   checks_reflexive_if_disconnected = (inr (inl refl), refl, λ q has due. reflexive_first q has)
+
+  -- ---- an urgent pair
+
+  abbrev with_urgent : AgentRecord H P
+  with_urgent = record with_turn { next_kind = 4; pairs = host_pair ∷ urgent_pair ∷ [] }
+
+  -- It goes ahead of the kind whose turn it is, and also while a path is selected, but not in each check.
+  checks_urgent : IsNextToCheck 0 (all_asked 0 with_urgent) (Some (asked 0 default_timing urgent_pair))
+  checks_urgent = (inr (inl refl), refl, λ q has due. urgent_first q has)
+
+  checks_urgent_if_connected : IsNextToCheck 0 (all_asked 0 (record with_urgent { state = Connected })) (Some (asked 0 default_timing urgent_pair))
+  checks_urgent_if_connected = (inr (inl refl), refl, λ q has due. urgent_first q has)
+
+  checks_host_after_urgent : IsNextToCheck 0 (all_asked 0 (record with_urgent { ahead_turn = false })) (Some (asked 0 default_timing host_pair))
+  checks_host_after_urgent = ((inl refl, λ q has. host_before q has), refl) where
+    host_before : (q : PairRecord) → Has (asked 0 default_timing host_pair ∷ asked 0 default_timing urgent_pair ∷ []) q
+        → GoesBefore 0 default_timing (asked 0 default_timing host_pair) q
+    host_before q (inl same) = subst (λ x. GoesBefore 0 default_timing (asked 0 default_timing host_pair) x) same (inr (refl, omega arith))
+    host_before q (inr (inl same)) = subst (λ x. GoesBefore 0 default_timing (asked 0 default_timing host_pair) x) same (inr (refl, omega arith))
+    host_before q (inr (inr none)) = absurd none

@@ -7,7 +7,9 @@ ghost use Rattle.is_pair.specs.Pairs.{new_pair};
 mod checklist;
 mod checks;
 mod due;
+mod early;
 mod order;
+mod triggered;
 
 use is_candidate::CandidateKind;
 use is_pair::pair::{CandidatePair, PairId};

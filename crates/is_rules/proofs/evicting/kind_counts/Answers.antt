@@ -4,9 +4,8 @@ use Rattle.std.specs.Map.Iter.{deref}
 use Rattle.std.proofs.lemmas.Bool.Decides.{nat_tests}
 use Rattle.std.proofs.lemmas.List.{get_or-set_other, get_or-set_same, length-set}
 use Rattle.std.proofs.lemmas.Map.Iter.{rest_more}
-use Rattle.is_pair.specs.Checklists.{multiset_of}
 use Rattle.is_rules.specs.Evicting.{is_of_kind, kind_count}
-use Rattle.is_rules.specs.Kinds.{kind_of, KINDS}
+use Rattle.is_rules.specs.Kinds.{kind_of}
 use Rattle.is_rules.specs.Owed.{one_if}
 use Rattle.is_rules.proofs.PairLists.CountedPairs.{count-head}
 use Rattle.is_rules.proofs.PairLists.PairsInLists.{placed-first}

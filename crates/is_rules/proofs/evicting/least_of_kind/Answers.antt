@@ -1,10 +1,8 @@
-use Rattle.std.proofs.Common.{◌∷◌, [], List, None, true, ap, sym, ◌∙◌, ◌≡◌, refl}
+use Rattle.std.proofs.Common.{[], ap, ◌∙◌, ◌≡◌, refl}
 use Rattle.std.specs.Map.Iter.{deref}
-use Rattle.std.specs.Option.{option_copied}
 use Rattle.std.proofs.lemmas.Map.Iter.{rest_all, rest_more}
 use Rattle.is_pair.specs.Checklists.{multiset_of}
-use Rattle.is_pair.specs.Pairs.{PairRecord}
-use Rattle.is_rules.specs.Kept.{is_placed, are_placed}
+use Rattle.is_rules.specs.Kept.{are_placed}
 use Rattle.is_rules.specs.Kinds.{kind_of}
 use Rattle.is_rules.proofs.PairLists.LeastOfKind.{seen-all, seen-more}
 use Rattle.is_rules.proofs.PairLists.PairsInLists.{placed-first}

@@ -1,7 +1,6 @@
-use Rattle.std.proofs.Common.{◌≡◌, List, true}
+use Rattle.std.proofs.Common.{◌≡◌, true}
 use Rattle.std.specs.Option.{option_copied}
 use Rattle.is_pair.specs.Checklists.{multiset_of}
-use Rattle.is_pair.specs.Pairs.{PairRecord}
 use Rattle.is_rules.specs.Kept.{are_placed}
 use Rattle.is_rules.specs.Kinds.{kind_of}
 use Rattle.is_rules.proofs.PairLists.LeastOfKind.{IsSeen}

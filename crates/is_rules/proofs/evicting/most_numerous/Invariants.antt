@@ -1,4 +1,4 @@
-use Rattle.std.proofs.Common.{◌≡◌, ℕ, ◌<◌, ◌≤◌, slice_index}
+use Rattle.std.proofs.Common.{ℕ, ◌<◌, ◌≤◌, slice_index}
 use Rattle.is_rules.specs.Kinds.{KINDS}
 use Rattle.is_rules.proofs.evicting.most_numerous.Given as goal
 

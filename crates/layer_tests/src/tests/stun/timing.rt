@@ -1,7 +1,7 @@
 //! The retransmission timeouts of checks, and how long a series of checks takes.
 
 use is_proto::Duration;
-use is_stun::stun::StunTiming;
+use is_stun::stun::{EarlyRto, StunTiming};
 
 /// So many milliseconds.
 fn millis(n: u64) -> Duration {
@@ -61,4 +61,70 @@ fn one_retransmit_is_removed_after_its_delay(rt: HostRuntime) {
     };
     assert!(rt; timing.stun_resend_delay(9) == millis(500));
     assert!(rt; timing.timeout() == millis(250));
+}
+
+#[test]
+fn the_first_retransmissions_come_early(rt: HostRuntime) {
+    let timing = StunTiming::default();
+    let early = EarlyRto {
+        retransmits: 4,
+        interval: millis(100),
+    };
+    for (count, delay) in [
+        (0, 100),
+        (1, 100),
+        (3, 100),
+        (4, 100),
+        (5, 250),
+        (6, 500),
+        (7, 1000),
+        (8, 2000),
+        (9, 3000),
+    ] {
+        assert!(rt; timing.early_delay(early, count) == millis(delay));
+    }
+    assert!(rt; timing.early_delay(early, usize::MAX) == millis(3000));
+}
+
+/// With no early retransmission, each delay is the usual one.
+#[test]
+fn no_retransmission_has_to_come_early(rt: HostRuntime) {
+    let timing = StunTiming::default();
+    let early = EarlyRto {
+        retransmits: 0,
+        interval: millis(100),
+    };
+    for (count, delay) in [(1, 250), (2, 500), (3, 1000), (4, 2000), (5, 3000)] {
+        assert!(rt; timing.early_delay(early, count) == millis(delay));
+    }
+}
+
+#[test]
+fn all_retransmissions_may_come_early(rt: HostRuntime) {
+    let timing = StunTiming::default();
+    let early = EarlyRto {
+        retransmits: usize::MAX,
+        interval: millis(100),
+    };
+    assert!(rt; timing.early_delay(early, 1) == millis(100));
+    assert!(rt; timing.early_delay(early, usize::MAX) == millis(100));
+}
+
+/// An interval below a millisecond counts as a millisecond, and in a longer one each nanosecond counts.
+#[test]
+fn an_early_retransmission_waits_for_a_millisecond(rt: HostRuntime) {
+    let timing = StunTiming::default();
+    for (interval, delay) in [
+        (0, 1_000_000),
+        (999_999, 1_000_000),
+        (1_000_000, 1_000_000),
+        (1_000_001, 1_000_001),
+    ] {
+        let early = EarlyRto {
+            retransmits: 1,
+            interval: Duration(interval),
+        };
+        assert!(rt; timing.early_delay(early, 1) == Duration(delay));
+        assert!(rt; timing.early_delay(early, 2) == millis(250));
+    }
 }

@@ -8,8 +8,8 @@ pub returns-clause-checked : goal.returns-clause-checked
 returns-clause-checked g c peer p known numbered found drafted =
     let put = c.send.ensures.put peer p known drafted in
     let sent = c.send.ensures.sent peer p known drafted in
-    let turn = c.is_kinds_turn.ensures in
-    let kind = c.next_kind_after-next_kind.ensures p found in
+    let turn = c.requires.turn in
+    let kind = c.next_kind_after-self.ensures c.args.now.0 p turn found in
     (c.new_attempt-id.result.0, c.new_attempt-id.ensures.drawn, put, search rules, search rules)
 
 pub invariant_of-self-clause-placed : goal.invariant_of-self-clause-placed

@@ -1,4 +1,4 @@
--- The pair of the kind whose turn is next, found by a loop over all pairs.
+-- The pair that is checked ahead of those that are due earlier, found by a loop over all pairs.
 use Rattle.std.proofs.Common.{if◌then◌else◌, ◌≡◌, ℕ, ◌⊎◌, Bool, true, false, List, [], ◌∷◌, filter, Option, Some, None, IfSome, inl, inr, refl, sym, ap, subst, ◌∙◌, arith}
 use Rattle.is_proto.specs.Lists.{Has, NonePass}
 use Rattle.is_stun.specs.declared.timing.StunTiming.{StunTiming}
@@ -6,7 +6,7 @@ use Rattle.is_candidate.specs.Candidates.{CandidateRecord}
 use Rattle.is_pair.specs.Pairs.{PairRecord}
 use Rattle.is_pair.specs.Due.{is_due, GoesBefore}
 use Rattle.is_rules.specs.Kept.{is_placed, are_placed}
-use Rattle.is_rules.specs.Kinds.{TurnsBefore, IsNextOfKind}
+use Rattle.is_rules.specs.Kinds.{TurnsBefore, IsNextAhead}
 use Rattle.is_rules.proofs.PairLists.ChosenPair.{none_pass}
 use Rattle.is_rules.proofs.PairLists.PairsInLists.{all-has}
 
@@ -18,12 +18,12 @@ none-when test (x ∷ xs) none =
       | false ↦ λ is. none-when test xs (λ y h. none y (inr h))
     ] refl
 
-module _ (local remote : List CandidateRecord) (next now : ℕ) (t : StunTiming) where
+module _ (local remote : List CandidateRecord) (urgent_first : Bool) (next now : ℕ) (t : StunTiming) where
   abbrev Before : PairRecord → PairRecord → Type 0
-  Before p q = TurnsBefore local remote next now t p q
+  Before p q = TurnsBefore local remote urgent_first next now t p q
 
   abbrev IsNext : List PairRecord → Option PairRecord → Type 0
-  IsNext done first = IsNextOfKind local remote next now t done first
+  IsNext done first = IsNextAhead local remote urgent_first next now t done first
 
   abbrev due : PairRecord → Bool
   due p = is_due now t p

@@ -2,10 +2,10 @@ use Rattle.std.proofs.Common.{List}
 use Rattle.std.specs.Option.{option_copied}
 use Rattle.is_pair.specs.Pairs.{PairRecord}
 use Rattle.is_pair.specs.Checklists.{multiset_of}
-use Rattle.is_rules.proofs.FunctionProofs.NextOfKind.{IsVisited}
-use Rattle.is_rules.proofs.kinds.next_of_kind.Given as goal
+use Rattle.is_rules.proofs.FunctionProofs.NextAhead.{IsVisited}
+use Rattle.is_rules.proofs.kinds.next_ahead.Given as goal
 
 -- the first among the pairs visited so far
 abbrev pub invariant-loop-pair : goal.invariant-loop-pair
 invariant-loop-pair l =
-    (done : List PairRecord) × IsVisited l.local l.remote l.next l.fn.now.0 l.timing (multiset_of l.pairs) done l.pair-iterator (option_copied l.first)
+    (done : List PairRecord) × IsVisited l.local l.remote l.urgent_first l.next l.fn.now.0 l.timing (multiset_of l.pairs) done l.pair-iterator (option_copied l.first)

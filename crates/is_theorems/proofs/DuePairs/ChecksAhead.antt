@@ -1,4 +1,4 @@
--- With kinds in turn a check may be of another pair than the one that is due first, but no two checks one after another are.
+-- A check may go ahead of the pair that is due first, but no two checks one after another do.
 use Rattle.std.proofs.Common.{◌≡◌, ℕ, suc, ◌+◌, ◌*◌, ◌<◌, ◌≤◌, ◌&&◌, Bool, true, false, List, length, min, refl, sym, ◌∙◌, inl, inr, ◌⊎◌, arith, if◌then◌else◌}
 use Rattle.is_proto.specs.Times.{MAX}
 use Rattle.is_pair.specs.Due.{due_time_of}
@@ -12,18 +12,18 @@ use Rattle.is_stun.specs.declared.timing.StunTiming.{StunTiming}
 
 -- ---- the number of calls
 
--- so many checks hold n in turn: `checks_for` of rules with or without kinds in turn
+-- so many checks hold n in turn: `checks_for` of rules by which checks may go ahead, or of others
 abbrev pub times : Bool → ℕ → ℕ
-times in_turn n = if in_turn then 2 * n else n
+times ahead n = if ahead then 2 * n else n
 
--- One more than the number of calls that suffice if n pairs go first, this one included: one for each pair, and with kinds in turn one
--- for each kind's turn between them, or before them if the next call is one.
+-- One more than the number of calls that suffice if n pairs go first, this one included: one for each pair, and if checks may go ahead,
+-- one for each check that does so between them, or before them if the next one may.
 abbrev pub calls_left : Bool → Bool → ℕ → ℕ
-calls_left in_turn turn n = if in_turn then 2 * n + one_if turn else n + 1
+calls_left ahead turn n = if ahead then 2 * n + one_if turn else n + 1
 
--- from n to m: one fewer goes first, or no more do and a kind's turn is over
+-- from n to m: one fewer goes first, or no more do and a check went ahead
 abbrev pub Falls : Bool → Bool → Bool → ℕ → ℕ → Type 0
-Falls in_turn turn next_turn n m = (m < n) ⊎ ((m ≤ n) × (in_turn ≡ true) × (turn ≡ true) × (next_turn ≡ false))
+Falls ahead turn next_turn n m = (m < n) ⊎ ((m ≤ n) × (ahead ≡ true) × (turn ≡ true) × (next_turn ≡ false))
 
 one-at-most : (b : Bool) → one_if b ≤ 1
 one-at-most true = omega arith
@@ -33,26 +33,26 @@ falls-to-one : (n m : ℕ) (next_turn : Bool) → m < n → 2 * m + one_if next_
 falls-to-one n m true h = omega (arith, h)
 falls-to-one n m false h = omega (arith, h)
 
-pub calls-fall : (in_turn turn next_turn : Bool) (n m : ℕ) → Falls in_turn turn next_turn n m → calls_left in_turn next_turn m + 1 ≤ calls_left in_turn turn n
+pub calls-fall : (ahead turn next_turn : Bool) (n m : ℕ) → Falls ahead turn next_turn n m → calls_left ahead next_turn m + 1 ≤ calls_left ahead turn n
 calls-fall true turn next_turn n m (inl less) = wider (falls-to-one n m next_turn less) where
   wider : 2 * m + one_if next_turn + 1 ≤ 2 * n → 2 * m + one_if next_turn + 1 ≤ 2 * n + one_if turn
   wider h = omega (arith, h)
-calls-fall true true false n m (inr (le, in_turn, turn, over)) = at-end n m le where
+calls-fall true true false n m (inr (le, ahead, turn, over)) = at-end n m le where
   at-end : (n m : ℕ) → m ≤ n → 2 * m + 0 + 1 ≤ 2 * n + 1
   at-end n m h = omega (arith, h)
-calls-fall true true true n m (inr (le, in_turn, turn, over)) = absurd (cc)
-calls-fall true false next_turn n m (inr (le, in_turn, turn, over)) = absurd (cc)
+calls-fall true true true n m (inr (le, ahead, turn, over)) = absurd (cc)
+calls-fall true false next_turn n m (inr (le, ahead, turn, over)) = absurd (cc)
 calls-fall false turn next_turn n m (inl less) = one-fewer n m less where
   one-fewer : (n m : ℕ) → m < n → m + 1 + 1 ≤ n + 1
   one-fewer n m h = omega (arith, h)
-calls-fall false turn next_turn n m (inr (le, in_turn, turn_is, over)) = absurd (cc)
+calls-fall false turn next_turn n m (inr (le, ahead, turn_is, over)) = absurd (cc)
 
 -- the same of other names for the numbers, and from more
 pub falls-from : (b c t u next_turn : Bool) (n k m : ℕ) → c ≡ b → u ≡ t → n ≤ k → Falls b t next_turn n m → Falls c u next_turn k m
 falls-from b c t u next_turn n k m same same_turn le (inl less) = inl (omega (arith, le, less))
-falls-from b c t u next_turn n k m same same_turn le (inr (no_more, in_turn, turn, over)) = inr (omega (arith, le, no_more), same ∙ in_turn, same_turn ∙ turn, over)
+falls-from b c t u next_turn n k m same same_turn le (inr (no_more, ahead, turn, over)) = inr (omega (arith, le, no_more), same ∙ ahead, same_turn ∙ turn, over)
 
-pub calls-no-more : (in_turn turn : Bool) (n m : ℕ) → m ≤ n → calls_left in_turn turn m ≤ calls_left in_turn turn n
+pub calls-no-more : (ahead turn : Bool) (n m : ℕ) → m ≤ n → calls_left ahead turn m ≤ calls_left ahead turn n
 calls-no-more true turn n m h = twice (one_if turn) n m h where
   twice : (x n m : ℕ) → m ≤ n → 2 * m + x ≤ 2 * n + x
   twice x n m h = omega (arith, h)
@@ -61,19 +61,19 @@ calls-no-more false turn n m h = once n m h where
   once n m h = omega (arith, h)
 
 -- after k of so many calls
-pub calls-kept : (in_turn turn : Bool) (n m k total : ℕ) → m ≤ n → calls_left in_turn turn n + k ≤ total → calls_left in_turn turn m + k ≤ total
-calls-kept in_turn turn n m k total le counted = kept (calls_left in_turn turn n) (calls_left in_turn turn m) (calls-no-more in_turn turn n m le) counted where
+pub calls-kept : (ahead turn : Bool) (n m k total : ℕ) → m ≤ n → calls_left ahead turn n + k ≤ total → calls_left ahead turn m + k ≤ total
+calls-kept ahead turn n m k total le counted = kept (calls_left ahead turn n) (calls_left ahead turn m) (calls-no-more ahead turn n m le) counted where
   kept : (x y : ℕ) → y ≤ x → x + k ≤ total → y + k ≤ total
   kept x y le counted = omega (arith, le, counted)
 
-pub calls-go-on : (in_turn turn next_turn : Bool) (n m k total : ℕ) → Falls in_turn turn next_turn n m → calls_left in_turn turn n + k ≤ total → calls_left in_turn next_turn m + suc k ≤ total
-calls-go-on in_turn turn next_turn n m k total falls counted = on (calls_left in_turn turn n) (calls_left in_turn next_turn m) (calls-fall in_turn turn next_turn n m falls) counted where
+pub calls-go-on : (ahead turn next_turn : Bool) (n m k total : ℕ) → Falls ahead turn next_turn n m → calls_left ahead turn n + k ≤ total → calls_left ahead next_turn m + suc k ≤ total
+calls-go-on ahead turn next_turn n m k total falls counted = on (calls_left ahead turn n) (calls_left ahead next_turn m) (calls-fall ahead turn next_turn n m falls) counted where
   on : (x y : ℕ) → y + 1 ≤ x → x + k ≤ total → y + suc k ≤ total
   on x y less counted = omega (arith, less, counted)
 
 -- if pairs are added, from i to j, each may go first
-pub calls-added : (in_turn turn : Bool) (n m i j k base total : ℕ) → m + i ≤ n + j
-    → calls_left in_turn turn n + k + times in_turn base ≤ total + times in_turn i → calls_left in_turn turn m + k + times in_turn base ≤ total + times in_turn j
+pub calls-added : (ahead turn : Bool) (n m i j k base total : ℕ) → m + i ≤ n + j
+    → calls_left ahead turn n + k + times ahead base ≤ total + times ahead i → calls_left ahead turn m + k + times ahead base ≤ total + times ahead j
 calls-added true turn n m i j k base total less counted = twice (one_if turn) less counted where
   twice : (x : ℕ) → m + i ≤ n + j → 2 * n + x + k + 2 * base ≤ total + 2 * i → 2 * m + x + k + 2 * base ≤ total + 2 * j
   twice x less counted = omega (arith, less, counted)
@@ -82,8 +82,8 @@ calls-added false turn n m i j k base total less counted = once less counted whe
   once less counted = omega (arith, less, counted)
 
 -- of size pairs, this one not counted, each goes first at most twice
-pub calls-over : (in_turn turn last_turn : Bool) (n m size i j k : ℕ) → calls_left in_turn last_turn m + k + times in_turn i ≤ calls_left in_turn turn n + times in_turn j
-    → n + 2 ≤ 2 * size → times in_turn (2 * size + j) ≤ k + 1 + times in_turn i → ⊥
+pub calls-over : (ahead turn last_turn : Bool) (n m size i j k : ℕ) → calls_left ahead last_turn m + k + times ahead i ≤ calls_left ahead turn n + times ahead j
+    → n + 2 ≤ 2 * size → times ahead (2 * size + j) ≤ k + 1 + times ahead i → ⊥
 calls-over true turn last_turn n m size i j k counted few enough = twice (one_if turn) (one_if last_turn) (one-at-most turn) counted few enough where
   twice : (x y : ℕ) → x ≤ 1 → 2 * m + y + k + 2 * i ≤ 2 * n + x + 2 * j → n + 2 ≤ 2 * size → 2 * (2 * size + j) ≤ k + 1 + 2 * i → ⊥
   twice x y one counted few enough = omega (arith, one, counted, few, enough)
@@ -92,7 +92,7 @@ calls-over false turn last_turn n m size i j k counted few enough = once counted
   once counted few enough = omega (arith, counted, few, enough)
 
 -- if some go first, a call is left
-pub calls-some : (in_turn turn : Bool) (n : ℕ) → 0 < n → 2 ≤ calls_left in_turn turn n
+pub calls-some : (ahead turn : Bool) (n : ℕ) → 0 < n → 2 ≤ calls_left ahead turn n
 calls-some true turn n h = twice (one_if turn) n h where
   twice : (x n : ℕ) → 0 < n → 2 ≤ 2 * n + x
   twice x n h = omega (arith, h)
@@ -101,7 +101,7 @@ calls-some false turn n h = once n h where
   once n h = omega (arith, h)
 
 -- so many checks suffice for n in turn
-pub calls-from : (in_turn turn : Bool) (n k : ℕ) → times in_turn n ≤ k → calls_left in_turn turn n ≤ k + 1
+pub calls-from : (ahead turn : Bool) (n k : ℕ) → times ahead n ≤ k → calls_left ahead turn n ≤ k + 1
 calls-from true turn n k h = twice (one_if turn) n k (one-at-most turn) h where
   twice : (x n k : ℕ) → x ≤ 1 → 2 * n ≤ k → 2 * n + x ≤ k + 1
   twice x n k one h = omega (arith, one, h)
@@ -110,7 +110,7 @@ calls-from false turn n k h = once n k h where
   once n k h = omega (arith, h)
 
 -- what suffices for more checks suffices for fewer
-pub times-kept : (in_turn : Bool) (n m k : ℕ) → m ≤ n → times in_turn n ≤ k → times in_turn m ≤ k
+pub times-kept : (ahead : Bool) (n m k : ℕ) → m ≤ n → times ahead n ≤ k → times ahead m ≤ k
 times-kept true n m k le enough = twice n m le enough where
   twice : (n m : ℕ) → m ≤ n → 2 * n ≤ k → 2 * m ≤ k
   twice n m le enough = omega (arith, le, enough)
@@ -119,7 +119,7 @@ times-kept false n m k le enough = once n m le enough where
   once n m le enough = omega (arith, le, enough)
 
 -- no calls suffice for no pair
-pub none-suffices : (in_turn : Bool) (size i j : ℕ) → 0 < size → j ≡ i → times in_turn (2 * size + j) ≤ 0 + 1 + times in_turn i → ⊥
+pub none-suffices : (ahead : Bool) (size i j : ℕ) → 0 < size → j ≡ i → times ahead (2 * size + j) ≤ 0 + 1 + times ahead i → ⊥
 none-suffices true size i j some same enough = twice some same enough where
   twice : 0 < size → j ≡ i → 2 * (2 * size + j) ≤ 0 + 1 + 2 * i → ⊥
   twice some same enough = omega (arith, some, same, enough)

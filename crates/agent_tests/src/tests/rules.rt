@@ -1,0 +1,459 @@
+//! What an agent does beyond the original's behaviour: triggered checks, early retransmissions, and selection at a request.
+
+use super::settings::ORIGINAL;
+use super::step::Call::*;
+use super::step::Emitted::*;
+use super::step::Held::*;
+use super::step::Packet::*;
+use super::step::Shown::*;
+use super::step::Start::*;
+use super::step::Step::*;
+use super::step::{At, Count, Message, Setting, Whose};
+use super::story::{Story, play};
+use super::*;
+use is::pair::CheckState;
+use is::stun::EarlyRto;
+use is::{Duration, Rules};
+
+#[test]
+fn requests_trigger_checks(rt: HostRuntime) -> Result<(), Fail> {
+    play(rt.alloc(), &TRIGGERED)?;
+    play(rt.alloc(), &URGENT)
+}
+
+#[test]
+fn first_checks_are_repeated_early(rt: HostRuntime) -> Result<(), Fail> {
+    play(rt.alloc(), &EARLY)
+}
+
+#[test]
+fn a_request_may_select(rt: HostRuntime) -> Result<(), Fail> {
+    play(rt.alloc(), &SELECTED)
+}
+
+/// Only the first four requests on a pair trigger checks.
+const TRIGGERS: Rules = Rules {
+    kinds_in_turn: false,
+    triggered_checks: Some(4),
+    early_rto: None,
+    selects_at_once: false,
+};
+
+/// The same, and kinds of pairs take turns.
+const TRIGGERS_AND_KINDS: Rules = Rules {
+    kinds_in_turn: true,
+    triggered_checks: Some(4),
+    early_rto: None,
+    selects_at_once: false,
+};
+
+/// Only the first four retransmissions are early, 100 ms apart.
+const REPEATS: Rules = Rules {
+    kinds_in_turn: false,
+    triggered_checks: None,
+    early_rto: Some(EarlyRto {
+        retransmits: 4,
+        interval: Duration(100_000_000),
+    }),
+    selects_at_once: false,
+};
+
+/// Only a request may select.
+const SELECTS: Rules = Rules {
+    kinds_in_turn: false,
+    triggered_checks: None,
+    early_rto: None,
+    selects_at_once: true,
+};
+
+/// The address of `PEER`.
+const THERE: At = At(2, 2000);
+
+// ---- a request on a known pair makes its next check due (RFC 8445, section 7.3.1.4)
+
+const TRIGGERED: [Story; 6] = [
+    // checks without a response at 0, 250, 750, 1750 and 3750 ms; the next one is due 3 s later
+    Story(
+        "a_late_peer_is_checked_at_its_first_request",
+        &[
+            Begin(Paired),
+            Set(Setting::Rules(TRIGGERS)),
+            Does(Check(0)),
+            Shows(NextAt(250)),
+            Does(Check(250)),
+            Shows(NextAt(750)),
+            Does(Check(750)),
+            Shows(NextAt(1750)),
+            Does(Check(1750)),
+            Shows(NextAt(3750)),
+            Does(Check(3750)),
+            Shows(NextAt(6750)),
+            Write(Message::Request(false, false), "nearpass"),
+            Takes(Served(5000, THERE)),
+            Shows(NextAt(5000)),
+            Does(Check(5000)),
+            // the same peer, without the rule
+            Begin(Paired),
+            Set(Setting::Rules(ORIGINAL)),
+            Does(Check(3750)),
+            Shows(NextAt(4000)),
+            Does(Check(4000)),
+            Shows(NextAt(4500)),
+            Write(Message::Request(false, false), "nearpass"),
+            Takes(Served(4100, THERE)),
+            Shows(NextAt(4500)),
+        ],
+    ),
+    // the request triggers a check 50 ms after the last one, the pacing interval
+    Story(
+        "a_triggered_check_is_paced",
+        &[
+            Begin(Paired),
+            Set(Setting::Rules(TRIGGERS)),
+            Does(Check(0)),
+            Shows(NextAt(250)),
+            Write(Message::Request(false, false), "nearpass"),
+            Takes(Served(10, THERE)),
+            Shows(NextAt(50)),
+            Does(Check(50)),
+            // 500 ms after the second check
+            Shows(NextAt(550)),
+        ],
+    ),
+    Story(
+        "the_first_four_requests_trigger_checks",
+        &[
+            Begin(Paired),
+            Set(Setting::Rules(TRIGGERS)),
+            Write(Message::Request(false, false), "nearpass"),
+            Does(Check(0)),
+            Shows(NextAt(250)),
+            Takes(Served(100, THERE)),
+            Shows(NextAt(100)),
+            Does(Check(100)),
+            Shows(NextAt(600)),
+            Takes(Served(200, THERE)),
+            Shows(NextAt(200)),
+            Does(Check(200)),
+            Shows(NextAt(1200)),
+            Takes(Served(300, THERE)),
+            Shows(NextAt(300)),
+            Does(Check(300)),
+            Shows(NextAt(2300)),
+            Takes(Served(400, THERE)),
+            Shows(NextAt(400)),
+            Does(Check(400)),
+            Shows(NextAt(3400)),
+            // the fifth
+            Takes(Served(500, THERE)),
+            Shows(NextAt(3400)),
+            Counts(Count::Checks, 5),
+        ],
+    ),
+    Story(
+        "a_request_on_a_valid_pair_triggers_none",
+        &[
+            Begin(Paired),
+            Set(Setting::Rules(TRIGGERS)),
+            Set(Setting::Controlling(false)),
+            Does(Check(0)),
+            Takes(Answer(10, THERE)),
+            Holds(PairState(PEER, CheckState::Succeeded)),
+            Shows(NextAt(250)),
+            Write(Message::Request(true, false), "nearpass"),
+            Takes(Served(100, THERE)),
+            Shows(NextAt(250)),
+        ],
+    ),
+    // a check is due no earlier than the last `handle_timeout` call
+    Story(
+        "a_request_from_before_the_last_timeout_triggers_a_check",
+        &[
+            Begin(Paired),
+            Set(Setting::Rules(TRIGGERS)),
+            Does(Check(1000)),
+            Shows(NextAt(1250)),
+            Write(Message::Request(false, false), "nearpass"),
+            Takes(Served(500, THERE)),
+            Set(Setting::Pacing(0)),
+            Shows(NextAt(1000)),
+        ],
+    ),
+    Story(
+        "a_due_time_that_was_not_queried_stays_open",
+        &[
+            Begin(Paired),
+            Set(Setting::Rules(TRIGGERS)),
+            Does(Check(0)),
+            Write(Message::Request(false, false), "nearpass"),
+            Takes(Served(100, THERE)),
+            Shows(NextAt(250)),
+        ],
+    ),
+];
+
+// ---- every second check may go to an urgent pair
+
+/// The twenty-first candidate of the peer, which has the least priority.
+const LAST: At = At(22, 2000);
+
+/// The first and the second one.
+const FIRST: At = At(2, 2000);
+
+const SECOND: At = At(3, 2000);
+
+/// A server-reflexive candidate of the peer, at 10.0.0.60:6000, of less priority than the others.
+const REFLEXIVE: &str = "candidate:1 1 udp 100 10.0.0.60 6000 typ srflx";
+
+const URGENT: [Story; 5] = [
+    Story(
+        "a_request_puts_a_pair_before_twenty_others",
+        &[
+            Begin(Unpaired),
+            Set(Setting::Rules(TRIGGERS)),
+            Does(Peers(21)),
+            Write(Message::Request(false, false), "nearpass"),
+            Takes(Served(0, LAST)),
+            Does(CheckTo(0, FIRST, false)),
+            Shows(NextAt(50)),
+            Does(CheckTo(50, LAST, false)),
+            // it is due again at 300 ms; till then the others are checked in their order
+            Does(CheckTo(100, SECOND, false)),
+            Does(CheckTo(150, At(4, 2000), false)),
+            Does(CheckTo(200, At(5, 2000), false)),
+            // without the rule
+            Begin(Unpaired),
+            Set(Setting::Rules(ORIGINAL)),
+            Does(Peers(21)),
+            Write(Message::Request(false, false), "nearpass"),
+            Takes(Served(0, LAST)),
+            Does(CheckTo(0, FIRST, false)),
+            Does(CheckTo(50, SECOND, false)),
+        ],
+    ),
+    Story(
+        "a_request_after_the_first_check_is_followed_by_the_second",
+        &[
+            Begin(Unpaired),
+            Set(Setting::Rules(TRIGGERS)),
+            Does(Peers(21)),
+            Does(CheckTo(0, FIRST, false)),
+            Shows(NextAt(50)),
+            Write(Message::Request(false, false), "nearpass"),
+            Takes(Served(40, LAST)),
+            Shows(NextAt(50)),
+            Does(CheckTo(50, LAST, false)),
+            Shows(NextAt(100)),
+            // the next check is not ahead of the others, and the one after it is
+            Takes(Served(60, LAST)),
+            Does(CheckTo(100, SECOND, false)),
+            Does(CheckTo(150, LAST, false)),
+            Does(CheckTo(200, At(4, 2000), false)),
+        ],
+    ),
+    // a pair that a request brought, though its priority is the greatest
+    Story(
+        "a_known_candidate_goes_before_an_unknown_sender",
+        &[
+            Begin(Unpaired),
+            Set(Setting::Rules(TRIGGERS)),
+            Does(Peers(21)),
+            Does(CheckTo(0, FIRST, false)),
+            Shows(NextAt(50)),
+            Write(Message::Request(false, false), "nearpass"),
+            Takes(Served(10, At(50, 5000))),
+            Takes(Served(20, LAST)),
+            Does(CheckTo(50, LAST, false)),
+            Does(CheckTo(100, SECOND, false)),
+            Does(CheckTo(150, At(50, 5000), false)),
+        ],
+    ),
+    // the checks at 50, 150 and 250 ms go ahead: to the urgent pair, then to one of the next kind
+    Story(
+        "an_urgent_pair_goes_before_the_next_kind",
+        &[
+            Begin(Unpaired),
+            Set(Setting::Rules(TRIGGERS_AND_KINDS)),
+            Does(Peers(5)),
+            Does(Peer(REFLEXIVE)),
+            Does(CheckTo(0, FIRST, false)),
+            Shows(NextAt(50)),
+            Write(Message::Request(false, false), "nearpass"),
+            Takes(Served(10, At(6, 2000))),
+            Does(CheckTo(50, At(6, 2000), false)),
+            Does(CheckTo(100, SECOND, false)),
+            Does(CheckTo(150, At(60, 6000), false)),
+            Does(CheckTo(200, At(4, 2000), false)),
+            Does(CheckTo(250, At(5, 2000), false)),
+        ],
+    ),
+    // the check that nominates the first pair is due before all; after it the pair is urgent until a response to it arrives
+    Story(
+        "a_nomination_without_a_response_is_urgent",
+        &[
+            Begin(Unpaired),
+            Set(Setting::Rules(TRIGGERS)),
+            Does(Peers(21)),
+            Does(CheckTo(0, FIRST, false)),
+            Takes(Answer(10, FIRST)),
+            Does(CheckTo(50, FIRST, true)),
+            Does(CheckTo(100, SECOND, false)),
+            Does(CheckTo(150, At(4, 2000), false)),
+            Does(CheckTo(200, At(5, 2000), false)),
+            Does(CheckTo(250, At(6, 2000), false)),
+            // 500 ms after the second check of the pair
+            Does(CheckTo(550, FIRST, true)),
+            Does(CheckTo(600, At(7, 2000), false)),
+            Does(CheckTo(650, At(8, 2000), false)),
+        ],
+    ),
+];
+
+// ---- early retransmissions
+
+const EARLY: [Story; 4] = [
+    Story(
+        "four_retransmissions_are_a_tenth_of_a_second_apart",
+        &[
+            Begin(Paired),
+            Set(Setting::Rules(REPEATS)),
+            Does(Check(0)),
+            Shows(NextAt(100)),
+            Does(Check(100)),
+            Shows(NextAt(200)),
+            Does(Check(200)),
+            Shows(NextAt(300)),
+            Does(Check(300)),
+            Shows(NextAt(400)),
+            Does(Check(400)),
+            Shows(NextAt(650)),
+            Does(Check(650)),
+            Shows(NextAt(1150)),
+            Does(Check(1150)),
+            Shows(NextAt(2150)),
+            Does(Check(2150)),
+            Shows(NextAt(4150)),
+            Does(Check(4150)),
+            Shows(NextAt(7150)),
+            // nine checks end no pair: four of them were early
+            Does(Check(7150)),
+            Shows(NextAt(10150)),
+            Does(Check(10150)),
+            Shows(NextAt(13150)),
+            Does(Check(13150)),
+            Shows(NextAt(16150)),
+            Does(Check(16150)),
+            Shows(NextAt(19150)),
+            Counts(Count::Checks, 13),
+            Does(Timeout(19150)),
+            Emits(NoPacket),
+            Holds(HasPair(PEER, false)),
+        ],
+    ),
+    Story(
+        "a_response_ends_early_retransmissions",
+        &[
+            Begin(Paired),
+            Set(Setting::Rules(REPEATS)),
+            Set(Setting::Controlling(false)),
+            Does(Check(0)),
+            Shows(NextAt(100)),
+            Does(Check(100)),
+            Takes(Answer(110, THERE)),
+            // 500 ms after the second check
+            Shows(NextAt(600)),
+        ],
+    ),
+    Story(
+        "a_nomination_without_a_response_is_repeated_early",
+        &[
+            Begin(Paired),
+            Set(Setting::Rules(REPEATS)),
+            Does(Check(0)),
+            Takes(Answer(10, THERE)),
+            Does(CheckTo(50, THERE, true)),
+            Shows(NextAt(150)),
+            Does(CheckTo(150, THERE, true)),
+            Shows(NextAt(250)),
+            Does(CheckTo(250, THERE, true)),
+            Shows(NextAt(350)),
+            Does(CheckTo(350, THERE, true)),
+            Shows(NextAt(450)),
+            Does(CheckTo(450, THERE, true)),
+            Shows(NextAt(700)),
+        ],
+    ),
+    // the due time that is fixed stays when rules are set
+    Story(
+        "rules_leave_a_due_time_that_was_queried",
+        &[
+            Begin(Paired),
+            Set(Setting::Rules(ORIGINAL)),
+            Does(Check(0)),
+            Shows(NextAt(250)),
+            Set(Setting::Rules(REPEATS)),
+            Shows(NextAt(250)),
+            Does(Check(250)),
+            Shows(NextAt(350)),
+            Set(Setting::Rules(ORIGINAL)),
+            Shows(NextAt(350)),
+            Does(Check(350)),
+            // the RTO after the third check
+            Shows(NextAt(1350)),
+        ],
+    ),
+];
+
+// ---- selection at a request (RFC 8445, section 7.3.1.5)
+
+const SELECTED: [Story; 3] = [
+    Story(
+        "a_nominating_request_selects_a_valid_pair",
+        &[
+            Begin(New("near", "nearpass", 7)),
+            Set(Setting::Rules(SELECTS)),
+            Does(Creds(Whose::Remote, "farr", "farpass")),
+            Does(Host(At(1, 1000))),
+            Does(Peer(PEER)),
+            Does(Check(0)),
+            Takes(Answer(10, THERE)),
+            Holds(PairState(PEER, CheckState::Succeeded)),
+            Emits(Selected(None)),
+            Write(Message::Request(true, true), "nearpass"),
+            Takes(Served(20, THERE)),
+            Emits(Selected(Some(THERE))),
+        ],
+    ),
+    Story(
+        "without_the_rule_the_next_timeout_selects_it",
+        &[
+            Begin(New("near", "nearpass", 7)),
+            Set(Setting::Rules(ORIGINAL)),
+            Does(Creds(Whose::Remote, "farr", "farpass")),
+            Does(Host(At(1, 1000))),
+            Does(Peer(PEER)),
+            Does(Check(0)),
+            Takes(Answer(10, THERE)),
+            Holds(PairState(PEER, CheckState::Succeeded)),
+            Write(Message::Request(true, true), "nearpass"),
+            Takes(Served(20, THERE)),
+            Emits(Selected(None)),
+            Does(Timeout(50)),
+            Emits(Selected(Some(THERE))),
+        ],
+    ),
+    Story(
+        "a_nominating_request_selects_no_pair_that_is_not_valid",
+        &[
+            Begin(New("near", "nearpass", 7)),
+            Set(Setting::Rules(SELECTS)),
+            Does(Creds(Whose::Remote, "farr", "farpass")),
+            Does(Host(At(1, 1000))),
+            Does(Peer(PEER)),
+            Does(Check(0)),
+            Write(Message::Request(true, true), "nearpass"),
+            Takes(Served(20, THERE)),
+            Emits(Selected(None)),
+        ],
+    ),
+];

@@ -1,0 +1,133 @@
+//! Triggered checks: which requests move the next check of a pair up, and which pairs are urgent.
+
+use super::{Path, at};
+use is_pair::{is_urgent, trigger};
+use is_proto::Instant;
+use std::alloc::Global;
+use std::test::Fail;
+
+/// A path that was checked at the beginning, and is due for its next check after 250 ms.
+fn due_path(alloc: Global) -> Result<Path, Fail> {
+    let mut path = Path::new(alloc);
+    path.check(at(0))?;
+    if path.due(at(0)) != at(250) {
+        return Err(Fail::from("the pair is not due 250 ms after its check"));
+    }
+    Ok(path)
+}
+
+/// When the path is due after a request at this time, if each of the first `most` requests triggers a check.
+fn due_after_request(path: &mut Path, most: Option<u64>, now: Instant) -> Instant {
+    trigger(&mut path.pair, most, now);
+    path.pair.increase_remote_binding_requests(now);
+    path.due(now)
+}
+
+#[test]
+fn a_request_moves_the_next_check_up(rt: HostRuntime) -> Result<(), Fail> {
+    let mut path = due_path(rt.alloc())?;
+    assert!(rt; due_after_request(&mut path, Some(4), at(100)) == at(100));
+    Ok(())
+}
+
+#[test]
+fn a_request_moves_no_check_down(rt: HostRuntime) -> Result<(), Fail> {
+    let mut path = due_path(rt.alloc())?;
+    assert!(rt; due_after_request(&mut path, Some(4), at(251)) == at(250));
+    assert!(rt; due_after_request(&mut path, Some(4), at(100)) == at(100));
+    assert!(rt; due_after_request(&mut path, Some(4), at(101)) == at(100));
+    Ok(())
+}
+
+#[test]
+fn without_the_rule_a_request_moves_nothing(rt: HostRuntime) -> Result<(), Fail> {
+    let mut path = due_path(rt.alloc())?;
+    assert!(rt; due_after_request(&mut path, None, at(100)) == at(250));
+    assert!(rt; due_after_request(&mut path, Some(0), at(100)) == at(250));
+    Ok(())
+}
+
+#[test]
+fn only_the_first_requests_trigger_checks(rt: HostRuntime) -> Result<(), Fail> {
+    let mut path = due_path(rt.alloc())?;
+    for time in [240, 230, 220, 210] {
+        assert!(rt; due_after_request(&mut path, Some(4), at(time)) == at(time));
+    }
+    assert!(rt; due_after_request(&mut path, Some(4), at(200)) == at(210));
+    assert!(rt; due_after_request(&mut path, Some(6), at(190)) == at(190));
+    assert!(rt; due_after_request(&mut path, Some(6), at(180)) == at(190));
+    Ok(())
+}
+
+#[test]
+fn a_request_on_a_valid_pair_moves_nothing(rt: HostRuntime) -> Result<(), Fail> {
+    let mut path = Path::new(rt.alloc());
+    path.check_answered(0, 50)?;
+    assert!(rt; path.due(at(50)) == at(250));
+    assert!(rt; due_after_request(&mut path, Some(4), at(100)) == at(250));
+    Ok(())
+}
+
+/// A due time that is not fixed yet is not fixed by a request either.
+#[test]
+fn a_due_time_that_is_not_fixed_is_not_moved(rt: HostRuntime) -> Result<(), Fail> {
+    let mut path = Path::new(rt.alloc());
+    path.check(at(0))?;
+    assert!(rt; due_after_request(&mut path, Some(4), at(100)) == at(250));
+    Ok(())
+}
+
+#[test]
+fn a_pair_with_a_request_is_urgent_until_it_is_valid(rt: HostRuntime) -> Result<(), Fail> {
+    let mut path = Path::new(rt.alloc());
+    assert!(rt; !is_urgent(&path.pair));
+    path.pair.increase_remote_binding_requests(at(0));
+    assert!(rt; is_urgent(&path.pair));
+    let id = path.check(at(10))?;
+    assert!(rt; is_urgent(&path.pair));
+    path.answer(at(20), id)?;
+    assert!(rt; !is_urgent(&path.pair));
+    path.pair.increase_remote_binding_requests(at(30));
+    assert!(rt; !is_urgent(&path.pair));
+    Ok(())
+}
+
+#[test]
+fn a_pair_without_a_request_is_not_urgent(rt: HostRuntime) -> Result<(), Fail> {
+    let mut path = Path::new(rt.alloc());
+    path.check(at(0))?;
+    assert!(rt; !is_urgent(&path.pair));
+    path.check_answered(100, 150)?;
+    assert!(rt; !is_urgent(&path.pair));
+    Ok(())
+}
+
+#[test]
+fn a_nominated_pair_is_urgent_until_a_nominating_check_is_answered(
+    rt: HostRuntime,
+) -> Result<(), Fail> {
+    let mut path = Path::new(rt.alloc());
+    let before = path.check(at(0))?;
+    path.answer(at(50), before)?;
+    path.nominate()?;
+    assert!(rt; is_urgent(&path.pair));
+    let nominating = path.check(at(100))?;
+    path.answer(at(110), before)?;
+    assert!(rt; is_urgent(&path.pair));
+    path.answer(at(150), nominating)?;
+    assert!(rt; !is_urgent(&path.pair));
+    Ok(())
+}
+
+/// A nomination that succeeds at once sends no check.
+#[test]
+fn a_forced_nomination_is_not_urgent(rt: HostRuntime) -> Result<(), Fail> {
+    let mut path = Path::new(rt.alloc());
+    path.check_answered(0, 50)?;
+    if path.pair.is_nominated() {
+        return Err(Fail::from("the pair was nominated before"));
+    }
+    path.pair.nominate(true);
+    assert!(rt; !is_urgent(&path.pair));
+    Ok(())
+}
