@@ -19,8 +19,8 @@
  *
  * Return codes. A call returns IS_ICE_OK; or a code above 0 if there was nothing to do or to return, as IS_ICE_NOTHING;
  * or an error below 0. A call that fails leaves the agent unchanged and can be repeated, also after
- * IS_ICE_OUT_OF_MEMORY (is_ice_poll_transmit names an exception). Any call on an agent may return IS_ICE_NO_AGENT if
- * the is_ice_agent holds none; the comments below do not repeat this.
+ * IS_ICE_OUT_OF_MEMORY (is_ice_poll_transmit names an exception). Any call on an agent returns IS_ICE_NO_AGENT, and
+ * writes nothing, if the is_ice_agent holds none; the comments below do not repeat this.
  *
  * Ownership. An agent is on the heap. An is_ice_agent refers to it, and the caller stores the is_ice_agent anywhere: in
  * a local variable, a struct or an array. Zero it before is_ice_agent_new, as by `is_ice_agent agent = {0};`.
@@ -293,9 +293,14 @@ typedef struct is_ice_preference_table {
     is_ice_kind_preferences v6;
 } is_ice_preference_table;
 
-/* What an agent does beyond the behavior of the Rust crate `is` 0.12.0, one field for each rule: see is_ice_set_rules. */
+/* What an agent does beyond the behavior of the Rust crate `is` 0.12.0: see is_ice_set_rules. A count of 0: there is no
+ * such rule. */
 typedef struct is_ice_agent_rules {
-    bool kinds_in_turn; /* until a path is selected, every second check goes to the next kind of pairs */
+    uint64_t triggered_checks; /* so many requests on a pair trigger a check of it */
+    size_t early_retransmits;  /* so many early retransmissions without a response, */
+    uint64_t early_interval;   /* and the time before each */
+    bool kinds_in_turn;        /* until a path is selected, every second check goes to the next kind of pairs */
+    bool selects_at_once;      /* a controlled agent selects a valid pair when the request that nominates it arrives */
 } is_ice_agent_rules;
 
 /* ---- creating */
@@ -399,9 +404,10 @@ IS_ICE_QUIET_CALL int32_t is_ice_set_max_discovered(is_ice_agent *agent, size_t 
  * most one packet. IS_ICE_OK. Value: 50 ms. */
 IS_ICE_QUIET_CALL int32_t is_ice_set_timing_advance(is_ice_agent *agent, uint64_t nanoseconds);
 
-/* is_ice_set_initial_rto - sets the time from a pair's first check until the second one is due. It doubles with each
- * further check, up to the limit of is_ice_set_max_rto. If a check has had no response for longer than half that limit,
- * only the checks without a response count, so that checks become more frequent again. IS_ICE_OK. Value: 250 ms. */
+/* is_ice_set_initial_rto - sets the time from a pair's first check until the second one is due; early retransmissions
+ * (is_ice_set_rules) come before it. It doubles with each further check, up to the limit of is_ice_set_max_rto. If a
+ * check has had no response for longer than half that limit, only the checks without a response count, so that checks
+ * become more frequent again. IS_ICE_OK. Value: 250 ms. */
 IS_ICE_QUIET_CALL int32_t is_ice_set_initial_rto(is_ice_agent *agent, uint64_t nanoseconds);
 
 /* is_ice_set_max_rto - sets the longest time from one check of a pair until the next one is due. A pair that works is
@@ -411,24 +417,41 @@ IS_ICE_QUIET_CALL int32_t is_ice_set_max_rto(is_ice_agent *agent, uint64_t nanos
 /* is_ice_set_max_retransmits - sets after how many checks in a row without a response a pair is removed. It is not
  * removed while the last of them may still be answered in time, nor within 15 s of a check of the other agent on it.
  * With the default values that is at most 29.6 s after its last answered check: within the 30 s of RFC 7675, after which
- * a browser gives it up and does not nominate it again. With 9, and 3 s by is_ice_set_max_rto, it is 24.5 s.
+ * a browser gives it up and does not nominate it again. With 9, and 3 s by is_ice_set_max_rto, it is 24.5 s. A pair
+ * without any response has its early retransmissions (is_ice_set_rules) besides. One whose nomination has no response may
+ * be removed up to 0.7 s later.
  * IS_ICE_OK. IS_ICE_BAD_LIMIT: the limit is 0. Value: 11. */
 IS_ICE_CALL int32_t is_ice_set_max_retransmits(is_ice_agent *agent, size_t limit);
 
 /* is_ice_modern_rules, is_ice_original_rules - return the rules that make agents connect sooner, and those of the Rust
- * crate `is` 0.12.0, of which each is off. On any thread. IS_ICE_OK. */
+ * crate `is` 0.12.0, of which each is off. The first are: 4 requests trigger checks, 4 early retransmissions, each after
+ * 100 ms, and both other rules. On any thread. IS_ICE_OK. */
 IS_ICE_QUIET_CALL int32_t is_ice_modern_rules(is_ice_agent_rules *rules);
 IS_ICE_QUIET_CALL int32_t is_ice_original_rules(is_ice_agent_rules *rules);
 
 /* is_ice_set_rules - sets what the agent does beyond the behavior of the Rust crate `is` 0.12.0. To change one rule,
  * change its field in what is_ice_rules or is_ice_modern_rules returned: a later version of this header may have further
- * fields. The other agent may have other rules. The struct is copied. IS_ICE_OK. Value: is_ice_modern_rules.
+ * fields. The other agent may have other rules. The struct is copied. is_ice_rules returns what was set, except for
+ * early_interval: without early retransmissions it is 0. IS_ICE_OK. Value: is_ice_modern_rules.
  *
  * kinds_in_turn: until a path is selected, every second check goes to the next kind of pairs, and the others to the pair
  * that is due first, as without the rule (RFC 8445, section 6.1.4.2). So a path through NATs is found soon, however many
  * host candidates there are. The kind of a pair is the kind of its remote candidate, its IP version, and whether packets
  * of its local candidate reach the outside. They do if the candidate is relayed, if its base has a server-reflexive
- * candidate, or if no base of its IP version has one. */
+ * candidate, or if no base of its IP version has one.
+ *
+ * triggered_checks: each of the first so many requests on a pair makes its next check due at once, until the pair is
+ * valid (RFC 8445, section 7.3.1.4). Every second check may go to such a pair, or to one whose nomination has no response
+ * yet, before pairs that are due earlier.
+ *
+ * early_retransmits: as long as no response arrived on a pair, its first so many retransmissions come early_interval
+ * apart, at least 1 ms, and the next ones after the RTO. So do those of a check that nominates the pair, until its
+ * response. A pair without any response is given so many checks more before it is removed. Pairs whose due time is fixed
+ * already keep it when rules are set. RFC 8445, section 14.3, has an RTO of 500 ms or more: an interval below it finds a
+ * path sooner on a network that loses packets, and sends more on one with long delays.
+ *
+ * selects_at_once: a controlled agent selects a pair in the is_ice_handle_packet call of the request that nominates it,
+ * if the pair was valid before (RFC 8445, section 7.3.1.5), and not only in the next is_ice_handle_timeout call. */
 IS_ICE_QUIET_CALL int32_t is_ice_set_rules(is_ice_agent *agent, const is_ice_agent_rules *rules);
 
 /* is_ice_set_mtu - stores how long a packet may be, and the length to warn about; is_ice_status returns both.
@@ -965,7 +988,7 @@ IS_ICE_SIZE(is_ice_nominated_pair, 88);
 IS_ICE_SIZE(is_ice_pair, 96);
 IS_ICE_SIZE(is_ice_kind_preferences, 8);
 IS_ICE_SIZE(is_ice_preference_table, 16);
-IS_ICE_SIZE(is_ice_agent_rules, 1);
+IS_ICE_SIZE(is_ice_agent_rules, 32);
 IS_ICE_SIZE(is_ice_stun_transaction, 12);
 IS_ICE_SIZE(is_ice_stun_result, 32);
 IS_ICE_SIZE(is_ice_stun_number, 16);

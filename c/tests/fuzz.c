@@ -93,7 +93,16 @@ static void set_preference(void)
     CALL(OK | QUIET, is_ice_set_preference_table(agents[on], given));
 }
 
-/* Sets the rules of the original, those of a new agent, or each rule to one value, and reads them. */
+/* What is set is read; without early retransmissions their interval is 0. */
+static bool is_read(const is_ice_agent_rules *given, const is_ice_agent_rules *told)
+{
+    uint64_t interval = given->early_retransmits > 0 ? given->early_interval : 0;
+    return told->kinds_in_turn == given->kinds_in_turn && told->selects_at_once == given->selects_at_once
+        && told->triggered_checks == given->triggered_checks && told->early_retransmits == given->early_retransmits
+        && told->early_interval == interval;
+}
+
+/* Sets the rules of the original, those of a new agent, or each rule to a value of its own, and reads them. */
 static void set_rules(void)
 {
     uint8_t kind = take();
@@ -102,10 +111,13 @@ static void set_rules(void)
     on = AGENTS;
     if (kind % 4 == 0) CALL(OK | QUIET, is_ice_original_rules(given));
     else if (kind % 4 == 1) CALL(OK | QUIET, is_ice_modern_rules(given));
-    else memset(given, kind % 2, sizeof *given);
+    else {
+        given->triggered_checks = number(), given->early_retransmits = (size_t)number(), given->early_interval = number();
+        given->kinds_in_turn = one_in(2), given->selects_at_once = one_in(2);
+    }
     on = agent;
     if (CALL(OK | QUIET, is_ice_set_rules(agents[on], given)) != IS_ICE_OK) return;
-    if (CALL(OK | QUIET | QUERY, is_ice_rules(agents[on], told)) != IS_ICE_OK || memcmp(given, told, sizeof *told) != 0)
+    if (CALL(OK | QUIET | QUERY, is_ice_rules(agents[on], told)) != IS_ICE_OK || !is_read(given, told))
         stop("rules are read otherwise than they were set");
 }
 
@@ -144,7 +156,8 @@ static void add_remote(void)
 {
     struct bytes text = line();
     size_t *index = argument(sizeof *index);
-    int32_t code = CALL(OK | NOTHING | NOT_UTF8 | BAD_CANDIDATE | NO_IDS, is_ice_add_remote(agents[on], text.bytes, text.length, index));
+    int32_t code = CALL(OK | NOTHING | OTHER | NOT_UTF8 | BAD_CANDIDATE | NO_IDS,
+        is_ice_add_remote(agents[on], text.bytes, text.length, index));
     if (code < 0) filled(code, index, sizeof *index);
 }
 
@@ -283,7 +296,8 @@ static void line_fields(void)
         is_ice_line_fields(text.bytes, text.length, o.bytes, o.size, o.length, fields));
     written_fields(code, o, fields);
     on = agent;
-    int32_t added = CALL(OK | NOTHING | NOT_UTF8 | BAD_CANDIDATE | NO_IDS, is_ice_add_remote(agents[on], text.bytes, text.length, index));
+    int32_t added = CALL(OK | NOTHING | OTHER | NOT_UTF8 | BAD_CANDIDATE | NO_IDS,
+        is_ice_add_remote(agents[on], text.bytes, text.length, index));
     if (code == IS_ICE_OUT_OF_MEMORY || added == IS_ICE_OUT_OF_MEMORY || added == IS_ICE_NO_AGENT) return;
     bool is_candidate = code == IS_ICE_OK || code == IS_ICE_BUFFER_TOO_SHORT;
     if (is_candidate == (added == IS_ICE_BAD_CANDIDATE || added == IS_ICE_NOT_UTF8))

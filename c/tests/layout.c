@@ -47,7 +47,8 @@ static void offsets(void)
     AT(is_ice_kind_preferences, host, 0), AT(is_ice_kind_preferences, peer_reflexive, 2);
     AT(is_ice_kind_preferences, server_reflexive, 4), AT(is_ice_kind_preferences, relayed, 6);
     AT(is_ice_preference_table, v4, 0), AT(is_ice_preference_table, v6, 8);
-    AT(is_ice_agent_rules, kinds_in_turn, 0);
+    AT(is_ice_agent_rules, triggered_checks, 0), AT(is_ice_agent_rules, early_retransmits, 8);
+    AT(is_ice_agent_rules, early_interval, 16), AT(is_ice_agent_rules, kinds_in_turn, 24), AT(is_ice_agent_rules, selects_at_once, 25);
 }
 
 static is_ice_agent made(void)
@@ -76,22 +77,42 @@ static void settings(void)
     is_ice_agent_free(&agent);
 }
 
-/* is_ice_agent_rules: the rules of a new agent, those of the original, and each field in both values. */
+static bool same_rules(const is_ice_agent_rules *a, const is_ice_agent_rules *b)
+{
+    return a->triggered_checks == b->triggered_checks && a->early_retransmits == b->early_retransmits
+        && a->early_interval == b->early_interval && a->kinds_in_turn == b->kinds_in_turn && a->selects_at_once == b->selects_at_once;
+}
+
+/* is_ice_agent_rules: what is set is read. */
+static void keeps_rules(is_ice_agent *agent, const is_ice_agent_rules *set)
+{
+    is_ice_agent_rules r;
+    memset(&r, 0xff, sizeof r);
+    HOLD(is_ice_set_rules(agent, set) == IS_ICE_OK && is_ice_rules(agent, &r) == IS_ICE_OK && same_rules(&r, set));
+}
+
+/* is_ice_agent_rules: the rules of a new agent, those of the original, and each field with a value of its own. */
 static void rules(void)
 {
     is_ice_agent agent = made();
     is_ice_agent_rules modern, original, r;
     memset(&modern, 0, sizeof modern), memset(&original, 0xff, sizeof original), memset(&r, 0, sizeof r);
-    HOLD(is_ice_modern_rules(&modern) == IS_ICE_OK && modern.kinds_in_turn);
-    HOLD(is_ice_original_rules(&original) == IS_ICE_OK && !original.kinds_in_turn);
-    HOLD(is_ice_rules(&agent, &r) == IS_ICE_OK && memcmp(&r, &modern, sizeof r) == 0);
-    HOLD(is_ice_set_rules(&agent, &original) == IS_ICE_OK && is_ice_rules(&agent, &r) == IS_ICE_OK && !r.kinds_in_turn);
-    r.kinds_in_turn = true;
-    HOLD(is_ice_set_rules(&agent, &r) == IS_ICE_OK);
-    memset(&r, 0, sizeof r);
-    HOLD(is_ice_rules(&agent, &r) == IS_ICE_OK && r.kinds_in_turn);
+    HOLD(is_ice_modern_rules(&modern) == IS_ICE_OK && modern.kinds_in_turn && modern.triggered_checks == 4);
+    HOLD(modern.early_retransmits == 4 && modern.early_interval == 100000000 && modern.selects_at_once);
+    HOLD(is_ice_original_rules(&original) == IS_ICE_OK && !original.kinds_in_turn && original.triggered_checks == 0);
+    HOLD(original.early_retransmits == 0 && original.early_interval == 0 && !original.selects_at_once);
+    HOLD(is_ice_rules(&agent, &r) == IS_ICE_OK && same_rules(&r, &modern));
+    keeps_rules(&agent, &original), keeps_rules(&agent, &modern);
+    r = original, r.kinds_in_turn = true, keeps_rules(&agent, &r);
+    r = original, r.triggered_checks = UINT64_MAX, keeps_rules(&agent, &r);
+    r = original, r.early_retransmits = SIZE_MAX, keeps_rules(&agent, &r);
+    r.early_interval = UINT64_MAX, keeps_rules(&agent, &r);
+    r = original, r.selects_at_once = true, keeps_rules(&agent, &r);
+    r = original, r.early_interval = 7;
+    HOLD(is_ice_set_rules(&agent, &r) == IS_ICE_OK && is_ice_rules(&agent, &r) == IS_ICE_OK && same_rules(&r, &original));
     is_ice_agent_free(&agent);
-    HOLD(is_ice_set_rules(&agent, &r) == IS_ICE_NO_AGENT && is_ice_rules(&agent, &r) == IS_ICE_NO_AGENT);
+    r = modern;
+    HOLD(is_ice_set_rules(&agent, &original) == IS_ICE_NO_AGENT && is_ice_rules(&agent, &r) == IS_ICE_NO_AGENT && same_rules(&r, &modern));
 }
 
 /* Adds the candidate: its text has this after the foundation. */

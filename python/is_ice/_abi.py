@@ -142,7 +142,13 @@ class PreferenceTable(ctypes.Structure):
 class AgentRules(ctypes.Structure):
     """is_ice_agent_rules."""
 
-    _fields_ = [("kinds_in_turn", c_bool)]
+    _fields_ = [
+        ("triggered_checks", c_uint64),
+        ("early_retransmits", c_size_t),
+        ("early_interval", c_uint64),
+        ("kinds_in_turn", c_bool),
+        ("selects_at_once", c_bool),
+    ]
 
 
 class StunTransaction(ctypes.Structure):
@@ -201,7 +207,7 @@ class StunTexts(ctypes.Structure):
 
 # The sizes of the structs that c/is_ice.h asserts.
 SIZES = {Agent: 16, Address: 28, Candidate: 60, Fields: 120, Packet: 72, Event: 68, Status: 32, Stats: 40, Nominated: 88, Pair: 96,
-         KindPreferences: 8, PreferenceTable: 16, AgentRules: 1, StunTransaction: 12, StunResult: 32, StunNumber: 16,
+         KindPreferences: 8, PreferenceTable: 16, AgentRules: 32, StunTransaction: 12, StunResult: 32, StunNumber: 16,
          StunMessage: 232, StunSpan: 24, StunTexts: 144}
 
 _AGENT = POINTER(Agent)

@@ -142,7 +142,10 @@ class IceAgent(Unique):
         done(self._c.is_ice_set_timing_advance(self._at, in_range(nanoseconds, 64, "a time")))
 
     def set_initial_stun_rto(self, nanoseconds: int) -> None:
-        """Sets the time from a pair's first check until the second one is due; it doubles with each further check. Default: 250 ms."""
+        """Sets the time from a pair's first check until the second one is due; it doubles with each further check. Default: 250 ms.
+
+        Early retransmissions (`Rules.early_rto`) come before it.
+        """
         done(self._c.is_ice_set_initial_rto(self._at, in_range(nanoseconds, 64, "a time")))
 
     def set_max_stun_rto(self, nanoseconds: int) -> None:
@@ -160,7 +163,8 @@ class IceAgent(Unique):
     def set_max_stun_retransmits(self, limit: int) -> None:
         """Sets after how many checks in a row without a response a pair is removed. BadLimit for 0. Default: 11.
 
-        A pair is not removed while the last check may still be answered in time, nor within 15 s of a check of the peer on it.
+        A pair is not removed while the last check may still be answered in time, nor within 15 s of a check of the peer on it. A pair
+        without any response has its early retransmissions (`Rules.early_rto`) besides.
         """
         done(self._c.is_ice_set_max_retransmits(self._at, in_range(limit, 64, "a limit")))
 

@@ -9,7 +9,19 @@ from typing import Any
 
 from . import _abi
 from ._library import library
+from .address import in_range
 from .errors import done
+
+
+@dataclass(frozen=True)
+class EarlyRto:
+    """How checks are repeated before the RTO counts: so many early retransmissions, each after an interval in nanoseconds.
+
+    With 0 retransmissions there is no such rule. An interval of less than a millisecond counts as one.
+    """
+
+    retransmits: int
+    interval: int
 
 
 @dataclass(frozen=True)
@@ -23,9 +35,24 @@ class Rules:
     are. The kind of a pair is the kind of its remote candidate, its IP version, and whether packets of its local candidate reach the
     outside. They do if the candidate is relayed, if its base has a server-reflexive candidate, or if no base of its IP version has one.
     While there are more pairs than `set_max_candidate_pairs` allows, the lowest pair of the kind that has the most is removed.
+
+    `triggered_checks`: each of the first so many requests on a pair makes its next check due at once, until the pair is valid (RFC
+    8445, section 7.3.1.4). Every second check may go to such a pair, or to one whose nomination has no response yet, before pairs that
+    are due earlier. 0 is the same as None.
+
+    `early_rto`: the first checks of a pair, and those that nominate it, are repeated early, as long as no response arrives. A pair
+    without any response is given so many checks more before it is removed. Pairs whose due time is fixed already keep it when rules are
+    set. RFC 8445, section 14.3, has an RTO of 500 ms or more: an interval below it finds a path sooner on a network that loses packets,
+    and sends more on one with long delays.
+
+    `selects_at_once`: a controlled agent selects a pair in the `handle_packet` call of the request that nominates it, if the pair was
+    valid before (RFC 8445, section 7.3.1.5), and not only in the next `handle_timeout` call.
     """
 
     kinds_in_turn: bool
+    triggered_checks: int | None
+    early_rto: EarlyRto | None
+    selects_at_once: bool
 
     @staticmethod
     def original() -> Rules:
@@ -42,9 +69,17 @@ def rules_from(call: Callable[..., int], *arguments: Any) -> Rules:
     """Returns the rules that a call writes."""
     rules = _abi.AgentRules()
     done(call(*arguments, byref(rules)))
-    return Rules(*(bool(getattr(rules, name)) for name, _ in _abi.AgentRules._fields_))
+    early = EarlyRto(rules.early_retransmits, rules.early_interval) if rules.early_retransmits else None
+    return Rules(rules.kinds_in_turn, rules.triggered_checks or None, early, rules.selects_at_once)
 
 
 def struct_of_rules(rules: Rules) -> _abi.AgentRules:
-    """Converts to the library's struct."""
-    return _abi.AgentRules(*(getattr(rules, name) for name, _ in _abi.AgentRules._fields_))
+    """Converts to the library's struct. ValueError if a number does not fit into 64 bits."""
+    early = rules.early_rto or EarlyRto(0, 0)
+    return _abi.AgentRules(
+        triggered_checks=in_range(rules.triggered_checks or 0, 64, "a number of requests"),
+        early_retransmits=in_range(early.retransmits, 64, "a number of retransmissions"),
+        early_interval=in_range(early.interval, 64, "a time"),
+        kinds_in_turn=rules.kinds_in_turn,
+        selects_at_once=rules.selects_at_once,
+    )

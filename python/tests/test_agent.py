@@ -12,6 +12,7 @@ import unittest
 from collections.abc import Callable
 from concurrent.futures import ThreadPoolExecutor
 from pathlib import Path
+from typing import Any
 from unittest import mock
 
 import is_ice
@@ -28,6 +29,7 @@ from is_ice import (
     CheckState,
     CredentialsTooLong,
     DiscoveredRecv,
+    EarlyRto,
     HasAgent,
     IceAgent,
     IceConnectionState,
@@ -144,6 +146,57 @@ def first_checks(rules: Rules | None) -> list[str]:
         while packet := agent.poll_transmit():
             checked.append(packet.destination.ip)
     return checked
+
+
+def repeated(rules: Rules) -> list[int]:
+    """Returns the times in milliseconds of the checks on a path without responses, of the first 2 seconds."""
+    agent = IceAgent()
+    agent.set_rules(rules)
+    agent.set_remote_credentials(IceCreds("BBBB", "Q" * 22))
+    agent.add_local_candidate(Candidate.host(HERE))
+    agent.add_remote_candidate(LINE_OF_THERE)
+    checks: list[int] = []
+    now: int | None = BEGINNING
+    while now is not None and now <= BEGINNING + 2 * SECOND:
+        agent.handle_timeout(now)
+        sent = (now - BEGINNING) * 1000 // SECOND
+        now = agent.poll_timeout()
+        while agent.poll_transmit():
+            checks.append(sent)
+    return checks
+
+
+def has_selected(agent: IceAgent) -> bool:
+    """Polls the events: whether a path was selected."""
+    found = False
+    while event := agent.poll_event():
+        found = found or isinstance(event, NominatedSend)
+    return found
+
+
+def selections(rules: Rules) -> list[str]:
+    """Returns in which calls the controlled one of two agents selects a path, while packets arrive at once."""
+    a, b = two_agents()
+    b.set_rules(rules)
+    calls: list[str] = []
+
+    def deliver(now: int) -> None:
+        moved = True
+        while moved:
+            moved = False
+            for agent, other in ((a, b), (b, a)):
+                while packet := agent.poll_transmit():
+                    other.handle_packet(now, packet.source, packet.destination, packet.contents)
+                    calls.extend(["handle_packet"] * (other is b and has_selected(b)))
+                    moved = True
+
+    for count in range(4):
+        now = BEGINNING + count * SECOND // 20
+        for agent in (b, a):
+            agent.handle_timeout(now)
+            calls.extend(["handle_timeout"] * (agent is b and has_selected(b)))
+            deliver(now)
+    return calls
 
 
 def seconds_of_a_cut(agents: tuple[IceAgent, IceAgent]) -> float:
@@ -317,13 +370,45 @@ class Errors(unittest.TestCase):
         self.assertEqual(last_paths(True), (HERE, HERE))
 
     def test_rules(self) -> None:
+        early = EarlyRto(retransmits=4, interval=SECOND // 10)
         self.assertEqual(self.agent.rules, Rules.modern())
-        self.assertEqual((Rules.modern(), Rules.original()), (Rules(kinds_in_turn=True), Rules(kinds_in_turn=False)))
-        self.agent.set_rules(dataclasses.replace(self.agent.rules, kinds_in_turn=False))
+        self.assertEqual(Rules.modern(), Rules(kinds_in_turn=True, triggered_checks=4, early_rto=early, selects_at_once=True))
+        self.assertEqual(Rules.original(), Rules(kinds_in_turn=False, triggered_checks=None, early_rto=None, selects_at_once=False))
+        most = (1 << 64) - 1
+        changes: tuple[dict[str, Any], ...] = (
+            {"kinds_in_turn": False}, {"triggered_checks": None}, {"triggered_checks": most}, {"early_rto": None},
+            {"early_rto": EarlyRto(most, most)}, {"early_rto": EarlyRto(1, 0)}, {"selects_at_once": False},
+        )
+        for change in changes:
+            for rules in (Rules.modern(), Rules.original()):
+                changed = dataclasses.replace(rules, **change)
+                self.agent.set_rules(changed)
+                self.assertEqual(self.agent.rules, changed)
+
+    def test_rules_that_count_to_0_are_none(self) -> None:
+        self.agent.set_rules(dataclasses.replace(Rules.original(), triggered_checks=0, early_rto=EarlyRto(0, 7)))
         self.assertEqual(self.agent.rules, Rules.original())
+
+    def test_rules_that_are_refused(self) -> None:
+        refused: tuple[dict[str, Any], ...] = (
+            {"triggered_checks": -1}, {"triggered_checks": 1 << 64}, {"early_rto": EarlyRto(1 << 64, 0)}, {"early_rto": EarlyRto(1, -1)},
+        )
+        for change in refused:
+            self.assertRaises(ValueError, self.agent.set_rules, dataclasses.replace(Rules.modern(), **change))
+        self.assertEqual(self.agent.rules, Rules.modern())
         self.agent.close()
         self.assertRaises(NoAgent, self.agent.set_rules, Rules.modern())
         self.assertRaises(NoAgent, lambda: self.agent.rules)
+
+    def test_first_checks_are_repeated_early(self) -> None:
+        """Without a response: at first every 100 ms, then after the RTO, which doubles."""
+        self.assertEqual(repeated(Rules.modern()), [0, 100, 200, 300, 400, 650, 1150])
+        self.assertEqual(repeated(Rules.original()), [0, 250, 750, 1750])
+
+    def test_a_controlled_agent_selects_at_once(self) -> None:
+        """The request that nominates comes on a valid pair. Without the rule the agent selects it in the next `handle_timeout`."""
+        self.assertEqual(selections(Rules.modern()), ["handle_packet"])
+        self.assertEqual(selections(Rules.original()), ["handle_timeout"])
 
     def test_kinds_take_turns(self) -> None:
         """The second check goes to the first kind, server-reflexive candidates, and the fourth one to the next kind, host candidates."""

@@ -21,9 +21,11 @@ class Examples(unittest.TestCase):
 
     def test_the_order_of_the_loop_matters(self) -> None:
         """README.md, "The loop", has the figures."""
-        before, after = (int(found) for found in re.findall(r"controlled (\d+) ms", output("order.py")))
+        before, after, *modern = (int(found) for found in re.findall(r"controlled (\d+) ms", output("order.py")))
         self.assertLess(before, 100)
         self.assertGreater(after, 200)
+        self.assertEqual(len(modern), 2)
+        self.assertLess(max(modern), 100)
 
     def test_calls_are_measured(self) -> None:
         self.assertEqual(len(re.findall(r": \d+ ns$", output("calls.py", "1"), re.M)), 6)

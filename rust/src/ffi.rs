@@ -190,7 +190,11 @@ pub(crate) struct PreferenceTable {
 #[repr(C)]
 #[derive(Clone, Copy, Default)]
 pub(crate) struct AgentRules {
+    pub(crate) triggered_checks: u64,
+    pub(crate) early_retransmits: usize,
+    pub(crate) early_interval: u64,
     pub(crate) kinds_in_turn: bool,
+    pub(crate) selects_at_once: bool,
 }
 
 #[repr(C)]
@@ -260,7 +264,7 @@ const _: () = {
     assert!(size_of::<Fields>() == 120 && std::mem::offset_of!(Fields, foundation_length) == 88);
     assert!(size_of::<Packet>() == 72 && size_of::<Event>() == 68 && size_of::<Status>() == 32);
     assert!(size_of::<Stats>() == 40 && size_of::<Nominated>() == 88 && size_of::<Pair>() == 96);
-    assert!(size_of::<KindPreferences>() == 8 && size_of::<PreferenceTable>() == 16 && size_of::<AgentRules>() == 1);
+    assert!(size_of::<KindPreferences>() == 8 && size_of::<PreferenceTable>() == 16 && size_of::<AgentRules>() == 32);
     assert!(size_of::<StunTransaction>() == 12 && size_of::<StunResult>() == 32);
     assert!(size_of::<StunNumber>() == 16 && size_of::<StunMessage>() == 232);
     assert!(size_of::<StunSpan>() == 24 && size_of::<StunTexts>() == 144);

@@ -48,4 +48,4 @@ pub use event::{IceAgentEvent, IceAgentStats, IceConnectionState, SelectedPath, 
 pub use pair::{CandidatePair, CheckState};
 pub use preference::{KindPreferences, LocalPreference, PreferenceTable, default_local_preference, try_default_local_preference};
 pub use proto::{Protocol, TcpType};
-pub use rules::Rules;
+pub use rules::{EarlyRto, Rules};

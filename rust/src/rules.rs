@@ -1,7 +1,8 @@
 //! What an agent does beyond the original's behavior.
 
-use crate::agent::IceAgent;
+use crate::agent::{IceAgent, nanoseconds};
 use crate::ffi;
+use std::time::Duration;
 
 /// What an agent does beyond the original's behavior, one field for each rule.
 ///
@@ -10,9 +11,10 @@ use crate::ffi;
 /// ```
 /// let mut agent = is::IceAgent::new(is::IceCreds::new());
 /// let mut rules = agent.rules();
-/// rules.kinds_in_turn = false;
+/// rules.triggered_checks = None;
 /// agent.set_rules(rules);
-/// assert_eq!(agent.rules(), is::Rules::original());
+/// assert_eq!(agent.rules().triggered_checks, None);
+/// agent.set_rules(is::Rules::original());
 /// ```
 #[derive(Clone, Copy, Debug, PartialEq, Eq)]
 #[non_exhaustive]
@@ -25,6 +27,28 @@ pub struct Rules {
     /// one. While there are more pairs than [`IceAgent::set_max_candidate_pairs`] allows, the lowest pair of the kind that has the most
     /// is removed.
     pub kinds_in_turn: bool,
+    /// Each of the first so many requests on a pair makes its next check due at once, until the pair is valid (RFC 8445, section
+    /// 7.3.1.4). Every second check may go to such a pair, or to one whose nomination has no response yet, before pairs that are due
+    /// earlier. `Some(0)` is the same as `None`.
+    pub triggered_checks: Option<u64>,
+    /// The first checks of a pair, and those that nominate it, are repeated early, as long as no response arrives. A pair without any
+    /// response is given so many checks more before it is removed. Pairs whose due time is fixed already keep it when rules are set.
+    ///
+    /// RFC 8445, section 14.3, has an RTO of 500 ms or more: an interval below it finds a path sooner on a network that loses packets,
+    /// and sends more on one with long delays.
+    pub early_rto: Option<EarlyRto>,
+    /// A controlled agent selects a pair in the [`IceAgent::handle_packet`] call of the request that nominates it, if the pair was valid
+    /// before (RFC 8445, section 7.3.1.5), and not only in the next [`IceAgent::handle_timeout`] call.
+    pub selects_at_once: bool,
+}
+
+/// How checks are repeated before the RTO counts: see [`Rules::early_rto`].
+#[derive(Clone, Copy, Debug, PartialEq, Eq)]
+pub struct EarlyRto {
+    /// How many early retransmissions there are. With 0 there is no such rule.
+    pub retransmits: usize,
+    /// The delay before each of them. Less than a millisecond counts as one.
+    pub interval: Duration,
 }
 
 impl Rules {
@@ -43,11 +67,23 @@ impl Rules {
         let mut rules = ffi::AgentRules::default();
         let code = call(&mut rules);
         debug_assert_eq!(code, ffi::OK);
-        Rules { kinds_in_turn: rules.kinds_in_turn }
+        let (retransmits, interval) = (rules.early_retransmits, Duration::from_nanos(rules.early_interval));
+        Rules {
+            kinds_in_turn: rules.kinds_in_turn,
+            triggered_checks: (rules.triggered_checks > 0).then_some(rules.triggered_checks),
+            early_rto: (retransmits > 0).then_some(EarlyRto { retransmits, interval }),
+            selects_at_once: rules.selects_at_once,
+        }
     }
 
     fn raw(&self) -> ffi::AgentRules {
-        ffi::AgentRules { kinds_in_turn: self.kinds_in_turn }
+        ffi::AgentRules {
+            triggered_checks: self.triggered_checks.unwrap_or(0),
+            early_retransmits: self.early_rto.map_or(0, |early| early.retransmits),
+            early_interval: self.early_rto.map_or(0, |early| nanoseconds(early.interval)),
+            kinds_in_turn: self.kinds_in_turn,
+            selects_at_once: self.selects_at_once,
+        }
     }
 }
 

@@ -87,7 +87,8 @@ impl IceAgent {
         self.set(|agent| ffi::is_ice_set_timing_advance(agent, nanoseconds(duration)));
     }
 
-    /// Sets the time from a pair's first check until the second one is due; it doubles with each further check. Default: 250 ms.
+    /// Sets the time from a pair's first check until the second one is due; it doubles with each further check. Early retransmissions
+    /// ([`Rules::early_rto`](crate::Rules::early_rto)) come before it. Default: 250 ms.
     pub fn set_initial_stun_rto(&mut self, timeout: Duration) {
         self.set(|agent| ffi::is_ice_set_initial_rto(agent, nanoseconds(timeout)));
     }
@@ -107,7 +108,8 @@ impl IceAgent {
     }
 
     /// Sets after how many checks in a row without a response a pair is removed. It is not removed while the last check may still
-    /// be answered in time, nor within 15 s of a check of the peer on it. Default: 11; in the original 9.
+    /// be answered in time, nor within 15 s of a check of the peer on it. A pair without any response has its early retransmissions
+    /// ([`Rules::early_rto`](crate::Rules::early_rto)) besides. Default: 11; in the original 9.
     ///
     /// # Panics
     ///

@@ -3,7 +3,7 @@
 mod world;
 
 use is::stun::{StunMessage, StunPacket};
-use is::{CallError, Candidate, CandidateKind, CheckState, IceAgent, IceAgentEvent, IceConnectionState, IceCreds, IceError};
+use is::{CallError, Candidate, CandidateKind, CheckState, EarlyRto, IceAgent, IceAgentEvent, IceConnectionState, IceCreds, IceError};
 use is::{KindPreferences, LocalPreference, PreferenceTable, Protocol, Rules, StunError, TcpType};
 use std::time::{Duration, Instant};
 use world::{at, creds, host, ms};
@@ -84,20 +84,32 @@ fn no_timeout_was_handled_yet() {
     assert_eq!((agent.poll_timeout(), agent.state()), (None, IceConnectionState::New));
 }
 
-#[test]
-fn checks_go_out_by_the_schedule() {
-    let (mut agent, began) = (paired(), Instant::now());
+/// Without a response: when the check after each one is due, in milliseconds, and after the last one the end.
+fn checks_go_out_after(mut agent: IceAgent, delays: &[u64]) {
+    let began = Instant::now();
     let mut when = began;
-    for after in [250, 750, 1750, 3750, 6650, 9550, 12450, 15350, 18250, 21150, 24050] {
+    for after in delays {
         agent.handle_timeout(when);
         let check = agent.poll_transmit().expect("a check");
         assert_eq!((check.destination, check.contents.len()), (at("10.0.0.2:2000"), 88));
         when = agent.poll_timeout().expect("a next timeout");
-        assert_eq!(when - began, ms(after));
+        assert_eq!(when - began, ms(*after));
     }
     agent.handle_timeout(when);
     assert_eq!(agent.poll_transmit(), None);
     assert!(agent.state().is_disconnected());
+}
+
+#[test]
+fn checks_go_out_by_the_schedule() {
+    let early = [100, 200, 300, 400, 650, 1150, 2150, 4150, 7050, 9950, 12850, 15750, 18650, 21550, 24450];
+    checks_go_out_after(paired(), &early);
+    let mut agent = paired();
+    agent.set_rules(Rules::original());
+    checks_go_out_after(agent, &[250, 750, 1750, 3750, 6650, 9550, 12450, 15350, 18250, 21150, 24050]);
+    let mut few = paired();
+    few.set_max_stun_retransmits(5);
+    checks_go_out_after(few, &[100, 200, 300, 400, 3300, 6200, 9100, 12000, 14900]);
 }
 
 #[test]
@@ -121,7 +133,7 @@ fn the_clock_may_stand_or_go_back() {
     agent.handle_timeout(began);
     agent.handle_timeout(began - Duration::from_secs(1));
     assert_eq!(agent.poll_transmit(), None);
-    assert_eq!(agent.poll_timeout(), Some(began + ms(250)));
+    assert_eq!(agent.poll_timeout(), Some(began + ms(100)));
 }
 
 // ---- settings
@@ -160,14 +172,47 @@ fn delays_are_set() {
 }
 
 #[test]
-fn rules_are_set() {
+fn rules_begin_as_documented() {
+    let (modern, original) = (Rules::modern(), Rules::original());
+    assert_eq!(IceAgent::new(creds("near")).rules(), modern);
+    assert!(modern.kinds_in_turn && modern.selects_at_once);
+    assert_eq!(modern.triggered_checks, Some(4));
+    assert_eq!(modern.early_rto, Some(EarlyRto { retransmits: 4, interval: ms(100) }));
+    assert!(!original.kinds_in_turn && !original.selects_at_once);
+    assert_eq!((original.triggered_checks, original.early_rto), (None, None));
+}
+
+/// The rules of an agent after these were set.
+fn rules_after(rules: Rules) -> Rules {
     let mut agent = IceAgent::new(creds("near"));
-    assert_eq!(agent.rules(), Rules::modern());
-    assert!(Rules::modern().kinds_in_turn && !Rules::original().kinds_in_turn);
-    let mut rules = agent.rules();
-    rules.kinds_in_turn = false;
     agent.set_rules(rules);
-    assert_eq!(agent.rules(), Rules::original());
+    agent.rules()
+}
+
+#[test]
+fn rules_are_set() {
+    let changes: [fn(&mut Rules); 6] = [
+        |rules| *rules = Rules::original(),
+        |rules| rules.kinds_in_turn = !rules.kinds_in_turn,
+        |rules| rules.triggered_checks = Some(u64::MAX),
+        |rules| rules.early_rto = Some(EarlyRto { retransmits: usize::MAX, interval: Duration::from_nanos(u64::MAX) }),
+        |rules| rules.early_rto = Some(EarlyRto { retransmits: 1, interval: Duration::ZERO }),
+        |rules| rules.selects_at_once = !rules.selects_at_once,
+    ];
+    for change in changes {
+        for mut rules in [Rules::modern(), Rules::original()] {
+            change(&mut rules);
+            assert_eq!(rules_after(rules), rules);
+        }
+    }
+}
+
+#[test]
+fn rules_that_count_to_0_are_none() {
+    let mut rules = Rules::original();
+    rules.triggered_checks = Some(0);
+    rules.early_rto = Some(EarlyRto { retransmits: 0, interval: ms(7) });
+    assert_eq!(rules_after(rules), Rules::original());
 }
 
 /// Where the first four checks go of an agent whose peer has three host candidates and a server-reflexive one.
@@ -378,7 +423,7 @@ fn pairs_are_listed() {
     agent.handle_timeout(now);
     let pair = agent.pairs().next().expect("a pair");
     assert_eq!(pair.state, CheckState::InProgress);
-    assert_eq!(pair.due, Some(now + Duration::from_millis(250)));
+    assert_eq!(pair.due, Some(now + ms(100)));
     agent.add_remote_candidate(Candidate::from_sdp_string("candidate:1 1 udp 2130706431 10.0.0.3 3000 typ host").unwrap());
     let pairs: Vec<_> = agent.pairs().collect();
     assert_eq!(pairs.iter().map(|pair| pair.remote).collect::<Vec<_>>(), [0, 1]);

@@ -6,8 +6,8 @@
 mod random;
 
 use is::stun::{BindingResponse, StunMessage, StunMessageBuilder, StunPacket, TransId};
-use is::{Candidate, IceAgent, IceAgentEvent, IceCreds, KindPreferences, LocalPreference, PreferenceTable, Protocol, Rules, TcpType};
-use is::{default_local_preference, try_default_local_preference};
+use is::{Candidate, IceAgent, IceAgentEvent, IceCreds, KindPreferences, LocalPreference, PreferenceTable, Protocol, TcpType};
+use is::{EarlyRto, Rules, default_local_preference, try_default_local_preference};
 use random::Random;
 use std::hint::black_box;
 use std::net::SocketAddr;
@@ -213,10 +213,19 @@ impl Session {
 
     // ---- settings
 
+    /// Rules with any numbers.
+    fn rules(&mut self) -> Rules {
+        let (count, retransmits, interval) = (self.random.number(), self.random.number(), self.random.duration());
+        let mut rules = if self.random.once_in(2) { Rules::modern() } else { Rules::original() };
+        rules.triggered_checks = self.random.once_in(2).then_some(count as u64);
+        rules.early_rto = self.random.once_in(2).then_some(EarlyRto { retransmits, interval });
+        rules
+    }
+
     fn set(&mut self) {
         let (number, duration, creds) = (self.random.number(), self.random.duration(), self.random.creds());
         let (flag, side) = (self.random.once_in(2), self.side());
-        let table = self.table();
+        let (table, rules) = (self.table(), self.rules());
         let agent = &mut self.agents[side];
         match self.random.below(19) {
             0 => agent.set_mtu(588..=number),
@@ -236,7 +245,7 @@ impl Session {
             14 => agent.set_controlling(flag),
             15 => _ = black_box(agent.try_set_local_credentials(creds)),
             16 => _ = black_box(agent.try_set_remote_credentials(creds)),
-            17 => agent.set_rules(if flag { Rules::modern() } else { Rules::original() }),
+            17 => agent.set_rules(rules),
             _ => {
                 agent.set_local_credentials(self::creds("near"));
                 agent.set_remote_credentials(self::creds("farr"));

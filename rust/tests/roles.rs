@@ -41,9 +41,10 @@ fn the_lesser_tie_breaker_yields() {
 
 #[test]
 fn the_controlling_one_chooses() {
-    // the controlled one sends only responses before it receives USE-CANDIDATE
+    // the controlled one sends only responses before it receives USE-CANDIDATE; it selects then, and its state comes at the next timeout
     let mut world = claim([true, false]);
     world.connect();
+    world.pass(Duration::from_millis(50));
     let told = |side: usize| world.sides[side].when(IceConnectionState::Completed).unwrap();
     assert!(told(0) < told(1), "{:?} and {:?}", told(0), told(1));
 }

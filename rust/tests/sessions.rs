@@ -168,7 +168,7 @@ fn nobody_answers() {
         assert!(side.agent.state().is_disconnected());
         let given_up = side.when(IceConnectionState::Disconnected).unwrap();
         assert!(given_up < timeout + Duration::from_secs(1), "{given_up:?}");
-        assert_eq!(side.agent.stats().bind_request_sent, 11);
+        assert_eq!(side.agent.stats().bind_request_sent, 4 + 11);
         assert_eq!(side.agent.nominated_pair_rtt(), None);
     }
 }

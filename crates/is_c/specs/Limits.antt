@@ -19,6 +19,6 @@ MAX_RTO = 2900 * MILLISECOND
 abbrev pub RETRANSMITS : ℕ
 RETRANSMITS = 11
 
--- the timing of a new agent
+-- the timing of a new agent, without that of its rules
 abbrev pub new_timing : StunTiming
 new_timing = record default_timing { max_retransmits = RETRANSMITS; max_rto = record { 0 = MAX_RTO } }

@@ -3,6 +3,7 @@ use Rattle.std.specs.Prelude.{◌≡◌, ℕ, ◌⊎◌, List, Option, Some, Non
 use Rattle.is_rules.specs.declared.credentials.IceCreds.{IceCreds}
 use Rattle.is_rules.specs.Agent.{fresh, modern_rules}
 use Rattle.is_rules.specs.Fitting.{are_too_long}
+use Rattle.is_rules.specs.Settings.{with_rules}
 use Rattle.is_c.specs.Codes.{OK, HAS_AGENT, OUT_OF_MEMORY, CREDENTIALS_TOO_LONG}
 use Rattle.is_c.specs.Credentials.{MakesCreds}
 use Rattle.is_c.specs.Held.{HomeRecord}
@@ -11,11 +12,10 @@ use Rattle.is_c.specs.Limits.{DISCOVERED_LIMIT, new_timing}
 -- a newly created agent, with the limit on candidates that packets bring, with its timing and with the modern rules
 abbrev pub fresh_home : IceCreds → ℕ → HomeRecord
 fresh_home creds tie_breaker = record {
-  agent = record (fresh (record {}) creds tie_breaker) {
+  agent = with_rules modern_rules (record (fresh (record {}) creds tie_breaker) {
     max_discovered = Some DISCOVERED_LIMIT;
     timing = new_timing;
-    rules = modern_rules;
-  };
+  });
   waiting = None;
 }
 

@@ -1,6 +1,6 @@
 //! Credentials: set, made and read.
 
-ghost use Rattle.std.specs.Prelude.{◌≡◌, IfOk};
+ghost use Rattle.std.specs.Prelude.{◌≡◌, None, IfOk};
 ghost use Rattle.is_c.specs.Credentials.{MakesCreds, CallsWith, drawn, PutsBoth, Draws, Returns};
 ghost use Rattle.is_c.specs.Held.{held_by, At};
 ghost use Rattle.is_rules.specs.Credentials.{SetsLocal, SetsRemote};
@@ -120,7 +120,8 @@ pub extern "C" fn is_ice_local_ufrag(
     buffer: &mut [u8],
     length: &mut usize,
 ) -> i32
-    ensures { At (Returns (λ a. a.local_creds.ufrag) buffer.old buffer.new length.new) (held_by slot.old) result (held_by slot.new) }
+    ensures returned { At (Returns (λ a. a.local_creds.ufrag) buffer.old buffer.new length.new) (held_by slot.old) result (held_by slot.new) }
+    ensures without { held_by slot.old ≡ None → (buffer.new ≡ buffer.old) × (length.new ≡ length.old) }
 {
     let Some(home) = slot.home() else {
         return codes::NO_AGENT;
@@ -137,7 +138,8 @@ pub extern "C" fn is_ice_local_pass(
     buffer: &mut [u8],
     length: &mut usize,
 ) -> i32
-    ensures { At (Returns (λ a. a.local_creds.pass) buffer.old buffer.new length.new) (held_by slot.old) result (held_by slot.new) }
+    ensures returned { At (Returns (λ a. a.local_creds.pass) buffer.old buffer.new length.new) (held_by slot.old) result (held_by slot.new) }
+    ensures without { held_by slot.old ≡ None → (buffer.new ≡ buffer.old) × (length.new ≡ length.old) }
 {
     let Some(home) = slot.home() else {
         return codes::NO_AGENT;

@@ -176,7 +176,7 @@ pub extern "C" fn is_ice_local_fields(
 ) -> i32
     ensures listed { At (ReturnsListedFields (λ a. a.local) index buffer.old length.old fields.old buffer.new length.new fields.new)
         (held_by slot.old) result (held_by slot.new) }
-    ensures without { held_by slot.old ≡ None → fields.new ≡ fields.old }
+    ensures without { held_by slot.old ≡ None → (buffer.new ≡ buffer.old) × (length.new ≡ length.old) × (fields.new ≡ fields.old) }
 {
     let Some(home) = slot.home() else {
         return codes::NO_AGENT;
@@ -197,7 +197,7 @@ pub extern "C" fn is_ice_remote_fields(
 ) -> i32
     ensures listed { At (ReturnsListedFields (λ a. a.remote) index buffer.old length.old fields.old buffer.new length.new fields.new)
         (held_by slot.old) result (held_by slot.new) }
-    ensures without { held_by slot.old ≡ None → fields.new ≡ fields.old }
+    ensures without { held_by slot.old ≡ None → (buffer.new ≡ buffer.old) × (length.new ≡ length.old) × (fields.new ≡ fields.old) }
 {
     let Some(home) = slot.home() else {
         return codes::NO_AGENT;

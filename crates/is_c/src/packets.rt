@@ -127,7 +127,8 @@ pub extern "C" fn is_ice_handle_timeout(
 /// The time of the next `is_ice_handle_timeout` call.
 #[unsafe(no_mangle)]
 pub extern "C" fn is_ice_poll_timeout(alloc: Global, slot: &mut Slot, at: &mut u64) -> i32
-    ensures { At (ReturnsTimeout at.old at.new) (held_by slot.old) result (held_by slot.new) }
+    ensures polled { At (ReturnsTimeout at.old at.new) (held_by slot.old) result (held_by slot.new) }
+    ensures without { held_by slot.old ≡ None → at.new ≡ at.old }
 {
     let Some(home) = slot.home() else {
         return codes::NO_AGENT;
@@ -199,7 +200,8 @@ pub extern "C" fn is_ice_poll_transmit(
     buffer: &mut [u8],
     packet: &mut Packet,
 ) -> i32
-    ensures { At (Gives buffer.old buffer.new packet.old packet.new) (held_by slot.old) result (held_by slot.new) }
+    ensures polled { At (Gives buffer.old buffer.new packet.old packet.new) (held_by slot.old) result (held_by slot.new) }
+    ensures without { held_by slot.old ≡ None → (buffer.new ≡ buffer.old) × (packet.new ≡ packet.old) }
 {
     let Some(home) = slot.home() else {
         return codes::NO_AGENT;

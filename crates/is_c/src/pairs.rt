@@ -110,7 +110,8 @@ pub extern "C" fn is_ice_pair_at(
     index: usize,
     pair: &mut Pair,
 ) -> i32
-    ensures { At (ReturnsPair index pair.old pair.new) (held_by slot.old) result (held_by slot.new) }
+    ensures returned { At (ReturnsPair index pair.old pair.new) (held_by slot.old) result (held_by slot.new) }
+    ensures without { held_by slot.old ≡ None → pair.new ≡ pair.old }
 {
     let Some(home) = slot.home() else {
         return codes::NO_AGENT;
@@ -121,7 +122,8 @@ pub extern "C" fn is_ice_pair_at(
 /// Writes how many pairs there are.
 #[unsafe(no_mangle)]
 pub extern "C" fn is_ice_pair_count(alloc: Global, slot: &mut Slot, count: &mut usize) -> i32
-    ensures { At (ReportsCount count.new) (held_by slot.old) result (held_by slot.new) }
+    ensures returned { At (ReportsCount count.new) (held_by slot.old) result (held_by slot.new) }
+    ensures without { held_by slot.old ≡ None → count.new ≡ count.old }
 {
     let Some(home) = slot.home() else {
         return codes::NO_AGENT;

@@ -82,7 +82,8 @@ fn reported_status(home: &Home) -> Status
 /// Writes the agent's settings and its connection state.
 #[unsafe(no_mangle)]
 pub extern "C" fn is_ice_status(alloc: Global, slot: &mut Slot, figures: &mut Status) -> i32
-    ensures { At (ReturnsStatus figures.new) (held_by slot.old) result (held_by slot.new) }
+    ensures returned { At (ReturnsStatus figures.new) (held_by slot.old) result (held_by slot.new) }
+    ensures without { held_by slot.old ≡ None → figures.new ≡ figures.old }
 {
     let Some(home) = slot.home() else {
         return codes::NO_AGENT;
@@ -107,7 +108,8 @@ fn reported_stats(home: &Home) -> Stats
 /// Writes the counters since the last ICE restart.
 #[unsafe(no_mangle)]
 pub extern "C" fn is_ice_stats(alloc: Global, slot: &mut Slot, figures: &mut Stats) -> i32
-    ensures { At (ReturnsStats figures.new) (held_by slot.old) result (held_by slot.new) }
+    ensures returned { At (ReturnsStats figures.new) (held_by slot.old) result (held_by slot.new) }
+    ensures without { held_by slot.old ≡ None → figures.new ≡ figures.old }
 {
     let Some(home) = slot.home() else {
         return codes::NO_AGENT;
@@ -217,7 +219,8 @@ pub extern "C" fn is_ice_local_candidate(
     buffer: &mut [u8],
     length: &mut usize,
 ) -> i32
-    ensures { At (ReturnsLine (λ a. a.local) index buffer.old length.old buffer.new length.new) (held_by slot.old) result (held_by slot.new) }
+    ensures listed { At (ReturnsLine (λ a. a.local) index buffer.old length.old buffer.new length.new) (held_by slot.old) result (held_by slot.new) }
+    ensures without { held_by slot.old ≡ None → (buffer.new ≡ buffer.old) × (length.new ≡ length.old) }
 {
     let Some(home) = slot.home() else {
         return codes::NO_AGENT;
@@ -234,7 +237,8 @@ pub extern "C" fn is_ice_remote_candidate(
     buffer: &mut [u8],
     length: &mut usize,
 ) -> i32
-    ensures { At (ReturnsLine (λ a. a.remote) index buffer.old length.old buffer.new length.new) (held_by slot.old) result (held_by slot.new) }
+    ensures listed { At (ReturnsLine (λ a. a.remote) index buffer.old length.old buffer.new length.new) (held_by slot.old) result (held_by slot.new) }
+    ensures without { held_by slot.old ≡ None → (buffer.new ≡ buffer.old) × (length.new ≡ length.old) }
 {
     let Some(home) = slot.home() else {
         return codes::NO_AGENT;
@@ -266,7 +270,8 @@ pub extern "C" fn is_ice_remote_ufrag(
     buffer: &mut [u8],
     length: &mut usize,
 ) -> i32
-    ensures { At (ReturnsRemote (λ creds. creds.ufrag) buffer.old length.old buffer.new length.new) (held_by slot.old) result (held_by slot.new) }
+    ensures returned { At (ReturnsRemote (λ creds. creds.ufrag) buffer.old length.old buffer.new length.new) (held_by slot.old) result (held_by slot.new) }
+    ensures without { held_by slot.old ≡ None → (buffer.new ≡ buffer.old) × (length.new ≡ length.old) }
 {
     let Some(home) = slot.home() else {
         return codes::NO_AGENT;
@@ -285,7 +290,8 @@ pub extern "C" fn is_ice_remote_pass(
     buffer: &mut [u8],
     length: &mut usize,
 ) -> i32
-    ensures { At (ReturnsRemote (λ creds. creds.pass) buffer.old length.old buffer.new length.new) (held_by slot.old) result (held_by slot.new) }
+    ensures returned { At (ReturnsRemote (λ creds. creds.pass) buffer.old length.old buffer.new length.new) (held_by slot.old) result (held_by slot.new) }
+    ensures without { held_by slot.old ≡ None → (buffer.new ≡ buffer.old) × (length.new ≡ length.old) }
 {
     let Some(home) = slot.home() else {
         return codes::NO_AGENT;

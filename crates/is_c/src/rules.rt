@@ -1,35 +1,77 @@
 //! What an agent does beyond the original's behaviour, as C sets and reads it.
 
-ghost use Rattle.std.specs.Prelude.{◌≡◌};
+ghost use Rattle.std.specs.Prelude.{◌≡◌, None};
 ghost use Rattle.is_rules.specs.Agent.{original_rules, modern_rules};
+ghost use Rattle.is_rules.specs.Settings.{with_rules};
 ghost use Rattle.is_c.specs.Held.{held_by, At, AgentBecomes};
-ghost use Rattle.is_c.specs.Rules.{rules_of, ReturnsRules, GivesRules};
+ghost use Rattle.is_c.specs.Rules.{triggered_of, early_of, rules_of, reported_rules, as_read, ReturnsRules, GivesRules};
 
 use crate::codes;
 use crate::slot::Slot;
+use is_proto::Duration;
 use is_rules::rules::Rules;
+use is_stun::stun::EarlyRto;
 use std::alloc::Global;
 
-/// The rules of an agent: `Rules` of the library, one field for each.
+/// The rules of an agent: `Rules` of the library. C has no options, so a count of 0 says that there is no such rule.
 #[repr(C)]
 #[derive(Clone, Copy)]
 pub struct AgentRules {
+    /// So many requests on a pair trigger a check.
+    pub triggered_checks: u64,
+    /// So many early retransmissions,
+    pub early_retransmits: usize,
+    /// and the nanoseconds before each.
+    pub early_interval: u64,
     pub kinds_in_turn: bool,
+    pub selects_at_once: bool,
+}
+
+/// How many requests trigger a check: 0 means that there are no triggered checks.
+fn triggered_of(number: u64) -> Option<u64>
+    ensures { result ≡ triggered_of number }
+{
+    if number == 0 { None } else { Some(number) }
+}
+
+/// Early retransmissions: without any, the interval means nothing.
+fn early_of(retransmits: usize, interval: u64) -> Option<EarlyRto>
+    ensures { result ≡ early_of retransmits interval }
+{
+    if retransmits == 0 {
+        return None;
+    }
+    Some(EarlyRto {
+        retransmits,
+        interval: Duration(interval),
+    })
 }
 
 fn rules_of(rules: &AgentRules) -> Rules
-    ensures { result ≡ rules_of rules.now }
+    ensures meant { result ≡ rules_of rules.now }
+    ensures read { reported_rules result ≡ as_read rules.now }
 {
     Rules {
         kinds_in_turn: rules.kinds_in_turn,
+        triggered_checks: triggered_of(rules.triggered_checks),
+        early_rto: early_of(rules.early_retransmits, rules.early_interval),
+        selects_at_once: rules.selects_at_once,
     }
 }
 
 fn reported_rules(rules: Rules) -> AgentRules
-    ensures { rules_of result ≡ rules }
+    ensures { result ≡ reported_rules rules }
 {
+    let (early_retransmits, early_interval) = match rules.early_rto {
+        Some(early) => (early.retransmits, early.interval.0),
+        None => (0, 0),
+    };
     AgentRules {
+        triggered_checks: rules.triggered_checks.unwrap_or(0),
+        early_retransmits,
+        early_interval,
         kinds_in_turn: rules.kinds_in_turn,
+        selects_at_once: rules.selects_at_once,
     }
 }
 
@@ -51,10 +93,12 @@ pub extern "C" fn is_ice_modern_rules(rules: &mut AgentRules) -> i32
     codes::OK
 }
 
-/// Sets what the agent does beyond the original's behaviour.
+/// Sets what the agent does beyond the original's behaviour. What is set is what `is_ice_rules` returns; without early retransmissions it
+/// returns 0 as their interval.
 #[unsafe(no_mangle)]
 pub extern "C" fn is_ice_set_rules(alloc: Global, slot: &mut Slot, rules: &AgentRules) -> i32
-    ensures { At (AgentBecomes (λ a. record a { rules = rules_of rules.now })) (held_by slot.old) result (held_by slot.new) }
+    ensures set { At (AgentBecomes (with_rules (rules_of rules.now))) (held_by slot.old) result (held_by slot.new) }
+    ensures read { reported_rules (rules_of rules.now) ≡ as_read rules.now }
 {
     let Some(home) = slot.home() else {
         return codes::NO_AGENT;
@@ -66,7 +110,8 @@ pub extern "C" fn is_ice_set_rules(alloc: Global, slot: &mut Slot, rules: &Agent
 /// Writes the agent's rules.
 #[unsafe(no_mangle)]
 pub extern "C" fn is_ice_rules(alloc: Global, slot: &mut Slot, rules: &mut AgentRules) -> i32
-    ensures { At (ReturnsRules rules.new) (held_by slot.old) result (held_by slot.new) }
+    ensures returned { At (ReturnsRules rules.new) (held_by slot.old) result (held_by slot.new) }
+    ensures without { held_by slot.old ≡ None → rules.new ≡ rules.old }
 {
     let Some(home) = slot.home() else {
         return codes::NO_AGENT;

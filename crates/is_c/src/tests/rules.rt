@@ -7,30 +7,74 @@ use crate::rules::{
 };
 use crate::slot::Slot;
 
+const OFF: AgentRules = AgentRules {
+    triggered_checks: 0,
+    early_retransmits: 0,
+    early_interval: 0,
+    kinds_in_turn: false,
+    selects_at_once: false,
+};
+
+const ON: AgentRules = AgentRules {
+    triggered_checks: 4,
+    early_retransmits: 4,
+    early_interval: 100_000_000,
+    kinds_in_turn: true,
+    selects_at_once: true,
+};
+
+fn are_same(one: &AgentRules, other: &AgentRules) -> bool {
+    one.triggered_checks == other.triggered_checks
+        && one.early_retransmits == other.early_retransmits
+        && one.early_interval == other.early_interval
+        && one.kinds_in_turn == other.kinds_in_turn
+        && one.selects_at_once == other.selects_at_once
+}
+
+#[test]
+fn named_rules_are_written(rt: HostRuntime) {
+    let mut rules = ON;
+    let given = is_ice_original_rules(&mut rules);
+    assert!(rt; given == codes::OK);
+    assert!(rt; are_same(&rules, &OFF));
+    let given = is_ice_modern_rules(&mut rules);
+    assert!(rt; given == codes::OK);
+    assert!(rt; are_same(&rules, &ON));
+}
+
 #[test]
 fn rules_are_set_and_read(rt: HostRuntime) {
     let alloc = rt.alloc();
     let mut slot = Slot::empty(alloc);
-    let mut rules = AgentRules {
-        kinds_in_turn: false,
-    };
+    let mut rules = OFF;
     let none = is_ice_rules(alloc, &mut slot, &mut rules);
     assert!(rt; none == codes::NO_AGENT);
+    assert!(rt; are_same(&rules, &OFF));
     let made = is_ice_agent_new(alloc, &mut slot, b"AAAA", b"PPPP", 1);
     assert!(rt; made == codes::OK);
     let asked = is_ice_rules(alloc, &mut slot, &mut rules);
     assert!(rt; asked == codes::OK);
-    assert!(rt; rules.kinds_in_turn);
-    let given = is_ice_original_rules(&mut rules);
-    assert!(rt; given == codes::OK);
-    assert!(rt; !rules.kinds_in_turn);
-    let set = is_ice_set_rules(alloc, &mut slot, &rules);
+    assert!(rt; are_same(&rules, &ON));
+    let set = is_ice_set_rules(alloc, &mut slot, &OFF);
     assert!(rt; set == codes::OK);
-    let given = is_ice_modern_rules(&mut rules);
-    assert!(rt; given == codes::OK);
-    assert!(rt; rules.kinds_in_turn);
     let asked = is_ice_rules(alloc, &mut slot, &mut rules);
     assert!(rt; asked == codes::OK);
-    assert!(rt; !rules.kinds_in_turn);
+    assert!(rt; are_same(&rules, &OFF));
+    is_ice_agent_free(alloc, &mut slot);
+}
+
+#[test]
+fn without_early_retransmissions_the_interval_is_0(rt: HostRuntime) {
+    let alloc = rt.alloc();
+    let mut slot = Slot::empty(alloc);
+    let made = is_ice_agent_new(alloc, &mut slot, b"AAAA", b"PPPP", 1);
+    assert!(rt; made == codes::OK);
+    let mut rules = OFF;
+    rules.early_interval = 7;
+    let set = is_ice_set_rules(alloc, &mut slot, &rules);
+    assert!(rt; set == codes::OK);
+    let asked = is_ice_rules(alloc, &mut slot, &mut rules);
+    assert!(rt; asked == codes::OK);
+    assert!(rt; are_same(&rules, &OFF));
     is_ice_agent_free(alloc, &mut slot);
 }
