@@ -1,4 +1,4 @@
-"""Compares settings: five questions, each with its plot and its table."""
+"""Compares settings: five sets of them, each with its plot and its table."""
 
 from __future__ import annotations
 
@@ -118,7 +118,7 @@ QUESTIONS = {
 
 def _by_original_rules(setting: Setting) -> Setting:
     made = setting.scenario
-    a, b = (replace(made.side(side), kinds_in_turn=False) for side in scenario.SIDES)
+    a, b = (replace(made.side(side), rules="original") for side in scenario.SIDES)
     return replace(setting, scenario=replace(made, a=a, b=b))
 
 

@@ -6,7 +6,7 @@ from dataclasses import replace
 from random import Random
 from typing import Protocol as Interface_, cast
 
-from is_ice import Candidate, IceAgent, IceAgentEvent, IceCreds, SocketAddress, line_fields, new_creds
+from is_ice import Candidate, EarlyRto, IceAgent, IceAgentEvent, IceCreds, Rules, SocketAddress, line_fields, new_creds
 
 from .clock import Clock, nanoseconds
 from .log import Beginning, Log, LoggedAgent
@@ -18,6 +18,19 @@ from .signaling import Channel, Signal
 # How often a request to a server is sent without a response (Rc), and its first RTO, which doubles each time (RFC 8489, section 6.2.1).
 REQUESTS = 7
 FIRST_RTO = 500_000_000
+
+
+def rules_by(s: AgentSettings) -> Rules:
+    """Returns the rules of an agent with these settings."""
+    rules = Rules.original() if s.rules == "original" else Rules.modern()
+    if s.kinds_in_turn is not None:
+        rules = replace(rules, kinds_in_turn=s.kinds_in_turn)
+    if s.triggered_checks is not None:
+        rules = replace(rules, triggered_checks=s.triggered_checks or None)
+    if s.early_retransmits is not None:
+        early = EarlyRto(s.early_retransmits, nanoseconds(s.early_interval_ms))
+        rules = replace(rules, early_rto=early if s.early_retransmits else None)
+    return rules if s.selects_at_once is None else replace(rules, selects_at_once=s.selects_at_once)
 
 
 class Watch(Interface_):
@@ -77,8 +90,8 @@ class Endpoint:
         for limit, set_limit in ((s.retransmits, agent.set_max_stun_retransmits), (s.max_pairs, agent.set_max_candidate_pairs)):
             if limit is not None:
                 set_limit(limit)
-        if s.kinds_in_turn is not None:
-            agent.set_rules(replace(agent.rules, kinds_in_turn=s.kinds_in_turn))
+        if (rules := rules_by(s)) != agent.rules:
+            agent.set_rules(rules)
 
     # ---- starting, restarting, interfaces
 

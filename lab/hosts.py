@@ -1,10 +1,11 @@
-"""Measures how long agents with many host candidates take, with kinds of pairs in turn and without. Prints tables, and plots the times."""
+"""Measures how long agents with many host candidates take, by different rules. Prints tables, and plots the times."""
 
 from __future__ import annotations
 
 from collections.abc import Iterable
 from dataclasses import dataclass, field, replace
 from pathlib import Path
+from typing import Any
 
 from . import plot, pool, scenario
 from .clock import MILLISECOND
@@ -23,30 +24,44 @@ SECONDS = 40
 # So that packets do not arrive at the very time of a timeout.
 JITTER_MS = 1
 PLACES = {True: "Each side behind a NAT with address-and-port-dependent filtering", False: "No NAT"}
-RULES = {True: "kinds in turn", False: "original"}
+# With which rules agents are measured: the settings of both sides.
+RULES: dict[str, dict[str, Any]] = {
+    "modern": {},
+    "no kinds in turn": {"kinds_in_turn": False},
+    "no triggered checks": {"triggered_checks": 0},
+    "no early retransmissions": {"early_retransmits": 0},
+    "no selection at once": {"selects_at_once": False},
+    "only kinds in turn": {"rules": "original", "kinds_in_turn": True},
+    "original": {"rules": "original"},
+}
+# Those of the tables here; `lab/rules.py` has them all.
+BOTH = ("modern", "original")
 
 
 @dataclass(frozen=True)
 class Cell:
-    """One setting. One of the host candidates of a side reaches the other side; packets take `delay` ms, and so many per cent are lost."""
+    """One setting. One of the host candidates of a side reaches the other side; packets take `delay` ms, and so many per cent are lost.
+    The controlling side starts `late` ms after the other one."""
 
     has_nat: bool
     delay: int
     loss: int
     hosts: int
-    in_turn: bool
+    rules: str
+    late: int = 0
 
     @property
     def name(self) -> str:
-        """Its name, from which the seeds come: the sessions of both rules have the same."""
-        return f"hosts {self.has_nat} {self.delay} {self.loss} {self.hosts}"
+        """Its name, from which the seeds come: the sessions of all rules have the same."""
+        return f"hosts {self.has_nat} {self.delay} {self.loss} {self.hosts}" + (f" {self.late}" if self.late else "")
 
     def scenario(self) -> Scenario:
         """Returns its scenario: the network takes the delay, and each packet may be lost on the link of its sender."""
         made = scenario.load("many_hosts")
-        signaling = SignalingSettings(delay_ms=0, jitter_ms=0, candidates_ms=GATHERED_MS)
+        signaling = SignalingSettings(delay_ms=0, jitter_ms=0, candidates_ms=GATHERED_MS, peer_late_ms=self.late)
         links = {"up": LinkSettings(delay_ms=0, jitter_ms=JITTER_MS, loss=self.loss / 100), "down": LinkSettings(delay_ms=0)}
-        return replace(made, name=self.name, seconds=GATHERED_MS / 1000 + SECONDS, connects="sometimes", link=links, signaling=signaling,
+        seconds = (GATHERED_MS + self.late) / 1000 + SECONDS
+        return replace(made, name=self.name, seconds=seconds, connects="sometimes", link=links, signaling=signaling,
                        network={"internet": self.delay}, nat=made.nat if self.has_nat else (), a=self._side(made.a, 1),
                        b=self._side(made.b, 2))
 
@@ -55,7 +70,7 @@ class Cell:
         alive = replace(made.interface[-1], up="up", down="down")
         if not self.has_nat:
             alive = replace(alive, ip=f"192.0.2.{number}", network="internet")
-        return replace(made, interface=(*dead, alive), kinds_in_turn=self.in_turn)
+        return replace(made, interface=(*dead, alive), **RULES[self.rules])
 
 
 @dataclass
@@ -83,8 +98,8 @@ class Found:
 
 
 def cells() -> list[Cell]:
-    """Returns all cells."""
-    return [Cell(has_nat, delay, loss, hosts, in_turn) for has_nat in PLACES for delay in DELAYS for loss in LOSSES for in_turn in RULES
+    """Returns the cells of the tables."""
+    return [Cell(has_nat, delay, loss, hosts, rules) for has_nat in PLACES for delay in DELAYS for loss in LOSSES for rules in BOTH
             for hosts in HOSTS]
 
 
@@ -99,8 +114,8 @@ def table(found: dict[Cell, Found], has_nat: bool) -> str:
     rows = [["delay ms", "loss %", "limit ms", "rules", *counts]]
     for delay in DELAYS:
         for loss in LOSSES:
-            for in_turn, rules in RULES.items():
-                told = [column for hosts in HOSTS for column in found[Cell(has_nat, delay, loss, hosts, in_turn)].columns()]
+            for rules in BOTH:
+                told = [column for hosts in HOSTS for column in found[Cell(has_nat, delay, loss, hosts, rules)].columns()]
                 rows.append([str(delay), str(loss), str(limit(delay)), rules, *told])
     return aligned(rows)
 
@@ -109,11 +124,11 @@ def curves(found: dict[Cell, Found]) -> list[plot.Curve]:
     """Returns the curves of the medians, in seconds, behind NATs and without loss: one for each delay, with each of the rules."""
     made = []
     for place, delay in enumerate(DELAYS):
-        for in_turn, rules in RULES.items():
-            medians = {hosts: quantile(found[Cell(True, delay, 0, hosts, in_turn)].times, 0.5) for hosts in HOSTS}
+        for rules in BOTH:
+            medians = {hosts: quantile(found[Cell(True, delay, 0, hosts, rules)].times, 0.5) for hosts in HOSTS}
             points = [(float(hosts), median / 1000) for hosts, median in medians.items() if median is not None]
             never = next((f", never with {hosts}" for hosts, median in medians.items() if median is None), "")
-            made.append(plot.Curve(f"{delay} ms, {rules}{never}", points, not in_turn, plot.COLORS[place]))
+            made.append(plot.Curve(f"{delay} ms, {rules}{never}", points, rules == "original", plot.COLORS[place]))
     return made
 
 
@@ -128,8 +143,8 @@ def _gather(wanted: list[Cell], outcomes: Iterable[Outcome]) -> dict[Cell, Found
 def measure(wanted: list[Cell], count: int, seed: int, processes: int, quiet: bool) -> dict[Cell, Found]:
     """Runs the sessions of the cells."""
     found: dict[Cell, Found] = {}
-    for in_turn in RULES:
-        part = [cell for cell in wanted if cell.in_turn is in_turn]
+    for rules in RULES:
+        part = [cell for cell in wanted if cell.rules == rules]
         found |= _gather(part, pool.run([cell.scenario() for cell in part], count, seed, processes, quiet))
     return found
 

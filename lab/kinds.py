@@ -1,14 +1,16 @@
-"""The kinds of pairs: which of them is checked next, and which loses a pair at the limit (RFC 8445, section 6.1.4.2)."""
+"""The rules; which pair goes ahead of those that are due earlier; which loses a pair at the limit (RFC 8445, section 6.1.4.2)."""
 
 from __future__ import annotations
 
 from collections import Counter
 from collections.abc import Sequence
 from dataclasses import dataclass
+from typing import Any
 
 from is_ice import SocketAddress
 
-from .pairs import Pair, Place
+from .clock import MILLISECOND
+from .pairs import EarlyRto, Pair, Place
 
 # How many kinds of pairs there are.
 COUNT = 16
@@ -21,11 +23,26 @@ class Rules:
     """What an agent does beyond the original's behavior."""
 
     kinds_in_turn: bool = False
+    triggered_checks: int | None = None
+    early_rto: EarlyRto | None = None
+    selects_at_once: bool = False
+
+    @property
+    def goes_ahead(self) -> bool:
+        """Whether checks may go ahead of pairs that are due earlier (`goes_ahead`)."""
+        return self.kinds_in_turn or self.triggered_checks is not None
 
 
 ORIGINAL = Rules()
 # With these an agent that the library makes begins.
-MODERN = Rules(kinds_in_turn=True)
+MODERN = Rules(True, 4, EarlyRto(4, 100 * MILLISECOND), True)
+
+
+def rules_of(given: Any) -> Rules:
+    """Returns rules of the library as those of the model. There 0 is the same as None."""
+    early = given.early_rto
+    own = EarlyRto(early.retransmits, early.interval) if early is not None and early.retransmits else None
+    return Rules(given.kinds_in_turn, given.triggered_checks or None, own, given.selects_at_once)
 
 
 def reaches_out(local: Sequence[Place], base: SocketAddress) -> bool:
@@ -52,6 +69,11 @@ def kind_of(local: Sequence[Place], remote: Sequence[Place], pair: Pair) -> int:
 def turn_of(next_kind: int, kind: int) -> int:
     """Returns the place of a kind in the round that begins with `next_kind`."""
     return kind if next_kind <= kind else kind + COUNT
+
+
+def is_brought(remote: Sequence[Place], pair: Pair) -> bool:
+    """Whether a request brought it: its remote candidate is peer-reflexive, and it is not valid yet."""
+    return remote[pair.remote].kind == "prflx" and not pair.is_valid
 
 
 def least_of_most(local: Sequence[Place], remote: Sequence[Place], pairs: Sequence[Pair]) -> Pair:

@@ -10,6 +10,8 @@ Point = tuple[float, float]
 HALF = 6.0
 LETTER = 5.9
 ASIDE = 9.0
+# How much lower than the end of its arrow a text may be, or higher, the best first.
+ASIDES = (0.0, 7.0, -7.0, 11.0, -11.0, 16.0, -16.0, 22.0, -22.0)
 # Where a label may be: as a share of the arrow, the best first.
 SHARES = (0.25, 0.30, 0.20, 0.36, 0.14, 0.42, 0.48, 0.55, 0.62, 0.70, 0.78, 0.86)
 
@@ -63,7 +65,7 @@ class Labels:
 
     def place_end(self, text: str, x: float, points: list[Point], anchor: str) -> float:
         """Returns the height of the text at the end of an arrow: next to it, or a little lower or higher."""
-        boxes = [box_of(text, x, points[-1][1] + aside, anchor) for aside in (0.0, 7.0, -7.0, 11.0, -11.0)]
+        boxes = [box_of(text, x, points[-1][1] + aside, anchor) for aside in ASIDES]
         chosen = self._best(boxes, points)
         self.boxes.append(chosen)
         return chosen.top + HALF

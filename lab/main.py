@@ -8,7 +8,7 @@ import time
 from contextlib import ExitStack
 from pathlib import Path
 
-from . import bars, compare, coverage, figures, hosts, pool, scenario
+from . import bars, compare, coverage, figures, hosts, pool, rules, scenario
 from .guarantees import Broken
 from .scenario import BadScenario, Scenario
 
@@ -29,17 +29,20 @@ def _arguments() -> argparse.Namespace:
     comparing.add_argument("question", choices=sorted(compare.QUESTIONS))
     comparing.add_argument("-n", "--sessions", type=int, default=1000, help="sessions of each setting (1000)")
     comparing.add_argument("--plot", type=Path, metavar="FILE", required=True)
-    comparing.add_argument("--original", action="store_true", help="agents with the original's rules: no kinds in turn")
-    many = words.add_parser("hosts", help="measures how long agents with many host candidates take, with kinds in turn and without")
+    comparing.add_argument("--original", action="store_true", help="agents with the original's rules")
+    many = words.add_parser("hosts", help="measures how long agents with many host candidates take, by the modern rules and the original's")
     many.add_argument("-n", "--sessions", type=int, default=40, help="sessions of each setting (40)")
     many.add_argument("--plot", type=Path, metavar="FILE", required=True)
     many.add_argument("--document", type=Path, metavar="FILE", help="puts the tables in place of those of a document, as docs/SESSIONS.md")
+    each = words.add_parser("rules", help="measures how long agents take with each rule off in turn, also if the peer starts later")
+    each.add_argument("-n", "--sessions", type=int, default=40, help="sessions of each setting (40)")
+    each.add_argument("--document", type=Path, metavar="FILE", help="puts the table in place of that of a document, as docs/SESSIONS.md")
     covering = words.add_parser("coverage", help="shows how many sessions each clause of progress covers, and its bound")
     covering.add_argument("scenario", nargs="*", help="as for measure")
     covering.add_argument("-n", "--sessions", type=int, default=200, help="sessions of each scenario (200)")
     covering.add_argument("--set", action="append", default=[], metavar="KEY=VALUE", help="as for measure")
     covering.add_argument("--settle", type=float, default=12.0, metavar="S", help="go on this long after the last selection (12 s)")
-    for command in (measure, comparing, many, covering):
+    for command in (measure, comparing, many, each, covering):
         command.add_argument("--seed", type=int, default=0, help="the first seed (0)")
         command.add_argument("-j", "--processes", type=int, default=1, help="number of processes (1)")
         command.add_argument("-q", "--quiet", action="store_true", help="no progress bar")
@@ -89,6 +92,8 @@ def main() -> int:
             _cover(options)
         elif options.word == "hosts":
             hosts.run(options.sessions, options.seed, options.processes, options.quiet, options.plot, options.own_svg, options.document)
+        elif options.word == "rules":
+            rules.run(options.sessions, options.seed, options.processes, options.quiet, options.document)
         else:
             compare.run(options.question, options.sessions, options.seed, options.processes, options.quiet, options.plot, options.own_svg,
                         options.original)

@@ -11,7 +11,7 @@ from is_ice import Candidate, CandidateKind, IceConnectionState, IceCreds, Socke
 from is_ice.stun import StunMessage
 
 from .clock import MILLISECOND, SECOND
-from .kinds import MODERN, Rules, kind_of, least_of_most, turn_of
+from .kinds import ORIGINAL, Rules, is_brought, kind_of, least_of_most, turn_of
 from .pairs import Pair, Path, Place, Timing, pair_priority
 from .requests import Request, request_of
 from .states import CHECKING, NEW, has_nominated, has_possible, next_state
@@ -48,7 +48,7 @@ class Agent:
     controlling: bool = False
     lite: bool = False
     renominates: bool = False
-    rules: Rules = MODERN
+    rules: Rules = ORIGINAL  # `with_rules` sets them
     peer: IceCreds | None = None
     timing: Timing = Timing()
     advance: int = 50 * MILLISECOND
@@ -60,11 +60,15 @@ class Agent:
     next_number: int = 0
     selected: int | None = None
     last_nominated: int | None = None  # by the peer
-    kind_turn: bool = False  # the next check is of the next kind, if kinds take turns
-    next_kind: int = 0  # from which kind on that is
+    ahead_turn: bool = False  # the next check may go ahead of pairs that are due earlier
+    next_kind: int = 0  # from which kind on kinds take turns
     state: IceConnectionState = NEW
     queue: tuple[Request, ...] = ()
     last: int | None = None
+
+    def with_rules(self, rules: Rules) -> Agent:
+        """Returns the agent with these rules. Due times that are fixed stay."""
+        return replace(self, rules=rules, timing=replace(self.timing, early=rules.early_rto))
 
     def with_timing(self, timing: Timing) -> Agent:
         """Returns the agent with these settings. If an RTO changes, due times are computed again."""
@@ -130,10 +134,14 @@ class Agent:
         at = next((i for i, c in enumerate(places) if c.is_same_place(candidate) and c.is_same_origin(candidate)), None)
         return None if at is None or places[at].is_discarded else at
 
-    @property
-    def is_kinds_turn(self) -> bool:
-        """Whether the next check is of the next kind: with kinds in turn every second one, until a path is selected."""
-        return self.rules.kinds_in_turn and self.kind_turn and not self.state.is_connected()
+    def has_urgent(self, now: int) -> bool:
+        """Whether an urgent pair is due, and urgent pairs go ahead."""
+        return self.rules.triggered_checks is not None and any(p.is_urgent and p.due_at(now, self.timing) <= now for p in self.pairs)
+
+    def is_ahead_turn(self, now: int) -> bool:
+        """Whether the next check goes ahead: every second one, to an urgent pair, or to the next kind until a path is selected."""
+        are_kinds_in_turn = self.rules.kinds_in_turn and not self.state.is_connected()
+        return self.rules.goes_ahead and self.ahead_turn and (are_kinds_in_turn or self.has_urgent(now))
 
     # ---- forming pairs
 
@@ -283,7 +291,8 @@ class Agent:
         if not new.controlling and q.use_candidate:
             new = replace(new, last_nominated=pair.number)
         new = new._changed(pair.number, lambda p: self._served(new, p, q))
-        new, told = new._nominate() if new.controlling and was_valid else (new, ())
+        selects = new.controlling or new.rules.selects_at_once
+        new, told = new._nominate() if selects and was_valid else (new, ())
         return new, Issued("success", (new.local[local].base, q.source), q.id), told
 
     def _place_of(self, source: SocketAddress) -> int | None:
@@ -297,10 +306,12 @@ class Agent:
 
     @staticmethod
     def _served(agent: Agent, pair: Pair, q: Request) -> Pair:
+        most = agent.rules.triggered_checks
+        new = (pair if most is None else pair.triggered(most, max(q.time, agent.last or 0))).asked(q.time)
         state = "succeeded" if agent.lite and not agent.controlling else pair.state
         asks = not agent.controlling and q.use_candidate and not pair.is_nominated
         nomination = ("success" if agent.lite else "nominated") if asks else pair.nomination
-        return replace(pair, state=state, nomination=nomination, last_request=q.time)
+        return replace(new, state=state, nomination=nomination)
 
     # ---- packets
 
@@ -350,22 +361,28 @@ class Agent:
         if self.peer is None:
             return self, None
         if self.lite:
-            return replace(self, pairs=tuple(p if p.last_request is not None else replace(p, last_request=now) for p in self.pairs)), None
+            return replace(self, pairs=tuple(p if p.last_request is not None else p.asked(now) for p in self.pairs)), None
         new = replace(self, pairs=tuple(p.fixed(now, self.timing) for p in self.pairs))
-        order = {p.number: new._place_in_order(p, now) for p in new.pairs if p.due_at(now, self.timing) <= now}
+        is_ahead = new.is_ahead_turn(now)
+        order = {p.number: new._place_in_order(p, now, is_ahead) for p in new.pairs if p.due_at(now, self.timing) <= now}
         if not order:
             return new, None
         least = min(order.values())
         first = [p for p in new.pairs if order.get(p.number) == least]
         pair = next((p for p in first if new.path(p) == seen), first[0])
         checked = new._changed(pair.number, lambda p: p.checked(now, self.timing, self.controlling, id))
-        following = kind_of(self.local, self.remote, pair) + 1 if self.is_kinds_turn else self.next_kind
-        return replace(checked, kind_turn=not self.is_kinds_turn, next_kind=following), Issued("request", new.path(pair), id)
+        following = kind_of(self.local, self.remote, pair) + 1 if is_ahead else self.next_kind
+        return replace(checked, ahead_turn=not is_ahead, next_kind=following), Issued("request", new.path(pair), id)
 
-    def _place_in_order(self, pair: Pair, now: int) -> tuple[int, int, int]:
-        """Returns what decides which of the due pairs is checked: in a kind's turn its kind, then its due time and its priority."""
-        turn = turn_of(self.next_kind, kind_of(self.local, self.remote, pair)) if self.is_kinds_turn else 0
-        return turn, pair.due_at(now, self.timing), -pair.priority
+    def _place_in_order(self, pair: Pair, now: int, is_ahead: bool) -> tuple[int, int, int]:
+        """Returns what decides which of the due pairs is checked: if the check goes ahead its turn, then its due time and its priority."""
+        return self._turn_of(pair) if is_ahead else 0, pair.due_at(now, self.timing), -pair.priority
+
+    def _turn_of(self, pair: Pair) -> int:
+        """Returns the turn of a pair: urgent ones come before all kinds, and of these the ones that a request brought come last."""
+        if self.rules.triggered_checks is not None and pair.is_urgent:
+            return 1 if is_brought(self.remote, pair) else 0
+        return 2 + turn_of(self.next_kind, kind_of(self.local, self.remote, pair))
 
     def poll_timeout(self, is_waiting: bool) -> tuple[Agent, int | None]:
         """Returns when `handle_timeout` is due, and fixes due times. `is_waiting`: a packet waits to be polled."""

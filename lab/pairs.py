@@ -18,6 +18,14 @@ def reversed_path(path: Path) -> Path:
 
 
 @dataclass(frozen=True)
+class EarlyRto:
+    """How the first checks of a pair are repeated: so many retransmissions, each after this many nanoseconds."""
+
+    retransmits: int
+    interval: int
+
+
+@dataclass(frozen=True)
 class Timing:
     """The settings of retransmission. Durations are nanoseconds."""
 
@@ -25,6 +33,7 @@ class Timing:
     greatest: int = 3000 * MILLISECOND
     retransmits: int = 9
     lite: int = 15 * SECOND
+    early: EarlyRto | None = None
 
     def delay(self, count: int) -> int:
         """Returns the delay after the last of `count` checks, in whole milliseconds: it doubles up to a bound."""
@@ -32,6 +41,10 @@ class Timing:
             return 0
         doubled: int = self.initial // MILLISECOND * 2 ** min(count - 1, self.retransmits)
         return min(doubled, self.greatest // MILLISECOND) * MILLISECOND
+
+    def early_delay(self, early: EarlyRto, count: int) -> int:
+        """Returns the delay after the last of `count` checks, if the first ones are repeated early: at least a millisecond."""
+        return max(MILLISECOND, early.interval) if count <= early.retransmits else self.delay(count - early.retransmits)
 
     def timeout(self) -> int:
         """Returns how long a full series of checks without a response takes."""
@@ -90,7 +103,8 @@ def unanswered(checks: tuple[Check, ...]) -> int:
 
 @dataclass(frozen=True)
 class Pair:
-    """A pair. `nomination` is none, nominated, attempt or success; `state` is waiting, progress or succeeded."""
+    """A pair. `nomination` is none, nominated, attempt or success; `state` is waiting, progress or succeeded. `sent`, `requests` and
+    `answers` count checks, checks of the peer, and responses."""
 
     number: int
     local: int
@@ -101,6 +115,9 @@ class Pair:
     state: str = "waiting"
     last_request: int | None = None
     due: int | None = None
+    sent: int = 0
+    requests: int = 0
+    answers: int = 0
 
     @property
     def is_valid(self) -> bool:
@@ -111,6 +128,21 @@ class Pair:
     def is_nominated(self) -> bool:
         """Whether it is nominated."""
         return self.nomination != "none"
+
+    @property
+    def is_nominating(self) -> bool:
+        """Whether it is nominated, and no response arrived to a check that nominates it."""
+        return self.nomination in ("nominated", "attempt")
+
+    @property
+    def awaits_response(self) -> bool:
+        """Whether no response arrived on it, or none to a check that nominates it."""
+        return self.answers == 0 or self.is_nominating
+
+    @property
+    def is_urgent(self) -> bool:
+        """Whether it may be checked before pairs that are due earlier: the peer waits for it to become valid, or it is nominating."""
+        return (self.requests > 0 and not self.is_valid) or self.is_nominating
 
     # ---- when it is due
 
@@ -127,10 +159,15 @@ class Pair:
     def _next(self, now: int, timing: Timing) -> int:
         if not self.checks:
             return now
+        return self.checks[-1].sent + self._delay(now, timing)
+
+    def _delay(self, now: int, timing: Timing) -> int:
         silent = unanswered(self.checks)
+        if timing.early is not None and self.awaits_response and self.is_young(timing):
+            return timing.early_delay(timing.early, silent)
         first = len(self.checks) - silent
         is_silent = first < len(self.checks) and timing.greatest < 2 * (now - self.checks[first].sent)
-        return self.checks[-1].sent + timing.delay(silent if is_silent else len(self.checks))
+        return timing.delay(silent if is_silent else len(self.checks))
 
     def fixed(self, now: int, timing: Timing) -> Pair:
         """Fixes its due time."""
@@ -146,10 +183,20 @@ class Pair:
 
     def is_possible(self, now: int, timing: Timing) -> bool:
         """Whether the checks of a pair with this record may go on."""
-        if self.is_young(timing):
+        if self.has_early_checks(now, timing) or self.is_young(timing):
             return True
         is_heard = self.last_request is not None and now - self.last_request < 15 * SECOND
         return is_heard or now < self.checks[-1].sent + timing.delay(timing.retransmits)
+
+    def has_early_checks(self, now: int, timing: Timing) -> bool:
+        """Whether the path may still work since early retransmissions end no pair sooner: as long as no response arrived, they are not
+        counted; after that, the time of a whole series has to pass."""
+        if timing.early is None:
+            return False
+        if self.answers == 0:
+            return max(self.sent - timing.early.retransmits, 0) < timing.retransmits
+        silent = unanswered(self.checks)
+        return silent > 0 and now < self.checks[-silent].sent + timing.timeout()
 
     def is_young(self, timing: Timing) -> bool:
         """Whether fewer than `max_retransmits` checks follow its last answered one."""
@@ -160,22 +207,31 @@ class Pair:
     def checked(self, now: int, timing: Timing, controlling: bool, id: bytes) -> Pair:
         """Returns it after a check: only the last ones are stored."""
         checks = (*self.checks, Check(id, now, self.is_nominated, controlling))[-timing.retransmits:]
-        return replace(self, checks=checks, due=None, nomination="attempt" if self.nomination == "nominated" else self.nomination,
-                       state="progress" if self.state == "waiting" else self.state)
+        nomination = "attempt" if self.nomination == "nominated" else self.nomination
+        state = "progress" if self.state == "waiting" else self.state
+        return replace(self, checks=checks, due=None, sent=self.sent + 1, nomination=nomination, state=state)
 
     def answered(self, now: int, id: bytes) -> Pair:
         """Returns it after a success response to the check."""
         at = next(i for i, c in enumerate(self.checks) if c.id == id)
         check = replace(self.checks[at], answered=now)
         done = check.nominated and self.nomination == "attempt"
-        return replace(self, checks=(*self.checks[:at], check, *self.checks[at + 1:]), due=None,
+        return replace(self, checks=(*self.checks[:at], check, *self.checks[at + 1:]), due=None, answers=self.answers + 1,
                        nomination="success" if done else self.nomination, state="succeeded" if self.state == "progress" else self.state)
+
+    def asked(self, now: int) -> Pair:
+        """Returns it after a check of the peer."""
+        return replace(self, requests=self.requests + 1, last_request=now)
+
+    def triggered(self, most: int, at: int) -> Pair:
+        """Returns it after one of the first `most` requests on it, unless it is valid: a due time that is fixed is at most `at`."""
+        return self if self.is_valid or self.requests >= most or self.due is None else replace(self, due=min(at, self.due))
 
     def taking_over(self, other: Pair, lite: bool) -> Pair:
         """Returns it with what it copies from the pair that it replaces."""
         nomination = {"none": self.nomination, "attempt": "nominated"}.get(other.nomination, other.nomination)
         new = replace(self, nomination=nomination, state="succeeded" if other.is_valid else self.state)
-        return replace(new, last_request=other.last_request) if lite else new
+        return replace(new, requests=other.requests, last_request=other.last_request) if lite else new
 
 
 def pair_priority(controlling: int, controlled: int) -> int:

@@ -6,7 +6,7 @@ from dataclasses import dataclass, field, replace
 
 from is_ice import IceConnectionState, IceConnectionStateChange, NominatedSend
 
-from .kinds import Rules
+from .kinds import rules_of
 from .log import Entry, Log
 from .model import Agent, Issued
 from .pairs import Path
@@ -62,7 +62,7 @@ def replay(log: Log) -> Replay:
     """Follows both agents through the log."""
     sent, selected = _issued(log)
     states = _states(log)
-    world = {side: Agent(b.creds, b.tie_breaker, b.controlling, rules=b.rules) for side, b in log.sides.items()}
+    world = {side: Agent(b.creds, b.tie_breaker, b.controlling).with_rules(b.rules) for side, b in log.sides.items()}
     assert set(world) == set(SIDES)
     told = Replay([])
     waiting = {side: 0 for side in SIDES}
@@ -149,7 +149,7 @@ def after_setting(agent: Agent, entry: Entry) -> Agent:
     if call in SETTINGS:
         return replace(agent, **{SETTINGS[call]: given[0]})
     if call == "set_rules":
-        return replace(agent, rules=Rules(given[0].kinds_in_turn))
+        return agent.with_rules(rules_of(given[0]))
     if call in TIMING:
         return agent.with_timing(replace(agent.timing, **{TIMING[call]: given[0]}))
     if call == "add_local_candidate":

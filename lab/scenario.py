@@ -47,7 +47,12 @@ class AgentSettings:
     late_ms: float = 0.0  # how much later than the agent's timeout its endpoint calls `handle_timeout`
     retransmits: int = 9
     max_pairs: int | None = None
+    rules: str = "modern"  # or original: then each rule is off; the next settings change single rules
     kinds_in_turn: bool | None = None
+    triggered_checks: int | None = None  # 0: off
+    early_retransmits: int | None = None  # 0: off
+    early_interval_ms: float = 100.0  # before each of these, if `early_retransmits` is set
+    selects_at_once: bool | None = None
     shuffled: bool = False  # gathers from its interfaces in random order
     stun: bool = True  # gathers server-reflexive candidates
     relay: bool = False  # gathers relayed candidates
@@ -63,6 +68,7 @@ class SignalingSettings:
     trickle: bool = True  # each candidate when it is gathered, not all at the end
     candidates_ms: float = 0.0  # no candidate arrives before this time: so both sides gather first
     credentials_late_ms: float = 0.0  # how much later than its candidates side B's credentials are signaled
+    peer_late_ms: float = 0.0  # how much later than `candidates_ms` side A receives the first signal, if not 0
 
 
 @dataclass(frozen=True)
@@ -175,6 +181,8 @@ def _test(scenario: Scenario) -> None:
         known = [interface.name for interface in scenario.side(event.side).interface]
         if event.do != "restart" and event.interface not in known:
             raise BadScenario(f"{scenario.name}: side {event.side} has no interface {event.interface!r}")
+    if any(scenario.side(side).rules not in ("modern", "original") for side in SIDES):
+        raise BadScenario(f"{scenario.name}: rules is modern or original")
     if scenario.connects not in ("always", "sometimes", "never"):
         raise BadScenario(f"{scenario.name}: connects is always, sometimes or never")
 

@@ -88,7 +88,8 @@ class Session:
         self._routes: dict[tuple[str, SocketAddress, SocketAddress], tuple[SocketAddress, SocketAddress]] = {}
         self._count = 0
         self._calm = BEGINNING  # the time of the last selected pair or event
-        self._channels = {side: Channel(scenario.signaling, self.clock, self._random) for side in SIDES}
+        self._channels = {"a": Channel(scenario.signaling, self.clock, self._random),
+                          "b": Channel(scenario.signaling, self.clock, self._random, scenario.signaling.peer_late_ms)}
         self.endpoints = {side: self._endpoint(side) for side in SIDES}
         self._guarantees = {side: self._guarantee(side) for side in SIDES}
         self._waiting: list[Signal] = []

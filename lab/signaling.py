@@ -25,9 +25,10 @@ class Signal:
 class Channel:
     """One direction of signaling."""
 
-    def __init__(self, settings: SignalingSettings, clock: Clock, random: Random) -> None:
+    def __init__(self, settings: SignalingSettings, clock: Clock, random: Random, late_ms: float = 0.0) -> None:
+        """Creates a channel. With `late_ms` nothing arrives until this long after the candidates of the other direction."""
         self._settings, self._clock, self._random = settings, clock, random
-        self._last = 0
+        self._last = BEGINNING + nanoseconds(settings.candidates_ms + late_ms) if late_ms else 0
         self.take: Callable[[Signal], None] = lambda signal: None
 
     def tell(self, signal: Signal, extra: int = 0) -> None:

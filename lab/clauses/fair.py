@@ -9,7 +9,7 @@ from .execution import Execution, Lacks, lacks
 
 def is_new_agent(agent: Agent) -> bool:
     """Whether the agent is as it was made, in either role and with any rules (`IsNewAgent`, `IsFresh`)."""
-    return agent == Agent(agent.creds, agent.tie_breaker, agent.controlling, rules=agent.rules)
+    return agent == Agent(agent.creds, agent.tie_breaker, agent.controlling).with_rules(agent.rules)
 
 
 def are_new_agents(x: Execution) -> bool:

@@ -48,8 +48,8 @@ def is_in_line(at: int, by: int, agent: Agent, pair: Pair) -> Lacks:
 # ---- how many rounds suffice
 
 def checks_for(rules: Rules, count: int) -> int:
-    """Returns how many checks hold so many of the pair that is due first: with kinds in turn twice as many (`checks_for`)."""
-    return 2 * count if rules.kinds_in_turn else count
+    """Returns how many checks hold so many of the pair that is due first: twice as many, if checks may go ahead (`checks_for`)."""
+    return 2 * count if rules.goes_ahead else count
 
 
 def due_by(by: int, now: int, agent: Agent) -> int:
@@ -63,7 +63,7 @@ def are_as_many_as_due(by: int, agent: Agent, times: Sequence[int]) -> bool:
 
 
 def are_open_enough(first: Agent, last: Agent, rounds: int) -> bool:
-    """Whether there are 2n - 1 rounds for n pairs, and one for each pair that is added in them; with kinds in turn 4n - 1, and two."""
+    """Whether there are 2n - 1 rounds for n pairs, and one for each pair that is added; if checks may go ahead, 4n - 1, and two."""
     return checks_for(first.rules, 2 * len(first.pairs) + last.next_number) <= rounds + 1 + checks_for(first.rules, first.next_number)
 
 

@@ -47,7 +47,7 @@ class Story:
         for side, role, tie in zip("ab", roles, ties):
             creds = IceCreds(side * 4, side * 22)
             self.log.sides[side] = Beginning(creds, tie, role, rules)
-            self.agents[side] = Agent(creds, tie, role, rules=rules)
+            self.agents[side] = Agent(creds, tie, role).with_rules(rules)
         for side, first, count in zip("ab", (A, B), hosts):
             for n in range(count):
                 self.host(side, first._replace(port=first.port + n), 126 << 24 | (65535 - n) << 8 | 255)

@@ -14,29 +14,43 @@ def outcome(milliseconds: int | None) -> Outcome:
 
 
 class Sessions(unittest.TestCase):
-    def time(self, hosts: int, in_turn: bool, seed: int = 0) -> float | None:
-        first = Session(Cell(True, 20, 0, hosts, in_turn).scenario(), seed).run().first
+    def time(self, hosts: int, rules: str, late: int = 0, delay: int = 20) -> float | None:
+        first = Session(Cell(True, delay, 0, hosts, rules, late).scenario(), 0).run().first
         return None if first is None else first / MILLISECOND - GATHERED_MS
 
     def test_ten_hosts_connect_soon(self) -> None:
         # The second check, after 50 ms, is that of the server-reflexive candidates. Its response comes after 40 ms, and A nominates
-        # with the next check, after 100 ms. B receives it 20 ms later, and selects at its next timeout, after 150 ms.
-        for count in (5, 10):
-            time = self.time(count, True)
+        # with the next check, after 100 ms. B receives it 20 ms later, and selects at once, or at its next timeout, after 150 ms.
+        for rules, expected in (("modern", 120), ("no selection at once", 150), ("only kinds in turn", 150)):
+            for count in (5, 10, 20):
+                time = self.time(count, rules)
+                assert time is not None
+                self.assertTrue(expected <= time < expected + 5, (rules, count, time))
+
+    def test_a_peer_that_starts_later(self) -> None:
+        # A's check of the server-reflexive candidate opens its NAT. B receives it 20 ms later, and checks its pair in the next two
+        # timeouts, although that is due seconds later.
+        for late in (200, 1700, 5000, 9000):
+            time = self.time(5, "modern", late)
             assert time is not None
-            self.assertTrue(150 <= time < 155, time)
+            self.assertTrue(late < time < late + 250, (late, time))
+
+    def test_without_triggered_checks_such_a_peer_waits_long(self) -> None:
+        time = self.time(1, "no triggered checks", 5000)
+        assert time is not None
+        self.assertGreater(time, 6000)
 
     def test_without_the_rule_five_take_long_and_ten_never_connect(self) -> None:
-        time = self.time(5, False)
+        time = self.time(5, "original")
         assert time is not None
         self.assertGreater(time, 25 * 50)  # the pairs of host candidates come first
-        self.assertIsNone(self.time(10, False))  # the hundred of them leave no room
+        self.assertIsNone(self.time(10, "original"))  # the hundred of them leave no room
 
-    def test_both_rules_have_the_same_networks(self) -> None:
-        own, other = (Cell(False, 50, 10, 5, in_turn).scenario() for in_turn in (True, False))
+    def test_all_rules_have_the_same_networks(self) -> None:
+        own, other = (Cell(False, 50, 10, 5, rules).scenario() for rules in ("modern", "original"))
         self.assertEqual((own.name, own.network, own.link, own.nat), (other.name, other.network, other.link, ()))
-        made = [(s.a.kinds_in_turn, len(s.a.interface), s.network["internet"]) for s in (own, other)]
-        self.assertEqual(made, [(True, 5, 50), (False, 5, 50)])
+        made = [(s.a.rules, s.b.rules, len(s.a.interface), s.network["internet"]) for s in (own, other)]
+        self.assertEqual(made, [("modern", "modern", 5, 50), ("original", "original", 5, 50)])
 
 
 class Tables(unittest.TestCase):
@@ -54,7 +68,7 @@ class Tables(unittest.TestCase):
         self.assertEqual(len(found), 192)
         lines = table(found, True).splitlines()
         self.assertEqual((len(lines), len({line.count("|") for line in lines})), (2 + 24, 1))
-        self.assertEqual([word.strip() for word in lines[2].split("|")[1:5]], ["20", "0", "60", "kinds in turn"])
+        self.assertEqual([word.strip() for word in lines[2].split("|")[1:5]], ["20", "0", "60", "modern"])
 
     def test_a_document_is_filled(self) -> None:
         text = "before\n\nNo NAT:\n\n| a |\n|---|\n|   |\n\nafter\n"
@@ -64,7 +78,7 @@ class Tables(unittest.TestCase):
     def test_curves_end_where_no_session_connects(self) -> None:
         found = {cell: Found() for cell in cells()}
         for cell in found:
-            if cell.in_turn or cell.hosts < 10:
+            if cell.rules == "modern" or cell.hosts < 10:
                 found[cell].add(outcome(150))
         first, second, *_ = made = curves(found)
         self.assertEqual((len(made), first.points), (8, [(hosts, 0.15) for hosts in hosts.HOSTS]))

@@ -7,13 +7,15 @@ from is_ice import Candidate, IceConnectionState, IceCreds, SocketAddress
 from lab import kinds
 from lab.clauses.progress import are_as_many_as_due, are_open_enough, checks_for
 from lab.clauses.staying import combines_with, most_pairs, rank_count
-from lab.kinds import MODERN, ORIGINAL, Rules, kind_between, turn_of
+from lab.clock import BEGINNING
+from lab.kinds import ORIGINAL, Rules, kind_between, turn_of
 from lab.pairs import Place, Timing
 from lab.states import CHECKING, COMPLETED, CONNECTED, DISCONNECTED, NEW, has_possible, next_state
 from lab.tests.stories import LINE, TO_B, A, B, Story
 
 V6, OUTSIDE, MAPPED = SocketAddress("2001:db8::1", 1), SocketAddress("203.0.113.2", 9), SocketAddress("203.0.113.1", 9)
 SECOND_A, SECOND_B = A._replace(port=A.port + 1), B._replace(port=B.port + 1)
+TURNS = Rules(kinds_in_turn=True)
 
 
 def place(kind: str, address: SocketAddress, base: SocketAddress | None = None) -> Place:
@@ -57,7 +59,7 @@ class Turns(unittest.TestCase):
     def test_every_second_check_is_of_the_next_kind(self) -> None:
         # by priority: A B, A's first and B's second host, A's second and B's first, both second; then the server-reflexive ones
         expected = [(A, B), (A, OUTSIDE), (A, SECOND_B), (SECOND_A, B), (SECOND_A, SECOND_B), (SECOND_A, OUTSIDE)]
-        self.assertEqual(self.checks(self.story(MODERN), 6), expected)
+        self.assertEqual(self.checks(self.story(TURNS), 6), expected)
 
     def test_without_the_rule_by_priority(self) -> None:
         first, *middle, fourth, fifth = self.checks(self.story(ORIGINAL), 5)
@@ -67,10 +69,10 @@ class Turns(unittest.TestCase):
     def test_an_earlier_due_time_comes_before_a_greater_priority(self) -> None:
         # the first pair is due again after 250 ms
         self.assertEqual(self.checks(self.story(ORIGINAL), 4, apart=100)[-1], (SECOND_A, SECOND_B))
-        self.assertEqual(self.checks(self.story(MODERN), 4, apart=100)[2:], [(A, SECOND_B), (SECOND_A, B)])
+        self.assertEqual(self.checks(self.story(TURNS), 4, apart=100)[2:], [(A, SECOND_B), (SECOND_A, B)])
 
     def test_bases_that_reach_the_outside_come_first(self) -> None:
-        story = self.story(MODERN)
+        story = self.story(TURNS)
         line = LINE.format(100 << 24 | 65535 << 8 | 255, MAPPED.ip, MAPPED.port, "srflx")
         story.local("a", Candidate.server_reflexive(MAPPED, SECOND_A), line)
         self.assertEqual(self.checks(story, 4)[1::2], [(SECOND_A, OUTSIDE), (SECOND_A, B)])
@@ -78,31 +80,31 @@ class Turns(unittest.TestCase):
     def test_the_rule_can_be_set_at_any_time(self) -> None:
         story = self.story(ORIGINAL)
         self.assertEqual(self.checks(story, 1), [(A, B)])
-        story.set("a", "set_rules", MODERN, 40)
+        story.set("a", "set_rules", TURNS, 40)
         self.assertEqual(self.checks(story, 1, 50), [(A, OUTSIDE)])  # without the rule the turn was set too
         story.set("a", "set_rules", ORIGINAL, 90)
         self.assertEqual(self.checks(story, 3, 100)[-1], (SECOND_A, SECOND_B))
 
     def test_what_a_check_sets(self) -> None:
-        story, seen = self.story(MODERN), []
+        story, seen = self.story(TURNS), []
         for n in range(4):
             story.timeout("a", 50 * n)
-            seen.append((story.agents["a"].kind_turn, story.agents["a"].next_kind))
+            seen.append((story.agents["a"].ahead_turn, story.agents["a"].next_kind))
         self.assertEqual(seen, [(True, 0), (False, 4), (True, 4), (False, 8)])
 
     def test_no_turn_once_a_path_is_selected(self) -> None:
-        story = self.story(MODERN)
+        story = self.story(TURNS)
         story.exchange("a", 0)
         agent = story.agents["a"]
-        self.assertEqual((agent.state, agent.kind_turn, agent.is_kinds_turn), (CONNECTED, True, False))
+        self.assertEqual((agent.state, agent.ahead_turn, agent.is_ahead_turn(BEGINNING)), (CONNECTED, True, False))
         self.assertEqual(self.checks(story, 2, 50)[0], (A, B))  # the pair that was nominated, and not that of the next kind
-        self.assertEqual((story.agents["a"].kind_turn, story.agents["a"].next_kind), (True, 0))
+        self.assertEqual((story.agents["a"].ahead_turn, story.agents["a"].next_kind), (True, 0))
 
     def test_a_restart_keeps_the_turn(self) -> None:
-        story = self.story(MODERN)
+        story = self.story(TURNS)
         self.checks(story, 3)
         agent = story.agents["a"].restart(IceCreds("cccc", "c" * 22), True)
-        self.assertEqual((agent.kind_turn, agent.next_kind, agent.state), (True, 4, CHECKING))
+        self.assertEqual((agent.ahead_turn, agent.next_kind, agent.state), (True, 4, CHECKING))
 
 
 class Limit(unittest.TestCase):
@@ -120,7 +122,7 @@ class Limit(unittest.TestCase):
         return len(hosts), len(reflexive)
 
     def test_the_most_numerous_kind_loses_a_pair(self) -> None:
-        self.assertEqual([self.remotes(MODERN, limit) for limit in (12, 11, 9, 6, 4, 2)], [(9, 3), (8, 3), (6, 3), (3, 3), (2, 2), (1, 1)])
+        self.assertEqual([self.remotes(TURNS, limit) for limit in (12, 11, 9, 6, 4, 2)], [(9, 3), (8, 3), (6, 3), (3, 3), (2, 2), (1, 1)])
 
     def test_without_the_rule_the_lowest_one_goes(self) -> None:
         self.assertEqual([self.remotes(ORIGINAL, limit) for limit in (12, 11, 9, 6)], [(9, 3), (9, 2), (9, 0), (6, 0)])
@@ -140,7 +142,7 @@ class States(unittest.TestCase):
                          [True, True, False])
 
     def test_of_two_agents(self) -> None:
-        story = Story(rules=MODERN)
+        story = Story(rules=TURNS)
         states: list[tuple[IceConnectionState, IceConnectionState]] = []
 
         def note() -> None:
@@ -159,13 +161,13 @@ class States(unittest.TestCase):
 
 
 class Bounds(unittest.TestCase):
-    """With kinds in turn each bound on rounds is twice that without."""
+    """If checks may go ahead, each bound on rounds is twice that without."""
 
     def test_checks_for(self) -> None:
-        self.assertEqual((checks_for(ORIGINAL, 3), checks_for(MODERN, 3)), (3, 6))
+        self.assertEqual((checks_for(ORIGINAL, 3), checks_for(TURNS, 3)), (3, 6))
 
     def test_rounds_for_pairs(self) -> None:
-        for rules, open_rounds, due_rounds in ((ORIGINAL, 3, 2), (MODERN, 7, 4)):
+        for rules, open_rounds, due_rounds in ((ORIGINAL, 3, 2), (TURNS, 7, 4)):
             agent = Story(hosts=(1, 2), rules=rules).agents["a"]
             enough = [n for n in range(1, 9) if are_open_enough(agent, agent, n)]
             self.assertEqual(enough, [*range(open_rounds, 9)])
@@ -174,7 +176,7 @@ class Bounds(unittest.TestCase):
             self.assertEqual(checks_for(rules, 1), min(n for n in range(12) if are_open_enough(agent, more, n)) - open_rounds)
 
     def test_rivals_at_the_limit(self) -> None:
-        for rules, ranked, most in ((ORIGINAL, 2, 2), (MODERN, 1, 16)):
+        for rules, ranked, most in ((ORIGINAL, 2, 2), (TURNS, 1, 16)):
             story = Story(rules=rules)
             story.remote("a", LINE.format(200 << 24, OUTSIDE.ip, OUTSIDE.port, "srflx"))  # a greater priority, and another kind
             agent = story.agents["a"]

@@ -1,0 +1,279 @@
+"""Tests triggered checks, early retransmissions and selection at once: each rule on its own, on logs of two agents."""
+
+import unittest
+from dataclasses import replace
+
+from is_ice import Transmit
+from lab import endpoint, hosts, rules
+from lab.clauses.progress import checks_for
+from lab.clock import BEGINNING, MILLISECOND
+from lab.hosts import RULES, Cell, Found
+from lab.kinds import MODERN, ORIGINAL, Rules, is_brought, rules_of
+from lab.model import Agent
+from lab.pairs import Check, EarlyRto, Pair, Path, Timing
+from lab.scenario import AgentSettings
+from lab.tests.stories import LINE, A, B, Story
+
+TRIGGERED = Rules(triggered_checks=2)
+EARLY = Rules(early_rto=EarlyRto(4, 100 * MILLISECOND))
+AT_ONCE = Rules(selects_at_once=True)
+SECOND_A, THIRD_A = A._replace(port=A.port + 1), A._replace(port=A.port + 2)
+OUTSIDE = B._replace(ip="203.0.113.9")
+
+
+def at(time: float) -> int:
+    return BEGINNING + round(time * MILLISECOND)
+
+
+def path(packet: Transmit | None) -> Path | None:
+    return None if packet is None else (packet.source, packet.destination)
+
+
+class Triggered(unittest.TestCase):
+    """B checks A, whose own checks were lost. The timeout after a check fixes when the next one is due."""
+
+    def story(self, rules: Rules = TRIGGERED) -> Story:
+        story = Story(rules=rules)
+        story.passes("a", 0, 50, 250, 300)
+        self.assertEqual(story.agents["a"].pairs[0].due, at(750))
+        return story
+
+    def due(self, story: Story) -> int | None:
+        return story.agents["a"].pairs[0].due
+
+    def test_a_request_moves_the_due_time_up(self) -> None:
+        story = self.story()
+        story.deliver(story.timeout("b", 300), "a", 310)
+        self.assertEqual(self.due(story), at(310))
+        story.session()
+
+    def test_not_without_the_rule(self) -> None:
+        story = self.story(ORIGINAL)
+        story.deliver(story.timeout("b", 300), "a", 310)
+        self.assertEqual(self.due(story), at(750))
+
+    def test_the_first_requests_only(self) -> None:
+        story = self.story()
+        for time, expected in ((400, 410), (700, 710), (1300, 2750)):
+            story.deliver(story.timeout("b", time), "a", time + 10)
+            self.assertEqual(self.due(story), at(expected))
+            story.passes("a", time + 50, time + 100)  # a check, and a timeout that fixes the due time 1 s or 2 s later
+        story.session()
+
+    def test_never_down(self) -> None:
+        pair = replace(Pair(0, 0, 0, 1), due=100)
+        self.assertEqual([pair.triggered(1, time).due for time in (99, 100, 101)], [99, 100, 100])
+
+    def test_not_if_no_due_time_is_fixed_or_it_is_valid_or_asked_before(self) -> None:
+        pair = Pair(0, 0, 0, 1, due=100)
+        for other in (replace(pair, due=None), replace(pair, state="succeeded"), replace(pair, requests=3)):
+            self.assertEqual(other.triggered(3, 50), other)
+        self.assertEqual(replace(pair, requests=2).triggered(3, 50).due, 50)
+
+    def test_not_before_the_last_timeout(self) -> None:
+        story = self.story()
+        story.deliver(story.timeout("b", 100), "a", 110)
+        self.assertEqual(self.due(story), at(300))
+
+    def test_a_lite_agent_counts_a_pair_once(self) -> None:
+        self.assertEqual(Pair(0, 0, 0, 1).asked(7), Pair(0, 0, 0, 1, last_request=7, requests=1))
+
+
+class Ahead(unittest.TestCase):
+    """A has three host candidates and B one. The first check is that of the greatest priority."""
+
+    def story(self, rules: Rules = TRIGGERED) -> Story:
+        return Story(hosts=(3, 1), rules=rules)
+
+    def asked(self, story: Story, time: float, own: Path) -> None:
+        """B's check of A's third candidate arrives."""
+        check = story.timeout("b", time)
+        story.deliver(check, "a", time, own)
+
+    def test_an_urgent_pair_goes_ahead_in_every_second_check(self) -> None:
+        story = self.story()
+        self.assertEqual(path(story.timeout("a", 0)), (A, B))
+        self.asked(story, 10, (B, THIRD_A))
+        self.assertEqual(path(story.timeout("a", 50)), (THIRD_A, B))
+        self.assertEqual(path(story.timeout("a", 100)), (SECOND_A, B))
+        self.asked(story, 110, (B, THIRD_A))  # triggered again
+        self.assertEqual(path(story.timeout("a", 150)), (THIRD_A, B))
+        story.session()
+
+    def test_in_order_of_due_times_without_the_rule(self) -> None:
+        story = self.story(ORIGINAL)
+        story.passes("a", 0)
+        self.asked(story, 10, (B, THIRD_A))
+        self.assertEqual([path(story.timeout("a", time)) for time in (50, 100)], [(SECOND_A, B), (THIRD_A, B)])
+
+    def test_urgent_ones_come_before_all_kinds(self) -> None:
+        for both, expected in ((replace(TRIGGERED, kinds_in_turn=True), (THIRD_A, B)), (Rules(kinds_in_turn=True), (A, OUTSIDE))):
+            story = self.story(both)
+            story.remote("a", LINE.format(100 << 24 | 65535 << 8 | 255, OUTSIDE.ip, OUTSIDE.port, "srflx"))
+            story.passes("a", 0)
+            self.asked(story, 10, (B, THIRD_A))
+            self.assertEqual(path(story.timeout("a", 50)), expected)
+            story.session()
+
+    def test_those_that_a_request_brought_come_last(self) -> None:
+        story = self.story()
+        story.passes("a", 0)
+        self.asked(story, 10, (OUTSIDE, A))
+        agent = story.agents["a"]
+        self.assertEqual([is_brought(agent.remote, p) for p in agent.pairs], [False, False, False, True])
+        self.asked(story, 20, (B, SECOND_A))
+        self.assertEqual([path(story.timeout("a", time)) for time in (50, 100, 150)], [(SECOND_A, B), (THIRD_A, B), (A, OUTSIDE)])
+        story.session()
+
+    def test_a_pair_that_is_not_due_does_not_go_ahead(self) -> None:
+        story = self.story()
+        story.passes("a", 0, 50, 100, 110)
+        self.assertFalse(story.agents["a"].has_urgent(at(120)))
+        self.asked(story, 120, (B, THIRD_A))
+        self.assertTrue(story.agents["a"].has_urgent(at(120)))
+        self.assertFalse(replace(story.agents["a"], rules=ORIGINAL).has_urgent(at(120)))
+
+    def test_a_nomination_goes_ahead_also_once_a_path_is_selected(self) -> None:
+        story = self.story()
+        story.exchange("a", 0)
+        pair = next(p for p in story.agents["a"].pairs if p.is_nominated)
+        self.assertTrue(pair.is_urgent)
+        story.exchange("a", 50)
+        pair = next(p for p in story.agents["a"].pairs if p.is_nominated)
+        self.assertEqual((pair.nomination, pair.is_urgent), ("success", False))
+        story.session()
+
+    def test_which_pairs_are_urgent(self) -> None:
+        pair = Pair(0, 0, 0, 1)
+        self.assertFalse(pair.is_urgent)
+        self.assertTrue(replace(pair, requests=1).is_urgent)
+        self.assertFalse(replace(pair, requests=1, state="succeeded").is_urgent)
+        self.assertEqual([replace(pair, nomination=n).is_urgent for n in ("nominated", "attempt", "success")], [True, True, False])
+
+    def test_the_bounds_double_if_checks_may_go_ahead(self) -> None:
+        each = [checks_for(rules, 3) for rules in (ORIGINAL, EARLY, AT_ONCE, TRIGGERED, Rules(kinds_in_turn=True), MODERN)]
+        self.assertEqual(each, [3, 3, 3, 6, 6, 6])
+
+
+class Early(unittest.TestCase):
+    def due_times(self, story: Story, count: int) -> list[float]:
+        """When A's checks are due, in ms, if each is sent then and all are lost."""
+        times = [0.0]
+        for _ in range(count):
+            story.passes("a", times[-1], times[-1] + 1)
+            due = story.agents["a"].pairs[0].due if story.agents["a"].pairs else None
+            times.append(float("nan") if due is None else (due - BEGINNING) / MILLISECOND)
+        story.session()
+        return times
+
+    def test_the_first_retransmissions(self) -> None:
+        self.assertEqual(self.due_times(Story(rules=EARLY), 8), [0, 100, 200, 300, 400, 650, 1150, 2150, 4150])
+        self.assertEqual(self.due_times(Story(), 4), [0, 250, 750, 1750, 3750])
+
+    def test_the_interval_is_at_least_a_millisecond(self) -> None:
+        timing = Timing()
+        self.assertEqual([timing.early_delay(EarlyRto(2, 5), n) for n in (1, 2, 3)], [MILLISECOND, MILLISECOND, 250 * MILLISECOND])
+        self.assertEqual(timing.early_delay(EarlyRto(0, 5), 1), timing.delay(1))
+
+    def test_not_after_a_response(self) -> None:
+        story = Story(rules=EARLY)
+        story.passes("a", 0)
+        story.exchange("a", 100)
+        story.exchange("a", 150)  # it nominates the pair
+        story.passes("a", 200)
+        self.assertEqual(story.agents["a"].pairs[0].nomination, "success")
+        self.assertEqual(story.agents["a"].pairs[0].due, at(150 + 1000))  # as after three checks
+        story.session()
+
+    def test_a_nomination_without_response(self) -> None:
+        story = Story(rules=EARLY)
+        story.exchange("a", 0)
+        for time in (50, 150, 250):
+            story.passes("a", time, time + 50)
+            self.assertEqual(story.agents["a"].pairs[0].due, at(time + 100))
+        story.session()
+
+    def test_they_end_no_pair_sooner(self) -> None:
+        checks = tuple(Check(bytes(12), BEGINNING, False, True) for _ in range(9))
+        pair = Pair(0, 0, 0, 1, checks, sent=12)
+        later, timing = at(60_000), Timing(early=EarlyRto(4, 1))
+        self.assertTrue(pair.is_possible(later, timing))
+        self.assertFalse(replace(pair, sent=13).is_possible(later, timing))
+        self.assertFalse(replace(pair, answers=1).is_possible(later, timing))
+        self.assertTrue(replace(pair, answers=1).is_possible(BEGINNING + timing.timeout() - 1, timing))
+        self.assertFalse(replace(pair, answers=1).is_possible(BEGINNING + timing.timeout(), timing))
+        self.assertFalse(pair.is_possible(later, Timing()))
+        self.assertTrue(Pair(0, 0, 0, 1, checks[1:], sent=13).is_possible(later, timing))
+
+    def test_thirteen_checks(self) -> None:
+        story = Story(rules=EARLY)
+        times = self.due_times(story, 13)
+        self.assertEqual(times[9:], [7150, 10150, 13150, 16150, 19150])
+        story.passes("a", times[-1])
+        self.assertEqual(story.agents["a"].pairs, ())
+
+
+class AtOnce(unittest.TestCase):
+    """The controlled side's pair is valid when the check with USE-CANDIDATE arrives."""
+
+    def selected(self, rules: Rules, valid: bool = True) -> int | None:
+        story = Story(rules=rules)
+        story.exchange("a", 0)
+        if valid:
+            story.exchange("b", 20)
+        story.deliver(story.timeout("a", 50), "b", 60)
+        session = story.session()
+        return next((step.entry.time for step in session.steps if step.entry.side == "b" and step.selected), None)
+
+    def test_it_selects_when_the_request_arrives(self) -> None:
+        self.assertEqual(self.selected(AT_ONCE), at(60))
+
+    def test_not_without_the_rule(self) -> None:
+        self.assertIsNone(self.selected(ORIGINAL))
+
+    def test_not_if_the_pair_is_not_valid(self) -> None:
+        self.assertIsNone(self.selected(AT_ONCE, False))
+
+
+class Settings(unittest.TestCase):
+    def test_rules_of_the_library(self) -> None:
+        for own, its in ((MODERN, endpoint.rules_by(AgentSettings())), (ORIGINAL, endpoint.rules_by(AgentSettings(rules="original")))):
+            self.assertEqual(rules_of(its), own)
+
+    def test_single_rules(self) -> None:
+        expected = {
+            "modern": MODERN, "original": ORIGINAL, "only kinds in turn": Rules(kinds_in_turn=True),
+            "no kinds in turn": replace(MODERN, kinds_in_turn=False), "no triggered checks": replace(MODERN, triggered_checks=None),
+            "no early retransmissions": replace(MODERN, early_rto=None), "no selection at once": replace(MODERN, selects_at_once=False)}
+        self.assertEqual({name: rules_of(endpoint.rules_by(AgentSettings(**RULES[name]))) for name in RULES}, expected)
+        own = endpoint.rules_by(AgentSettings(triggered_checks=7, early_retransmits=2, early_interval_ms=30))
+        self.assertEqual(rules_of(own), replace(MODERN, triggered_checks=7, early_rto=EarlyRto(2, 30 * MILLISECOND)))
+
+    def test_an_agent_with_rules(self) -> None:
+        agent = Story().agents["a"]
+        self.assertEqual(agent.with_rules(EARLY).timing, Timing(early=EARLY.early_rto))
+        self.assertEqual(agent.with_rules(EARLY).with_rules(ORIGINAL), agent)
+        self.assertIsInstance(agent, Agent)
+
+
+class Tables(unittest.TestCase):
+    def test_a_row_for_each_situation(self) -> None:
+        found = {cell: Found() for cell in rules.cells()}
+        lines = rules.table(found).splitlines()
+        self.assertEqual((len(lines), len({line.count("|") for line in lines})), (2 + sum(map(len, rules.LATE.values())), 1))
+        self.assertEqual([word.strip() for word in lines[-1].split("|")[1:6]], ["9", "50", "30", "5", "never"])
+
+    def test_texts(self) -> None:
+        found = Found(4, [100.0, 300.0, 200.0], [7, 8, 9])
+        self.assertEqual(rules.told(found), "200 / 300 / 300 (75 %), 8")
+
+    def test_names(self) -> None:
+        cell = Cell(True, 20, 0, 1, "modern", 200)
+        self.assertEqual((cell.name, replace(cell, rules="original").name, replace(cell, late=0).name),
+                         ("hosts True 20 0 1 200", "hosts True 20 0 1 200", "hosts True 20 0 1"))
+        made = cell.scenario()
+        self.assertEqual((made.signaling.peer_late_ms, made.seconds), (200, hosts.GATHERED_MS / 1000 + hosts.SECONDS + 0.2))
+
+
+if __name__ == "__main__":
+    unittest.main()
