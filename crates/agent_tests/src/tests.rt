@@ -3,6 +3,7 @@
 
 mod calls;
 mod candidates;
+mod consent;
 mod credentials;
 mod driver;
 mod limits;

@@ -9,7 +9,7 @@ use Rattle.is_rules.specs.declared.emitted.Path.{Path}
 use Rattle.is_theorems.specs.Asked.{IsOnlyPair}
 use Rattle.is_theorems.specs.AskedCourses.{AcceptsSuccessOn}
 use Rattle.is_rules.specs.Queue.{request_at}
-use Rattle.is_theorems.specs.Reached.{IsInLine}
+use Rattle.is_theorems.specs.Reached.{IsInLine, IsLasting}
 use Rattle.is_theorems.specs.Runs.{IsTopPath}
 use Rattle.is_rules.specs.Sending.{path_of}
 use Rattle.is_rules.specs.Steps as agent
@@ -35,6 +35,7 @@ module _ {H P : Type 0} where
     pub line : IsInLine first.now by (at side first.timeout.before) pair
     pub on : path_of (at side first.timeout.before) pair ≡ path
     pub kept : AreKept side by first later
+    pub lasting : (r : SideRound H P) → Has later r → IsLasting r.now (at side first.timeout.before) pair
     pub enough : SideRoundsSuffice side by first later last
 
   -- A success response that is received on the reverse path is accepted.

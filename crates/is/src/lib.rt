@@ -30,7 +30,7 @@ pub use is_proto::{
 };
 pub use is_rules::emitted::{Issued, Path};
 pub use is_rules::rules::Rules;
-pub use is_stun::stun::EarlyRto;
+pub use is_stun::stun::{Consent, EarlyRto};
 pub use runs::{RunLog, run};
 pub use traces::Trace;
 pub use world::{
@@ -56,7 +56,8 @@ pub mod parse {
 pub mod stun {
     pub use is_proto::StunError;
     pub use is_stun::stun::{
-        Attributes, Builder, Class, DEFAULT_MAX_RETRANSMITS, EarlyRto, HasClass, HasMethod, Method,
-        NoMethod, StunMessage, StunMessageBuilder, StunPacket, StunTiming, TransId,
+        Attributes, Builder, Class, Consent, DEFAULT_MAX_RETRANSMITS, EarlyRto, HasClass,
+        HasMethod, Method, NoMethod, StunMessage, StunMessageBuilder, StunPacket, StunTiming,
+        TransId,
     };
 }

@@ -3,7 +3,7 @@ use Rattle.std.specs.Prelude.{ℕ, Bool, Option, option_map}
 use Rattle.is_pair.specs.Due.{due_time_of}
 use Rattle.is_pair.specs.Pairs.{PairRecord}
 use Rattle.is_rules.specs.Agent.{AgentRecord}
-use Rattle.is_rules.specs.Nominating.{is_named_by}
+use Rattle.is_pair.specs.Multiset.{is_named_by}
 
 module _ {H P : Type 0} where
   -- the pair that was selected last

@@ -99,7 +99,7 @@ pub struct Agent<H, P> {
     /// The early requests: received before the remote credentials.
     pub(crate) queue: VecDeque<Waiting>,
     pub(crate) state: IceConnectionState,
-    /// The time of the last `handle_timeout` call.
+    /// The time of the last `handle_timeout` call; one that serves an early request counts only by a rule.
     pub(crate) last_time: Option<Instant>,
     pub(crate) packets: VecDeque<Transmit>,
     pub(crate) events: VecDeque<IceAgentEvent>,

@@ -1,10 +1,10 @@
 //! Which pair is checked next (RFC 8445, sections 6.1.4.2 and 7.3.1.4); the rules: `is_rules::kinds`.
 
-ghost use Rattle.std.specs.Prelude.{◌≡◌, ℕ, ◌||◌, Option, Some, true, is_some, IfSome, option_map, ◌+◌};
+ghost use Rattle.std.specs.Prelude.{◌≡◌, ℕ, ◌||◌, Option, Some, true, IfSome, option_map, ◌+◌};
 ghost use Rattle.std.specs.Option.{option_copied};
 ghost use Rattle.is_pair.specs.Multiset.{has_number, pair_numbered, rises};
 ghost use Rattle.is_pair.specs.Pairs.{PairRecord};
-ghost use Rattle.is_rules.specs.Checking.{are_kinds_in_turn, has_urgent, is_ahead_turn, IsNextToCheck, next_kind_after};
+ghost use Rattle.is_rules.specs.Checking.{are_kinds_in_turn, has_first, precedence, is_ahead_turn, IsNextToCheck, next_kind_after};
 ghost use Rattle.is_rules.specs.Kinds.{kind_of, IsNextAhead};
 ghost use Rattle.is_agent.specs.View.{record_of};
 
@@ -12,7 +12,7 @@ use crate::agent::Agent;
 use is_candidate::LocalPreference;
 use is_pair::pair::CandidatePair;
 use is_proto::{Instant, Sha1HmacProvider};
-use is_rules::kinds::{has_urgent_due, kind_of, next_ahead};
+use is_rules::kinds::{Precedence, has_first_due, kind_of, next_ahead};
 use is_rules::rules::goes_ahead;
 
 impl<H: Sha1HmacProvider + Drop, P: LocalPreference> Agent<H, P> {
@@ -23,20 +23,34 @@ impl<H: Sha1HmacProvider + Drop, P: LocalPreference> Agent<H, P> {
         self.rules.kinds_in_turn && !self.state.is_connected()
     }
 
-    /// An urgent pair is due, and urgent pairs go ahead.
-    fn has_urgent(&self, now: Instant) -> bool
-        ensures { result ≡ has_urgent now.0 (record_of self.now) }
+    /// Which pairs come before all kinds.
+    fn precedence(&self) -> Precedence
+        ensures { result ≡ precedence (record_of self.now) }
     {
-        self.rules.triggered_checks.is_some() && has_urgent_due(&self.pairs, now, &self.timing)
+        Precedence {
+            selected: if self.rules.selected_first {
+                self.selected_pair
+            } else {
+                None
+            },
+            urgent: self.rules.triggered_checks.is_some(),
+        }
+    }
+
+    /// One of them is due.
+    fn has_first(&self, now: Instant) -> bool
+        ensures { result ≡ has_first now.0 (record_of self.now) }
+    {
+        has_first_due(&self.pairs, self.precedence(), now, &self.timing)
     }
 
     /// The next check goes ahead of pairs that are due earlier. It is a separate function, so that agents without such rules do not
     /// pay for it.
     #[inline(never)]
     fn goes_ahead_now(&self, now: Instant) -> bool
-        ensures { result ≡ (are_kinds_in_turn (record_of self.now) || has_urgent now.0 (record_of self.now)) }
+        ensures { result ≡ (are_kinds_in_turn (record_of self.now) || has_first now.0 (record_of self.now)) }
     {
-        self.are_kinds_in_turn() || self.has_urgent(now)
+        self.are_kinds_in_turn() || self.has_first(now)
     }
 
     /// This check goes ahead: every second one may.
@@ -49,14 +63,14 @@ impl<H: Sha1HmacProvider + Drop, P: LocalPreference> Agent<H, P> {
     /// The pair that goes ahead. It is a separate function, so that checks in order of due times do not pay for it.
     #[inline(never)]
     fn next_ahead(&self, now: Instant) -> Option<&CandidatePair>
-        ensures { IsNextAhead (record_of self.now).local (record_of self.now).remote (is_some (record_of self.now).rules.triggered_checks)
+        ensures { IsNextAhead (record_of self.now).local (record_of self.now).remote (precedence (record_of self.now))
             (record_of self.now).next_kind now.0 self.now.timing (record_of self.now).pairs (option_copied result) }
     {
         next_ahead(
             &self.pairs,
             &self.local,
             &self.remote,
-            self.rules.triggered_checks.is_some(),
+            self.precedence(),
             self.next_kind,
             now,
             &self.timing,

@@ -2,9 +2,10 @@
 
 ghost use Rattle.std.specs.Prelude.{◌≡◌, option_map};
 ghost use Rattle.std.specs.Option.{option_copied};
+ghost use Rattle.is_pair.specs.Pairs.{is_valid};
 ghost use Rattle.is_agent.specs.View.{record_of};
 ghost use Rattle.is_agent.specs.Listed.{local_left, remote_left};
-ghost use Rattle.is_rules.specs.Questions.{live, is_viable_at, has_viable_remote, FindsEquivalent, nominated_pair, nominated_rtt};
+ghost use Rattle.is_rules.specs.Questions.{live, is_viable_at, has_viable_remote, FindsEquivalent, FindsValidPath, nominated_pair, nominated_rtt};
 ghost use Rattle.is_rules.specs.Questions.{nominated_total_rtt, nominated_responses};
 
 use crate::agent::Agent;
@@ -14,6 +15,7 @@ use is_candidate::{Candidate, LocalPreference};
 use is_pair::checklist::PairTest;
 use is_pair::pair::{CandidatePair, CheckState};
 use is_proto::{Duration, Sha1HmacProvider};
+use is_rules::emitted::Path;
 use is_rules::event::IceAgentStats;
 use is_rules::nomination::pair_selected;
 use is_rules::places::address_at;
@@ -89,6 +91,13 @@ impl<'a> Iterator for RemoteCandidates<'a> {
     }
 }
 
+/// A check on the pair succeeded.
+fn is_valid(pair: &CandidatePair) -> bool
+    ensures { result ≡ is_valid pair.now }
+{
+    pair.state() == CheckState::Succeeded
+}
+
 /// Whether a pair is valid, and its remote candidate has an address.
 #[derive(Clone, Copy)]
 struct ViableAt<'a> {
@@ -104,8 +113,22 @@ impl PairTest for ViableAt<'_> {
 
     fn passes(&self, pair: &CandidatePair) -> bool {
         pair.remote_idx() < self.remote.len()
-            && pair.state() == CheckState::Succeeded
+            && is_valid(pair)
             && same_address(address_at(self.remote, pair.remote_idx()), self.address)
+    }
+}
+
+/// Whether a pair is valid.
+#[derive(Clone, Copy)]
+struct Valid;
+
+impl PairTest for Valid {
+    ghost use Rattle.is_pair.specs.Pairs.{is_valid};
+
+    ghost passes = { λ _ p. is_valid p };
+
+    fn passes(&self, pair: &CandidatePair) -> bool {
+        is_valid(pair)
     }
 }
 
@@ -155,6 +178,18 @@ impl<H: Sha1HmacProvider + Drop, P: LocalPreference> Agent<H, P> {
     {
         let remote = &self.remote;
         self.pairs.greatest(&Equivalent { remote, candidate })
+    }
+
+    /// The path of a valid pair, one with the greatest priority. None if no pair is valid. Does not allocate.
+    ///
+    /// Media may go there before a path is selected (RFC 8445, section 12.1).
+    pub fn valid_path(&self) -> Option<Path>
+        ensures { FindsValidPath (record_of self.now) result }
+    {
+        match self.pairs.greatest(&Valid) {
+            Some(pair) => Some(self.path_of(pair)),
+            None => None,
+        }
     }
 
     /// The pair that was selected last, if it still exists.

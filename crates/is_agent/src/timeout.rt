@@ -2,7 +2,7 @@
 //!
 //! Capacity for all of it is reserved before the agent changes; what follows can't fail.
 
-ghost use Rattle.std.specs.Prelude.{◌≡◌, ℕ, Option, Some, true, IsSome, None, IfErr, OnOk, MatchOption};
+ghost use Rattle.std.specs.Prelude.{◌≡◌, ℕ, Option, Some, true, IsSome, None, IfOk, IfErr, OnOk, MatchOption};
 ghost use Rattle.std.specs.List.{list_any};
 ghost use Rattle.is_stun.specs.Theorems.{IsPut};
 ghost use Rattle.is_stun.specs.Writing.{written};
@@ -24,7 +24,7 @@ ghost use Rattle.is_rules.specs.Emitted.{issued_as, emitted_by};
 ghost use Rattle.is_rules.specs.declared.emitted.Issued.{Issued};
 ghost use Rattle.is_rules.specs.declared.emitted.Path.{Path};
 ghost use Rattle.is_rules.specs.TimeoutStart.{outdated};
-ghost use Rattle.is_rules.specs.Timeouts.{timeout_begun, is_expired, expired_gone, RemovesExpired, MayFailAtTimeout, ServesQueued, MaintainsPairs, TimesOut};
+ghost use Rattle.is_rules.specs.Timeouts.{at_request, timeout_begun, is_expired, expired_gone, RemovesExpired, MayFailAtTimeout, ServesQueued, MaintainsPairs, TimesOut};
 
 use crate::agent::Agent;
 use crate::settings::MTU_FLOOR;
@@ -34,6 +34,7 @@ use is_proto::{IceError, Instant, Sha1HmacProvider, Transmit};
 use is_rules::checking::{Draft, write_username};
 use is_rules::emitted::{Emitted, Issued, Path};
 use is_rules::queue::count_outdated;
+use is_rules::theorems;
 use is_rules::timeout::FallsDue;
 use is_stun::stun::{Class, TransId};
 use rand_core::Rng;
@@ -321,7 +322,7 @@ impl<H: Sha1HmacProvider + Drop, P: LocalPreference> Agent<H, P> {
         requires { IsSome self.old.remote_creds }
         ensures passed { OnOk result (MatchOption (request_at now.0 (record_of self.old))
             (MaintainsPairs H.mac now.0 (timeout_begun now.0 (record_of self.old)) (R.stream rng.old) (emitted_of self.new) (record_of self.new) (R.stream rng.new))
-            (λ q. ServesQueued H.mac q (timeout_begun now.0 (record_of self.old)) (R.stream rng.old) (emitted_of self.new) (record_of self.new)
+            (λ q. ServesQueued H.mac q (at_request now.0 (timeout_begun now.0 (record_of self.old))) (R.stream rng.old) (emitted_of self.new) (record_of self.new)
             (R.stream rng.new))) }
         ensures rejected { IfErr result (λ error. MayFailAtTimeout now.0 (record_of self.old) error) }
         ensures unchanged { IfErr result (λ _. (record_of self.new ≡ record_of self.old) × (R.stream rng.new ≡ R.stream rng.old)) }
@@ -339,7 +340,7 @@ impl<H: Sha1HmacProvider + Drop, P: LocalPreference> Agent<H, P> {
     fn run_timeout<R: Rng>(&mut self, now: Instant, rng: &mut R) -> Result<(), IceError>
         ensures passed { OnOk result (MatchOption (request_at now.0 (record_of self.old))
             (MaintainsPairs H.mac now.0 (timeout_begun now.0 (record_of self.old)) (R.stream rng.old) (emitted_of self.new) (record_of self.new) (R.stream rng.new))
-            (λ q. ServesQueued H.mac q (timeout_begun now.0 (record_of self.old)) (R.stream rng.old) (emitted_of self.new) (record_of self.new)
+            (λ q. ServesQueued H.mac q (at_request now.0 (timeout_begun now.0 (record_of self.old))) (R.stream rng.old) (emitted_of self.new) (record_of self.new)
             (R.stream rng.new))) }
         ensures rejected { IfErr result (λ error. MayFailAtTimeout now.0 (record_of self.old) error) }
         ensures unchanged { IfErr result (λ _. (record_of self.new ≡ record_of self.old) × (R.stream rng.new ≡ R.stream rng.old)) }
@@ -352,15 +353,18 @@ impl<H: Sha1HmacProvider + Drop, P: LocalPreference> Agent<H, P> {
 
     /// Runs the agent's timers at time `now`. In New it first emits the start event. It evaluates the state. It serves an
     /// early request, once the remote credentials are known. If there is none, it nominates a pair, removes pairs that are no
-    /// longer possible, and checks the pair that is due first, or in turn an urgent one or one of the next kind (`Rules`; RFC
-    /// 8445, sections 6.1.4.2, 7.2.4, 7.3.1.4 and 8.1.1). It allocates what the events and the packet that it issues need. If a
+    /// longer possible or whose consent ended, and checks the pair that is due first, or in turn the selected one, an urgent one or
+    /// one of the next kind (`Rules`; RFC 8445, sections 6.1.4.2, 7.2.4, 7.3.1.4 and 8.1.1; RFC 7675). It allocates what the events and the packet that it issues need. If a
     /// pair may be nominated and its due time is not fixed, it reserves capacity for its check too.
     ///
     /// Fails with `PairIdsExhausted` if a request is served, a pair must be added and no number is left, and with
     /// `OutOfMemory`. The agent is then unchanged, and no random words were drawn.
     pub fn handle_timeout<R: Rng>(&mut self, now: Instant, rng: &mut R) -> Result<(), IceError>
-        ensures { TimesOut H.mac now.0 (record_of self.old) (R.stream rng.old) result (emitted_of self.new) (record_of self.new) (R.stream rng.new) }
+        ensures timed_out { TimesOut H.mac now.0 (record_of self.old) (R.stream rng.old) result (emitted_of self.new) (record_of self.new) (R.stream rng.new) }
+        // By the rule `timeout_after_requests`, a successful call counts as the last one, also if it served a request.
+        ensures noted { IfOk result (λ _. (record_of self.old).rules.timeout_after_requests ≡ true → (record_of self.new).last_time ≡ Some now.0) }
     {
+        theorems::calls_are_noted::<H, P>();
         match self.run_timeout(now, rng) {
             Ok(()) => Ok(()),
             Err(error) => {

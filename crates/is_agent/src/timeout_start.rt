@@ -9,7 +9,7 @@ ghost use Rattle.is_rules.specs.Serving.{names_another, Serves, MayFailAtRequest
 ghost use Rattle.is_agent.specs.View.{record_of};
 ghost use Rattle.is_rules.specs.Queue.{first_taken};
 ghost use Rattle.is_rules.specs.TimeoutStart.{start_event, outdated};
-ghost use Rattle.is_rules.specs.Timeouts.{timeout_begun};
+ghost use Rattle.is_rules.specs.Timeouts.{at_request, timeout_begun};
 
 use crate::agent::Agent;
 use is_candidate::LocalPreference;
@@ -79,6 +79,17 @@ impl<H: Sha1HmacProvider + Drop, P: LocalPreference> Agent<H, P> {
         self.plan(&request)
     }
 
+    /// A call that serves an early request counts as the last one only by the rule.
+    fn note_request(&mut self, now: Instant)
+        ensures noted { record_of self.new ≡ at_request now.0 (record_of self.old) }
+        ensures serving { HasServingRoom self.old → HasServingRoom self.new }
+        ensures news { UsesNews 0 self.old self.new }
+    {
+        if self.rules.timeout_after_requests {
+            self.last_time = Some(now);
+        }
+    }
+
     /// Starts the call, within the reserved capacity for two events, and takes the first request that is left.
     fn begin_with_request(
         &mut self,
@@ -90,12 +101,13 @@ impl<H: Sha1HmacProvider + Drop, P: LocalPreference> Agent<H, P> {
         requires expired { expired ≡ outdated now.0 self.old.timing self.old.remote_creds (record_of self.old) }
         requires left { IsSome (slice_get (record_of self.old).queue expired) }
         requires room { HasEventRoom 2 self.old }
-        ensures begun { record_of self.new ≡ first_taken (timeout_begun now.0 (record_of self.old)) }
+        ensures begun { record_of self.new ≡ first_taken (at_request now.0 (timeout_begun now.0 (record_of self.old))) }
         ensures first { Some (waiting_view result) ≡ slice_get (record_of self.old).queue expired }
         ensures serving { HasServingRoom self.old → HasServingRoom self.new }
         ensures news { UsesNews 2 self.old self.new }
     {
         self.begin_timeout(now, start, expired);
+        self.note_request(now);
         match self.queue.pop_front() {
             Some(waiting) => waiting,
             None => unreachable!(),
@@ -112,7 +124,7 @@ impl<H: Sha1HmacProvider + Drop, P: LocalPreference> Agent<H, P> {
         requires expired { expired ≡ outdated now.0 self.old.timing self.old.remote_creds (record_of self.old) }
         requires planned { IsSomeAnd (slice_get (record_of self.old).queue expired) (λ q. IsPlan (record_of self.old) q plan) }
         ensures served { IfSome (slice_get (record_of self.old).queue expired) (λ q. IfOk result (λ emitted.
-            Serves H.mac q (first_taken (timeout_begun now.0 (record_of self.old))) emitted (record_of self.new))) }
+            Serves H.mac q (first_taken (at_request now.0 (timeout_begun now.0 (record_of self.old)))) emitted (record_of self.new))) }
         ensures unchanged { IfErr result (λ _. record_of self.new ≡ record_of self.old) }
     {
         let start = self.start_event()?;

@@ -3,3 +3,4 @@ pub mod PairEntries
 mod ChecklistIndex
 mod PriorityOrder
 pub mod DueTimes
+pub mod ConsentTimes

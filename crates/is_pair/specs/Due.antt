@@ -1,10 +1,11 @@
 -- When a pair is due for its next check, and when it fails.
-use Rattle.std.specs.Prelude.{[], ◌≡◌, ℕ, ◌<◌, ◌≤◌, ◌-◌, ◌*◌, ◌==◌, ◌&&◌, ◌||◌, ◌⊎◌, Bool, true, false, not, nat_lt, nat_le, min, List, length, Option}
+use Rattle.std.specs.Prelude.{[], ◌≡◌, ℕ, ◌<◌, ◌≤◌, ◌-◌, ◌*◌, ◌==◌, ◌&&◌, ◌||◌, ◌⊎◌, Bool, true, false, not, nat_lt, nat_le, min, max, List, length, Option}
 use Rattle.std.specs.Prelude.{Some, None, unwrap_or, option_map, if◌then◌else◌}
 use Rattle.std.specs.Option.{option_map_or}
 use Rattle.is_proto.specs.Lists.{Has, NonePass}
-use Rattle.is_proto.specs.Times.{SECOND, later}
+use Rattle.is_proto.specs.Times.{MAX, SECOND, later}
 use Rattle.is_stun.specs.declared.timing.StunTiming.{StunTiming}
+use Rattle.is_stun.specs.declared.timing.Consent.{Consent}
 use Rattle.is_stun.specs.declared.timing.EarlyRto.{EarlyRto}
 use Rattle.is_stun.specs.Timing.{early_delay, resend_delay, last_resend_delay, timeout_of}
 use Rattle.is_pair.specs.declared.pair.states.NominationState.{NominationState}
@@ -106,9 +107,41 @@ is_possible now t p =
     || nat_lt (unanswered_count p.checks) t.max_retransmits
     || is_in_time now t p.checks
 
--- consent has not expired (RFC 7675); for an ICE-lite agent, the peer's checks have not stopped
+-- ---- consent (RFC 7675, section 5.1)
+
+-- the last check that got a response was sent recently enough; without a response, consent does not end
+abbrev pub is_answered_lately : Consent → ℕ → PairRecord → Bool
+is_answered_lately c now p = option_map_or (λ at. nat_lt now (later at c.timeout.0)) p.consented true
+
+-- Unless consent is strict, the peer's checks keep it too.
+abbrev pub has_consent : Option Consent → ℕ → PairRecord → Bool
+has_consent None now p = true
+has_consent (Some c) now p = is_answered_lately c now p || (not c.strict && is_heard now p)
+
+-- The same as long as consent ends by a clock, whatever the peer's checks keep.
+abbrev pub stays_answered : Option Consent → ℕ → PairRecord → Bool
+stays_answered None now p = true
+stays_answered (Some c) now p = is_answered_lately c now p
+
+-- how long the peer's last check keeps consent
+abbrev pub heard_until : Consent → PairRecord → ℕ
+heard_until c p = if c.strict then 0 else option_map_or (λ at. later at (15 * SECOND)) p.last_request 0
+
+-- when consent ends if nothing arrives
+abbrev pub consent_end : Consent → PairRecord → ℕ
+consent_end c p = option_map_or (λ at. max (later at c.timeout.0) (heard_until c p)) p.consented MAX
+
+-- when the pair needs a `handle_timeout` call: it is due, or consent ends
+abbrev pub call_time_with : Option Consent → ℕ → StunTiming → PairRecord → ℕ
+call_time_with None now t p = due_time_of now t p
+call_time_with (Some c) now t p = min (due_time_of now t p) (consent_end c p)
+
+abbrev pub call_time_of : ℕ → StunTiming → PairRecord → ℕ
+call_time_of now t p = call_time_with t.consent now t p
+
+-- The path may still work, and consent has not ended. For an ICE-lite agent, the peer's checks have not stopped.
 abbrev pub stays : Bool → ℕ → StunTiming → PairRecord → Bool
-stays lite now t p = if lite then is_lite_alive now t p else is_possible now t p
+stays lite now t p = if lite then is_lite_alive now t p else has_consent t.consent now p && is_possible now t p
 
 abbrev pub is_pair_expired : Bool → ℕ → StunTiming → PairRecord → Bool
 is_pair_expired lite now t p = not (stays lite now t p)

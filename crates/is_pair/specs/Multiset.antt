@@ -1,7 +1,8 @@
 -- The abstract state of a checklist: its pairs, listed in the order of their numbers.
-use Rattle.std.specs.Prelude.{◌≡◌, ℕ, ◌<◌, ◌≤◌, ◌==◌, ◌&&◌, Bool, true, not, nat_lt, List, [], ◌∷◌, length, map, filter, find, Option, Some}
+use Rattle.std.specs.Prelude.{◌≡◌, ℕ, ◌<◌, ◌≤◌, ◌==◌, ◌&&◌, Bool, true, false, not, nat_lt, List, [], ◌∷◌, length, map, filter, find, Option, Some}
 use Rattle.std.specs.Prelude.{None, if◌then◌else◌}
 use Rattle.std.specs.List.{list_any, list_all}
+use Rattle.std.specs.Option.{option_map_or}
 use Rattle.is_proto.specs.Lists.{Has, NonePass}
 use Rattle.is_pair.specs.Checks.{is_kept}
 use Rattle.is_pair.specs.Pairs.{PairRecord, TakesAnswer, is_valid}
@@ -10,6 +11,10 @@ use Rattle.is_pair.specs.Pairs.{PairRecord, TakesAnswer, is_valid}
 
 abbrev pub is_numbered : ℕ → PairRecord → Bool
 is_numbered number p = p.number == number
+
+-- the pair has this number, if there is one
+abbrev pub is_named_by : Option ℕ → PairRecord → Bool
+is_named_by number p = option_map_or (λ n. n == p.number) number false
 
 -- some pair has the number
 abbrev pub has_number : ℕ → List PairRecord → Bool

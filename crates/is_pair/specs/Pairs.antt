@@ -1,6 +1,6 @@
 -- A candidate pair (RFC 8445, section 6.1.2), and its state after each operation. Times and durations are in
 -- nanoseconds.
-use Rattle.std.specs.Prelude.{◌≡◌, ℕ, ◌-◌, ◌*◌, Bool, true, false, nat_lt, List, [], ◌∷◌, ◌++◌, slice_set, Option, Some, None, if◌then◌else◌}
+use Rattle.std.specs.Prelude.{◌≡◌, ℕ, ◌-◌, ◌*◌, Bool, true, false, nat_lt, max, List, [], ◌∷◌, ◌++◌, slice_set, Option, Some, None, if◌then◌else◌}
 use Rattle.std.specs.Option.{option_map_or}
 use Rattle.is_proto.specs.Times.{SECOND, counted, later}
 use Rattle.is_stun.specs.declared.timing.StunTiming.{StunTiming}
@@ -30,6 +30,8 @@ pub record PairRecord : Type 0 where
   -- how many responses arrived, including repeated ones, and the sum of their round-trip times
   pub answers : ℕ
   pub total_round_trip : ℕ
+  -- when the last check that got a response was sent, on this pair or on one that it replaces
+  pub consented : Option ℕ
   -- the due time of the next check, if it is fixed
   pub due : Option ℕ
 
@@ -48,6 +50,7 @@ new_pair number local remote priority = record {
   last_request = None;
   answers = 0;
   total_round_trip = 0;
+  consented = None;
   due = None;
 }
 
@@ -70,11 +73,17 @@ nominated false p = record p { nomination = Nominated }
 abbrev pub validated : PairRecord → PairRecord
 validated p = record p { state = Succeeded }
 
+-- the later of two times, if there is one
+abbrev pub last_of : Option ℕ → Option ℕ → Option ℕ
+last_of None b = b
+last_of (Some a) b = Some (option_map_or (max a) b a)
+
 -- what a pair copies from the one that it replaces
 abbrev pub with_success_of : PairRecord → PairRecord → PairRecord
 with_success_of other p = record p {
   nomination = nomination_from other.nomination p.nomination;
   state = state_from other.state p.state;
+  consented = last_of other.consented p.consented;
 }
 
 abbrev pub with_requests_of : PairRecord → PairRecord → PairRecord
@@ -121,15 +130,18 @@ checked now t controlling id p = once_sent t.max_retransmits (record p { checks 
 
 -- after a response to a pending transaction, also a repeated one (RFC 8445, section 7.2.5.3)
 
-abbrev pub answered : ℕ → ℕ → Check → PairRecord → PairRecord
-answered now place c p = record p {
-  checks = slice_set p.checks place (answered_at now c);
+abbrev pub once_answered : ℕ → Check → PairRecord → PairRecord
+once_answered now c p = record p {
   answers = counted p.answers;
   total_round_trip = later p.total_round_trip (now - c.sent);
+  consented = last_of (Some c.sent) p.consented;
   nomination = nomination_once_answered c.nominated p.nomination;
   state = state_once_answered p.state;
   due = None;
 }
+
+abbrev pub answered : ℕ → ℕ → Check → PairRecord → PairRecord
+answered now place c p = once_answered now c (record p { checks = slice_set p.checks place (answered_at now c) })
 
 -- if several pending transactions have the ID, the response may go to any of them
 abbrev pub TakesAnswer : PairRecord → ℕ → List ℕ → PairRecord → Type 0

@@ -22,6 +22,7 @@ use crate::pair::{BindingAttempt, CandidatePair};
 use entries::{Kept, Rank};
 pub use expired::Expired;
 use indexmap::IndexMap;
+pub use mapped::goes_before;
 pub use pair_change::PairChange;
 pub use pair_test::PairTest;
 pub use rule::PairPriority;

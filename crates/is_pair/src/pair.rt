@@ -6,6 +6,7 @@ ghost use Rattle.is_pair.specs.Pairs.{new_pair, is_nominated, nominated};
 mod attempt;
 pub(crate) mod attempts;
 mod checks;
+mod consent;
 pub(crate) mod cut;
 pub(crate) mod due;
 mod order;
@@ -43,6 +44,8 @@ pub struct CandidatePair {
     remote_binding_request_time: Option<Instant>,
     responses_received: u64,
     total_round_trip_time: Duration,
+    /// When the last check that got a response was sent, on this pair or on one that it replaces.
+    consented: Option<Instant>,
     /// The due time of the next check, if it is fixed.
     cached_next_attempt_time: Option<Instant>,
 }
@@ -66,6 +69,7 @@ impl Model for CandidatePair {
       last_request = option_map (λ at. at.0) p.remote_binding_request_time;
       answers = p.responses_received;
       total_round_trip = p.total_round_trip_time.0;
+      consented = option_map (λ at. at.0) p.consented;
       due = option_map (λ at. at.0) p.cached_next_attempt_time;
     } };
 }
@@ -97,6 +101,7 @@ impl CandidatePair {
             remote_binding_request_time: None,
             responses_received: 0,
             total_round_trip_time: Duration(0),
+            consented: None,
             cached_next_attempt_time: None,
         }
     }
@@ -199,6 +204,7 @@ impl CandidatePair {
             remote_binding_request_time: self.remote_binding_request_time,
             responses_received: self.responses_received,
             total_round_trip_time: self.total_round_trip_time,
+            consented: self.consented,
             cached_next_attempt_time: self.cached_next_attempt_time,
         })
     }

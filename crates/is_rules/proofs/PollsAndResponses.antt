@@ -1,3 +1,4 @@
 -- The next timeout, and what a response contains.
 pub mod NextTimeout
 pub mod AddressesInResponses
+pub mod LastTime

@@ -55,7 +55,7 @@ pub record AgentRecord (H P : Type 0) : Type 0 where
   -- the early requests: received before the remote credentials
   pub queue : List RequestRecord
   pub state : IceConnectionState
-  -- the time of the last `handle_timeout` call that served no early request
+  -- the time of the last `handle_timeout` call; one that served an early request counts only by the rule `timeout_after_requests`
   pub last_time : Option ℕ
   -- the packets and events that are still to be polled
   pub packets : List Packet
@@ -66,15 +66,26 @@ pub record AgentRecord (H P : Type 0) : Type 0 where
 
 -- the original's behaviour
 abbrev pub original_rules : Rules
-original_rules = record { kinds_in_turn = false; triggered_checks = None; early_rto = None; selects_at_once = false }
+original_rules = record {
+  kinds_in_turn = false;
+  triggered_checks = None;
+  early_rto = None;
+  selects_at_once = false;
+  consent = None;
+  selected_first = false;
+  timeout_after_requests = false;
+}
 
--- what connects fastest
+-- what connects fastest, and ends consent in time: within the 30 s of RFC 7675, section 5.1
 abbrev pub modern_rules : Rules
 modern_rules = record {
   kinds_in_turn = true;
   triggered_checks = Some 4;
   early_rto = Some (record { retransmits = 4; interval = record { 0 = 100 * MILLISECOND } });
   selects_at_once = true;
+  consent = Some (record { timeout = record { 0 = 29600 * MILLISECOND }; strict = false });
+  selected_first = true;
+  timeout_after_requests = true;
 }
 
 abbrev pub no_stats : IceAgentStats
@@ -94,6 +105,7 @@ default_timing = record {
   max_rto = record { 0 = 3000 * MILLISECOND };
   lite_timeout = record { 0 = 15 * SECOND };
   early = None;
+  consent = None;
 }
 
 module _ {H P : Type 0} where

@@ -6,7 +6,7 @@ use Rattle.is_proto.specs.Times.{counted}
 use Rattle.is_candidate.specs.Candidates.{candidate_at}
 use Rattle.is_candidate.specs.Priorities.{check_priority}
 use Rattle.is_pair.specs.Pairs.{PairRecord, heard, checked}
-use Rattle.is_pair.specs.Due.{asked, is_due, is_urgent, IsNextDue}
+use Rattle.is_pair.specs.Due.{asked, IsNextDue}
 use Rattle.is_stun.specs.declared.header.Class.TheVariants.{Request}
 use Rattle.is_stun.specs.Message.{Message}
 use Rattle.is_stun.specs.Checks.{binding_request}
@@ -14,12 +14,13 @@ use Rattle.is_stun.specs.Theorems.{IsPut}
 use Rattle.is_stun.specs.Writing.{written}
 use Rattle.is_rules.specs.declared.credentials.IceCreds.{IceCreds}
 use Rattle.is_rules.specs.declared.emitted.Issued.{Issued}
+use Rattle.is_rules.specs.declared.kinds.Precedence.{Precedence}
 use Rattle.is_rules.specs.declared.rules.Rules.{Rules}
 use Rattle.is_rules.specs.Emitted.{issued_as}
 use Rattle.is_pair.specs.Multiset.{change_pair}
 use Rattle.is_rules.specs.Agent.{AgentRecord}
 use Rattle.is_rules.specs.Connecting.{is_connected}
-use Rattle.is_rules.specs.Kinds.{kind_of, IsNextAhead}
+use Rattle.is_rules.specs.Kinds.{is_first_due, kind_of, IsNextAhead}
 use Rattle.is_rules.specs.Nominating.{stays_nominated}
 use Rattle.is_rules.specs.Sending.{with_packet, path_of}
 
@@ -29,7 +30,7 @@ username_between remote local = remote.ufrag ++ 58 ∷ local.ufrag
 
 -- By these rules checks may go ahead of pairs that are due earlier.
 abbrev pub goes_ahead : Rules → Bool
-goes_ahead rules = rules.kinds_in_turn || is_some rules.triggered_checks
+goes_ahead rules = rules.kinds_in_turn || is_some rules.triggered_checks || rules.selected_first
 
 module _ {H P : Type 0} where
   abbrev pub all_asked : ℕ → AgentRecord H P → AgentRecord H P
@@ -49,19 +50,26 @@ module _ {H P : Type 0} where
   abbrev pub are_kinds_in_turn : AgentRecord H P → Bool
   are_kinds_in_turn a = a.rules.kinds_in_turn && not (is_connected a.state)
 
-  -- An urgent pair is due, and urgent pairs go ahead.
-  abbrev pub has_urgent : ℕ → AgentRecord H P → Bool
-  has_urgent now a = is_some a.rules.triggered_checks && list_any (λ p. is_due now a.timing p && is_urgent p) a.pairs
+  -- the pairs that come before all kinds: the one that was selected last, and urgent ones, each if the rules say so
+  abbrev pub precedence : AgentRecord H P → Precedence
+  precedence a = record {
+    selected = if a.rules.selected_first then a.selected_pair else None;
+    urgent = is_some a.rules.triggered_checks;
+  }
+
+  -- One of them is due.
+  abbrev pub has_first : ℕ → AgentRecord H P → Bool
+  has_first now a = list_any (is_first_due (precedence a) now a.timing) a.pairs
 
   -- This check goes ahead: every second one may.
   abbrev pub is_ahead_turn : ℕ → AgentRecord H P → Bool
-  is_ahead_turn now a = goes_ahead a.rules && a.ahead_turn && (are_kinds_in_turn a || has_urgent now a)
+  is_ahead_turn now a = goes_ahead a.rules && a.ahead_turn && (are_kinds_in_turn a || has_first now a)
 
   -- The pair that is checked next: the one that is due first, unless the check goes ahead.
   abbrev pub IsNextToCheck : ℕ → AgentRecord H P → Option PairRecord → Type 0
   IsNextToCheck now a next =
       MatchBool (is_ahead_turn now a)
-      (IsNextAhead a.local a.remote (is_some a.rules.triggered_checks) a.next_kind now a.timing a.pairs next)
+      (IsNextAhead a.local a.remote (precedence a) a.next_kind now a.timing a.pairs next)
       (IsNextDue now a.timing a.pairs next)
 
   -- the kind from which on the next turn is, after a check of the pair

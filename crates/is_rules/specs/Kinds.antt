@@ -1,5 +1,5 @@
--- Which pair is checked ahead of those that are due earlier: urgent pairs, and else those of the next kind, since kinds of pairs take turns
--- (RFC 8445, section 6.1.4.2; RFC 8421, section 4).
+-- Which pair is checked ahead of those that are due earlier: the selected one, then urgent pairs, and else those of the next kind, since
+-- kinds of pairs take turns (RFC 8445, section 6.1.4.2; RFC 8421, section 4).
 use Rattle.std.specs.Prelude.{◌≡◌, ℕ, ◌+◌, ◌*◌, ◌<◌, ◌&&◌, ◌||◌, ◌⊎◌, Bool, true, not, nat_le, List, Option, Some, None, if◌then◌else◌}
 use Rattle.std.specs.List.{list_any}
 use Rattle.std.specs.declared.net.socket_addr.SocketAddr.{SocketAddr}
@@ -11,7 +11,9 @@ use Rattle.is_candidate.specs.declared.candidate.kind.CandidateKind.{CandidateKi
 use Rattle.is_candidate.specs.declared.candidate.kind.CandidateKind.TheVariants.{Host, PeerReflexive, ServerReflexive, Relayed}
 use Rattle.is_pair.specs.Due.{is_due, is_urgent, GoesBefore}
 use Rattle.is_pair.specs.Pairs.{PairRecord, is_valid}
+use Rattle.is_pair.specs.Multiset.{is_named_by}
 use Rattle.is_stun.specs.declared.timing.StunTiming.{StunTiming}
+use Rattle.is_rules.specs.declared.kinds.Precedence.{Precedence}
 
 -- ---- the kind of a pair
 
@@ -67,11 +69,19 @@ turn_of next kind = if nat_le next kind then kind else kind + KINDS
 abbrev pub is_brought : List CandidateRecord → PairRecord → Bool
 is_brought remote p = same_kind (candidate_at remote p.remote).kind PeerReflexive && not (is_valid p)
 
--- `urgent_first`: urgent pairs come before all kinds.
-module _ (local remote : List CandidateRecord) (urgent_first : Bool) (next now : ℕ) (t : StunTiming) where
+-- The pair comes before all kinds: it is the one with this number, or it is urgent and urgent pairs come first.
+abbrev pub goes_first : Precedence → PairRecord → Bool
+goes_first first p = is_named_by first.selected p || (first.urgent && is_urgent p)
+
+abbrev pub is_first_due : Precedence → ℕ → StunTiming → PairRecord → Bool
+is_first_due first now t p = is_due now t p && goes_first first p
+
+module _ (local remote : List CandidateRecord) (first : Precedence) (next now : ℕ) (t : StunTiming) where
+  -- the selected pair, then urgent pairs, then the kinds in their turns
   abbrev pub turn_of_pair : PairRecord → ℕ
   turn_of_pair p =
-      if urgent_first && is_urgent p then (if is_brought remote p then 1 else 0) else 2 + turn_of next (kind_of local remote p)
+      if is_named_by first.selected p then 0
+      else (if first.urgent && is_urgent p then (if is_brought remote p then 2 else 1) else 3 + turn_of next (kind_of local remote p))
 
   -- its turn comes earlier, or they have the same turn and it is due earlier
   abbrev pub TurnsBefore : PairRecord → PairRecord → Type 0

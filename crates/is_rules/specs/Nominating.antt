@@ -7,7 +7,7 @@ use Rattle.is_pair.specs.Pairs.{PairRecord, is_valid, is_nominated, nominated}
 use Rattle.is_rules.specs.declared.event.IceAgentEvent.TheVariants.{NominatedSend}
 use Rattle.is_rules.specs.declared.emitted.Path.{Path}
 use Rattle.is_rules.specs.Agent.{AgentRecord}
-use Rattle.is_pair.specs.Multiset.{change_pair, IsGreatest, pair_numbered}
+use Rattle.is_pair.specs.Multiset.{change_pair, is_named_by, IsGreatest, pair_numbered}
 use Rattle.is_rules.specs.Forming.{SidesRecord, sides_of}
 
 -- valid and, if the agent is controlled, nominated
@@ -60,10 +60,6 @@ favored controlling (Some number) old =
 abbrev pub IsChosen : Bool → Option ℕ → Selection → Option PairRecord → Type 0
 IsChosen controlling followed old top =
     MatchOption (favored controlling followed old) (IsGreatest (is_eligible controlling) old.pairs top) (λ p. top ≡ Some p)
-
--- The pair has this number.
-abbrev pub is_named_by : Option ℕ → PairRecord → Bool
-is_named_by number p = option_map_or (λ n. n == p.number) number false
 
 -- The pair that was selected last stays selected: it has the priority of the chosen one. If the agent follows its peer, it is the
 -- chosen one.

@@ -2,7 +2,7 @@
 use Rattle.std.specs.Prelude.{◌≡◌, ℕ, ◌*◌, min, max, ◌||◌, not, Bool, List, [], ◌∷◌, map, fold, Option, Some, None, MatchBool, IsSomeAnd}
 use Rattle.is_proto.specs.Lists.{is_empty}
 use Rattle.is_proto.specs.Times.{MAX, SECOND, later}
-use Rattle.is_pair.specs.Due.{due_time_of, asked}
+use Rattle.is_pair.specs.Due.{call_time_of, asked}
 use Rattle.is_proto.specs.Packets.{Packet}
 use Rattle.is_rules.specs.declared.event.IceAgentEvent.{IceAgentEvent}
 use Rattle.is_rules.specs.Agent.{AgentRecord}
@@ -29,9 +29,9 @@ module _ {H P : Type 0} where
   abbrev pub soon : AgentRecord H P → ℕ → ℕ
   soon a last = later last a.timing_advance
 
-  -- the earliest due time of the pairs, computed at the time of the last call
-  abbrev pub earliest_due : AgentRecord H P → ℕ → ℕ
-  earliest_due a last = fold min MAX (map (due_time_of last a.timing) a.pairs)
+  -- the earliest time at which a pair is due, computed at the time of the last call, or at which its consent ends
+  abbrev pub earliest_call : AgentRecord H P → ℕ → ℕ
+  earliest_call a last = fold min MAX (map (call_time_of last a.timing) a.pairs)
 
   -- There is nothing to check.
   abbrev pub is_idle : AgentRecord H P → Bool
@@ -42,7 +42,7 @@ module _ {H P : Type 0} where
   IdleTimeout old last deadline new =
       MatchBool (is_idle old)
       ((deadline ≡ later last (3 * SECOND)) × (new ≡ old))
-      ((deadline ≡ max (earliest_due old last) (soon old last)) × (new ≡ record old { pairs = map (asked last old.timing) old.pairs }))
+      ((deadline ≡ max (earliest_call old last) (soon old last)) × (new ≡ record old { pairs = map (asked last old.timing) old.pairs }))
 
   abbrev pub NextTimeouts : AgentRecord H P → ℕ → ℕ → AgentRecord H P → Type 0
   NextTimeouts old last deadline new = MatchBool (is_waiting old) ((deadline ≡ soon old last) × (new ≡ old)) (IdleTimeout old last deadline new)

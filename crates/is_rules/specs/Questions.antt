@@ -1,5 +1,5 @@
 -- What an agent returns without a change.
-use Rattle.std.specs.Prelude.{ℕ, ◌&&◌, Bool, List, filter, Option, option_map}
+use Rattle.std.specs.Prelude.{◌≡◌, ℕ, ◌&&◌, Bool, List, filter, Option, option_map}
 use Rattle.std.specs.List.{list_any}
 use Rattle.std.specs.Option.{option_and_then}
 use Rattle.std.specs.declared.net.socket_addr.SocketAddr.{SocketAddr}
@@ -8,11 +8,13 @@ use Rattle.is_candidate.specs.Candidates.{CandidateRecord, candidate_at}
 use Rattle.is_pair.specs.Checks.{last_round_trip}
 use Rattle.is_pair.specs.Pairs.{PairRecord, is_valid}
 use Rattle.is_stun.specs.Timing.{timeout_of}
+use Rattle.is_rules.specs.declared.emitted.Path.{Path}
 use Rattle.is_rules.specs.Agent.{AgentRecord}
 use Rattle.is_rules.specs.Forming.{is_alive}
 use Rattle.is_rules.specs.Nominating.{pair_selected}
 use Rattle.is_pair.specs.Multiset.{IsGreatest}
 use Rattle.is_rules.specs.Remote.{has_equivalent}
+use Rattle.is_rules.specs.Sending.{path_of}
 
 -- `local_candidates` and `remote_candidates`, in list order
 abbrev pub live : List CandidateRecord → List CandidateRecord
@@ -30,6 +32,10 @@ module _ {H P : Type 0} where
   -- `find_pair_for_equivalent_remote_candidate`: a pair of greatest priority among its matches
   abbrev pub FindsEquivalent : AgentRecord H P → CandidateRecord → Option PairRecord → Type 0
   FindsEquivalent a c found = IsGreatest (has_equivalent a.remote c) a.pairs found
+
+  -- `valid_path`: the path of a valid pair of greatest priority
+  abbrev pub FindsValidPath : AgentRecord H P → Option Path → Type 0
+  FindsValidPath a path = (top : Option PairRecord) × IsGreatest is_valid a.pairs top × (path ≡ option_map (path_of a) top)
 
   -- `ice_timeout`
   abbrev pub ice_timeout : AgentRecord H P → ℕ

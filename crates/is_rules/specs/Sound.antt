@@ -1,5 +1,5 @@
 -- The invariant of abstract states on which the effect lemmas rest.
-use Rattle.std.specs.Prelude.{◌≡◌, ℕ, ◌<◌, ◌≤◌, Bool, true, false, List, length, Option, IfSome}
+use Rattle.std.specs.Prelude.{◌≡◌, ℕ, ◌<◌, ◌≤◌, Bool, true, false, List, length, Option, is_some, IfSome}
 use Rattle.is_proto.specs.Lists.{Has}
 use Rattle.is_stun.specs.declared.timing.StunTiming.{StunTiming}
 use Rattle.is_candidate.specs.Candidates.{CandidateRecord, IsBased}
@@ -7,7 +7,7 @@ use Rattle.is_pair.specs.declared.pair.states.CheckState.{CheckState}
 use Rattle.is_pair.specs.declared.pair.states.CheckState.TheVariants.{Waiting, InProgress, Succeeded}
 use Rattle.is_pair.specs.Checks.{Check}
 use Rattle.is_pair.specs.Multiset.{are_below, rises}
-use Rattle.is_pair.specs.Pairs.{PairRecord}
+use Rattle.is_pair.specs.Pairs.{PairRecord, is_valid}
 use Rattle.is_rules.specs.declared.credentials.IceCreds.{IceCreds}
 use Rattle.is_rules.specs.Agent.{AgentRecord, fresh}
 use Rattle.is_rules.specs.Queue.{QUEUE_LIMIT}
@@ -43,6 +43,8 @@ pub record IsSound {H P : Type 0} (a : AgentRecord H P) : Type 0 where
   pub selected_paths : IsBelow a.next_number a.selected_pair
   -- A pair with a pending transaction is no longer Waiting, so a success response makes it valid.
   pub started : (p : PairRecord) (c : Check) → Has a.pairs p → Has p.checks c → is_started_state p.state ≡ true
+  -- Only the response to a check gives consent, and it makes the pair valid.
+  pub consented : (p : PairRecord) → Has a.pairs p → is_some p.consented ≡ true → is_valid p ≡ true
   -- A check that is sent stays as a pending transaction.
   pub checks : KeepsChecks a.timing
   -- There are at most `QUEUE_LIMIT` early requests.

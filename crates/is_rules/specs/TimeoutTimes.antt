@@ -1,24 +1,55 @@
 -- The time that `poll_timeout` returns: later than the last `handle_timeout` call, and not late.
-use Rattle.std.specs.Prelude.{◌≡◌, ℕ, ◌<◌, ◌≤◌, max, false, Option, Some, IfSome}
+use Rattle.std.specs.Prelude.{◌≡◌, ℕ, ◌*◌, ◌<◌, ◌≤◌, min, max, true, false, is_some, List, Option, Some, IfSome, IsSomeAnd, Ok, if◌then◌else◌}
+use Rattle.rand_core.specs.Stream.{Stream}
 use Rattle.is_proto.specs.Lists.{Has}
-use Rattle.is_proto.specs.Times.{MAX}
+use Rattle.is_proto.specs.Times.{MAX, SECOND, later}
 use Rattle.is_pair.specs.Pairs.{PairRecord}
-use Rattle.is_pair.specs.Due.{due_time_of}
+use Rattle.is_pair.specs.Due.{call_time_of}
 use Rattle.is_rules.specs.Agent.{AgentRecord}
-use Rattle.is_rules.specs.Polls.{PollsTimeout, soon}
+use Rattle.is_rules.specs.Polls.{PollsTimeout, is_idle, soon}
+use Rattle.is_rules.specs.Timeouts.{TimesOut}
+use Rattle.is_rules.specs.declared.emitted.Emitted.{Emitted}
 
 -- The next timeout is later than the time of the last `handle_timeout` call (`last_time`).
 abbrev pub IsAhead : {H P : Type 0} → AgentRecord H P → Option ℕ → Type 0
 IsAhead old deadline = IfSome deadline (λ at. (last : ℕ) → old.last_time ≡ Some last → 0 < old.timing_advance → last < MAX → last < at)
 
--- The next timeout is not later than the due time of any pair, except for pacing.
+-- The next timeout is not later than the time at which any pair is due or its consent ends, except for pacing.
 abbrev pub ComesInTime : {H P : Type 0} → AgentRecord H P → Option ℕ → Type 0
 ComesInTime old deadline =
     IfSome deadline (λ at. (last : ℕ) → old.last_time ≡ Some last → old.lite ≡ false
-    → (p : PairRecord) → Has old.pairs p → at ≤ max (due_time_of last old.timing p) (soon old last))
+    → (p : PairRecord) → Has old.pairs p → at ≤ max (call_time_of last old.timing p) (soon old last))
+
+-- There is a next timeout if there was a last `handle_timeout` call.
+abbrev pub IsGiven : {H P : Type 0} → AgentRecord H P → Option ℕ → Type 0
+IsGiven old deadline = is_some deadline ≡ is_some old.last_time
+
+-- one pacing interval Ta after the last call; if there is nothing to check, 3 s after it, if that is sooner
+abbrev pub soonest : {H P : Type 0} → AgentRecord H P → ℕ → ℕ
+soonest a last = if is_idle a then min (soon a last) (later last (3 * SECOND)) else soon a last
 
 abbrev pub TimeoutIsAhead : Type 0 → Type 0 → Type 0
 TimeoutIsAhead H P = (old new : AgentRecord H P) (deadline : Option ℕ) → PollsTimeout old deadline new → IsAhead old deadline
 
 abbrev pub TimeoutIsInTime : Type 0 → Type 0 → Type 0
 TimeoutIsInTime H P = (old new : AgentRecord H P) (deadline : Option ℕ) → PollsTimeout old deadline new → ComesInTime old deadline
+
+abbrev pub TimeoutIsGiven : Type 0 → Type 0 → Type 0
+TimeoutIsGiven H P = (old new : AgentRecord H P) (deadline : Option ℕ) → PollsTimeout old deadline new → IsGiven old deadline
+
+module _ {H P : Type 0} (mac : H → List ℕ → List ℕ → List ℕ) where
+  -- By the rule `timeout_after_requests`, a `handle_timeout` call returns `Ok` at this time.
+  pub record IsNotedCall (old : AgentRecord H P) (now : ℕ) (s : Stream) (emitted : Emitted) (new : AgentRecord H P) (t : Stream) : Type 0 where
+    pub by_rule : old.rules.timeout_after_requests ≡ true
+    pub call : TimesOut mac now old s (Ok tt) emitted new t
+
+module _ (P : Type 0) {H : Type 0} (mac : H → List ℕ → List ℕ → List ℕ) where
+  -- Its time is the time of the last call, also if it served an early request.
+  abbrev pub CallsAreNoted : Type 0
+  CallsAreNoted = (old new : AgentRecord H P) (now : ℕ) (s t : Stream) (emitted : Emitted) → IsNotedCall mac old now s emitted new t → new.last_time ≡ Some now
+
+  -- So there is a next timeout after it, at least one pacing interval later, or 3 s later if there is nothing to check.
+  abbrev pub CallsAreFollowed : Type 0
+  CallsAreFollowed =
+      (old new polled : AgentRecord H P) (now : ℕ) (s t : Stream) (emitted : Emitted) → IsNotedCall mac old now s emitted new t
+      → (deadline : Option ℕ) → PollsTimeout new deadline polled → IsSomeAnd deadline (λ at. soonest new now ≤ at)

@@ -54,6 +54,10 @@ module _ {H P : Type 0} where
   abbrev pub at_timeout : ℕ → AgentRecord H P → AgentRecord H P
   at_timeout now a = record a { last_time = Some now }
 
+  -- A call that serves an early request counts as the last one only by this rule.
+  abbrev pub at_request : ℕ → AgentRecord H P → AgentRecord H P
+  at_request now a = record a { last_time = if a.rules.timeout_after_requests then Some now else a.last_time }
+
   -- Why a `handle_timeout` call may fail: for a reason for which the early request that it serves may fail, and without one only
   -- for an allocation failure.
   abbrev pub MayFailAtTimeout : ℕ → AgentRecord H P → IceError → Type 0
@@ -61,7 +65,7 @@ module _ {H P : Type 0} where
       MatchOption (request_at now a) (error ≡ OutOfMemory) (λ q. MayFailAtRequest (first_taken (timeout_begun now a)) q error)
 
   module _ (mac : H → List ℕ → List ℕ → List ℕ) where
-    -- An early request is served, and the call ends. The time of the last call does not change.
+    -- An early request is served, and the call ends.
     abbrev pub ServesQueued : RequestRecord → AgentRecord H P → Stream → Emitted → AgentRecord H P → Stream → Type 0
     ServesQueued q old s emitted new t = Serves mac q (first_taken old) emitted new × (t ≡ s)
 
@@ -79,5 +83,5 @@ module _ {H P : Type 0} where
     TimesOut now old s (Ok _) emitted new t =
         MatchOption (request_at now old)
         (MaintainsPairs now (timeout_begun now old) s emitted new t)
-        (λ q. ServesQueued q (timeout_begun now old) s emitted new t)
+        (λ q. ServesQueued q (at_request now (timeout_begun now old)) s emitted new t)
     TimesOut now old s (Err error) emitted new t = MayFailAtTimeout now old error × (emitted ≡ nothing_emitted) × (new ≡ old) × (t ≡ s)

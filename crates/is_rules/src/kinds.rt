@@ -1,22 +1,23 @@
-//! The pairs that go ahead of those that are due earlier: urgent pairs, and kinds of pairs, which take turns; the agent's part:
-//! `is_agent::next_check`.
+//! The pairs that go ahead of those that are due earlier: the selected pair, urgent pairs, and kinds of pairs, which take turns; the
+//! agent's part: `is_agent::next_check`.
 
 ghost use Rattle.std.specs.Prelude.{◌≡◌, ◌<◌, ◌*◌, ◌&&◌, true, false, List, ◌∷◌, length, IfSome};
 ghost use Rattle.std.specs.List.{list_any};
 ghost use Rattle.std.specs.Option.{option_copied};
 ghost use Rattle.is_pair.specs.Pairs.{PairRecord};
-ghost use Rattle.is_pair.specs.Due.{is_due, is_urgent, GoesBefore};
+ghost use Rattle.is_pair.specs.Due.{is_due};
 ghost use Rattle.is_pair.specs.Checklists.{multiset_of};
 ghost use Rattle.is_rules.specs.Kept.{is_placed, are_placed};
 ghost use Rattle.is_rules.specs.Kinds.{is_reflexive, is_reflexive_of, is_reflexive_like, reaches_out, is_outer, kind_rank, version_rank};
-ghost use Rattle.is_rules.specs.Kinds.{is_brought, kind_between, kind_of, turn_of, turn_of_pair, KINDS, TurnsBefore, IsNextAhead};
+ghost use Rattle.is_rules.specs.Kinds.{is_brought, kind_between, kind_of, turn_of, turn_of_pair, goes_first, is_first_due, KINDS, TurnsBefore, IsNextAhead};
 
+use crate::nomination::is_named_by;
 use crate::places::candidate_at;
 use is_candidate::candidate::address::{same_address, same_version};
 use is_candidate::candidate::internals::{base, is_discarded};
 use is_candidate::candidate::kind::same_kind;
 use is_candidate::{Candidate, CandidateKind};
-use is_pair::checklist::{Checklist, PairTest};
+use is_pair::checklist::{Checklist, PairTest, goes_before};
 use is_pair::pair::{CandidatePair, CheckState};
 use is_pair::{due_time_of, is_urgent};
 use is_proto::Instant;
@@ -127,13 +128,21 @@ fn turn_of(next: u8, kind: u8) -> u8
     if next <= kind { kind } else { kind + 16 }
 }
 
-/// The candidates of the pairs, whether urgent pairs come before all kinds, the kind whose turn is next, and what the due time of a pair
-/// depends on.
+/// Which pairs come before all kinds.
+#[derive(Clone, Copy)]
+pub struct Precedence {
+    /// The pair with this number, before all others.
+    pub selected: Option<u64>,
+    /// Urgent pairs.
+    pub urgent: bool,
+}
+
+/// The candidates of the pairs, which pairs come first, the kind whose turn is next, and what the due time of a pair depends on.
 #[derive(Clone, Copy)]
 struct Round<'a> {
     local: &'a [Candidate],
     remote: &'a [Candidate],
-    urgent_first: bool,
+    precedence: Precedence,
     next: u8,
     time: Instant,
     timing: &'a StunTiming,
@@ -151,12 +160,14 @@ fn is_brought(remote: &[Candidate], pair: &CandidatePair) -> bool
 /// The turn of the pair in the round.
 fn turn_of_pair(round: &Round<'_>, pair: &CandidatePair) -> u8
     requires placed { is_placed round.now.local.now round.now.remote.now pair.now ≡ true }
-    ensures { result ≡ turn_of_pair round.now.local.now round.now.remote.now round.now.urgent_first round.now.next round.now.time.0 round.now.timing.now pair.now }
+    ensures { result ≡ turn_of_pair round.now.local.now round.now.remote.now round.now.precedence round.now.next round.now.time.0 round.now.timing.now pair.now }
 {
-    if round.urgent_first && is_urgent(pair) {
-        if is_brought(round.remote, pair) { 1 } else { 0 }
+    if is_named_by(round.precedence.selected, pair) {
+        0
+    } else if round.precedence.urgent && is_urgent(pair) {
+        if is_brought(round.remote, pair) { 2 } else { 1 }
     } else {
-        2 + turn_of(round.next, kind_of(round.local, round.remote, pair))
+        3 + turn_of(round.next, kind_of(round.local, round.remote, pair))
     }
 }
 
@@ -166,26 +177,16 @@ fn is_due(pair: &CandidatePair, round: &Round<'_>) -> bool
     due_time_of(pair, round.time, round.timing) <= round.time
 }
 
-/// Whether a pair is due earlier, or at the same time with no smaller priority.
-fn is_due_before(p: &CandidatePair, q: &CandidatePair, round: &Round<'_>) -> bool
-    ensures before { result ≡ true → GoesBefore round.now.time.0 round.now.timing.now p.now q.now }
-    ensures following { result ≡ false → GoesBefore round.now.time.0 round.now.timing.now q.now p.now }
-{
-    let ours = due_time_of(p, round.time, round.timing).0;
-    let theirs = due_time_of(q, round.time, round.timing).0;
-    ours < theirs || (ours == theirs && p.prio() >= q.prio())
-}
-
 /// Whether the turn of a pair comes earlier, or is the same and the pair is due earlier.
 fn turns_before(p: &CandidatePair, q: &CandidatePair, round: &Round<'_>) -> bool
     requires first { is_placed round.now.local.now round.now.remote.now p.now ≡ true }
     requires second { is_placed round.now.local.now round.now.remote.now q.now ≡ true }
-    ensures before { result ≡ true → TurnsBefore round.now.local.now round.now.remote.now round.now.urgent_first round.now.next round.now.time.0 round.now.timing.now p.now q.now }
-    ensures following { result ≡ false → TurnsBefore round.now.local.now round.now.remote.now round.now.urgent_first round.now.next round.now.time.0 round.now.timing.now q.now p.now }
+    ensures before { result ≡ true → TurnsBefore round.now.local.now round.now.remote.now round.now.precedence round.now.next round.now.time.0 round.now.timing.now p.now q.now }
+    ensures following { result ≡ false → TurnsBefore round.now.local.now round.now.remote.now round.now.precedence round.now.next round.now.time.0 round.now.timing.now q.now p.now }
 {
     let ours = turn_of_pair(round, p);
     let theirs = turn_of_pair(round, q);
-    ours < theirs || (ours == theirs && is_due_before(p, q, round))
+    ours < theirs || (ours == theirs && goes_before(p, q, round.time, round.timing))
 }
 
 /// Returns the first so far, or one more pair if it is due and comes before.
@@ -196,8 +197,8 @@ fn earlier<'a>(
 ) -> Option<&'a CandidatePair>
     requires first { IfSome (option_copied first) (λ p. is_placed round.now.local.now round.now.remote.now p ≡ true) }
     requires placed { is_placed round.now.local.now round.now.remote.now pair.now ≡ true }
-    ensures { (done : List PairRecord) → IsNextAhead round.now.local.now round.now.remote.now round.now.urgent_first round.now.next round.now.time.0 round.now.timing.now done (option_copied first.entry)
-        → IsNextAhead round.now.local.now round.now.remote.now round.now.urgent_first round.now.next round.now.time.0 round.now.timing.now (pair.now ∷ done) (option_copied result) }
+    ensures { (done : List PairRecord) → IsNextAhead round.now.local.now round.now.remote.now round.now.precedence round.now.next round.now.time.0 round.now.timing.now done (option_copied first.entry)
+        → IsNextAhead round.now.local.now round.now.remote.now round.now.precedence round.now.next round.now.time.0 round.now.timing.now (pair.now ∷ done) (option_copied result) }
 {
     if !is_due(pair, round) {
         return first;
@@ -208,24 +209,24 @@ fn earlier<'a>(
     }
 }
 
-/// Returns the pair to check ahead: of the due pairs, the urgent ones if these come first, else those of the kind that comes first from
-/// `next` on, and of these the one that is due first. None if no pair is due.
+/// Returns the pair to check ahead: of the due pairs, those that come first, else those of the kind that comes first from `next` on, and of
+/// these the one that is due first. None if no pair is due.
 pub fn next_ahead<'a>(
     pairs: &'a Checklist,
     local: &[Candidate],
     remote: &[Candidate],
-    urgent_first: bool,
+    precedence: Precedence,
     next: u8,
     now: Instant,
     timing: &StunTiming,
 ) -> Option<&'a CandidatePair>
     requires placed { are_placed local.now remote.now (multiset_of pairs.now) ≡ true }
-    ensures { IsNextAhead local.now remote.now urgent_first next now.0 timing.now (multiset_of pairs.now) (option_copied result) }
+    ensures { IsNextAhead local.now remote.now precedence next now.0 timing.now (multiset_of pairs.now) (option_copied result) }
 {
     let round = Round {
         local,
         remote,
-        urgent_first,
+        precedence,
         next,
         time: now,
         timing,
@@ -237,27 +238,43 @@ pub fn next_ahead<'a>(
     first
 }
 
-/// Whether an urgent pair is due.
+/// Whether the pair comes before all kinds.
+fn goes_first(precedence: Precedence, pair: &CandidatePair) -> bool
+    ensures { result ≡ goes_first precedence pair.now }
+{
+    is_named_by(precedence.selected, pair) || (precedence.urgent && is_urgent(pair))
+}
+
+/// Whether such a pair is due.
 #[derive(Clone, Copy)]
-struct UrgentDue<'a> {
+struct FirstDue<'a> {
+    precedence: Precedence,
     now: Instant,
     timing: &'a StunTiming,
 }
 
-impl PairTest for UrgentDue<'_> {
-    ghost use Rattle.std.specs.Prelude.{◌&&◌};
-    ghost use Rattle.is_pair.specs.Due.{is_due, is_urgent};
+impl PairTest for FirstDue<'_> {
+    ghost use Rattle.is_rules.specs.Kinds.{is_first_due};
 
-    ghost passes = { λ t p. is_due t.now.0 t.timing.now p && is_urgent p };
+    ghost passes = { λ t p. is_first_due t.precedence t.now.0 t.timing.now p };
 
     fn passes(&self, pair: &CandidatePair) -> bool {
-        due_time_of(pair, self.now, self.timing) <= self.now && is_urgent(pair)
+        due_time_of(pair, self.now, self.timing) <= self.now && goes_first(self.precedence, pair)
     }
 }
 
-/// An urgent pair is due.
-pub fn has_urgent_due(pairs: &Checklist, now: Instant, timing: &StunTiming) -> bool
-    ensures { result ≡ list_any (λ p. is_due now.0 timing.now p && is_urgent p) (multiset_of pairs.now) }
+/// A pair is due that comes before all kinds.
+pub fn has_first_due(
+    pairs: &Checklist,
+    precedence: Precedence,
+    now: Instant,
+    timing: &StunTiming,
+) -> bool
+    ensures { result ≡ list_any (is_first_due precedence now.0 timing.now) (multiset_of pairs.now) }
 {
-    pairs.any(&UrgentDue { now, timing })
+    pairs.any(&FirstDue {
+        precedence,
+        now,
+        timing,
+    })
 }

@@ -10,10 +10,10 @@ ghost use Rattle.is_stun.specs.declared.timing.StunTiming.{StunTiming};
 ghost use Rattle.is_rules.specs.Due.{falls_due};
 ghost use Rattle.is_rules.specs.FormingView.{sides_view};
 ghost use Rattle.is_rules.specs.Kept.{is_placed, are_placed};
-ghost use Rattle.is_pair.specs.Multiset.{are_below, change_pair, IsGreatest};
+ghost use Rattle.is_pair.specs.Multiset.{are_below, change_pair, IsGreatest, is_named_by};
 ghost use Rattle.is_pair.specs.Checklists as checklists;
 ghost use Rattle.is_pair.specs.Checklists.{multiset_of, HasRoom};
-ghost use Rattle.is_rules.specs.Nominating.{eligible_numbered, favored, is_eligible, is_named_by, nominated_by_self, pair_selected, remains, persists_at};
+ghost use Rattle.is_rules.specs.Nominating.{eligible_numbered, favored, is_eligible, nominated_by_self, pair_selected, remains, persists_at};
 ghost use Rattle.is_rules.specs.Nominating.{selection, path_in, IsChosen, Names};
 
 use crate::emitted::Path;

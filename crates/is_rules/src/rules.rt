@@ -5,7 +5,7 @@ ghost use Rattle.is_rules.specs.Agent.{original_rules, modern_rules};
 ghost use Rattle.is_rules.specs.Checking.{goes_ahead};
 
 use is_proto::Duration;
-use is_stun::stun::EarlyRto;
+use is_stun::stun::{Consent, EarlyRto};
 
 /// What an agent does beyond the original's behaviour, one field for each rule.
 #[derive(Clone, Copy, Debug, PartialEq, Eq)]
@@ -27,12 +27,27 @@ pub struct Rules {
     /// A controlled agent selects a pair when the request arrives that nominates it, if the pair is valid (RFC 8445, section
     /// 7.3.1.5), and not only in the next `handle_timeout` call.
     pub selects_at_once: bool,
+    /// A pair is removed this long after its last check that got a response was sent, however many pairs there are (RFC 7675, section
+    /// 5.1). If it is not strict, the peer's checks keep the pair too, each for 15 s. `poll_timeout` returns a time no later than this,
+    /// except for pacing. What removes a pair without this rule still does.
+    pub consent: Option<Consent>,
+    /// Every second check may go to the pair that was selected last, if it is due, before all others. So consent on the path in use is
+    /// renewed in time, however many pairs there are.
+    pub selected_first: bool,
+    /// `poll_timeout` returns a time after each successful `handle_timeout` call, also after one that serves an early request.
+    pub timeout_after_requests: bool,
 }
 
 /// How often, and how far apart.
 const MODERN_EARLY_RTO: EarlyRto = EarlyRto {
     retransmits: 4,
     interval: Duration(100_000_000),
+};
+
+/// Within the 30 s of RFC 7675, section 5.1.
+const MODERN_CONSENT: Consent = Consent {
+    timeout: Duration(29_600_000_000),
+    strict: false,
 };
 
 impl Rules {
@@ -45,10 +60,13 @@ impl Rules {
             triggered_checks: None,
             early_rto: None,
             selects_at_once: false,
+            consent: None,
+            selected_first: false,
+            timeout_after_requests: false,
         }
     }
 
-    /// All rules that make agents connect sooner.
+    /// All rules: agents connect sooner, consent ends in time, and `poll_timeout` returns a time after each successful `handle_timeout`.
     pub fn modern() -> Rules
         ensures { result ≡ modern_rules }
     {
@@ -57,6 +75,9 @@ impl Rules {
             triggered_checks: Some(4),
             early_rto: Some(MODERN_EARLY_RTO),
             selects_at_once: true,
+            consent: Some(MODERN_CONSENT),
+            selected_first: true,
+            timeout_after_requests: true,
         }
     }
 }
@@ -65,5 +86,5 @@ impl Rules {
 pub fn goes_ahead(rules: &Rules) -> bool
     ensures { result ≡ goes_ahead rules.now }
 {
-    rules.kinds_in_turn || rules.triggered_checks.is_some()
+    rules.kinds_in_turn || rules.triggered_checks.is_some() || rules.selected_first
 }

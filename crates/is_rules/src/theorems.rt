@@ -1,7 +1,7 @@
 //! The lemmas and theorems of each transition of an agent. Each is the contract of a function that does nothing. Those of
 //! executions are in `is_theorems`.
 
-ghost use Rattle.is_rules.specs.TimeoutTimes.{TimeoutIsAhead, TimeoutIsInTime};
+ghost use Rattle.is_rules.specs.TimeoutTimes.{TimeoutIsAhead, TimeoutIsInTime, TimeoutIsGiven, CallsAreNoted, CallsAreFollowed};
 
 use is_candidate::LocalPreference;
 use is_proto::Sha1HmacProvider;
@@ -11,7 +11,19 @@ pub fn timeout_is_ahead<H: Sha1HmacProvider, P: LocalPreference>()
     ensures { TimeoutIsAhead H P }
 {}
 
-/// No timeout is later than the due time of a pair, except for pacing.
+/// No timeout is later than the time at which a pair is due or its consent ends, except for pacing.
 pub fn timeout_is_in_time<H: Sha1HmacProvider, P: LocalPreference>()
     ensures { TimeoutIsInTime H P }
+{}
+
+/// There is a next timeout if there was a last `handle_timeout` call.
+pub fn timeout_is_given<H: Sha1HmacProvider, P: LocalPreference>()
+    ensures { TimeoutIsGiven H P }
+{}
+
+/// With the rule `timeout_after_requests`, the time of each successful `handle_timeout` call is that of the last call. So `poll_timeout`
+/// returns a time after it, at least one pacing interval later, or 3 s if there is nothing to check.
+pub fn calls_are_noted<H: Sha1HmacProvider, P: LocalPreference>()
+    ensures noted { CallsAreNoted P H.mac }
+    ensures followed { CallsAreFollowed P H.mac }
 {}

@@ -22,6 +22,15 @@ pub struct EarlyRto {
     pub interval: Duration,
 }
 
+/// How long a full agent keeps a pair after its last check that got a response (consent freshness, RFC 7675, section 5.1).
+#[derive(Clone, Copy, Debug, PartialEq, Eq)]
+pub struct Consent {
+    /// How long after that check was sent. Each nanosecond counts.
+    pub timeout: Duration,
+    /// Whether only responses keep a pair, as in RFC 7675. Otherwise the peer's checks keep it too, each for 15 s.
+    pub strict: bool,
+}
+
 /// The retransmission timeouts (RTO) of checks, how many checks may go without a response before a path fails, and how
 /// long an ICE-lite agent, which sends no checks, waits for those of its peer. A pair requires at least one retransmit.
 #[derive(Debug, Drop)]
@@ -37,11 +46,13 @@ pub struct StunTiming {
     pub lite_timeout: Duration,
     /// How the checks of a pair without a response, and those that nominate it, are repeated at first. None: by the RTO.
     pub early: Option<EarlyRto>,
+    /// How long a response keeps a pair of a full agent. None: a pair is kept until enough checks have no response.
+    pub consent: Option<Consent>,
 }
 
 /// An initial RTO of 250 ms, 9 retransmits, a longest RTO of 3 s, and 15 s for an ICE-lite agent.
 impl Default for StunTiming {
-    ghost is_default = { λ t. t ≡ record { initial_rto = record { 0 = 250 * MILLISECOND }; max_retransmits = 9; max_rto = record { 0 = 3000 * MILLISECOND }; lite_timeout = record { 0 = 15 * SECOND }; early = None } };
+    ghost is_default = { λ t. t ≡ record { initial_rto = record { 0 = 250 * MILLISECOND }; max_retransmits = 9; max_rto = record { 0 = 3000 * MILLISECOND }; lite_timeout = record { 0 = 15 * SECOND }; early = None; consent = None } };
 
     fn default() -> StunTiming {
         StunTiming {
@@ -50,6 +61,7 @@ impl Default for StunTiming {
             max_rto: Duration(3_000_000_000),
             lite_timeout: Duration(15_000_000_000),
             early: None,
+            consent: None,
         }
     }
 }

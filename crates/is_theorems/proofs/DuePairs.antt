@@ -5,3 +5,4 @@ pub mod FirstDuePair
 pub mod AfterPackets
 pub mod WithoutValidPair
 pub mod PollingCycles
+pub mod ConsentAfterTimeouts

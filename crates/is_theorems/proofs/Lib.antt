@@ -13,4 +13,5 @@ mod RemainingChecks
 mod PollingRounds
 mod RenominatedPaths
 mod PunctualTimeouts
+mod ConnectedConsent
 mod WorkedExamples

@@ -8,3 +8,4 @@ pub mod FirstResponsePerAgent
 pub mod NominatedByPeer
 pub mod NominatedByPeerPerAgent
 pub mod SelectedAtRequests
+pub mod SelectedInCall

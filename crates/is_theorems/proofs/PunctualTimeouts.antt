@@ -1,3 +1,4 @@
 -- In which time a pair is checked.
 pub mod UnchangedPacing
 pub mod ChecksInTime
+pub mod ConsentInTime

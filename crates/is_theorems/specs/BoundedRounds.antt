@@ -9,7 +9,7 @@ use Rattle.is_theorems.specs.Asked.{IsAnsweredIn}
 use Rattle.is_theorems.specs.Bounds.{FormsFew, IsLimited, gathered_count, pair_bound, signal_count}
 use Rattle.is_theorems.specs.Logs.{Logged}
 use Rattle.is_theorems.specs.Progress.{checks_for}
-use Rattle.is_theorems.specs.Reached.{ChecksIn, IsEndedIn, IsInLine, IsPassing}
+use Rattle.is_theorems.specs.Reached.{ChecksIn, IsEndedIn, IsInLine, IsLasting, IsPassing}
 use Rattle.is_theorems.specs.Rounds.{LoggedRound, Part, began_at, entries_of}
 use Rattle.is_theorems.specs.Runs.{IsFresh}
 use Rattle.is_rules.specs.Sending.{path_of}
@@ -23,6 +23,7 @@ module _ {H P : Type 0} where
     pub began : began_at rounds ≡ Some at
     pub line : IsInLine at by start p
     pub passing : (r : LoggedRound P) → Has rounds r → IsPassing by r
+    pub lasting : (r : LoggedRound P) → Has rounds r → IsLasting r.now start p
     pub enough : checks_for start.rules (2 * bound + last.next_number) ≤ length rounds + 1 + checks_for start.rules start.next_number
 
   module _ (mac : H → List ℕ → List ℕ → List ℕ) (answers : P → CandidateRecord → ℕ → ℕ → Type 0) where

@@ -14,7 +14,7 @@ use Rattle.is_theorems.specs.Courses.{CourseRound}
 use Rattle.is_theorems.specs.Exchange.{Course}
 use Rattle.is_theorems.specs.Logs.{Logged}
 use Rattle.is_theorems.specs.Progress.{checks_for}
-use Rattle.is_theorems.specs.Reached.{IsInLine, is_in_round, IsPassing, ChecksIn, IsEndedIn}
+use Rattle.is_theorems.specs.Reached.{IsInLine, IsLasting, is_in_round, IsPassing, ChecksIn, IsEndedIn}
 use Rattle.is_theorems.specs.ReachedCourses.{ChecksAmong, IsAnsweredAmong, PassRounds}
 use Rattle.is_theorems.specs.Rounds.{LoggedRound, entries_of, Part}
 use Rattle.is_theorems.specs.Runs.{IsFresh}
@@ -67,7 +67,7 @@ module _ {H P : Type 0} (mac : H → List ℕ → List ℕ → List ℕ) (answer
   OpenCoursesReach =
       (first start last : AgentRecord H P) (xs : List (Call P × Entry)) (r : CourseRound P) (rounds : List (CourseRound P)) (p : PairRecord) (by : ℕ)
       → IsFresh first → Course mac answers xs first start → IsInLine r.now by start p → (run : PassRounds mac answers (r ∷ rounds) start last)
-      → ((x : CourseRound P) → Has (r ∷ rounds) x → IsOpenRound by x)
+      → ((x : CourseRound P) → Has (r ∷ rounds) x → IsOpenRound by x) → ((x : CourseRound P) → Has (r ∷ rounds) x → IsLasting x.now start p)
       → checks_for start.rules (2 * length start.pairs + last.next_number) ≤ length (r ∷ rounds) + 1 + checks_for start.rules start.next_number
       → IsReached (r ∷ rounds) start last run (path_of start p)
 
@@ -78,7 +78,7 @@ module _ {H P : Type 0} (mac : H → List ℕ → List ℕ → List ℕ) (answer
       → IsFresh first → Course mac answers xs first start → IsInLine r.now by start p
       → by ≤ r.now → r.timeout.answer ≡ Done → r.now < MAX → AreInRound r.following
       → (run : PassRounds mac answers (r ∷ later) start last) → ((x : CourseRound P) → Has later x → IsOpenRound by x)
-      → Suffices by r.now start run.1 last (length later)
+      → ((x : CourseRound P) → Has later x → IsLasting x.now start p) → Suffices by r.now start run.1 last (length later)
       → IsReached (r ∷ later) start last run (path_of start p)
 
   -- ---- in a log
@@ -100,7 +100,7 @@ module _ {H P : Type 0} (mac : H → List ℕ → List ℕ → List ℕ) (answer
       → (others : Part mac answers first s log (entries_of (r ∷ []) ++ before) second (entries_of later) last)
       → IsInLine r.now by start p → by ≤ r.now → r.timeout.call ≡ HandleTimeout r.now → r.timeout.entry.answer ≡ Done
       → ((x : Logged P) → Has r.following x → is_in_round x.call ≡ true) → ((x : LoggedRound P) → Has later x → IsPassing by x)
-      → SufficesFromDue start second last (length later)
+      → ((x : LoggedRound P) → Has later x → IsLasting x.now start p) → SufficesFromDue start second last (length later)
       → IsReachedIn (r ∷ []) one (path_of start p) ⊎ IsReachedIn later others (path_of start p)
 
   abbrev pub PairsAreReachedFromDue : Type 0

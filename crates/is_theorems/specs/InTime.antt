@@ -14,7 +14,7 @@ use Rattle.is_theorems.specs.Courses.{SelectsAmong, CourseRound, CourseRounds}
 use Rattle.is_rules.specs.Emitted.{issued_as}
 use Rattle.is_theorems.specs.Exchange.{AreBetween, Course}
 use Rattle.is_theorems.specs.Progress.{Awaits, IsUnanswered}
-use Rattle.is_theorems.specs.Reached.{IsInLine}
+use Rattle.is_theorems.specs.Reached.{IsInLine, IsLasting}
 use Rattle.is_theorems.specs.ReachedCourses.{IsAnsweredAmong, IsPassed, PassRounds}
 use Rattle.is_theorems.specs.Runs.{IsFresh}
 use Rattle.is_rules.specs.Sending.{path_of}
@@ -87,7 +87,7 @@ module _ {H P : Type 0} (mac : H → List ℕ → List ℕ → List ℕ) (answer
       → IsFresh first → Course mac answers xs first start → IsInLine r.now by start p
       → by ≤ r.now → r.timeout.answer ≡ Done → r.now < MAX → AreInRound r.following
       → (run : PassRounds mac answers (r ∷ later) start last) → ((x : CourseRound P) → Has later x → IsOpenRound by x)
-      → IsTimed pace delay start r later
+      → ((x : CourseRound P) → Has later x → IsLasting x.now start p) → IsTimed pace delay start r later
       → ComeBy r.now (pace + delay) (r ∷ later) ⊎ IsReachedBy (r.now + length later * (pace + delay)) (r ∷ later) start last run (path_of start p)
 
   -- Rounds of a punctual caller: if so many after the first suffice for the pair, its path is reached by this time, though more may
@@ -98,7 +98,7 @@ module _ {H P : Type 0} (mac : H → List ℕ → List ℕ → List ℕ) (answer
       → IsFresh first → Course mac answers xs first start → IsInLine r.now by start p
       → by ≤ r.now → r.timeout.answer ≡ Done → r.now < MAX → AreInRound r.following
       → (run : PassRounds mac answers (r ∷ later) start last) → ((x : CourseRound P) → Has later x → IsOpenRound by x)
-      → Suffices by r.now start run.1 last many → many ≤ length later → IsTimed pace delay start r later
+      → ((x : CourseRound P) → Has later x → IsLasting x.now start p) → Suffices by r.now start run.1 last many → many ≤ length later → IsTimed pace delay start r later
       → IsReachedBy (r.now + many * (pace + delay)) (r ∷ later) start last run (path_of start p)
 
   -- A controlling agent without a valid pair, in rounds in which only packets and polls come: if they suffice for the pair, a check is

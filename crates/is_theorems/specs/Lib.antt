@@ -35,3 +35,6 @@ pub mod Renominating
 pub mod RenominatingCourses
 pub mod Pacing
 pub mod InTime
+pub mod Consent
+pub mod ConsentCourses
+pub mod AtOnceCourses

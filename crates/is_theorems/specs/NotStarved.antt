@@ -1,17 +1,18 @@
 -- With limits on pairs and on what packets bring, a pair that is due is checked within a number of rounds that depends on nothing
 -- that the agent receives in them.
-use Rattle.std.specs.Prelude.{◌≡◌, ℕ, ◌+◌, ◌*◌, ◌≤◌, ◌⊎◌, Bool, true, false, List, length, count_by, Some}
+use Rattle.std.specs.Prelude.{◌≡◌, ℕ, ◌+◌, ◌*◌, ◌≤◌, ◌⊎◌, Bool, true, false, List, [], ◌∷◌, length, count_by, Some}
 use Rattle.rand_core.specs.Stream.{Stream}
 use Rattle.is_proto.specs.Lists.{Has}
 use Rattle.is_candidate.specs.Candidates.{CandidateRecord}
+use Rattle.is_pair.specs.Due.{has_consent}
 use Rattle.is_pair.specs.Pairs.{PairRecord}
 use Rattle.is_rules.specs.Agent.{AgentRecord}
 use Rattle.is_theorems.specs.Asked.{IsAnsweredIn}
 use Rattle.is_theorems.specs.Bounds.{FormsFew, IsLimited, gathered_count, pair_bound, signal_count}
 use Rattle.is_theorems.specs.Logs.{Logged}
 use Rattle.is_theorems.specs.Progress.{checks_for}
-use Rattle.is_theorems.specs.Reached.{ChecksIn, IsInLine, IsPassing, is_in_round}
-use Rattle.is_theorems.specs.Rounds.{LoggedRound, Part, began_at, entries_of}
+use Rattle.is_theorems.specs.Reached.{ChecksIn, IsInLine, IsLasting, IsPassing, is_in_round}
+use Rattle.is_theorems.specs.Rounds.{LoggedRound, Part, RunsOn, began_at, entries_of}
 use Rattle.is_theorems.specs.Runs.{IsFresh}
 use Rattle.is_rules.specs.Sending.{path_of}
 use Rattle.is_rules.specs.Steps.{Call, AddLocalCandidate, AddRemoteCandidate, HandleTimeout}
@@ -36,6 +37,10 @@ abbrev pub timeout_count : {P : Type 0} → List (Logged P) → ℕ
 timeout_count part = count_by (λ (x : Logged _). is_timeout x.call) part
 
 module _ {H P : Type 0} where
+  -- All pairs that are stored have consent at this time.
+  abbrev pub HaveConsent : ℕ → AgentRecord H P → Type 0
+  HaveConsent now a = (p : PairRecord) → Has a.pairs p → has_consent a.timing.consent now p ≡ true
+
   -- The rounds suffice for a pair that is due by the time `by` when they begin, whatever pairs requests add in them. For at most n
   -- pairs and m retransmits, m at least 2, k rounds suffice if k is at least (3n - 1) * m / (m - 1). If checks may go ahead, m is at
   -- least 3, and k at least (6n - 1) * m / (m - 2).
@@ -44,30 +49,39 @@ module _ {H P : Type 0} where
     pub began : began_at rounds ≡ Some at
     pub line : IsInLine at by start p
     pub passing : (r : LoggedRound P) → Has rounds r → IsPassing by r
+    pub lasting : (r : LoggedRound P) → Has rounds r → IsLasting r.now start p
     pub steady : AreSteady (entries_of rounds)
     pub enough : checks_for start.rules (3 * bound) * start.timing.max_retransmits + checks_for start.rules (length rounds)
         ≤ (length rounds + 1) * start.timing.max_retransmits
 
   module _ (mac : H → List ℕ → List ℕ → List ℕ) (answers : P → CandidateRecord → ℕ → ℕ → Type 0) where
-    -- A pair is removed after timeout only after m checks, and a `handle_timeout` call sends one check. So in a segment with k of
-    -- these calls, requests add at most k / m pairs, and one for each pair that exists afterwards.
+    -- At each `handle_timeout` call of a segment all pairs that are stored then have consent, or consent does not end by a clock.
+    abbrev pub ConsentLastsIn : (before : List (Logged P)) (start : AgentRecord H P) (s : Stream) (part : List (Logged P)) (last : AgentRecord H P) (t : Stream)
+        → RunsOn mac answers before start s part last t → Type 0
+    ConsentLastsIn before start s [] last t run = Unit {0}
+    ConsentLastsIn before start s (x ∷ part) last t run =
+        ((now : ℕ) → x.call ≡ HandleTimeout now → HaveConsent now run.0) × ConsentLastsIn before start s part run.0 run.1 run.2
+
+    -- A pair with consent is removed after timeout only after m checks, and a `handle_timeout` call sends one check. So in a segment with
+    -- k of these calls, in which consent lasts, requests add at most k / m pairs, and one for each pair that exists afterwards.
     abbrev pub RequestsAddFewIn : AgentRecord H P → Stream → List (Logged P) → Type 0
     RequestsAddFewIn first s log =
-        (before part : List (Logged P)) (start last : AgentRecord H P) → Part mac answers first s log before start part last
-        → start.lite ≡ false → AreSteady part
+        (before part : List (Logged P)) (start last : AgentRecord H P) → (found : Part mac answers first s log before start part last)
+        → start.lite ≡ false → AreSteady part → ConsentLastsIn before start found.at part last found.following found.run
         → last.next_number * start.timing.max_retransmits
         ≤ (start.next_number + length last.pairs) * start.timing.max_retransmits + timeout_count part
 
     abbrev pub RequestsAddFew : Type 0
     RequestsAddFew = (first : AgentRecord H P) (s : Stream) (log : List (Logged P)) → IsFresh first → RequestsAddFewIn first s log
 
-    -- Then a check is sent on the pair's path in one of the rounds, unless a success response is received on it in one of them. The
-    -- bound depends on the caller only.
+    -- If consent lasts in the rounds, a check is sent on the pair's path in one of them, unless a success response is received on it in
+    -- one of them. The bound depends on the caller only.
     abbrev pub SteadyRoundsReach : AgentRecord H P → Stream → List (Logged P) → Type 0
     SteadyRoundsReach first s log =
         (most limit : ℕ) → IsLimited mac answers most first s log → FormsFew mac answers limit first s log
         → (before : List (Logged P)) (start last : AgentRecord H P) (rounds : List (LoggedRound P)) (p : PairRecord) (by : ℕ)
-        → Part mac answers first s log before start (entries_of rounds) last
+        → (found : Part mac answers first s log before start (entries_of rounds) last)
+        → ConsentLastsIn before start found.at (entries_of rounds) last found.following found.run
         → SufficeSteady (pair_bound limit most (gathered_count before) (signal_count before)) by start rounds p
         → ChecksIn rounds (path_of start p) ⊎ IsAnsweredIn (entries_of rounds) (path_of start p)
 

@@ -7,7 +7,7 @@ use Rattle.is_proto.specs.Lists.{Has}
 use Rattle.is_proto.specs.Times.{MAX}
 use Rattle.is_candidate.specs.Candidates.{CandidateRecord}
 use Rattle.is_pair.specs.Checks.{unanswered_count}
-use Rattle.is_pair.specs.Due.{due_time_of}
+use Rattle.is_pair.specs.Due.{due_time_of, stays_answered}
 use Rattle.is_pair.specs.Pairs.{PairRecord, is_valid}
 use Rattle.is_stun.specs.declared.header.Class.TheVariants as class
 use Rattle.is_rules.specs.Agent.{AgentRecord}
@@ -57,8 +57,13 @@ abbrev pub IsMetOn : {P : Type 0} → Path → LoggedRound P → Type 0
 IsMetOn path r = (id : List ℕ) → r.timeout.entry.emitted.issued ≡ Some (issued_as path class.Request id) → IsAnsweredIn r.following path
 
 module _ {H P : Type 0} where
-  -- A pair waits for its check: its due time, computed at time `at`, is at most `by`, and it will not be removed after timeout
-  -- before the check. It is not valid, so nothing nominates it first, or its due time is fixed already.
+  -- Consent does not end before this time: the last check of the pair that got a response is recent enough, or consent does not end
+  -- by a clock. A pair that is not valid never got one.
+  abbrev pub IsLasting : ℕ → AgentRecord H P → PairRecord → Type 0
+  IsLasting now a p = is_valid p ≡ true → stays_answered a.timing.consent now p ≡ true
+
+  -- A pair waits for its check: its due time, computed at time `at`, is at most `by`, and it will not be removed after timeout, or when
+  -- consent ends, before the check. It is not valid, so nothing nominates it first, or its due time is fixed already.
   pub record IsInLine (at by : ℕ) (a : AgentRecord H P) (p : PairRecord) : Type 0 where
     pub checking : IsChecking a
     pub queue : a.queue ≡ []
@@ -66,6 +71,7 @@ module _ {H P : Type 0} where
     pub due : due_time_of at a.timing p ≤ by
     pub settled : (is_valid p ≡ false) ⊎ (is_some p.due ≡ true)
     pub young : unanswered_count p.checks < a.timing.max_retransmits
+    pub lasting : IsLasting at a p
 
   -- The rounds suffice for a pair that is due by the time `by` when they begin: their `handle_timeout` calls are later than `by`.
   -- For n pairs there are at least 2n - 1 rounds, and one more for each pair that is added in them; if checks may go ahead,
@@ -75,6 +81,7 @@ module _ {H P : Type 0} where
     pub began : began_at rounds ≡ Some at
     pub line : IsInLine at by start p
     pub passing : (r : LoggedRound P) → Has rounds r → IsPassing by r
+    pub lasting : (r : LoggedRound P) → Has rounds r → IsLasting r.now start p
     pub enough : checks_for start.rules (2 * length start.pairs + last.next_number) ≤ length rounds + 1 + checks_for start.rules start.next_number
 
   module _ (mac : H → List ℕ → List ℕ → List ℕ) (answers : P → CandidateRecord → ℕ → ℕ → Type 0) where

@@ -14,7 +14,7 @@ use Rattle.is_theorems.specs.AskedCourses.{IsAnsweredAlong}
 use Rattle.is_theorems.specs.Courses.{CourseRound, SelectsAmong, CourseRounds}
 use Rattle.is_theorems.specs.Exchange.{AreBetween, Course}
 use Rattle.is_theorems.specs.Progress.{checks_for, Awaits, IsUnanswered}
-use Rattle.is_theorems.specs.Reached.{IsInLine}
+use Rattle.is_theorems.specs.Reached.{IsInLine, IsLasting}
 use Rattle.is_theorems.specs.Runs.{IsFresh}
 use Rattle.is_rules.specs.Sending.{path_of}
 use Rattle.is_rules.specs.Steps.{Call, Entry, HandleTimeout, Done, Step}
@@ -52,7 +52,7 @@ module _ {H P : Type 0} (mac : H → List ℕ → List ℕ → List ℕ) (answer
   CoursesReach =
       (first start last : AgentRecord H P) (xs : List (Call P × Entry)) (r : CourseRound P) (rounds : List (CourseRound P)) (p : PairRecord) (by : ℕ)
       → IsFresh first → Course mac answers xs first start → IsInLine r.now by start p → PassRounds (r ∷ rounds) start last
-      → ((x : CourseRound P) → Has (r ∷ rounds) x → IsPassed by x)
+      → ((x : CourseRound P) → Has (r ∷ rounds) x → IsPassed by x) → ((x : CourseRound P) → Has (r ∷ rounds) x → IsLasting x.now start p)
       → checks_for start.rules (2 * length start.pairs + last.next_number) ≤ length (r ∷ rounds) + 1 + checks_for start.rules start.next_number
       → ChecksAmong (r ∷ rounds) (path_of start p) ⊎ IsAnsweredAmong (r ∷ rounds) (path_of start p)
 

@@ -5,6 +5,7 @@
 //! proving it again.
 #![tactic(auto)]
 
+pub mod consent;
 pub mod exchanging;
 pub mod flooding;
 pub mod logs;

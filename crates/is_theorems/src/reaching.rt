@@ -1,6 +1,9 @@
 //! How soon a pair is checked, also if candidates are added meanwhile, or if it is due at the first timeout. The numbers of rounds are
 //! those if checks may not go ahead of pairs that are due earlier (`Rules`). If they may, 2n - 1 becomes 4n - 1, with two more for each
 //! pair that is added, and n becomes 2n, since every second check may be of another pair. A single pair still needs one round.
+//!
+//! With the rule `consent` a pair that is valid when the rounds begin also has to keep consent in them: at each of their timeouts its last
+//! check that got a response before them is recent enough (`IsLasting`). Otherwise it may be removed before its check.
 
 ghost use Rattle.is_theorems.specs.BoundedRounds.{LimitsReach};
 ghost use Rattle.is_theorems.specs.FirstChecks.{CoursesCheckFromDue};

@@ -3,6 +3,7 @@
 ghost use Rattle.is_theorems.specs.Asked.{AskedAreSelected};
 ghost use Rattle.is_theorems.specs.AskedCourses.{SuccessesSelect, AcceptedNominationsAreSelected};
 ghost use Rattle.is_theorems.specs.AtOnce.{RequestsSelect, NominationsSelectAtOnce};
+ghost use Rattle.is_theorems.specs.AtOnceCourses.{CompletedNominationsAreSelected};
 ghost use Rattle.is_theorems.specs.Progress.{AnswersSelect, TimeoutsSelect};
 ghost use Rattle.is_theorems.specs.Runs.{SelectedAreAnswered, SelectedAreNominatedByPeer, PointsAreTop, TakersAreValid, AskedAreNominated};
 
@@ -79,4 +80,12 @@ pub fn asked_are_selected<H: Sha1HmacProvider, P: LocalPreference>()
 /// may have been removed.
 pub fn accepted_nominations_are_selected<H: Sha1HmacProvider, P: LocalPreference>()
     ensures { AcceptedNominationsAreSelected H.mac P.answers }
+{}
+
+/// A controlled agent, which may share its random source, selects in the call in which the second of the two arrives: the peer's
+/// nomination of a path and a success response on it, in either order. The path that was selected last is then that of an eligible
+/// pair of greatest priority, if only one pair uses the path's addresses and no pair that does may have been removed. If the nomination
+/// comes second, the rule `selects_at_once` is a precondition.
+pub fn completed_nominations_are_selected<H: Sha1HmacProvider, P: LocalPreference>()
+    ensures { CompletedNominationsAreSelected H.mac P.answers }
 {}

@@ -7,7 +7,7 @@ use super::step::Packet::*;
 use super::step::Shown::*;
 use super::step::Start::*;
 use super::step::Step::*;
-use super::step::{At, Setting};
+use super::step::{At, Setting, Whose};
 use super::story::{Story, play};
 use super::*;
 use is::pair::CheckState;
@@ -16,7 +16,8 @@ use is::pair::CheckState;
 fn pairs_stay_or_go(rt: HostRuntime) -> Result<(), Fail> {
     play(rt.alloc(), &FORMED)?;
     play(rt.alloc(), &SENDERS)?;
-    play(rt.alloc(), &LIMITED)
+    play(rt.alloc(), &LIMITED)?;
+    play(rt.alloc(), &VALID)
 }
 
 /// The peer's server-reflexive candidate, at the address of its host candidate.
@@ -181,3 +182,29 @@ const LIMITED: [Story; 3] = [
         ],
     ),
 ];
+
+// ---- valid pairs that are not nominated
+
+/// A host candidate of the peer of less priority than `PEER`.
+const LESSER: &str = "candidate:1 1 udp 2130706174 10.0.0.3 3000 typ host";
+
+const VALID: [Story; 1] = [Story(
+    "media_may_go_on_a_valid_path_before_nomination",
+    &[
+        Begin(Paired),
+        Set(Setting::Controlling(false)),
+        Does(Peer(LESSER)),
+        Shows(ValidPath(None)),
+        Does(CheckTo(0, At(2, 2000), false)),
+        Does(CheckTo(50, At(3, 3000), false)),
+        Shows(ValidPath(None)),
+        Takes(Answer(60, At(3, 3000))),
+        Shows(ValidPath(Some((At(1, 1000), At(3, 3000))))),
+        Does(CheckTo(250, At(2, 2000), false)),
+        Takes(Answer(260, At(2, 2000))),
+        Shows(ValidPath(Some((At(1, 1000), At(2, 2000))))),
+        Emits(Selected(None)),
+        Does(Creds(Whose::Restarted, "next", "nextpass")),
+        Shows(ValidPath(None)),
+    ],
+)];

@@ -1,6 +1,7 @@
 //! Early requests: requests received before the remote credentials. 100 are stored, and each `handle_timeout` call
 //! serves one.
 
+use super::settings::ORIGINAL;
 use super::step::Call::*;
 use super::step::Emitted::*;
 use super::step::Held::*;
@@ -11,13 +12,20 @@ use super::step::Step::*;
 use super::step::{At, Count, Setting, Whose};
 use super::story::{Story, play};
 use super::*;
+use is::Rules;
 
 #[test]
 fn requests_wait(rt: HostRuntime) -> Result<(), Fail> {
     play(rt.alloc(), &STORIES)
 }
 
-const STORIES: [Story; 7] = [
+/// A call that serves a request counts as the last one.
+const COUNTS_EACH: Rules = Rules {
+    timeout_after_requests: true,
+    ..ORIGINAL
+};
+
+const STORIES: [Story; 8] = [
     Story(
         "the_last_100_requests_wait",
         &[
@@ -95,6 +103,32 @@ const STORIES: [Story; 7] = [
             Shows(NextAt(3010)),
             Takes(Request(20, At(1, 1000))),
             Shows(NextAt(60)),
+        ],
+    ),
+    Story(
+        "a_call_that_serves_a_request_is_followed_by_another",
+        &[
+            Begin(Early),
+            Set(Setting::Rules(COUNTS_EACH)),
+            Takes(Many(2)),
+            Does(Creds(Whose::Remote, "SQAt", "x")),
+            Shows(NoNext),
+            Does(Check(10)),
+            Emits(Sent(Class::Success, 64)),
+            Shows(NextAt(60)),
+            Does(Check(60)),
+            Emits(Sent(Class::Success, 64)),
+            Shows(NextAt(110)),
+            Does(Check(110)),
+            Emits(Sent(Class::Request, 88)),
+            // without the rule
+            Begin(Early),
+            Set(Setting::Rules(ORIGINAL)),
+            Takes(Many(1)),
+            Does(Creds(Whose::Remote, "SQAt", "x")),
+            Does(Check(10)),
+            Emits(Sent(Class::Success, 64)),
+            Shows(NoNext),
         ],
     ),
     Story(

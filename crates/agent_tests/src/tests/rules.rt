@@ -32,38 +32,30 @@ fn a_request_may_select(rt: HostRuntime) -> Result<(), Fail> {
 }
 
 /// Only the first four requests on a pair trigger checks.
-const TRIGGERS: Rules = Rules {
-    kinds_in_turn: false,
+pub(super) const TRIGGERS: Rules = Rules {
     triggered_checks: Some(4),
-    early_rto: None,
-    selects_at_once: false,
+    ..ORIGINAL
 };
 
 /// The same, and kinds of pairs take turns.
 const TRIGGERS_AND_KINDS: Rules = Rules {
     kinds_in_turn: true,
-    triggered_checks: Some(4),
-    early_rto: None,
-    selects_at_once: false,
+    ..TRIGGERS
 };
 
 /// Only the first four retransmissions are early, 100 ms apart.
 const REPEATS: Rules = Rules {
-    kinds_in_turn: false,
-    triggered_checks: None,
     early_rto: Some(EarlyRto {
         retransmits: 4,
         interval: Duration(100_000_000),
     }),
-    selects_at_once: false,
+    ..ORIGINAL
 };
 
 /// Only a request may select.
 const SELECTS: Rules = Rules {
-    kinds_in_turn: false,
-    triggered_checks: None,
-    early_rto: None,
     selects_at_once: true,
+    ..ORIGINAL
 };
 
 /// The address of `PEER`.

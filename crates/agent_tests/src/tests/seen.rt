@@ -6,7 +6,7 @@ use super::step::{At, Count, Held, Shown};
 use super::story::same;
 use super::*;
 use is::pair::CheckState;
-use is::{CandidateKind, Duration, IceAgentStats};
+use is::{CandidateKind, Duration, IceAgentStats, Path};
 
 /// What can be seen of a pair.
 #[derive(Clone, Copy)]
@@ -195,6 +195,7 @@ impl Player {
                 let actual = self.agent.ice_timeout();
                 self.compares(actual, millis(ms))
             }
+            Shown::ValidPath(ends) => self.has_valid_path(ends),
             Shown::NextAt(ms) => {
                 let next = self.agent.poll_timeout();
                 self.compares(next, Some(later(ms)))
@@ -207,6 +208,17 @@ impl Player {
             Shown::NoFigures => self.has_figures(None, None, None),
             _ => false,
         }
+    }
+
+    /// The path of a valid pair of greatest priority is this one over UDP.
+    fn has_valid_path(&mut self, ends: Option<(At, At)>) -> bool {
+        let path = self.agent.valid_path();
+        let expected = ends.map(|(source, destination)| Path {
+            proto: Protocol::Udp,
+            source: source.socket(),
+            destination: destination.socket(),
+        });
+        self.compares(path, expected)
     }
 
     /// The figures of the selected pair: round-trip time of the last response and the total, and the number of responses.

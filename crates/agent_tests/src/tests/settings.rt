@@ -8,7 +8,7 @@ use super::step::Step::*;
 use super::step::{Outcome, Setting, Shown, Whose};
 use super::story::{Story, play};
 use super::*;
-use is::stun::EarlyRto;
+use is::stun::{Consent, EarlyRto};
 use is::{Duration, Rules};
 
 #[test]
@@ -25,10 +25,13 @@ pub(super) const ORIGINAL: Rules = Rules {
     triggered_checks: None,
     early_rto: None,
     selects_at_once: false,
+    consent: None,
+    selected_first: false,
+    timeout_after_requests: false,
 };
 
-/// What connects fastest.
-const MODERN: Rules = Rules {
+/// What connects fastest, keeps consent, and has a next timeout after each call.
+pub(super) const MODERN: Rules = Rules {
     kinds_in_turn: true,
     triggered_checks: Some(4),
     early_rto: Some(EarlyRto {
@@ -36,6 +39,12 @@ const MODERN: Rules = Rules {
         interval: Duration(100_000_000),
     }),
     selects_at_once: true,
+    consent: Some(Consent {
+        timeout: Duration(29_600_000_000),
+        strict: false,
+    }),
+    selected_first: true,
+    timeout_after_requests: true,
 };
 
 const STORIES: [Story; 5] = [

@@ -296,6 +296,8 @@ pub(super) enum Shown {
     Disconnected,
     /// This address has a viable pair, or not.
     Viable(At, bool),
+    /// The path of a valid pair of greatest priority: the local and the remote address, over UDP.
+    ValidPath(Option<(At, At)>),
     /// The next timeout.
     NextAt(u64),
     /// There is no next timeout.

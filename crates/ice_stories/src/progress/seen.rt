@@ -83,6 +83,7 @@ fn is_fixed(pair: &CandidatePair) -> Option<bool> {
         max_rto: Duration(0),
         lite_timeout: Duration(0),
         early: None,
+        consent: None,
     };
     let hour = StunTiming {
         initial_rto: Duration(3_600_000_000_000),
@@ -90,6 +91,7 @@ fn is_fixed(pair: &CandidatePair) -> Option<bool> {
         max_rto: Duration(3_600_000_000_000),
         lite_timeout: Duration(3_600_000_000_000),
         early: None,
+        consent: None,
     };
     let (mut early, mut late) = (pair.try_clone().ok()?, pair.try_clone().ok()?);
     Some(early.next_binding_attempt(Instant(0), &at_once) == late.next_binding_attempt(LATE, &hour))
@@ -105,6 +107,7 @@ fn pair_seen(pair: &CandidatePair, now: Instant, limit: usize) -> Option<Awaited
         max_rto: Duration(3_000_000_000),
         lite_timeout: Duration(15_000_000_000),
         early: None,
+        consent: None,
     };
     let mut copy = pair.try_clone().ok()?;
     Some(Awaited {
@@ -130,7 +133,9 @@ pub fn settings(agent: &Agent, limit: usize) -> Seen {
         joined: 0,
         nominated: true,
         renominates: agent.renomination(),
-        goes_ahead: agent.rules().kinds_in_turn || agent.rules().triggered_checks.is_some(),
+        goes_ahead: agent.rules().kinds_in_turn
+            || agent.rules().triggered_checks.is_some()
+            || agent.rules().selected_first,
         awaited: None,
         due: 0,
         is_valid: false,

@@ -77,6 +77,7 @@ sound_new sound a (creds, tie, role, is) =
       below = s.below;
       selected_paths = s.selected_paths;
       started = s.started;
+      consented = s.consented;
       checks = s.checks;
       queued = s.queued;
       based = s.based;

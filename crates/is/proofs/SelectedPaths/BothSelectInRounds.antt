@@ -16,7 +16,7 @@ use Rattle.is_theorems.specs.Courses.{CourseRound}
 use Rattle.is_rules.specs.Effects.{PathTheorem}
 use Rattle.is_rules.specs.Queue.{request_at}
 use Rattle.is_theorems.specs.Exchange.{AreBetween, Course}
-use Rattle.is_theorems.specs.Reached.{IsInLine}
+use Rattle.is_theorems.specs.Reached.{IsInLine, IsLasting}
 use Rattle.is_theorems.specs.ReachedCourses.{IsPassed, PassRounds}
 use Rattle.is_rules.specs.Sending.{path_of}
 use Rattle.is_theorems.specs.FirstChecks.{times_of}
@@ -136,9 +136,10 @@ module _ {H P : Type 0} (mac : H → List ℕ → List ℕ → List ℕ) (answer
 
   pub reached : CoursesReachFromDue {H = H} {P = P} mac answers → (side : Side) (first last : WorldRecord H P) (s : Stream) (xs : List (agent.Call P × Entry)) (r : SideRound H P) (later : List (SideRound H P)) (p : PairRecord) (by : ℕ)
       → IsNewAgent (at side first) → Course mac answers xs (at side first) (at side r.timeout.before) → Follow mac answers r.timeout.before (all_of (r ∷ later)) last
-      → IsInLine r.now by (at side r.timeout.before) p → AreKept side by r later → SideRoundsSuffice side by r later last
+      → IsInLine r.now by (at side r.timeout.before) p → AreKept side by r later
+      → ((x : SideRound H P) → Has later x → IsLasting x.now (at side r.timeout.before) p) → SideRoundsSuffice side by r later last
       → Reaches side (path_of (at side r.timeout.before) p) (r ∷ later)
-  reached reach side first last s xs r later p by n led (same, u, v, happens, more) line kept enough =
+  reached reach side first last s xs r later p by n led (same, u, v, happens, more) line kept lasting enough =
       let path : Path = path_of (at side r.timeout.before) p in
       let own_first : IsKept side r = kept.kept r (inl refl) in
       let c = cut mac answers r.following (all_of later) r.timeout.following last more in
@@ -151,7 +152,8 @@ module _ {H P : Type 0} (mac : H → List ℕ → List ℕ → List ℕ) (answer
       (subst (λ (w : WorldRecord H P). Suffices by r.now (at side r.timeout.before) (at side w) (at side last) (length later)) second (search enough)) in
       elim (reach (fresh (at side first).provider n.0 n.1) (at side r.timeout.before) (at side last) ((agent.SetControlling n.2, quiet Done) ∷ xs) (round_of side r) (rounds_of side later) p by
       (n.0, n.1, refl) (at side first, s, s, tt, (refl, n.3, refl), led) line (let from = kept.from in omega (arith, from)) own_first.done own_first.early (is_open side r own_first)
-      (at side r.timeout.following, at side c.0, u, v, moved side r u v own_first.comes happens, o.0, k.0) (are_open side by r later kept) so_many) [
+      (at side r.timeout.following, at side c.0, u, v, moved side r u v own_first.comes happens, o.0, k.0) (are_open side by r later kept)
+      (each_round (λ c. IsLasting c.now (at side r.timeout.before) p) side later (λ x has. lasting x has)) so_many) [
         | inl (x, id, has, out) ↦ (let z = back side (r ∷ later) x has in inl (z.0, z.1, (id, ap (λ (y : CourseRound P). y.timeout.emitted.issued) z.2 ∙ out)))
         | inr (inl (x, has, is)) ↦ (let z = back side (r ∷ later) x has in inr (inl (z.0, z.1, subst (λ (y : CourseRound P). IsAnsweredAlong y.following path) (sym z.2) is)))
         | inr (inr (inl here)) ↦ inr (inr (r, inl refl, o.1 here))
@@ -171,7 +173,7 @@ module _ {H P : Type 0} (mac : H → List ℕ → List ℕ → List ℕ) (answer
       (reached reach side first last s (own mac answers side before ++ own mac answers side k.ahead) k.first k.later k.pair k.by n
       (course_on mac answers (own mac answers side before) (own mac answers side k.ahead) (at side first) (at side start) (at side begin)
       (own_course mac answers side before first start led) (own_course mac answers side k.ahead start begin to))
-      rest k.line k.kept k.enough)
+      rest k.line k.kept (λ x has. k.lasting x has) k.enough)
 
   -- what follows a `handle_timeout` call is in the rounds
   pub in_rounds : (rounds : List (SideRound H P)) (r : SideRound H P) (x : Occurrence H P) → Has rounds r → Has r.following x → Has (all_of rounds) x

@@ -18,7 +18,7 @@ use Rattle.is_rules.specs.Effects.{PathTheorem, last_of}
 use Rattle.is_rules.specs.Issuing.{via_out}
 use Rattle.is_theorems.specs.Pending.{IsValidBy}
 use Rattle.is_theorems.specs.Progress.{Awaits, IsUnanswered}
-use Rattle.is_theorems.specs.Reached.{IsInLine}
+use Rattle.is_theorems.specs.Reached.{IsInLine, IsLasting}
 use Rattle.is_rules.specs.Sending.{path_of}
 use Rattle.is_rules.specs.Sound.{FreshIsSound}
 use Rattle.is_rules.specs.Steps as agent
@@ -224,6 +224,10 @@ module _ {H P : Type 0} (mac : H → List ℕ → List ℕ → List ℕ) (answer
           | inr among ↦ inr (selected_in (r ∷ rounds) r.timeout.before last (same, u, v, happens, more) among)
         ]
 
+    -- a pair that is not valid has consent
+    lasts : (m : ℕ) (a : AgentRecord H P) (p : PairRecord) → IsUnanswered a p → Has a.pairs p → IsLasting m a p
+    lasts m a p unanswered has valid = let no : true ≡ false = sym valid ∙ unanswered.invalid p has in absurd (cc)
+
     -- no pair is valid yet, so one that is due waits for its check in any rounds
     in_line : (now by : ℕ) (a : AgentRecord H P) (p : PairRecord) → Awaits now by a p → IsUnanswered a p → IsInLine now by a p
     in_line now by a p waits unanswered = record {
@@ -233,6 +237,7 @@ module _ {H P : Type 0} (mac : H → List ℕ → List ℕ → List ℕ) (answer
       due = (let due = waits.due in omega (arith, due));
       settled = inl (unanswered.invalid p waits.there);
       young = (let young = unanswered.young in omega (arith, young));
+      lasting = lasts now a p unanswered waits.there;
     }
 
   pub rounds_select : PathTheorem {H = H} {P = P} mac answers → FreshIsSound H P → CarriedSucceedLater {H = H} {P = P} mac answers → CoursesCheckFromDue {H = H} {P = P} mac answers
@@ -245,7 +250,7 @@ module _ {H P : Type 0} (mac : H → List ℕ → List ℕ → List ℕ) (answer
               | inr (x, has, selected_paths) ↦ (x, Has-front (all_of (r ∷ rounds)) more x has, selected_paths)
             ])
         | inr many ↦ elim (reached mac answers reach side first begun.0 s (own mac answers side before) r rounds p by (new side) (own_course mac answers side before first start to) begun.1
-            (in_line side r.now by (at side start) p waits unanswered) kept
+            (in_line side r.now by (at side start) p waits unanswered) kept (λ x has. lasts side x.now (at side start) p unanswered waits.there)
             (subst (λ (w : WorldRecord H P). SideRoundsSuffice side by r rounds w) (state_is mac answers (all_of (r ∷ rounds)) start begun.0 begun.1) many)) [
               | inl sent ↦ inl (sends sent)
               | inr (inl (x, has, is)) ↦ inl (let y = succeeds_in mac answers side path x.following is in

@@ -11,7 +11,7 @@ use Rattle.rand_core.specs.Stream.{Stream}
 use Rattle.is_rules.specs.declared.credentials.IceCreds.{IceCreds}
 use Rattle.is_rules.specs.declared.emitted.Issued.{Issued}
 use Rattle.is_rules.specs.Agent.{AgentRecord}
-use Rattle.is_rules.specs.Checking.{all_asked, all_heard, is_ahead_turn, IsNextToCheck, ChecksNext, MayCheck}
+use Rattle.is_rules.specs.Checking.{all_asked, all_heard, is_ahead_turn, precedence, IsNextToCheck, ChecksNext, MayCheck}
 use Rattle.is_rules.specs.Due.{awaits_nomination, falls_due}
 use Rattle.is_rules.specs.Kinds.{IsNextAhead}
 use Rattle.is_rules.proofs.PairLists.PairsByNumber.{numbered-found}
@@ -54,7 +54,7 @@ all-three a b c x y z = rw (x, y) z
 -- the pair that is checked next is in the list and due, also if the check goes ahead
 next-is-due : {H P : Type 0} (a : AgentRecord H P) (now : ℕ) (p : PairRecord) → IsNextToCheck now a (Some p) → Has a.pairs p × (is_due now a.timing p ≡ true)
 next-is-due a now p is =
-    elim (is_ahead_turn now a) as (λ b. MatchBool b (IsNextAhead a.local a.remote (is_some a.rules.triggered_checks) a.next_kind now a.timing a.pairs (Some p)) (IsNextDue now a.timing a.pairs (Some p))
+    elim (is_ahead_turn now a) as (λ b. MatchBool b (IsNextAhead a.local a.remote (precedence a) a.next_kind now a.timing a.pairs (Some p)) (IsNextDue now a.timing a.pairs (Some p))
     → Has a.pairs p × (is_due now a.timing p ≡ true)) [
       | true ↦ λ ahead. (ahead.0, ahead.1)
       | false ↦ λ first. (first.0.0, first.1)

@@ -24,10 +24,6 @@ impl PairTest for Expired<'_> {
     ghost passes = { λ t p. is_pair_expired t.lite t.now.0 t.timing.now p };
 
     fn passes(&self, pair: &CandidatePair) -> bool {
-        if self.lite {
-            !pair.is_ice_lite_alive(self.now, self.timing)
-        } else {
-            !pair.is_still_possible(self.now, self.timing)
-        }
+        !pair.stays(self.lite, self.now, self.timing)
     }
 }

@@ -7,7 +7,7 @@ ghost use Rattle.std.specs.Option.{option_copied};
 ghost use Rattle.std.specs.VecDeque.{deque_capacity};
 ghost use Rattle.is_proto.specs.Times.{MAX};
 ghost use Rattle.is_pair.specs.Pairs.{PairRecord};
-ghost use Rattle.is_pair.specs.Due.{due_time_of, GoesBefore, IsEarliest};
+ghost use Rattle.is_pair.specs.Due.{call_time_of, GoesBefore, IsEarliest};
 ghost use Rattle.is_pair.specs.Multiset.{is_numbered, are_below, passes_at, rises, change_pair, with_priority, without, keep_fewer, KeepsKeys};
 ghost use Rattle.is_pair.specs.Entries.{pairs_of, are_keyed};
 
@@ -143,23 +143,23 @@ pub(crate) fn first<'a, T: PairTest>(
     pairs.values().find(|pair| test.passes(pair))
 }
 
-/// Returns the earliest due time.
-pub(crate) fn earliest_due(
+/// Returns the earliest time at which a pair is due, or its consent ends.
+pub(crate) fn earliest_call(
     pairs: &IndexMap<u64, CandidatePair>,
     now: Instant,
     timing: &StunTiming,
 ) -> Instant
-    ensures { result.0 ≡ fold min MAX (map (due_time_of now.0 timing.now) (pairs_of pairs.now.entries)) }
+    ensures { result.0 ≡ fold min MAX (map (call_time_of now.0 timing.now) (pairs_of pairs.now.entries)) }
 {
-    let mut due = Instant(u64::MAX);
+    let mut first = Instant(u64::MAX);
     for pair in pairs.values() {
-        due = due.min(pair.due_time_of(now, timing));
+        first = first.min(pair.call_time_of(now, timing));
     }
-    due
+    first
 }
 
 /// Whether a pair is due earlier, or at the same time with no smaller priority.
-fn goes_before(p: &CandidatePair, q: &CandidatePair, now: Instant, timing: &StunTiming) -> bool
+pub fn goes_before(p: &CandidatePair, q: &CandidatePair, now: Instant, timing: &StunTiming) -> bool
     ensures before { result ≡ true → GoesBefore now.0 timing.now p.now q.now }
     ensures following { result ≡ false → GoesBefore now.0 timing.now q.now p.now }
 {

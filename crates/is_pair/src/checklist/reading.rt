@@ -6,7 +6,7 @@ ghost use Rattle.std.specs.Map.Iter.{ShowsInOrder, deref};
 ghost use Rattle.std.specs.Option.{option_copied};
 ghost use Rattle.is_proto.specs.Times.{MAX};
 ghost use Rattle.is_pair.specs.Multiset.{has_number, passes_at, IsGreatest};
-ghost use Rattle.is_pair.specs.Due.{due_time_of, IsNextDue};
+ghost use Rattle.is_pair.specs.Due.{call_time_of, IsNextDue};
 ghost use Rattle.is_pair.specs.Checklists.{multiset_of};
 
 use super::{Checklist, PairTest, mapped, ranks};
@@ -73,10 +73,11 @@ impl Checklist {
         }
     }
 
-    /// Returns the earliest time at which a pair is due for its next check, or the last `Instant` if there is no pair.
-    pub fn earliest_due(&self, now: Instant, timing: &StunTiming) -> Instant
-        ensures { result.0 ≡ fold min MAX (map (due_time_of now.0 timing.now) (multiset_of self.now)) }
+    /// Returns the earliest time at which a pair is due for its next check, or its consent ends, or the last `Instant` if there is no
+    /// pair.
+    pub fn earliest_call(&self, now: Instant, timing: &StunTiming) -> Instant
+        ensures { result.0 ≡ fold min MAX (map (call_time_of now.0 timing.now) (multiset_of self.now)) }
     {
-        mapped::earliest_due(&self.pairs, now, timing)
+        mapped::earliest_call(&self.pairs, now, timing)
     }
 }

@@ -6,9 +6,10 @@ ghost use Rattle.std.specs.VecDeque.{deque_capacity};
 ghost use Rattle.rand_core.specs.Stream.{fill_bytes};
 ghost use Rattle.is_pair.specs.Checks.{has_id, is_kept};
 ghost use Rattle.is_pair.specs.Cutting.{CutsByNext};
-ghost use Rattle.is_pair.specs.Pairs.{TakesAnswer, check_of, once_sent, checked};
+ghost use Rattle.is_pair.specs.Pairs.{TakesAnswer, check_of, once_sent, once_answered, checked};
 
 use super::attempt::BindingAttempt;
+use super::consent::last_of;
 use super::cut::Cut;
 use super::{CandidatePair, attempts};
 use is_proto::{IceError, Instant};
@@ -134,10 +135,18 @@ impl CandidatePair {
         };
         let attempt = self.binding_attempts[place];
         self.binding_attempts[place] = attempt.answered_at(now);
+        self.once_answered(now, attempt);
+    }
+
+    /// Updates the state after the response to this check.
+    fn once_answered(&mut self, now: Instant, attempt: BindingAttempt)
+        ensures { self.new ≡ once_answered now.0 attempt self.old }
+    {
         self.responses_received = self.responses_received.saturating_add(1);
         self.total_round_trip_time = self
             .total_round_trip_time
             .saturating_add(now - attempt.request_sent);
+        self.consented = last_of(Some(attempt.request_sent), self.consented);
         self.nomination_state = self.nomination_state.once_answered(attempt.nominated);
         self.state = self.state.once_answered();
         self.cached_next_attempt_time = None;

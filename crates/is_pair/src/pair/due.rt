@@ -156,7 +156,7 @@ impl CandidatePair {
     }
 
     /// Whether a check from the peer arrived less than 15 s ago.
-    fn is_heard(&self, now: Instant) -> bool
+    pub(crate) fn is_heard(&self, now: Instant) -> bool
         ensures { result ≡ is_heard now.0 self.now }
     {
         match self.remote_binding_request_time {

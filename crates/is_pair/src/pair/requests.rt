@@ -45,4 +45,4 @@ pub(crate) fn is_recent(now: Instant, at: Instant) -> bool
 }
 
 /// How long a check from the peer is enough for a full agent to keep its pair.
-const RECENT_BINDING_REQUEST: Duration = Duration(15_000_000_000);
+pub(crate) const RECENT_BINDING_REQUEST: Duration = Duration(15_000_000_000);

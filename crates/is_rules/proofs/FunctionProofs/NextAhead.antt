@@ -5,6 +5,7 @@ use Rattle.is_stun.specs.declared.timing.StunTiming.{StunTiming}
 use Rattle.is_candidate.specs.Candidates.{CandidateRecord}
 use Rattle.is_pair.specs.Pairs.{PairRecord}
 use Rattle.is_pair.specs.Due.{is_due, GoesBefore}
+use Rattle.is_rules.specs.declared.kinds.Precedence.{Precedence}
 use Rattle.is_rules.specs.Kept.{is_placed, are_placed}
 use Rattle.is_rules.specs.Kinds.{TurnsBefore, IsNextAhead}
 use Rattle.is_rules.proofs.PairLists.ChosenPair.{none_pass}
@@ -18,12 +19,12 @@ none-when test (x ∷ xs) none =
       | false ↦ λ is. none-when test xs (λ y h. none y (inr h))
     ] refl
 
-module _ (local remote : List CandidateRecord) (urgent_first : Bool) (next now : ℕ) (t : StunTiming) where
+module _ (local remote : List CandidateRecord) (precedence : Precedence) (next now : ℕ) (t : StunTiming) where
   abbrev Before : PairRecord → PairRecord → Type 0
-  Before p q = TurnsBefore local remote urgent_first next now t p q
+  Before p q = TurnsBefore local remote precedence next now t p q
 
   abbrev IsNext : List PairRecord → Option PairRecord → Type 0
-  IsNext done first = IsNextAhead local remote urgent_first next now t done first
+  IsNext done first = IsNextAhead local remote precedence next now t done first
 
   abbrev due : PairRecord → Bool
   due p = is_due now t p

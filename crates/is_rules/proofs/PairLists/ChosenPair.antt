@@ -5,8 +5,8 @@ use Rattle.std.specs.Option.{option_and_then, option_or}
 use Rattle.std.proofs.lemmas.Bool.{eqb-true}
 use Rattle.is_proto.specs.Lists.{Has, NonePass}
 use Rattle.is_pair.specs.Pairs.{PairRecord}
-use Rattle.is_pair.specs.Multiset.{is_numbered, pair_numbered}
-use Rattle.is_rules.specs.Nominating.{is_eligible, if_eligible, eligible_numbered, favored, is_named_by, IsChosen, Selection}
+use Rattle.is_pair.specs.Multiset.{is_numbered, pair_numbered, is_named_by}
+use Rattle.is_rules.specs.Nominating.{is_eligible, if_eligible, eligible_numbered, favored, IsChosen, Selection}
 
 kept_head : {X : Type 0} (b : Bool) (x : X) (xs : List X) → b ≡ true → (if b then x ∷ xs else xs) ≡ [] → ⊥
 kept_head true x xs passes none = let wrong : x ∷ xs ≡ [] = none in cc

@@ -1,17 +1,17 @@
--- The next timeout of an agent: after the last `handle_timeout` call, and no later than any pair's due time, except
--- for the pacing interval.
-use Rattle.std.proofs.Common.{◌≡◌, ℕ, ◌*◌, ◌<◌, ◌≤◌, ◌||◌, Bool, true, false, not, List, [], ◌∷◌, map, fold, min, max, nat_le, Some, None, inl, inr, refl, ap, ◌∙◌, subst, arith}
+-- The next timeout of an agent: after the last `handle_timeout` call, and no later than the time at which a
+-- pair is due or its consent ends, except for the pacing interval.
+use Rattle.std.proofs.Common.{◌≡◌, ℕ, ◌*◌, ◌<◌, ◌≤◌, ◌||◌, Bool, true, false, not, List, [], ◌∷◌, map, fold, min, max, nat_le, is_some, Option, Some, None, IsSomeAnd, inl, inr, refl, ap, ◌∙◌, subst, arith}
 use Rattle.std.proofs.lemmas.Bool.Decides.{nat_tests}
 use Rattle.std.specs.Prelude.{MatchBool}
 use Rattle.is_proto.specs.Lists.{Has, is_empty}
 use Rattle.is_proto.specs.Times.{MAX, SECOND, later}
 use Rattle.is_pair.specs.Pairs.{PairRecord}
-use Rattle.is_pair.specs.Due.{asked, due_time_of}
+use Rattle.is_pair.specs.Due.{asked, call_time_of}
 use Rattle.is_rules.specs.Agent.{AgentRecord}
-use Rattle.is_rules.specs.Polls.{PollsTimeout, NextTimeoutFrom, NextTimeouts, IdleTimeout, is_waiting, is_idle, soon, earliest_due}
-use Rattle.is_rules.specs.TimeoutTimes.{TimeoutIsAhead, TimeoutIsInTime}
+use Rattle.is_rules.specs.Polls.{PollsTimeout, NextTimeoutFrom, NextTimeouts, IdleTimeout, is_waiting, is_idle, soon, earliest_call}
+use Rattle.is_rules.specs.TimeoutTimes.{soonest, TimeoutIsAhead, TimeoutIsInTime, TimeoutIsGiven}
 
-either : (b : Bool) {P Q R : Type 0} → MatchBool b P Q → (b ≡ true → P → R) → (b ≡ false → Q → R) → R
+pub either : (b : Bool) {P Q R : Type 0} → MatchBool b P Q → (b ≡ true → P → R) → (b ≡ false → Q → R) → R
 either true h f g = f refl h
 either false h f g = g refl h
 
@@ -80,8 +80,28 @@ module _ {H P : Type 0} where
       (λ _ k. either (is_idle old) k
       (λ idle _. absurd (idle-has old.lite old.pairs p full has idle))
       (λ _ l. (
-      let is = l.0 in let least : earliest_due old last ≤ due_time_of last old.timing p = least-below (due_time_of last old.timing) MAX old.pairs p has in
+      let is = l.0 in let least = least-below (call_time_of last old.timing) MAX old.pairs p has in
       omega (arith, is, least))))
+
+  given-from : (last deadline : Option ℕ) (old new : AgentRecord H P) → NextTimeoutFrom last old deadline new → is_some deadline ≡ is_some last
+  given-from None deadline old new h = let is = h.0 in cc
+  given-from (Some last) None old new h = absurd h
+  given-from (Some last) (Some at) old new h = refl
+
+  pub timeouts-given : TimeoutIsGiven H P
+  timeouts-given old new deadline h = let is = given-from old.last_time deadline old new h in cc
+
+  -- ---- the least time that a next timeout may have
+
+  pub paced : (old new : AgentRecord H P) (last at : ℕ) → NextTimeouts old last at new → soonest old last ≤ at
+  paced old new last at h = either (is_waiting old) h
+      (λ _ k. (let is = k.0 in grind (arith, is)))
+      (λ _ k. either (is_idle old) k
+      (λ idle l. (let is = l.0 in grind (arith, is, idle)))
+      (λ _ l. (let is = l.0 in grind (arith, is))))
+
+  pub paced-from : (old new : AgentRecord H P) (last : ℕ) (deadline : Option ℕ) → old.last_time ≡ Some last → PollsTimeout old deadline new → IsSomeAnd deadline (λ at. NextTimeouts old last at new)
+  paced-from old new last deadline is h = subst (λ o. NextTimeoutFrom o old deadline new) is h
 
   not-waiting : (a : AgentRecord H P) → a.packets ≡ [] → a.queue ≡ [] → is_waiting a ≡ false
   not-waiting a no_packets no_queue =
@@ -90,10 +110,10 @@ module _ {H P : Type 0} where
   -- if no request is stored and there is a pair to check, the due times of all pairs are fixed
   pub all-are-asked : (old new : AgentRecord H P) (last deadline : ℕ) → old.last_time ≡ Some last → old.lite ≡ false → old.packets ≡ [] → old.queue ≡ []
       → is_empty old.pairs ≡ false → PollsTimeout old (Some deadline) new
-      → (deadline ≡ max (earliest_due old last) (soon old last)) × (new ≡ record old { pairs = map (asked last old.timing) old.pairs })
+      → (deadline ≡ max (earliest_call old last) (soon old last)) × (new ≡ record old { pairs = map (asked last old.timing) old.pairs })
   all-are-asked old new last deadline is full no_packets no_queue some h =
       let w : IdleTimeout old last deadline new =
       subst (λ b. MatchBool b ((deadline ≡ soon old last) × (new ≡ old)) (IdleTimeout old last deadline new)) (not-waiting old no_packets no_queue) (timeouts-from old new last deadline is h) in
       subst (λ b. MatchBool b ((deadline ≡ later last (3 * SECOND)) × (new ≡ old))
-      ((deadline ≡ max (earliest_due old last) (soon old last)) × (new ≡ record old { pairs = map (asked last old.timing) old.pairs })))
+      ((deadline ≡ max (earliest_call old last) (soon old last)) × (new ≡ record old { pairs = map (asked last old.timing) old.pairs })))
       (not-idle old.lite old.pairs full some) w

@@ -64,6 +64,7 @@ module _ (asks met : Path → Type 0) (sent : Path → List ℕ → Bool → Typ
       rising = fit.rising;
       below = fit.below;
       started = fit.started;
+      consented = fit.consented;
     };
   }
 
@@ -82,7 +83,7 @@ module _ (asks met : Path → Type 0) (sent : Path → List ℕ → Bool → Typ
   nothing_left x local remote = record {
     counter = omega arith;
     pairs = λ p has. absurd has;
-    fit = record { placed = λ p has. absurd has; rising = tt; below = λ p has. absurd has; started = λ p has. absurd has };
+    fit = record { placed = λ p has. absurd has; rising = tt; below = λ p has. absurd has; started = λ p has. absurd has; consented = λ p has. absurd has };
   }
 
   undue_changes : (path : Path) (p : PairRecord) → Changed asks met sent path p (undue p)
@@ -96,6 +97,7 @@ module _ (asks met : Path → Type 0) (sent : Path → List ℕ → Bool → Typ
     still_valid = λ is. is;
     still_nominated = λ is. is;
     started = λ s. s;
+    consented = λ _ had. had;
   }
 
   if_mapped : (b : Bool) (x : Parts) (f : PairRecord → PairRecord) → Fit x → ((p : PairRecord) → Changed asks met sent (path_in x p) p (f p))
@@ -211,6 +213,7 @@ module _ (asks met : Path → Type 0) (sent : Path → List ℕ → Bool → Typ
         rising = fit.rising;
         below = λ p has. (let lt = fit.below p has in omega (arith, lt));
         started = fit.started;
+        consented = fit.consented;
       };
     }
 

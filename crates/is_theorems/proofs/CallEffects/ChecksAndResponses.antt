@@ -76,6 +76,11 @@ answered_started Waiting h = h
 answered_started InProgress h = refl
 answered_started Succeeded h = refl
 
+answered_valid : (s : CheckState) → is_started_state s ≡ true → is_valid_state (state_once_answered s) ≡ true
+answered_valid Waiting h = h
+answered_valid InProgress h = refl
+answered_valid Succeeded h = refl
+
 answered_nominated : (b : Bool) (n : NominationState) → is_nominated_state (nomination_once_answered b n) ≡ is_nominated_state n
 answered_nominated true Unnominated = refl
 answered_nominated true Nominated = refl
@@ -140,6 +145,7 @@ module _ (asks met : Path → Type 0) (sent : Path → List ℕ → Bool → Typ
     still_valid = λ is. sent_still p.state is;
     still_nominated = λ is. sent_nominated p.nomination ∙ is;
     started = λ _ c keeps. sent_started p.state;
+    consented = λ _ had is. sent_still p.state (had is);
   }
 
   -- a pending transaction is answered
@@ -158,6 +164,7 @@ module _ (asks met : Path → Type 0) (sent : Path → List ℕ → Bool → Typ
     still_valid = λ is. answered_still p.state is;
     still_nominated = λ is. answered_nominated c.nominated p.nomination ∙ is;
     started = λ was k keeps. answered_started p.state (was c (Has-get p.checks place c at.0));
+    consented = λ was had is. answered_valid p.state (was c (Has-get p.checks place c at.0));
   }
 
   heard_changes : (path : Path) (now : ℕ) (o : Option ℕ) (p : PairRecord) → Changed asks met sent path p (heard_at now o p)
@@ -171,6 +178,7 @@ module _ (asks met : Path → Type 0) (sent : Path → List ℕ → Bool → Typ
     still_valid = λ is. is;
     still_nominated = λ is. is;
     started = λ s. s;
+    consented = λ _ had. had;
   }
   heard_changes path now (Some at) p = unchanged asks met sent path p
 
@@ -185,6 +193,7 @@ module _ (asks met : Path → Type 0) (sent : Path → List ℕ → Bool → Typ
     still_valid = λ is. is;
     still_nominated = λ is. is;
     started = λ s. s;
+    consented = λ _ had. had;
   }
 
   -- a local candidate is appended
@@ -209,6 +218,7 @@ module _ (asks met : Path → Type 0) (sent : Path → List ℕ → Bool → Typ
           rising = fit.rising;
           below = fit.below;
           started = fit.started;
+          consented = fit.consented;
         };
       }
 

@@ -173,6 +173,7 @@ fresh_sound H P provider creds tie_breaker = record {
   below = refl;
   selected_paths = _;
   started = λ p c has keeps. absurd has;
+  consented = λ p has. absurd has;
   checks = omega arith;
   queued = omega arith;
   based = λ c has. absurd has;

@@ -37,7 +37,7 @@ use Rattle.is_rules.specs.Queue.{queued, first_taken, request_at}
 use Rattle.is_pair.specs.Multiset.{keeps_check}
 use Rattle.is_rules.specs.Answers.{keeps_check_on, goes_back, is_role_conflict, TakesSuccess, TakesFailure, LeavesRole}
 use Rattle.is_rules.specs.Accepting.{Takes, IsAcceptedAs, IsAcceptedOn, discovered_emitted}
-use Rattle.is_rules.specs.Timeouts.{timeout_begun, MaintainsPairs, ServesQueued, TimesOut}
+use Rattle.is_rules.specs.Timeouts.{at_request, timeout_begun, MaintainsPairs, ServesQueued, TimesOut}
 use Rattle.is_rules.specs.Steps.{Call, SetMtu, SetControlTieBreaker, SetMaxCandidatePairs, SetMaxDiscovered, SetIceLite, SetRenomination, SetRules, SetTimingAdvance, SetInitialStunRto, SetMaxStunRto, SetMaxStunRetransmits, SetLiteTimeout, SetLocalPreference, SetControlling, SetLocalCredentials, SetRemoteCredentials, SkipPairIds, AddLocalCandidate, AddRemoteCandidate, InvalidateCandidate, RestartIce, RecreateCandidatePairs, ReceivePacket, HandleTimeout, PollTransmit, PollTimeout, PollEvent, Becomes, MayDo, Receives, Step}
 use Rattle.is_rules.specs.Sound.{IsSound}
 use Rattle.is_rules.specs.Brought.{Brings, IsServing, IsNominatedByPeer, IsAnswered}
@@ -205,7 +205,7 @@ module _ {H P : Type 0} (mac : H → List ℕ → List ℕ → List ℕ) (answer
 
   timeout_by : (now : ℕ) (sound : IsSound old) (fit : Fit (parts_of (Asks (HandleTimeout now)) (Met (HandleTimeout now)) Sent old)) (emitted : Emitted) (o : Option RequestRecord)
       → request_at now old ≡ o → e ≡ record { answer = Done; emitted = emitted }
-      → MatchOption o (MaintainsPairs mac now (timeout_begun now old) s emitted new t) (λ q. ServesQueued mac q (timeout_begun now old) s emitted new t) → PairEffect (HandleTimeout now)
+      → MatchOption o (MaintainsPairs mac now (timeout_begun now old) s emitted new t) (λ q. ServesQueued mac q (at_request now (timeout_begun now old)) s emitted new t) → PairEffect (HandleTimeout now)
   timeout_by now sound fit emitted None is e_is h =
       let call : Call P = HandleTimeout now in
       let frame = frames.maintains_pairs mac now (timeout_begun now old) new s t emitted h in
@@ -223,7 +223,7 @@ module _ {H P : Type 0} (mac : H → List ℕ → List ℕ → List ℕ) (answer
         )),
       )
   timeout_by now sound fit emitted (Some q) is e_is (h, drawn) =
-      serves_pairs (HandleTimeout now) fit q (first_taken (timeout_begun now old)) new emitted refl refl sound.based refl refl refl refl refl refl refl (refl, refl, refl)
+      serves_pairs (HandleTimeout now) fit q (first_taken (at_request now (timeout_begun now old))) new emitted refl refl sound.based refl refl refl refl refl refl refl (refl, refl, refl)
       (is, ap (λ (x : Entry). x.answer) e_is) (ap (λ (x : Entry). x.emitted) e_is) h
 
   -- ---- packets
@@ -327,7 +327,7 @@ module _ {H P : Type 0} (mac : H → List ℕ → List ℕ → List ℕ) (answer
   retransmits false n fit calm h = becomes (SetMaxStunRetransmits n) fit (with_retransmits n old) (resting (SetMaxStunRetransmits n) fit) calm h
 
   fits : (call : Call P) → IsSound old → Fit (parts_of (Asks call) (Met call) Sent old)
-  fits call sound = record { placed = sound.placed; rising = rising-each old.pairs sound.rising; below = below-each old.next_number old.pairs sound.below; started = λ p has c keeps. sound.started p c has keeps }
+  fits call sound = record { placed = sound.placed; rising = rising-each old.pairs sound.rising; below = below-each old.next_number old.pairs sound.below; started = λ p has c keeps. sound.started p c has keeps; consented = sound.consented }
 
   abbrev calms : (call : Call P) → is_calm call ≡ true → Step mac answers old s call e new t → Calm call old e new
   calms call is h = calm mac answers old new s t e call is h

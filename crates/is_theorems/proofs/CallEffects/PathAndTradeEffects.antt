@@ -24,7 +24,7 @@ use Rattle.is_rules.specs.Queue.{request_at, first_taken, queued}
 use Rattle.is_rules.specs.Answers.{is_left_out, local_with, mapped_candidate, success_counted, is_role_conflict, TakesSuccess, TakesFailure, LeavesRole}
 use Rattle.is_rules.specs.Accepting.{Takes}
 use Rattle.is_rules.specs.Serving.{Drops, Serves}
-use Rattle.is_rules.specs.Timeouts.{timeout_begun, MaintainsPairs, ServesQueued}
+use Rattle.is_rules.specs.Timeouts.{at_request, timeout_begun, MaintainsPairs, ServesQueued}
 use Rattle.is_rules.specs.Steps.{Call, RestartIce, ReceivePacket, HandleTimeout, PollTransmit, Step}
 use Rattle.is_rules.specs.Sound.{GivesBased}
 use Rattle.is_rules.specs.Issuing.{QueuesPackets, IsIssued, key_for, via_out, IsQueued}
@@ -109,9 +109,9 @@ module _ {H P : Type 0} (mac : H → List ℕ → List ℕ → List ℕ) (answer
   taken_persists class.Unknown now old new via m emitted h = absurd h
 
   timeout_persists : (now : ℕ) (old new : AgentRecord H P) (s t : Stream) (emitted : Emitted) (o : Option RequestRecord)
-      → MatchOption o (MaintainsPairs mac now (timeout_begun now old) s emitted new t) (λ q. ServesQueued mac q (timeout_begun now old) s emitted new t) → Persists old new
+      → MatchOption o (MaintainsPairs mac now (timeout_begun now old) s emitted new t) (λ q. ServesQueued mac q (at_request now (timeout_begun now old)) s emitted new t) → Persists old new
   timeout_persists now old new s t emitted None h = rests old new (maintains_pairs_rest mac now (timeout_begun now old) new s t emitted h)
-  timeout_persists now old new s t emitted (Some q) (h, drawn) = rests old new (serves_rest mac q (first_taken (timeout_begun now old)) new emitted h)
+  timeout_persists now old new s t emitted (Some q) (h, drawn) = rests old new (serves_rest mac q (first_taken (at_request now (timeout_begun now old))) new emitted h)
 
   same_persists : (old new : AgentRecord H P) → new ≡ old → Persists old new
   same_persists old new made = rests old new (ap (λ (a : AgentRecord H P). rest_of a) made)
@@ -166,6 +166,7 @@ module _ {H P : Type 0} (mac : H → List ℕ → List ℕ → List ℕ) (answer
           below = each-below new.next_number new.pairs k.1.below;
           selected_paths = p.number_below sound.selected_paths;
           started = λ q c has keeps. k.1.started q has c keeps;
+          consented = k.1.consented;
           checks = st.checks sound.checks;
           queued = waits_short mac answers old new s t e call f.waits sound.queued;
           based = st.based sound.based;

@@ -243,7 +243,7 @@ module _ {H P : Type 0} (mac : H → List ℕ → List ℕ → List ℕ) (answer
   recreated : Recreates old (Ok _) new → (p : PairRecord) → Has new.pairs p → IsNewPair p
   recreated h p has =
       let bare : AgentRecord H P = record old { pairs = [] } in
-      let o = recreates_goes Never Never NeverSent bare new (record { placed = λ p none. absurd none; rising = tt; below = λ p none. absurd none; started = λ p none. absurd none }) h in
+      let o = recreates_goes Never Never NeverSent bare new (record { placed = λ p none. absurd none; rising = tt; below = λ p none. absurd none; started = λ p none. absurd none; consented = λ p none. absurd none }) h in
       elim (o.pairs p has) [
         | inl k ↦ absurd k.there
         | inr j ↦ (

@@ -188,6 +188,7 @@ module _ (asks met : Path → Type 0) (sent : Path → List ℕ → Bool → Typ
     still_valid = λ is. k.still_valid (h.still_valid is);
     still_nominated = λ is. k.still_nominated (h.still_nominated is);
     started = λ s. k.started (h.started s);
+    consented = λ s had. k.consented (h.started s) (h.consented s had);
   }
 
   requested : (path : Path) (now : ℕ) (p : PairRecord) → Changed asks met sent path p (with_request now p)
@@ -201,6 +202,7 @@ module _ (asks met : Path → Type 0) (sent : Path → List ℕ → Bool → Typ
     still_valid = λ is. is;
     still_nominated = λ is. is;
     started = λ s. s;
+    consented = λ _ had. had;
   }
 
   validates : (b : Bool) (path : Path) (p : PairRecord) → (b ≡ true → met path) → Changed asks met sent path p (if b then validated p else p)
@@ -214,6 +216,7 @@ module _ (asks met : Path → Type 0) (sent : Path → List ℕ → Bool → Typ
     still_valid = λ is. refl;
     still_nominated = λ is. is;
     started = λ s c keeps. refl;
+    consented = λ _ had is. refl;
   }
   validates false path p is_met = unchanged asks met sent path p
 
@@ -228,6 +231,7 @@ module _ (asks met : Path → Type 0) (sent : Path → List ℕ → Bool → Typ
     still_valid = λ is. is;
     still_nominated = λ is. refl;
     started = λ s. s;
+    consented = λ _ had. had;
   }
   nominates_if true false path p asking = record {
     number = refl;
@@ -239,6 +243,7 @@ module _ (asks met : Path → Type 0) (sent : Path → List ℕ → Bool → Typ
     still_valid = λ is. is;
     still_nominated = λ is. refl;
     started = λ s. s;
+    consented = λ _ had. had;
   }
   nominates_if false lite path p asking = unchanged asks met sent path p
 
@@ -269,6 +274,7 @@ module _ (asks met : Path → Type 0) (sent : Path → List ℕ → Bool → Typ
     still_valid = λ is. is;
     still_nominated = λ is. is;
     started = λ k. k;
+    consented = λ _ had. had;
   })
 
   pub request_changes : {H P : Type 0} (path : Path) (q : RequestRecord) (s : AgentRecord H P) (p : PairRecord) → ((s.lite && not s.controlling) ≡ true → met path)
@@ -300,6 +306,7 @@ module _ (asks met : Path → Type 0) (sent : Path → List ℕ → Bool → Typ
       rising = fit.rising;
       below = fit.below;
       started = fit.started;
+      consented = fit.consented;
     };
   }
 
@@ -324,6 +331,7 @@ module _ (asks met : Path → Type 0) (sent : Path → List ℕ → Bool → Typ
           rising = fit.rising;
           below = fit.below;
           started = fit.started;
+          consented = fit.consented;
         };
       }
 
@@ -340,6 +348,7 @@ module _ (asks met : Path → Type 0) (sent : Path → List ℕ → Bool → Typ
       still_valid = λ is. is;
       still_nominated = λ is. is;
       started = λ t. t;
+      consented = λ _ had. had;
     })
 
     module _ (mac : H → List ℕ → List ℕ → List ℕ) (q : RequestRecord) where
@@ -489,7 +498,7 @@ module _ (asks met : Path → Type 0) (sent : Path → List ℕ → Bool → Typ
           let p : PairRecord = formed s l r in
           let y : AgentRecord H P = with_pair p s in
           let joins : Onward asks met sent x (parts_of asks met sent y) =
-          pushed asks met sent x x.pairs p fit (λ k has. has) fit.rising refl (in_local, in_remote) refl (λ (is : false ≡ true). absurd (false_true is)) (λ (is : false ≡ true). absurd (false_true is)) in
+          pushed asks met sent x x.pairs p fit (λ k has. has) fit.rising refl (in_local, in_remote) refl (λ (is : false ≡ true). absurd (false_true is)) (λ (is : false ≡ true). absurd (false_true is)) (λ (is : false ≡ true). absurd (false_true is)) in
           let k = pair_does l r s.next_number y new emitted joins.fit (record { via = accepts_nomination.via; valid = accepts_nomination.valid; asking = accepts_nomination.asking; free = accepts_nomination.free })
           (λ o has same. elim (Has-push s.pairs p o has) [
             | inl was ↦ absurd (no_less o.number s.next_number (fit.below o was) same)

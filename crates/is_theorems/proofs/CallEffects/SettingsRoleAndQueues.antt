@@ -37,7 +37,7 @@ use Rattle.is_rules.specs.Queue.{queue_left, next_request, first_taken, request_
 use Rattle.is_rules.specs.Answers.{TakesFailure, LeavesRole, is_role_conflict}
 use Rattle.is_rules.specs.Accepting.{Takes, discovered_emitted}
 use Rattle.is_rules.specs.Checking.{all_asked, MayCheck, ChecksTop, check_message}
-use Rattle.is_rules.specs.Timeouts.{timeout_begun, at_timeout, MaintainsPairs, ServesQueued, TimesOut}
+use Rattle.is_rules.specs.Timeouts.{at_request, timeout_begun, at_timeout, MaintainsPairs, ServesQueued, TimesOut}
 use Rattle.is_rules.specs.Steps.{Call, SetMtu, SetControlTieBreaker, SetMaxCandidatePairs, SetMaxDiscovered, SetIceLite, SetRenomination, SetRules, SetTimingAdvance, SetInitialStunRto, SetMaxStunRto, SetMaxStunRetransmits, SetLiteTimeout, SetLocalPreference, SetControlling, SetLocalCredentials, SetRemoteCredentials, SkipPairIds, AddLocalCandidate, AddRemoteCandidate, InvalidateCandidate, RestartIce, RecreateCandidatePairs, ReceivePacket, HandleTimeout, PollTransmit, PollTimeout, PollEvent, Becomes, MayDo, Receives, Step}
 use Rattle.is_rules.specs.Brought.{Brings, IsServing, IsServedPastTests, SwitchesRoleFor, IsRejectedBy, IsRoleSet, role_once}
 use Rattle.is_rules.specs.Issuing.{QueuesPackets, Waits, WaitsPast, IsQueued}
@@ -212,7 +212,7 @@ module _ {H P : Type 0} where
         )
 
     timeout_by : (now : ℕ) (old new : AgentRecord H P) (s t : Stream) (emitted : Emitted) (o : Option RequestRecord) → request_at now old ≡ o
-        → MatchOption o (MaintainsPairs mac now (timeout_begun now old) s emitted new t) (λ q. ServesQueued mac q (timeout_begun now old) s emitted new t)
+        → MatchOption o (MaintainsPairs mac now (timeout_begun now old) s emitted new t) (λ q. ServesQueued mac q (at_request now (timeout_begun now old)) s emitted new t)
         → FrameEffect old (HandleTimeout now) (record { answer = Done; emitted = emitted }) new
     timeout_by now old new s t emitted None is h =
         let k = maintains_pairs now (timeout_begun now old) new s t emitted h in
@@ -230,7 +230,7 @@ module _ {H P : Type 0} where
           expired = λ at by m brings. absurd brings;
         }
     timeout_by now old new s t emitted (Some q) is (h, drawn) =
-        let turn : Turns mac q (first_taken (timeout_begun now old)) emitted new = serves mac q (first_taken (timeout_begun now old)) new emitted h in
+        let turn : Turns mac q (first_taken (at_request now (timeout_begun now old))) emitted new = serves mac q (first_taken (at_request now (timeout_begun now old))) new emitted h in
         let past = served_past now old q is in
         let serving : IsServing old (HandleTimeout now) (record { answer = Done; emitted = emitted }) q = (is, refl) in elim turn [
           | inl k ↦ record {
@@ -265,7 +265,7 @@ module _ {H P : Type 0} where
           settled r serving past =
               let other : Some q ≡ Some r = sym is ∙ serving.0 in let same : r ≡ q = cc in
               let k : IsServedPastTests old q = subst (λ x. IsServedPastTests old x) same past in
-              subst (λ x. new.controlling ≡ role_once (conflict_of old x) old.controlling) (sym same) (serves_role mac q (first_taken (timeout_begun now old)) new emitted k.1.0 k.0 k.1.1 h)
+              subst (λ x. new.controlling ≡ role_once (conflict_of old x) old.controlling) (sym same) (serves_role mac q (first_taken (at_request now (timeout_begun now old))) new emitted k.1.0 k.0 k.1.1 h)
 
     -- ---- packets
 

@@ -4,7 +4,7 @@ use Rattle.is_proto.specs.Lists.{Has}
 use Rattle.is_proto.specs.Packets.{Packet}
 use Rattle.is_candidate.specs.Candidates.{CandidateRecord, candidate_at}
 use Rattle.is_candidate.specs.Priorities.{check_priority}
-use Rattle.is_pair.specs.Multiset.{change_at, change_pair}
+use Rattle.is_pair.specs.Multiset.{change_at, change_pair, is_named_by}
 use Rattle.is_pair.specs.Pairs.{PairRecord, checked}
 use Rattle.is_stun.specs.declared.header.Class.TheVariants as class
 use Rattle.is_stun.specs.Checks.{binding_request}
@@ -21,7 +21,7 @@ use Rattle.is_theorems.specs.Carried.{CarriedAreServed, CarriedAsk}
 use Rattle.is_theorems.specs.Delivery.{IsFragment, KnowEachOther}
 use Rattle.is_rules.specs.Fitting.{are_too_long}
 use Rattle.is_rules.specs.Issuing.{Says, via_out}
-use Rattle.is_rules.specs.Nominating.{is_named_by, stays_nominated}
+use Rattle.is_rules.specs.Nominating.{stays_nominated}
 use Rattle.is_rules.specs.Request.{request_in}
 use Rattle.is_rules.specs.Sending.{path_of}
 use Rattle.is_rules.specs.Steps.{HandleTimeout}

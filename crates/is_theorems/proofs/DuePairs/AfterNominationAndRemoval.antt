@@ -1,13 +1,16 @@
 -- What nomination and removal leave of a list of pairs: fewer of them, each due as it was.
-use Rattle.std.proofs.Common.{◌≡◌, ℕ, ◌≤◌, ◌&&◌, ◌||◌, Bool, true, false, not, List, [], ◌∷◌, length, map, filter, nat_le, nat_lt, Option, Some, None, unwrap_or, inl, inr, ◌⊎◌, refl, ap, sym, ◌∙◌, subst, arith, if◌then◌else◌}
+use Rattle.std.proofs.Common.{◌≡◌, ℕ, ◌≤◌, ◌&&◌, ◌||◌, Bool, true, false, not, List, [], ◌∷◌, length, map, filter, nat_le, nat_lt, Option, Some, None, is_some, unwrap_or, inl, inr, ◌⊎◌, refl, ap, sym, ◌∙◌, subst, arith, if◌then◌else◌}
 use Rattle.std.specs.List.{list_any}
+use Rattle.std.specs.Option.{option_map_or}
 use Rattle.is_proto.specs.Lists.{Has}
+use Rattle.is_proto.specs.Times.{later}
 use Rattle.is_candidate.specs.Candidates.{CandidateRecord}
-use Rattle.is_pair.specs.Pairs.{PairRecord, is_nominated, is_valid, nominated}
-use Rattle.is_pair.specs.Checks.{unanswered_count}
+use Rattle.is_pair.specs.Pairs.{PairRecord, is_nominated, is_recent, is_valid, nominated}
+use Rattle.is_pair.specs.Checks.{Check, unanswered_count}
 use Rattle.is_pair.specs.Due as due
 use Rattle.is_pair.specs.Multiset.{is_numbered, change_at}
 use Rattle.is_stun.specs.declared.timing.StunTiming.{StunTiming}
+use Rattle.is_stun.specs.declared.timing.Consent.{Consent}
 use Rattle.is_rules.specs.declared.credentials.IceCreds.{IceCreds}
 use Rattle.is_rules.specs.declared.emitted.Path.{Path}
 use Rattle.is_rules.specs.declared.rules.Rules.{Rules}
@@ -22,6 +25,8 @@ use Rattle.is_theorems.proofs.CallEffects.ServedRequests.{Has-mapped}
 use Rattle.is_theorems.proofs.RuleEffects.NominatedPairs.{SelectsPath, selects_path}
 use Rattle.is_pair.proofs.DueTimes.CountOfDuePairs.{no-more, thinner}
 use Rattle.is_theorems.specs.Progress.{IsGone}
+use Rattle.is_theorems.specs.Reached.{IsLasting}
+use Rattle.is_rules.specs.Sound.{IsSound}
 
 -- ---- lists
 
@@ -37,9 +42,21 @@ pub record Alike (p q : PairRecord) : Type 0 where
   pub due : q.due ≡ p.due
   pub checks : q.checks ≡ p.checks
   pub valid : is_valid q ≡ is_valid p
+  pub consented : q.consented ≡ p.consented
+  pub heard : q.last_request ≡ p.last_request
+
+-- the pending transactions, and when the last check that got a response was sent
+abbrev pub Kept : Type 0
+Kept = List Check × Option ℕ
+
+abbrev pub kept_of : PairRecord → Kept
+kept_of p = (p.checks, p.consented)
+
+pub alike-kept : (p q : PairRecord) → Alike p q → kept_of q ≡ kept_of p
+alike-kept p q a = ap (λ cs. let k : Kept = (cs, q.consented) in k) a.checks ∙ ap (λ had. let k : Kept = (p.checks, had) in k) a.consented
 
 alike-same : (p : PairRecord) → Alike p p
-alike-same p = record { number = refl; local = refl; remote = refl; due = refl; checks = refl; valid = refl }
+alike-same p = record { number = refl; local = refl; remote = refl; due = refl; checks = refl; valid = refl; consented = refl; heard = refl }
 
 alike-on : (p q r : PairRecord) → Alike p q → Alike q r → Alike p r
 alike-on p q r a b = record {
@@ -49,6 +66,8 @@ alike-on p q r a b = record {
   due = b.due ∙ a.due;
   checks = b.checks ∙ a.checks;
   valid = b.valid ∙ a.valid;
+  consented = b.consented ∙ a.consented;
+  heard = b.heard ∙ a.heard;
 }
 
 -- its due time, if it is fixed, is at most this time
@@ -108,7 +127,7 @@ Has-kept keep (y ∷ ys) x (inr has) is = following (keep y) (Has-kept keep ys x
   following true h = inr h
   following false h = h
 
-passed : {X : Type 0} (keep : X → Bool) (xs : List X) (x : X) → Has (filter keep xs) x → keep x ≡ true
+pub passed : {X : Type 0} (keep : X → Bool) (xs : List X) (x : X) → Has (filter keep xs) x → keep x ≡ true
 passed keep [] x has = absurd has
 passed keep (y ∷ ys) x has =
     elim (keep y) as (λ b. keep y ≡ b → Has (if b then y ∷ filter keep ys else filter keep ys) x → keep x ≡ true) [
@@ -147,8 +166,8 @@ pub record Base : Type 0 where
 self-alike : (c l : Bool) (p : PairRecord) → Alike p (nominated_by_self c l p)
 self-alike c l p = apart (not (is_nominated p) && (c || l)) l where
   apart : (b l : Bool) → Alike p (if b then nominated l p else p)
-  apart true true = record { number = refl; local = refl; remote = refl; due = refl; checks = refl; valid = refl }
-  apart true false = record { number = refl; local = refl; remote = refl; due = refl; checks = refl; valid = refl }
+  apart true true = record { number = refl; local = refl; remote = refl; due = refl; checks = refl; valid = refl; consented = refl; heard = refl }
+  apart true false = record { number = refl; local = refl; remote = refl; due = refl; checks = refl; valid = refl; consented = refl; heard = refl }
   apart false l = alike-same p
 
 at-alike : (n : ℕ) (c l : Bool) (p : PairRecord) → Alike p (change_at n (nominated_by_self c l) p)
@@ -164,10 +183,44 @@ possible false false true u i is = refl
 possible false false false true i is = refl
 possible false false false false i is = absurd (cc)
 
-pub stays-young : (lite : Bool) (now : ℕ) (t : StunTiming) (p : PairRecord) → lite ≡ false → nat_lt (unanswered_count p.checks) t.max_retransmits ≡ true → not (due.is_pair_expired lite now t p) ≡ true
-stays-young true now t p full young = absurd (cc)
-stays-young false now t p full young =
-    ap (λ b. not (not b)) (possible (due.has_early_checks t.early now t p) (due.is_heard now p) (nat_lt (length p.checks) t.max_retransmits) (nat_lt (unanswered_count p.checks) t.max_retransmits) (due.is_in_time now t p.checks) young)
+-- ---- consent
+
+either-way : (b c : Bool) → b ≡ true → (b || c) ≡ true
+either-way true c is = refl
+either-way false c is = absurd (cc)
+
+pub answered-consents : (o : Option Consent) (now : ℕ) (p : PairRecord) → due.stays_answered o now p ≡ true → due.has_consent o now p ≡ true
+answered-consents None now p is = refl
+answered-consents (Some c) now p is = either-way (due.is_answered_lately c now p) (not c.strict && due.is_heard now p) is
+
+pub answered-same : (o : Option Consent) (now : ℕ) (p q : PairRecord) → q.consented ≡ p.consented → due.stays_answered o now q ≡ due.stays_answered o now p
+answered-same None now p q same = refl
+answered-same (Some c) now p q same = ap (λ had. option_map_or (λ at. nat_lt now (later at c.timeout.0)) had true) same
+
+-- as long as the pair with the same responses
+pub answered-on : (t u : StunTiming) (now : ℕ) (p q : PairRecord) → u ≡ t → q.consented ≡ p.consented → due.stays_answered t.consent now p ≡ true → due.stays_answered u.consent now q ≡ true
+answered-on t u now p q timing same is = answered-same u.consent now p q same ∙ (ap (λ (z : StunTiming). due.stays_answered z.consent now p) timing ∙ is)
+
+pub consent-same : (o : Option Consent) (now : ℕ) (p q : PairRecord) → q.consented ≡ p.consented → q.last_request ≡ p.last_request → due.has_consent o now q ≡ due.has_consent o now p
+consent-same None now p q same heard = refl
+consent-same (Some c) now p q same heard =
+    ap (λ had. option_map_or (λ at. nat_lt now (later at c.timeout.0)) had true || (not c.strict && due.is_heard now q)) same
+    ∙ ap (λ was. due.is_answered_lately c now p || (not c.strict && option_map_or (is_recent now) was false)) heard
+
+-- A pair that is not valid never had a response.
+pub answered-invalid : (o : Option Consent) (now : ℕ) (p : PairRecord) → (is_some p.consented ≡ true → is_valid p ≡ true) → is_valid p ≡ false → due.stays_answered o now p ≡ true
+answered-invalid o now p had invalid = from p.consented refl where
+  from : (k : Option ℕ) → p.consented ≡ k → due.stays_answered o now p ≡ true
+  from None is = answered-same o now (record p { consented = None }) p is ∙ never o where
+    never : (o : Option Consent) → due.stays_answered o now (record p { consented = None }) ≡ true
+    never None = refl
+    never (Some c) = refl
+  from (Some at) is = (let no : true ≡ false = sym (had (ap is_some is)) ∙ invalid in absurd (cc))
+
+pub stays-young : (lite : Bool) (now : ℕ) (t : StunTiming) (p : PairRecord) → lite ≡ false → due.stays_answered t.consent now p ≡ true → nat_lt (unanswered_count p.checks) t.max_retransmits ≡ true → not (due.is_pair_expired lite now t p) ≡ true
+stays-young true now t p full answered young = absurd (cc)
+stays-young false now t p full answered young =
+    ap (λ b. not (not b)) (ap (λ b. b && due.is_possible now t p) (answered-consents t.consent now p answered) ∙ possible (due.has_early_checks t.early now t p) (due.is_heard now p) (nat_lt (length p.checks) t.max_retransmits) (nat_lt (unanswered_count p.checks) t.max_retransmits) (due.is_in_time now t p.checks) young)
 
 module _ {H P : Type 0} where
   -- the time of the last `handle_timeout` call
@@ -234,10 +287,22 @@ module _ {H P : Type 0} where
         ))
 
   pub gives-up-has : (now : ℕ) (old new : AgentRecord H P) (path : Option Path) → old.lite ≡ false → RemovesExpired now old path new → (p : PairRecord) → Has old.pairs p
-      → nat_lt (unanswered_count p.checks) old.timing.max_retransmits ≡ true → (q : PairRecord) × Has new.pairs q × Alike p q
-  gives-up-has now old new path full h p has young = either (list_any (is_expired now old) old.pairs) h
+      → due.stays_answered old.timing.consent now p ≡ true → nat_lt (unanswered_count p.checks) old.timing.max_retransmits ≡ true → (q : PairRecord) × Has new.pairs q × Alike p q
+  gives-up-has now old new path full h p has answered young = either (list_any (is_expired now old) old.pairs) h
       (λ _ k. (
-      let there : Has (expired_gone now old).pairs p = Has-kept (λ q. not (is_expired now old q)) old.pairs p has (stays-young old.lite now old.timing p full young) in
+      let there : Has (expired_gone now old).pairs p = Has-kept (λ q. not (is_expired now old q)) old.pairs p has (stays-young old.lite now old.timing p full answered young) in
       let n = nominates-has (expired_gone now old) k.0 path k.1 p there in
       subst (λ (a : AgentRecord H P). (q : PairRecord) × Has a.pairs q × Alike p q) (sym k.2) (n.0, n.1, n.2)))
       (λ _ k. subst (λ (a : AgentRecord H P). (q : PairRecord) × Has a.pairs q × Alike p q) (sym k.1) (p, has, alike-same p))
+
+  -- ---- consent
+
+  abbrev pub answered_at : AgentRecord H P → PairRecord → ℕ → Bool
+  answered_at a p m = due.stays_answered a.timing.consent m p
+
+  -- a pair that is not valid never got a response
+  pub answered-if : (a : AgentRecord H P) (p : PairRecord) (m : ℕ) → IsSound a → Has a.pairs p → IsLasting m a p → answered_at a p m ≡ true
+  answered-if a p m sound has lasting = by (is_valid p) refl where
+    by : (b : Bool) → is_valid p ≡ b → answered_at a p m ≡ true
+    by true is = lasting (search is)
+    by false is = answered-invalid a.timing.consent m p (sound.consented p has) is

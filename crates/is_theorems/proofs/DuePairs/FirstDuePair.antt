@@ -1,6 +1,6 @@
 -- A `handle_timeout` call checks the pair that is due first, or another one that is due and goes ahead, and leaves the others due as
 -- they were.
-use Rattle.std.proofs.Common.{◌≡◌, ℕ, ◌<◌, ◌≤◌, ◌||◌, Bool, true, false, not, List, length, map, filter, min, nat_le, nat_lt, Option, Some, None, is_some, unwrap_or, inl, inr, ◌⊎◌, refl, ap, sym, ◌∙◌, subst, arith, if◌then◌else◌}
+use Rattle.std.proofs.Common.{◌≡◌, ℕ, ◌<◌, ◌≤◌, ◌||◌, Bool, true, false, not, List, length, map, filter, min, nat_le, Option, Some, None, is_some, unwrap_or, inl, inr, ◌⊎◌, refl, ap, sym, ◌∙◌, subst, arith, if◌then◌else◌}
 use Rattle.std.specs.Prelude.{MatchBool}
 use Rattle.std.proofs.lemmas.Bool.{eqb-true}
 use Rattle.std.proofs.lemmas.Bool.Decides.{nat_tests}
@@ -8,7 +8,6 @@ use Rattle.rand_core.specs.Stream.{Stream}
 use Rattle.is_proto.specs.Lists.{Has}
 use Rattle.is_proto.specs.Times.{MAX, later}
 use Rattle.is_candidate.specs.Candidates.{CandidateRecord, base_of, candidate_at}
-use Rattle.is_pair.specs.Checks.{unanswered_count}
 use Rattle.is_pair.specs.declared.pair.states.CheckState.{CheckState}
 use Rattle.is_pair.specs.declared.pair.states.CheckState.TheVariants.{Waiting, InProgress, Succeeded}
 use Rattle.is_pair.specs.States.{is_valid_state, state_once_sent}
@@ -24,7 +23,7 @@ use Rattle.is_rules.specs.declared.emitted.Emitted.{Emitted}
 use Rattle.is_rules.specs.Emitted.{issued_as}
 use Rattle.is_rules.specs.Agent.{AgentRecord}
 use Rattle.is_rules.specs.Sending.{path_of}
-use Rattle.is_rules.specs.Checking.{goes_ahead, all_asked, all_heard, are_kinds_in_turn, check_sent, has_urgent, is_ahead_turn, IsNextToCheck, ChecksTop, ChecksNext, MayCheck}
+use Rattle.is_rules.specs.Checking.{goes_ahead, all_asked, all_heard, are_kinds_in_turn, check_sent, has_first, is_ahead_turn, IsNextToCheck, ChecksTop, ChecksNext, MayCheck}
 use Rattle.is_rules.specs.Timeouts.{at_timeout, MaintainsPairs}
 use Rattle.is_theorems.proofs.RuleEffects.ChangedPairs.{Has-map}
 use Rattle.is_theorems.proofs.CallEffects.ServedRequests.{Has-mapped}
@@ -34,7 +33,7 @@ use Rattle.is_pair.specs.Turns.{IsPaced, is_due_by, due_by}
 use Rattle.is_pair.proofs.DueTimes.CountOfDuePairs.{no-more, fewer-due}
 use Rattle.is_theorems.specs.Progress.{IsGone, ChecksOn}
 use Rattle.is_theorems.proofs.DuePairs.ChecksAhead.{Falls, falls-from, is-turn, no-more-due}
-use Rattle.is_theorems.proofs.DuePairs.AfterNominationAndRemoval.{Distinct, Alike, Thinned, is_fixed_by, Base, Thins, base_of as agent_base, thins-on, nominates-thins, gives-up-thins, nominates-has, gives-up-has}
+use Rattle.is_theorems.proofs.DuePairs.AfterNominationAndRemoval.{Distinct, Alike, Thinned, is_fixed_by, Base, Thins, base_of as agent_base, thins-on, nominates-thins, gives-up-thins}
 
 -- ---- pairs
 
@@ -226,7 +225,7 @@ module _ {H P : Type 0} where
                 → Falls (goes_ahead old.rules) old.ahead_turn new.ahead_turn n
                 (length (due_by by now old.timing (change_pair q.number (checked now old.timing old.controlling id) (map (asked now old.timing) old.pairs))))
             fewer there paced early true on =
-                let turn = is-turn (goes_ahead old.rules) old.ahead_turn (are_kinds_in_turn (all_asked now old) || has_urgent now (all_asked now old)) on in
+                let turn = is-turn (goes_ahead old.rules) old.ahead_turn (are_kinds_in_turn (all_asked now old) || has_first now (all_asked now old)) on in
                 let le = no-more-due now by old.timing old.controlling id paced early from q.number (map (asked now old.timing) old.pairs) in
                 let counted = count-asked in
                 inr (omega (arith, le, counted), turn.0, turn.1, ap (λ (a : AgentRecord H P). a.ahead_turn) made ∙ ap not on)
@@ -325,31 +324,3 @@ module _ {H P : Type 0} where
                       ))
                 ],
               )
-
-    -- a pair that was checked less often than the limit is not removed
-    pub timeout-keeps : (now : ℕ) (old new : AgentRecord H P) (s t : Stream) (emitted : Emitted) → is_some old.remote_creds ≡ true → old.lite ≡ false
-        → (p : PairRecord) → Has old.pairs p → nat_lt (unanswered_count p.checks) old.timing.max_retransmits ≡ true
-        → MaintainsPairs mac now old s emitted new t → IsGone p.number new.pairs → ⊥
-    timeout-keeps now old new s t emitted known full p has young (first, second, issued, named, kept, nominating, giving, checking, is) gone =
-        let a = nominates-thins 0 (at_timeout now old) named first nominating in
-        let b = gives-up-thins 0 now named kept second giving in
-        let c = thins-on 0 (at_timeout now old) named kept a b in
-        let n = nominates-has (at_timeout now old) named first nominating p has in
-        let named_full : named.lite ≡ false = ap (λ (x : Base). x.lite) a.0 ∙ full in
-        let timing : named.timing ≡ old.timing = ap (λ (x : Base). x.timing) a.0 in
-        let n_young : nat_lt (unanswered_count n.0.checks) named.timing.max_retransmits ≡ true =
-        ap (λ cs. nat_lt (unanswered_count cs) named.timing.max_retransmits) n.2.checks ∙ (ap (λ (x : StunTiming). nat_lt (unanswered_count p.checks) x.max_retransmits) timing ∙ young) in
-        let k = gives-up-has now named kept second named_full giving n.0 n.1 n_young in
-        let known_kept : is_some kept.remote_creds ≡ true = ap (λ (x : Base). is_some x.remote_creds) c.0 ∙ known in
-        let full_kept : kept.lite ≡ false = ap (λ (x : Base). x.lite) c.0 ∙ full in
-        let m = next-check now kept.remote_creds kept new s t issued known_kept full_kept checking in
-        still now kept new s t issued m.0 m.1 m.3 k.0 k.1 (λ q there same. gone q there (same ∙ (k.2.number ∙ n.2.number))) where
-          still : (now : ℕ) (kept new : AgentRecord H P) (s t : Stream) (issued : Option Issued) (peer : IceCreds) (next : Option PairRecord)
-              → ChecksTop mac now peer next (all_asked now kept) s issued new t → (q : PairRecord) → Has kept.pairs q → IsGone q.number new.pairs → ⊥
-          still now kept new s t issued peer None (is, made, drawn) q there gone =
-              gone (asked now kept.timing q) (subst (λ (a : AgentRecord H P). Has a.pairs (asked now kept.timing q)) (sym made) (Has-mapped (asked now kept.timing) kept.pairs q there)) refl
-          still now kept new s t issued peer (Some x) (id, drawn, values, is, made) q there gone =
-              gone (change_at x.number (checked now kept.timing kept.controlling id) (asked now kept.timing q))
-              (subst (λ (a : AgentRecord H P). Has a.pairs (change_at x.number (checked now kept.timing kept.controlling id) (asked now kept.timing q))) (sym made)
-              (Has-mapped (change_at x.number (checked now kept.timing kept.controlling id)) (map (asked now kept.timing) kept.pairs) (asked now kept.timing q) (Has-mapped (asked now kept.timing) kept.pairs q there)))
-              (checked-matches now x.number kept.timing kept.controlling id q).number

@@ -1,16 +1,16 @@
 -- Starvation freedom: a pair that is due is checked within as many polling cycles as there are pairs that are due no
 -- later, or within twice as many if checks may go ahead.
-use Rattle.std.proofs.Common.{◌≡◌, ℕ, suc, ◌+◌, ◌<◌, ◌≤◌, Bool, true, false, List, [], ◌∷◌, length, map, filter, drop, take_while, max, nat_le, nat_lt, Option, Some, None, is_some, Ok, inl, inr, ◌⊎◌, refl, ap, sym, ◌∙◌, subst, arith}
+use Rattle.std.proofs.Common.{◌≡◌, ℕ, suc, ◌+◌, ◌<◌, ◌≤◌, Bool, true, false, List, [], ◌∷◌, length, map, filter, drop, take_while, min, max, nat_le, Option, Some, None, is_some, Ok, inl, inr, ◌⊎◌, refl, ap, sym, ◌∙◌, subst, arith}
 use Rattle.std.specs.Prelude.{MatchOption}
 use Rattle.std.proofs.lemmas.Bool.Decides.{nat_tests}
 use Rattle.std.proofs.lemmas.List.{length-drop}
 use Rattle.rand_core.specs.Stream.{Stream}
 use Rattle.is_proto.specs.Lists.{Has, is_empty, head, drop_while}
 use Rattle.is_proto.specs.Times.{MAX}
-use Rattle.is_pair.specs.Checks.{unanswered_count}
 use Rattle.is_pair.specs.Pairs.{PairRecord}
-use Rattle.is_pair.specs.Due.{asked, due_time_of}
+use Rattle.is_pair.specs.Due.{asked, consent_end, due_time_of, has_consent, call_time_of, call_time_with}
 use Rattle.is_stun.specs.declared.header.Class.TheVariants as class
+use Rattle.is_stun.specs.declared.timing.Consent.{Consent}
 use Rattle.is_stun.specs.declared.timing.StunTiming.{StunTiming}
 use Rattle.is_rules.specs.declared.credentials.IceCreds.{IceCreds}
 use Rattle.is_rules.specs.declared.emitted.Emitted.{Emitted}
@@ -21,8 +21,8 @@ use Rattle.is_rules.specs.Checking.{goes_ahead}
 use Rattle.is_rules.specs.declared.rules.Rules.{Rules}
 use Rattle.is_rules.specs.Sending.{path_of}
 use Rattle.is_rules.specs.Queue.{is_outdated, queue_left, next_request, first_taken, request_at}
-use Rattle.is_rules.specs.Polls.{PollsTimeout, NextTimeoutFrom, is_waiting, is_idle, soon, earliest_due}
-use Rattle.is_rules.specs.Timeouts.{timeout_begun, MaintainsPairs, ServesQueued, TimesOut}
+use Rattle.is_rules.specs.Polls.{PollsTimeout, NextTimeoutFrom, is_waiting, is_idle, soon, earliest_call}
+use Rattle.is_rules.specs.Timeouts.{at_request, timeout_begun, MaintainsPairs, ServesQueued, TimesOut}
 use Rattle.is_rules.specs.Sound.{IsSound}
 use Rattle.is_theorems.proofs.RuleEffects.UnchangedSettings.{either, Frame, Turns as SwitchRole, serves}
 use Rattle.is_theorems.proofs.RuleEffects.ChangedPairs.{Has-map}
@@ -33,12 +33,19 @@ use Rattle.is_pair.specs.Turns.{IsPaced, is_due_by, due_by}
 use Rattle.is_pair.proofs.DueTimes.CountOfDuePairs.{no-more, some-pass}
 use Rattle.is_theorems.specs.Progress.{IsGone, IsChecking, ChecksOn, IsOfUse, TimeoutsAreOfUse, Turn, Turns, IsIdle, NoPairIsStarved}
 use Rattle.is_rules.proofs.PollsAndResponses.NextTimeout.{timeouts-from, all-are-asked, least-is}
-use Rattle.is_theorems.proofs.DuePairs.AfterNominationAndRemoval.{Distinct, is_fixed_by, Base, base_of}
+use Rattle.is_theorems.proofs.DuePairs.AfterNominationAndRemoval.{Distinct, is_fixed_by, Base, base_of, consent-same}
+use Rattle.is_theorems.proofs.DuePairs.ConsentAfterTimeouts.{consent-ended, maintains-consents}
 use Rattle.is_theorems.proofs.DuePairs.ChecksAhead.{calls_left, Falls, falls-from, calls-fall, calls-some, calls-from}
-use Rattle.is_theorems.proofs.DuePairs.FirstDuePair.{Matches, Follows, follows-on, follows-same, follows-map, gone-follows, same-path, Moved, timeout-follows, timeout-moves, timeout-keeps}
+use Rattle.is_theorems.proofs.DuePairs.FirstDuePair.{Matches, Follows, follows-on, follows-same, follows-map, gone-follows, same-path, Moved, timeout-follows, timeout-moves}
 
 le-is : (n m : ℕ) → n ≤ m → nat_le n m ≡ true
 le-is n m h = grind (arith, nat_tests, h)
+
+le-from : (n m : ℕ) → nat_le n m ≡ true → n ≤ m
+le-from n m h = grind (arith, nat_tests, h)
+
+le-over : (n m : ℕ) → nat_le n m ≡ false → m < n
+le-over n m h = grind (arith, nat_tests, h)
 
 some-pairs : (ps : List PairRecord) (p : PairRecord) → Has ps p → is_empty ps ≡ false
 some-pairs [] p has = absurd has
@@ -111,7 +118,7 @@ module _ {H P : Type 0} where
     pub maintains_pairs-from : (now : ℕ) (a : AgentRecord H P) (s t : Stream) (emitted : Emitted) (new : AgentRecord H P) → a.queue ≡ [] → TimesOut mac now a s (Ok tt) emitted new t
         → MaintainsPairs mac now (timeout_begun now a) s emitted new t
     maintains_pairs-from now a s t emitted new none h =
-        subst (λ o. MatchOption o (MaintainsPairs mac now (timeout_begun now a) s emitted new t) (λ q. ServesQueued mac q (timeout_begun now a) s emitted new t))
+        subst (λ o. MatchOption o (MaintainsPairs mac now (timeout_begun now a) s emitted new t) (λ q. ServesQueued mac q (at_request now (timeout_begun now a)) s emitted new t))
         (none-waits now a.timing a.remote_creds a.queue none) h
 
     pub turn-fits : (old new : AgentRecord H P) (at now : ℕ) (emitted : Emitted) → Fits at old → Turn mac old now emitted new
@@ -217,18 +224,6 @@ module _ {H P : Type 0} where
         let d = asked-moves old turn.after turn.before turn.following at now by emitted f.distinct f.checking f.idle.queue from p has due m in
         subst (λ (x : AgentRecord H P). Does at now by old emitted x p) (sym turn.taken) d
 
-    -- a pair that was checked less often than the limit is not removed
-    pub turn-keeps : (old new : AgentRecord H P) (at now : ℕ) (emitted : Emitted) → Fits at old → (p : PairRecord) → Has old.pairs p → nat_lt (unanswered_count p.checks) old.timing.max_retransmits ≡ true
-        → Turn mac old now emitted new → IsGone p.number new.pairs → ⊥
-    turn-keeps old new at now emitted f p has young turn gone =
-        let a = all-are-asked old turn.asked at turn.deadline f.last f.checking.full f.idle.packets f.idle.queue (some-pairs old.pairs p has) turn.polled in
-        let m : TimesOut mac now (record old { pairs = map (asked at old.timing) old.pairs }) turn.before (Ok tt) emitted turn.after turn.following =
-        subst (λ (x : AgentRecord H P). TimesOut mac now x turn.before (Ok tt) emitted turn.after turn.following) a.1 turn.timeout in
-        let k = maintains_pairs-from now (record old { pairs = map (asked at old.timing) old.pairs }) turn.before turn.following emitted turn.after f.idle.queue m in
-        timeout-keeps mac now (timeout_begun now (record old { pairs = map (asked at old.timing) old.pairs })) turn.after turn.before turn.following emitted f.checking.peer f.checking.full
-        (asked at old.timing p) (Has-mapped (asked at old.timing) old.pairs p has) young k
-        (subst (λ (a : AgentRecord H P). IsGone p.number a.pairs) turn.taken gone)
-
     -- ---- one polling cycle after another
 
     gone-through : (turns : List (ℕ × Emitted)) (first last : AgentRecord H P) (at n : ℕ) → Fits at first → Turns mac turns first last → IsGone n first.pairs → IsGone n last.pairs
@@ -288,7 +283,7 @@ module _ {H P : Type 0} where
           queue_is = ap (λ (x : Base). x.queue) base
 
           by : (o : Option RequestRecord) → request_at now asked_old ≡ o → 0 < length old.queue
-              → MatchOption o (MaintainsPairs mac now (timeout_begun now asked_old) s emitted new t) (λ q. ServesQueued mac q (timeout_begun now asked_old) s emitted new t) → length new.queue < length old.queue
+              → MatchOption o (MaintainsPairs mac now (timeout_begun now asked_old) s emitted new t) (λ q. ServesQueued mac q (at_request now (timeout_begun now asked_old)) s emitted new t) → length new.queue < length old.queue
           by None is some k =
               let m = timeout-follows mac now (timeout_begun now asked_old) new s t emitted (ap (λ (x : Base). is_some x.remote_creds) base ∙ known) (ap (λ (x : Base). x.lite) base ∙ full) k in
               let none : new.queue ≡ [] = ap (λ (x : Base). x.queue) m.0
@@ -296,9 +291,9 @@ module _ {H P : Type 0} where
               subst (λ qs. length qs < length old.queue) (sym none) some
           by (Some q) is some (k, drawn) =
               let less = queue-shorter now asked_old.timing asked_old.remote_creds asked_old.queue q is in
-              let kept : new.queue ≡ drop 1 (queue_left now asked_old.timing asked_old.remote_creds asked_old.queue) = switches_role (serves mac q (first_taken (timeout_begun now asked_old)) new emitted k) in
+              let kept : new.queue ≡ drop 1 (queue_left now asked_old.timing asked_old.remote_creds asked_old.queue) = switches_role (serves mac q (first_taken (at_request now (timeout_begun now asked_old))) new emitted k) in
               subst (λ n. length new.queue < n) (ap length queue_is) (subst (λ qs. length qs < length asked_old.queue) (sym kept) less) where
-                switches_role : SwitchRole mac q (first_taken (timeout_begun now asked_old)) emitted new → new.queue ≡ drop 1 (queue_left now asked_old.timing asked_old.remote_creds asked_old.queue)
+                switches_role : SwitchRole mac q (first_taken (at_request now (timeout_begun now asked_old))) emitted new → new.queue ≡ drop 1 (queue_left now asked_old.timing asked_old.remote_creds asked_old.queue)
                 switches_role (inl stays) = ap (λ (f : Frame H). f.queue) stays.0
                 switches_role (inr (conflict, (frame, out))) = ap (λ (f : Frame H). f.queue) frame
 
@@ -315,13 +310,47 @@ module _ {H P : Type 0} where
             inr (let fewer = queue-of-use old asked_old new s t now emitted first following (asks-follow at deadline old asked_old is polled).0 checking.peer checking.full waits h in omega (arith, fewer))
         by-queue [] none =
             let a = all-are-asked old asked_old at deadline is checking.full packets none some polled in
-            let low : earliest_due old at ≤ deadline = below (earliest_due old at) (soon old at) a.0 in
-            let p = least-is (due_time_of at old.timing) MAX deadline old.pairs low early in
+            let low : earliest_call old at ≤ deadline = below (earliest_call old at) (soon old at) a.0 in
+            let p = least-is (call_time_of at old.timing) MAX deadline old.pairs low early in
             let m : TimesOut mac now (record old { pairs = map (asked at old.timing) old.pairs }) s (Ok tt) emitted new t =
             subst (λ (x : AgentRecord H P). TimesOut mac now x s (Ok tt) emitted new t) a.1 h in
-            use_of p.0 p.1 (asked-moves old new s t at now now emitted (distinct-sound old sound) checking none (omega arith) p.0 p.1 (let d = p.2 in omega (arith, d, kept)) m) where
+            elim (woken old.timing.consent refl p.0 p.2) [
+              | inl due ↦ use_of p.0 p.1 (asked-moves old new s t at now now emitted (distinct-sound old sound) checking none (omega arith) p.0 p.1 (omega (arith, due, kept)) m)
+              | inr (c, is_c, ended) ↦ inl (p.0, p.1, inr (ended-goes c is_c p.0 p.1 ended m))
+            ] where
               below : (x y : ℕ) → deadline ≡ max x y → x ≤ deadline
               below x y e = omega (arith, e)
+
+              -- the pair is due, or its consent ends
+              woken : (o : Option Consent) → old.timing.consent ≡ o → (p : PairRecord) → call_time_of at old.timing p ≤ deadline
+                  → (due_time_of at old.timing p ≤ deadline) ⊎ ((c : Consent) × (old.timing.consent ≡ Some c) × (consent_end c p ≤ deadline))
+              woken None is p le = inl (subst (λ (o : Option Consent). call_time_with o at old.timing p ≤ deadline) is le)
+              woken (Some c) is p le = elim (least-of (due_time_of at old.timing p) (consent_end c p) (subst (λ (o : Option Consent). call_time_with o at old.timing p ≤ deadline) is le)) [
+                | inl due ↦ inl due
+                | inr ends ↦ inr (c, is, ends)
+              ] where
+                least-of : (x y : ℕ) → min x y ≤ deadline → (x ≤ deadline) ⊎ (y ≤ deadline)
+                least-of x y le = by (nat_le x deadline) refl where
+                  by : (b : Bool) → nat_le x deadline ≡ b → (x ≤ deadline) ⊎ (y ≤ deadline)
+                  by true is = inl (le-from x deadline is)
+                  by false is = inr (let over : deadline < x = le-over x deadline is in omega (arith, le, over))
+
+              -- then the call removes it
+              ended-goes : (c : Consent) → old.timing.consent ≡ Some c → (p : PairRecord) → Has old.pairs p → consent_end c p ≤ deadline
+                  → TimesOut mac now (record old { pairs = map (asked at old.timing) old.pairs }) s (Ok tt) emitted new t → IsGone p.number new.pairs
+              ended-goes c is_c p has ended m q there same =
+                  let asking : AgentRecord H P = record old { pairs = map (asked at old.timing) old.pairs } in
+                  let k = maintains-consents mac now (timeout_begun now asking) new s t emitted checking.full (maintains_pairs-from now asking s t emitted new none m) in
+                  let o = k.1 q there in
+                  let was = Has-map (asked at old.timing) old.pairs o.0 o.1 in
+                  let one : was.0 ≡ p = distinct-sound old sound was.0 p was.1 has (ap (λ (x : PairRecord). x.number) was.2 ∙ (sym o.2.number ∙ same)) in
+                  let has_it : has_consent old.timing.consent now q ≡ true = ap (λ (x : StunTiming). has_consent x.consent now q) (sym k.0) ∙ k.2 q there in
+                  let asked_it : has_consent (Some c) now (asked at old.timing p) ≡ false = consent-ended c (asked at old.timing p) deadline now ended early kept in
+                  let same_pair : asked at old.timing p ≡ o.0 = ap (asked at old.timing) (sym one) ∙ was.2 in
+                  let no : true ≡ false =
+                  sym has_it ∙ (consent-same old.timing.consent now o.0 q o.2.consented o.2.heard
+                  ∙ (ap (λ (r : Option Consent). has_consent r now o.0) is_c ∙ (ap (λ (x : PairRecord). has_consent (Some c) now x) (sym same_pair) ∙ asked_it))) in
+                  cc
 
               use_of : (p : PairRecord) → Has old.pairs p → Does at now now old emitted new p → IsOfUse old emitted new
               use_of p has (inl gone) = inl (p, has, inr gone)

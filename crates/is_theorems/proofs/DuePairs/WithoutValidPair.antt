@@ -41,7 +41,7 @@ use Rattle.is_theorems.proofs.RuleEffects.EarlierAndNewPairs.{Has-filter}
 use Rattle.is_rules.proofs.PairLists.ChosenPair.{chosen-able}
 use Rattle.is_theorems.proofs.RuleEffects.NominatedPairs.{SelectsPath, selects_path}
 use Rattle.is_rules.proofs.PairLists.RisingNumbers.{AllBelow, below-each}
-use Rattle.is_theorems.proofs.DuePairs.AfterNominationAndRemoval.{Distinct, Base, base_of as agent_base, gives-up-has}
+use Rattle.is_theorems.proofs.DuePairs.AfterNominationAndRemoval.{Distinct, Base, base_of as agent_base, gives-up-has, answered-if, answered_at}
 use Rattle.is_theorems.proofs.DuePairs.ChecksAhead.{calls_left, Falls, falls-from, calls-kept, calls-go-on, calls-some}
 use Rattle.is_theorems.proofs.DuePairs.FirstDuePair.{Follows, le-from, le-is, same-path, WaitsOn, next-check, check-moves, timeout-follows}
 use Rattle.is_theorems.proofs.DuePairs.PollingCycles.{none-left, maintains_pairs-from, distinct-sound}
@@ -137,13 +137,13 @@ module _ {H P : Type 0} where
         × ((o ≡ p) ⊎ WaitsOn mac now by (length (due_by by now old.timing old.pairs)) old new p)
 
     checks-first : (now by : ℕ) (old new : AgentRecord H P) (s t : Stream) (emitted : Emitted) → is_some old.remote_creds ≡ true → old.lite ≡ false → Distinct old.pairs → NoneValid old.pairs
-        → by ≤ now → (p : PairRecord) → Has old.pairs p → nat_lt (unanswered_count p.checks) old.timing.max_retransmits ≡ true → due_time_of now old.timing p ≤ by
+        → by ≤ now → (p : PairRecord) → Has old.pairs p → answered_at old p now ≡ true → nat_lt (unanswered_count p.checks) old.timing.max_retransmits ≡ true → due_time_of now old.timing p ≤ by
         → IsPaced old.timing → now < MAX → MaintainsPairs mac now old s emitted new t → ChecksFirst now by old emitted new p × Held by now old.timing new.pairs
-    checks-first now by old new s t emitted known full distinct none from p has young due paced early (first, second, issued, named, kept, nominating, giving, checking, is) =
+    checks-first now by old new s t emitted known full distinct none from p has answered young due paced early (first, second, issued, named, kept, nominating, giving, checking, is) =
         let same : named ≡ at_timeout now old = nominates-nothing (at_timeout now old) named first none nominating in
         let gives : RemovesExpired now (at_timeout now old) second kept = subst (λ (a : AgentRecord H P). RemovesExpired now a second kept) same giving in
         let g = gives-up-sifts now (at_timeout now old) kept second none gives in
-        let k = gives-up-has now (at_timeout now old) kept second full gives p has young in
+        let k = gives-up-has now (at_timeout now old) kept second full gives p has answered young in
         let one : k.0 ≡ p = distinct k.0 p (g.1.sub k.0 k.1) has k.2.number in
         let timing : kept.timing ≡ old.timing = ap (λ (x : Base). x.timing) g.0 in
         let known_kept : is_some kept.remote_creds ≡ true = ap (λ (x : Base). is_some x.remote_creds) g.0 ∙ known in
@@ -202,6 +202,7 @@ module _ {H P : Type 0} where
     below = s.below;
     selected_paths = s.selected_paths;
     started = s.started;
+    consented = s.consented;
     checks = s.checks;
     queued = s.queued;
     based = s.based;
@@ -340,7 +341,7 @@ module _ {H P : Type 0} where
     pass-on by n path now k emitted old new st late early pass =
         let x = passed now emitted old new st.calm pass in
         let m = checks-first mac now by (timeout_begun now old) pass.after pass.before pass.following emitted st.calm.checking.peer st.calm.checking.full st.calm.distinct st.calm.invalid (omega (arith, late))
-        st.pair st.there st.young st.due st.paced early (maintains_pairs-from mac now old pass.before pass.following emitted pass.after st.calm.queue pass.timeout) in
+        st.pair st.there (answered-if old st.pair now st.calm.sound st.there (λ valid. (let no : true ≡ false = sym valid ∙ st.calm.invalid st.pair st.there in absurd (cc)))) st.young st.due st.paced early (maintains_pairs-from mac now old pass.before pass.following emitted pass.after st.calm.queue pass.timeout) in
         by-check x m.0 (subst (λ ps. Held by now old.timing ps) (sym pairs) m.1) where
           pairs : new.pairs ≡ pass.after.pairs
           pairs = ap (λ (a : AgentRecord H P). a.pairs) pass.taken

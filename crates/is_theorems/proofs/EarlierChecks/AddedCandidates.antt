@@ -16,6 +16,7 @@ use Rattle.is_rules.specs.Remote.{as_remote, with_remote, AddsRemote}
 use Rattle.is_theorems.specs.Removing.{MayEndByLocal, MayEndByRemote}
 use Rattle.is_rules.specs.Sound.{IsSound}
 use Rattle.is_theorems.proofs.CallEffects.AddedCandidates.{by_adding_local, by_adding_remote}
+use Rattle.is_theorems.proofs.DuePairs.AfterNominationAndRemoval.{kept_of}
 use Rattle.is_theorems.proofs.EarlierChecks.ChecksOfOtherPairs.{own, leads, leads-filter, leads-push, weight}
 use Rattle.is_theorems.proofs.EarlierChecks.BetweenTimeouts.{ground_of, Goes, goes-same}
 use Rattle.is_theorems.proofs.StoredPairs.PairsAfterForming.{local-leaves, remote-leaves}
@@ -99,7 +100,7 @@ module _ (n by : ℕ) where
         less = λ late. l.1;
         fixed = λ d cs le (q, q_there, is, due, checks). (
             let one : q ≡ p = one_pair old.pairs q p (rising-each old.pairs sound.rising) q_there has (is ∙ sym number) in
-            (p, there, number, subst (λ (x : PairRecord). x.due ≡ Some d) one due, subst (λ (x : PairRecord). x.checks ≡ cs) one checks));
+            (p, there, number, subst (λ (x : PairRecord). x.due ≡ Some d) one due, subst (λ (x : PairRecord). kept_of x ≡ cs) one checks));
       },
     )
 

@@ -109,7 +109,7 @@ module _ {H P : Type 0} where
     switches s = (
       refl,
       onward-each n by (last_time_of s) (with_priority_in (switched_sides s)) s.pairs s.next_number
-          (λ p. moved-mild by (last_time_of s) p (with_priority_in (switched_sides s) p) (record { number = refl; due = refl; checks = refl; nomination = inl refl })),
+          (λ p. moved-mild by (last_time_of s) p (with_priority_in (switched_sides s) p) (record { number = refl; due = refl; kept = refl; nomination = inl refl })),
     )
 
     failure : (old new : AgentRecord H P) (via : Path) (m : Message) (emitted : Emitted) → TakesFailure old via m emitted new → Goes old new

@@ -5,7 +5,6 @@ use Rattle.std.specs.Prelude.{slice_get, slice_set}
 use Rattle.std.specs.Option.{option_map_or}
 use Rattle.is_proto.specs.Lists.{Has}
 use Rattle.is_pair.specs.Multiset.{is_numbered, change_at}
-use Rattle.is_pair.specs.Checks.{Check}
 use Rattle.is_pair.specs.Pairs.{PairRecord, is_nominated, with_request, validated, nominated, new_pair}
 use Rattle.is_pair.specs.States.{is_nominated_state}
 use Rattle.is_pair.specs.declared.pair.states.NominationState.{NominationState}
@@ -13,6 +12,7 @@ use Rattle.is_pair.specs.declared.pair.states.NominationState.TheVariants.{None 
 use Rattle.is_pair.specs.Due.{is_triggered, moved_up, triggered}
 use Rattle.is_rules.specs.Request.{RequestRecord}
 use Rattle.is_rules.specs.Serving.{served}
+use Rattle.is_theorems.proofs.DuePairs.AfterNominationAndRemoval.{Kept, kept_of}
 use Rattle.is_theorems.proofs.EarlierChecks.ChecksOfOtherPairs.{Becomes, le-from, le-is, le-fails, le-not, lead, leads, own, own-le, sent_by, weight-becomes, is_early, weight, leads-map, leads-push, leads-set}
 use Rattle.is_theorems.proofs.CallEffects.ServedRequests.{Has-mapped}
 use Rattle.is_theorems.proofs.RuleEffects.SelectedPaths.{some_is}
@@ -23,11 +23,11 @@ use Rattle.is_theorems.proofs.RuleEffects.SelectedPaths.{some_is}
 pub record Mild (p q : PairRecord) : Type 0 where
   pub number : q.number ≡ p.number
   pub due : q.due ≡ p.due
-  pub checks : q.checks ≡ p.checks
+  pub kept : kept_of q ≡ kept_of p
   pub nomination : (q.nomination ≡ p.nomination) ⊎ Becomes p.nomination q.nomination
 
 pub mild-same : (p : PairRecord) → Mild p p
-mild-same p = record { number = refl; due = refl; checks = refl; nomination = inl refl }
+mild-same p = record { number = refl; due = refl; kept = refl; nomination = inl refl }
 
 -- it is not nominated
 pub nominates-mildly : (l : Bool) (p : PairRecord) → is_nominated p ≡ false → Mild p (nominated l p)
@@ -39,8 +39,8 @@ nominates-mildly l p is = by l (none p.nomination refl) where
   none Success same = let wrong : true ≡ false = ap is_nominated_state (sym same) ∙ is in absurd (cc)
 
   by : (l : Bool) → p.nomination ≡ Unnominated → Mild p (nominated l p)
-  by true was = record { number = refl; due = refl; checks = refl; nomination = inr (was, inr refl) }
-  by false was = record { number = refl; due = refl; checks = refl; nomination = inr (was, inl refl) }
+  by true was = record { number = refl; due = refl; kept = refl; nomination = inr (was, inr refl) }
+  by false was = record { number = refl; due = refl; kept = refl; nomination = inr (was, inl refl) }
 
 pub self-mild : (b l n : Bool) (p : PairRecord) → is_nominated p ≡ n → Mild p (if not n && b then nominated l p else p)
 self-mild true l false p is = nominates-mildly l p is
@@ -53,11 +53,11 @@ peer-mild true true l true p is = mild-same p
 peer-mild true false l n p is = mild-same p
 peer-mild false b l n p is = mild-same p
 
-mild-on : (p q r : PairRecord) → q.number ≡ p.number → q.due ≡ p.due → q.checks ≡ p.checks → q.nomination ≡ p.nomination → Mild q r → Mild p r
-mild-on p q r number due checks nomination m = record {
+mild-on : (p q r : PairRecord) → q.number ≡ p.number → q.due ≡ p.due → kept_of q ≡ kept_of p → q.nomination ≡ p.nomination → Mild q r → Mild p r
+mild-on p q r number due kept nomination m = record {
   number = m.number ∙ number;
   due = m.due ∙ due;
-  checks = m.checks ∙ checks;
+  kept = m.kept ∙ kept;
   nomination = elim m.nomination [
     | inl same ↦ inl (same ∙ nomination)
     | inr (was, now) ↦ inr (sym nomination ∙ was, now)
@@ -85,7 +85,7 @@ at-mild n f p m = by (is_numbered n p) where
 -- as it was if that is by then.
 pub record MovedUp (by at : ℕ) (p q : PairRecord) : Type 0 where
   pub number : q.number ≡ p.number
-  pub checks : q.checks ≡ p.checks
+  pub kept : kept_of q ≡ kept_of p
   pub nomination : (q.nomination ≡ p.nomination) ⊎ Becomes p.nomination q.nomination
   pub early : by < at → option_map_or (λ d. nat_le d by) q.due false ≡ option_map_or (λ d. nat_le d by) p.due false
   pub fixed : (d : ℕ) → d ≤ at → p.due ≡ Some d → q.due ≡ Some d
@@ -93,7 +93,7 @@ pub record MovedUp (by at : ℕ) (p q : PairRecord) : Type 0 where
 pub moved-mild : (by at : ℕ) (p q : PairRecord) → Mild p q → MovedUp by at p q
 moved-mild by at p q m = record {
   number = m.number;
-  checks = m.checks;
+  kept = m.kept;
   nomination = m.nomination;
   early = λ late. ap (λ o. option_map_or (λ d. nat_le d by) o false) m.due;
   fixed = λ d le is. m.due ∙ is;
@@ -121,7 +121,7 @@ triggered-mild by at to (Some most) p q late m = moves (is_triggered most p) m w
   moves false m = moved-mild by at p q m
   moves true m = record {
     number = m.number;
-    checks = m.checks;
+    kept = m.kept;
     nomination = m.nomination;
     early = λ before. ap (λ o. option_map_or (λ d. nat_le d by) o false) m.due ∙ moved-early by to p.due (omega (arith, before, late));
     fixed = λ d le is. m.due ∙ moved-fixed to d p.due (omega (arith, le, late)) is;
@@ -135,20 +135,20 @@ at-moved by at n f p m = from (is_numbered n p) where
 
 lead-moved : (by at : ℕ) (p q : PairRecord) → by < at → MovedUp by at p q → lead by q ≤ lead by p
 lead-moved by at p q late m =
-    let e : is_early by q.due q.checks ≡ is_early by p.due p.checks = ap (λ b. b || sent_by by q.checks) (m.early late) ∙ ap (λ cs. is_early by p.due cs) m.checks in
+    let e : is_early by q.due q.checks ≡ is_early by p.due p.checks = ap (λ b. b || sent_by by q.checks) (m.early late) ∙ ap (λ k. is_early by p.due k.0) m.kept in
     subst (λ b. weight q.nomination b ≤ lead by p) (sym e) (weight-becomes p.nomination q.nomination (is_early by p.due p.checks) m.nomination)
 
 -- ---- lists of pairs
 
--- a pair with the number exists, due at this time, with these checks
-abbrev pub Fixed : ℕ → ℕ → List Check → List PairRecord → Type 0
-Fixed n d cs ps = (q : PairRecord) × Has ps q × (q.number ≡ n) × (q.due ≡ Some d) × (q.checks ≡ cs)
+-- a pair with the number exists, due at this time, with these checks and this consent
+abbrev pub Fixed : ℕ → ℕ → Kept → List PairRecord → Type 0
+Fixed n d k ps = (q : PairRecord) × Has ps q × (q.number ≡ n) × (q.due ≡ Some d) × (kept_of q ≡ k)
 
 -- If the time is before `at`, no more checks go before the pair with the number than before, except for one by each added pair. If the pair
 -- was due by then, it is due as it was.
 pub record Onward (n by at : ℕ) (xs : List PairRecord) (k : ℕ) (ys : List PairRecord) (m : ℕ) : Type 0 where
   pub less : by < at → leads n by ys + k ≤ leads n by xs + m
-  pub fixed : (d : ℕ) (cs : List Check) → d ≤ at → Fixed n d cs xs → Fixed n d cs ys
+  pub fixed : (d : ℕ) (k : Kept) → d ≤ at → Fixed n d k xs → Fixed n d k ys
 
 module _ (n by at : ℕ) where
   pub onward-same : (xs : List PairRecord) (k : ℕ) → Onward n by at xs k xs k
@@ -165,7 +165,7 @@ module _ (n by at : ℕ) where
   pub onward-each : (f : PairRecord → PairRecord) (xs : List PairRecord) (k : ℕ) → ((p : PairRecord) → MovedUp by at p (f p)) → Onward n by at xs k (map f xs) k
   onward-each f xs k moved = record {
     less = λ late. (let le : leads n by (map f xs) ≤ leads n by xs = leads-map n by f xs (λ p. own-le n by p (f p) (moved p).number (lead-moved by at p (f p) late (moved p))) in omega (arith, le));
-    fixed = λ d cs le (q, has, is, due, checks). (f q, Has-mapped f xs q has, (moved q).number ∙ is, (moved q).fixed d le due, (moved q).checks ∙ checks);
+    fixed = λ d cs le (q, has, is, due, checks). (f q, Has-mapped f xs q has, (moved q).number ∙ is, (moved q).fixed d le due, (moved q).kept ∙ checks);
   }
 
   has-front : (xs : List PairRecord) (x y : PairRecord) → Has xs y → Has (xs ++ x ∷ []) y

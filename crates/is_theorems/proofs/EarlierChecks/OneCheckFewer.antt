@@ -9,13 +9,13 @@ use Rattle.is_proto.specs.Lists.{Has}
 use Rattle.is_proto.specs.Times.{MAX}
 use Rattle.is_pair.specs.Checks.{unanswered_count}
 use Rattle.is_pair.specs.Multiset.{is_numbered, change_at, change_pair}
-use Rattle.is_pair.specs.Due.{asked, due_time_of, is_due, GoesBefore}
+use Rattle.is_pair.specs.Due.{asked, due_time_of, is_due, stays_answered, GoesBefore}
 use Rattle.is_pair.specs.Pairs.{PairRecord, is_valid, is_nominated, checked}
 use Rattle.is_pair.specs.States.{nomination_once_sent}
 use Rattle.is_stun.specs.declared.header.Class.TheVariants as class
 use Rattle.is_stun.specs.declared.timing.StunTiming.{StunTiming}
 use Rattle.is_rules.specs.Agent.{AgentRecord}
-use Rattle.is_rules.specs.Checking.{goes_ahead, all_asked, are_kinds_in_turn, has_urgent, is_ahead_turn, IsNextToCheck, ChecksTop, MayCheck}
+use Rattle.is_rules.specs.Checking.{goes_ahead, all_asked, are_kinds_in_turn, has_first, is_ahead_turn, IsNextToCheck, ChecksTop, MayCheck}
 use Rattle.is_rules.specs.declared.credentials.IceCreds.{IceCreds}
 use Rattle.is_rules.specs.declared.emitted.Issued.{Issued}
 use Rattle.is_rules.specs.declared.emitted.Path.{Path}
@@ -36,7 +36,7 @@ use Rattle.is_theorems.proofs.DuePairs.ChecksAhead.{Falls, falls-from, is-turn}
 use Rattle.is_rules.proofs.PairLists.ChosenPair.{chosen-able, none_pass}
 use Rattle.is_theorems.proofs.RuleEffects.NominatedPairs.{SelectsPath, selects_path}
 use Rattle.is_theorems.proofs.CallEffects.ServedRequests.{Has-mapped}
-use Rattle.is_theorems.proofs.DuePairs.AfterNominationAndRemoval.{Distinct, Alike, Base, base_of as agent_base, Has-kept, stays-young, thinned-filter, nominates-thins, gives-up-thins, nominates-has}
+use Rattle.is_theorems.proofs.DuePairs.AfterNominationAndRemoval.{kept_of, alike-kept, answered-on, Distinct, Alike, Base, base_of as agent_base, Has-kept, stays-young, thinned-filter, nominates-thins, gives-up-thins, nominates-has}
 
 le-is : (n m : ℕ) → n ≤ m → nat_le n m ≡ true
 le-is n m h = grind (arith, nat_tests, h)
@@ -46,7 +46,7 @@ and-left true b h k = cc
 and-left false b h k = cc
 
 alike-none : (p : PairRecord) → Alike p p
-alike-none p = record { number = refl; local = refl; remote = refl; due = refl; checks = refl; valid = refl }
+alike-none p = record { number = refl; local = refl; remote = refl; due = refl; checks = refl; valid = refl; consented = refl; heard = refl }
 
 joins : (p q r : PairRecord) → Alike p q → Alike q r → Alike p r
 joins p q r a b = record {
@@ -56,6 +56,8 @@ joins p q r a b = record {
   due = b.due ∙ a.due;
   checks = b.checks ∙ a.checks;
   valid = b.valid ∙ a.valid;
+  consented = b.consented ∙ a.consented;
+  heard = b.heard ∙ a.heard;
 }
 
 module _ (now by : ℕ) (late : by < now) (early : now < MAX) where
@@ -131,11 +133,11 @@ module _ (now by : ℕ) (late : by < now) (early : now < MAX) where
             still false is there = there
 
     given-ready : (old new : AgentRecord H P) (path : Option Path) → RemovesExpired now old path new → old.lite ≡ false → Distinct old.pairs → (p : PairRecord) → Has old.pairs p
-        → nat_lt (unanswered_count p.checks) old.timing.max_retransmits ≡ true → Ready old.timing p
+        → stays_answered old.timing.consent now p ≡ true → nat_lt (unanswered_count p.checks) old.timing.max_retransmits ≡ true → Ready old.timing p
         → (q : PairRecord) × Has new.pairs q × Alike p q × Ready old.timing q
-    given-ready old new path h full distinct p has young ready = either (list_any (is_expired now old) old.pairs) h
+    given-ready old new path h full distinct p has answered young ready = either (list_any (is_expired now old) old.pairs) h
         (λ _ k. (
-        let there : Has (expired_gone now old).pairs p = Has-kept (λ q. not (is_expired now old q)) old.pairs p has (stays-young old.lite now old.timing p full young) in
+        let there : Has (expired_gone now old).pairs p = Has-kept (λ q. not (is_expired now old q)) old.pairs p has (stays-young old.lite now old.timing p full answered young) in
         let q = named-ready old.timing (expired_gone now old) k.0 path k.1 ((thinned-filter 0 (λ q. not (is_expired now old q)) old.pairs).distinct distinct) p there ready in
         subst (λ (a : AgentRecord H P). (q : PairRecord) × Has a.pairs q × Alike p q × Ready old.timing q) (sym k.2) (q.0, q.1, q.2, q.3)))
         (λ _ k. subst (λ (a : AgentRecord H P). (q : PairRecord) × Has a.pairs q × Alike p q × Ready old.timing q) (sym k.1) (p, has, alike-none p, ready))
@@ -160,7 +162,7 @@ module _ (now by : ℕ) (late : by < now) (early : now < MAX) where
     -- its due time is fixed, and one check fewer goes before it, or a check went ahead
     abbrev pub WaitsOn : AgentRecord H P → AgentRecord H P → PairRecord → Type 0
     WaitsOn old new p =
-        (d : ℕ) × (d ≤ by) × Fixed p.number d p.checks new.pairs
+        (d : ℕ) × (d ≤ by) × Fixed p.number d (kept_of p) new.pairs
         × Falls (goes_ahead old.rules) old.ahead_turn new.ahead_turn (leads p.number by old.pairs) (leads p.number by new.pairs)
 
     -- the check goes ahead, or the pair is due by the time
@@ -189,7 +191,7 @@ module _ (now by : ℕ) (late : by < now) (early : now < MAX) where
                 inr (
                   due_time_of now old.timing p,
                   due,
-                  subst (λ ps. Fixed p.number (due_time_of now old.timing p) p.checks ps) (sym made) (asked now old.timing p, stays, refl, refl, refl),
+                  subst (λ ps. Fixed p.number (due_time_of now old.timing p) (kept_of p) ps) (sym made) (asked now old.timing p, stays, refl, refl, refl),
                   falls,
                 ) where
                   stays : Has (change_pair q.number (checked now old.timing old.controlling id) (map (asked now old.timing) old.pairs)) (asked now old.timing p)
@@ -234,7 +236,7 @@ module _ (now by : ℕ) (late : by < now) (early : now < MAX) where
                   falls : Falls (goes_ahead old.rules) old.ahead_turn new.ahead_turn (leads p.number by old.pairs) (leads p.number by new.pairs)
                   falls = elim chosen [
                     | inl on ↦
-                        (let turn = is-turn (goes_ahead old.rules) old.ahead_turn (are_kinds_in_turn (all_asked now old) || has_urgent now (all_asked now old)) on in
+                        (let turn = is-turn (goes_ahead old.rules) old.ahead_turn (are_kinds_in_turn (all_asked now old) || has_first now (all_asked now old)) on in
                         inr (no-more, turn.0, turn.1, turned ∙ ap not on))
                     | inr q_due ↦ inl (one-fewer q_due)
                   ]
@@ -259,14 +261,14 @@ module _ (now by : ℕ) (late : by < now) (early : now < MAX) where
 
       pub timeout-goes : (old new : AgentRecord H P) (s u : Stream) (emitted : Emitted) → is_some old.remote_creds ≡ true → old.lite ≡ false
           → Distinct old.pairs → 0 < old.timing.max_retransmits → (p : PairRecord) → Has old.pairs p
-          → nat_lt (unanswered_count p.checks) old.timing.max_retransmits ≡ true → Ready old.timing p
+          → stays_answered old.timing.consent now p ≡ true → nat_lt (unanswered_count p.checks) old.timing.max_retransmits ≡ true → Ready old.timing p
           → MaintainsPairs mac now old s emitted new u → ChecksOn old emitted p ⊎ WaitsOn old new p
-      timeout-goes old new s u emitted known full distinct some p has young ready (first, second, issued, named, kept, nominating, giving, checking, is) =
+      timeout-goes old new s u emitted known full distinct some p has answered young ready (first, second, issued, named, kept, nominating, giving, checking, is) =
           let a = nominates-thins 0 (at_timeout now old) named first nominating in
           let b = gives-up-thins 0 now named kept second giving in
           let x = named-ready old.timing (at_timeout now old) named first nominating distinct p has ready in
           let timing : named.timing ≡ old.timing = ap (λ (y : Base). y.timing) a.0 in
-          let y = given-ready named kept second giving (ap (λ (y : Base). y.lite) a.0 ∙ full) (a.1.distinct distinct) x.0 x.1
+          let y = given-ready named kept second giving (ap (λ (y : Base). y.lite) a.0 ∙ full) (a.1.distinct distinct) x.0 x.1 (answered-on old.timing named.timing now p x.0 timing x.2.consented answered)
           (ap (λ cs. nat_lt (unanswered_count cs) named.timing.max_retransmits) x.2.checks ∙ (ap (λ (z : StunTiming). nat_lt (unanswered_count p.checks) z.max_retransmits) timing ∙ young))
           (subst (λ z. Ready z x.0) (sym timing) x.3) in
           let base : agent_base kept ≡ agent_base (at_timeout now old) = b.0 ∙ a.0 in
@@ -292,7 +294,7 @@ module _ (now by : ℕ) (late : by < now) (early : now < MAX) where
                 inr (
                   d,
                   due,
-                  subst (λ cs. Fixed p.number d cs new.pairs) alike.checks (subst (λ k. Fixed k d y.0.checks new.pairs) alike.number fixed),
+                  subst (λ k. Fixed p.number d k new.pairs) (alike-kept p y.0 alike) (subst (λ k. Fixed k d (kept_of y.0) new.pairs) alike.number fixed),
                   falls-from (goes_ahead kept.rules) (goes_ahead old.rules) kept.ahead_turn old.ahead_turn new.ahead_turn
                       (leads p.number by kept.pairs) (leads p.number by old.pairs) (leads p.number by new.pairs)
                       (ap (λ (z : Base). goes_ahead z.rules) (sym base)) (ap (λ (z : Base). z.ahead_turn) (sym base)) lessened falls_for,

@@ -25,7 +25,7 @@ use Rattle.is_theorems.specs.Runs.{Run}
 use Rattle.is_rules.specs.Sending.{path_of}
 use Rattle.is_rules.specs.Steps.{Call, SetMtu, SetControlTieBreaker, SetMaxCandidatePairs, SetMaxDiscovered, SetIceLite, SetRenomination, SetRules, SetTimingAdvance, SetInitialStunRto, SetMaxStunRto, SetMaxStunRetransmits, SetLiteTimeout, SetLocalPreference, SetControlling, SetLocalCredentials, SetRemoteCredentials, SkipPairIds, AddLocalCandidate, AddRemoteCandidate, InvalidateCandidate, RestartIce, RecreateCandidatePairs, ReceivePacket, HandleTimeout, PollTransmit, PollTimeout, PollEvent, NotCalled, Entry, quiet, Becomes, Step}
 use Rattle.is_rules.specs.Settings.{with_retransmits}
-use Rattle.is_rules.specs.Timeouts.{timeout_begun, MaintainsPairs, ServesQueued, TimesOut}
+use Rattle.is_rules.specs.Timeouts.{at_request, timeout_begun, MaintainsPairs, ServesQueued, TimesOut}
 use Rattle.is_theorems.proofs.PollingRounds.AnsweredRoundsInLogs.{answered-rounds-announce}
 use Rattle.is_theorems.proofs.RuleEffects.EarlierAndNewPairs.{Has-push}
 
@@ -179,8 +179,8 @@ module _ {H P : Type 0} (mac : H → List ℕ → List ℕ → List ℕ) (answer
       → (v : Stream) × TimesOut mac now old v r emitted new u
   recomputed_timeout now old new s t u (Err error) emitted (may, is, made, drawn) = (u, (may, is, made, refl))
   recomputed_timeout now old new s t u (Ok done) emitted h = by (request_at now old) h where
-    by : (o : Option RequestRecord) → MatchOption o (MaintainsPairs mac now (timeout_begun now old) s emitted new t) (λ q. ServesQueued mac q (timeout_begun now old) s emitted new t)
-        → (v : Stream) × MatchOption o (MaintainsPairs mac now (timeout_begun now old) v emitted new u) (λ q. ServesQueued mac q (timeout_begun now old) v emitted new u)
+    by : (o : Option RequestRecord) → MatchOption o (MaintainsPairs mac now (timeout_begun now old) s emitted new t) (λ q. ServesQueued mac q (at_request now (timeout_begun now old)) s emitted new t)
+        → (v : Stream) × MatchOption o (MaintainsPairs mac now (timeout_begun now old) v emitted new u) (λ q. ServesQueued mac q (at_request now (timeout_begun now old)) v emitted new u)
     by None (first, second, issued, named, kept, nominating, giving, checking, is) =
         let k = recomputed_check now kept.remote_creds kept new s t u issued checking in (k.0, (first, second, issued, named, kept, nominating, giving, k.1, is))
     by (Some q) (serving, drawn) = (u, (serving, refl))

@@ -41,7 +41,7 @@ use Rattle.is_rules.specs.Queue.{first_taken, request_at, queued}
 use Rattle.is_rules.specs.Answers.{TakesSuccess, TakesFailure, LeavesRole, is_role_conflict}
 use Rattle.is_rules.specs.Accepting.{Takes, discovered_emitted, is_passed_over, HandlesPacket}
 use Rattle.is_rules.specs.Checking.{all_asked, MayCheck, ChecksTop}
-use Rattle.is_rules.specs.Timeouts.{timeout_begun, start_emitted, at_timeout, is_expired, expired_gone, RemovesExpired, MaintainsPairs, ServesQueued, TimesOut}
+use Rattle.is_rules.specs.Timeouts.{at_request, timeout_begun, start_emitted, at_timeout, is_expired, expired_gone, RemovesExpired, MaintainsPairs, ServesQueued, TimesOut}
 use Rattle.is_rules.specs.Steps.{Call, SetMtu, SetControlTieBreaker, SetMaxCandidatePairs, SetMaxDiscovered, SetIceLite, SetRenomination, SetRules, SetTimingAdvance, SetInitialStunRto, SetMaxStunRto, SetMaxStunRetransmits, SetLiteTimeout, SetLocalPreference, SetControlling, SetLocalCredentials, SetRemoteCredentials, SkipPairIds, AddLocalCandidate, AddRemoteCandidate, InvalidateCandidate, RestartIce, RecreateCandidatePairs, ReceivePacket, HandleTimeout, PollTransmit, PollTimeout, PollEvent, Done, NotCalled, Entry, quiet, Becomes, Receives, Step}
 use Rattle.is_theorems.specs.Reporting.{Extends, Begins, Reports, QueuesTheorem}
 use Rattle.is_theorems.proofs.RuleEffects.UnchangedSettings.{either}
@@ -202,10 +202,10 @@ module _ {H P : Type 0} where
       both old kept new (both old named kept a b) c
 
   timeout_grows : (mac : H → List ℕ → List ℕ → List ℕ) (now : ℕ) (old new : AgentRecord H P) (s t : Stream) (emitted : Emitted) (o : Option RequestRecord)
-      → MatchOption o (MaintainsPairs mac now (timeout_begun now old) s emitted new t) (λ q. ServesQueued mac q (timeout_begun now old) s emitted new t) → Grows old new
+      → MatchOption o (MaintainsPairs mac now (timeout_begun now old) s emitted new t) (λ q. ServesQueued mac q (at_request now (timeout_begun now old)) s emitted new t) → Grows old new
   timeout_grows mac now old new s t emitted None h = both old (timeout_begun now old) new (timeout_begun_grows now old) (maintains_pairs_grow mac now (timeout_begun now old) new s t emitted h)
   timeout_grows mac now old new s t emitted (Some q) h =
-      both old (timeout_begun now old) new (timeout_begun_grows now old) (serves_grows mac q (first_taken (timeout_begun now old)) new emitted h.0)
+      both old (timeout_begun now old) new (timeout_begun_grows now old) (serves_grows mac q (first_taken (at_request now (timeout_begun now old))) new emitted h.0)
 
   -- ---- candidates and restarts
 

@@ -37,6 +37,7 @@ module _ {H P : Type 0} (mac : H → List ℕ → List ℕ → List ℕ) (answer
         below = s.below;
         selected_paths = s.selected_paths;
         started = s.started;
+        consented = s.consented;
         checks = s.checks;
         queued = s.queued;
         based = s.based;

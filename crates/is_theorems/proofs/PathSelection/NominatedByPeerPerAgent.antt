@@ -50,7 +50,7 @@ selected-in (x ∷ rest) was path is =
 
 module _ {H P : Type 0} where
   -- a pair of the path passes
-  abbrev Marked : Path → (PairRecord → Bool) → AgentRecord H P → Type 0
+  abbrev pub Marked : Path → (PairRecord → Bool) → AgentRecord H P → Type 0
   Marked path test a = (p : PairRecord) × Has a.pairs p × (test p ≡ true) × UsesAddressesOf a path p
 
   module _ (mac : H → List ℕ → List ℕ → List ℕ) (answers : P → CandidateRecord → ℕ → ℕ → Type 0) where
@@ -72,7 +72,7 @@ module _ {H P : Type 0} where
         names-along xs first last None sound course (λ p has is. absurd (subst (λ (ps : List PairRecord). Has ps p) none has))
 
     module _ (path : Path) where
-      next : (test : PairRecord → Bool) (old new : AgentRecord H P) (s t : Stream) (call : Call P) (e : Entry) → ((p : PairRecord) (k : Stays old p new) → test p ≡ true → test k.pair ≡ true)
+      pub next : (test : PairRecord → Bool) (old new : AgentRecord H P) (s t : Stream) (call : Call P) (e : Entry) → ((p : PairRecord) (k : Stays old p new) → test p ≡ true → test k.pair ≡ true)
           → IsSound old → GivesBased call → Step mac answers old s call e new t → Marked path test old → Marked path test new ⊎ Ends answers old call e path
       next test old new s t call e keeps sound based step (p, has, is, joins) = elim (pairs-stay mac answers old new s t call e p sound based step has) [
         | inl k ↦ inl (k.pair, k.there, keeps p k is, (ap (λ (w : Path). w.source) k.path ∙ joins.0, ap (λ (w : Path). w.destination) k.path ∙ joins.1))
@@ -89,20 +89,20 @@ module _ {H P : Type 0} where
             | inr ends ↦ inr (inl ends)
           ]
 
-      nominated_now : (old new : AgentRecord H P) (call : Call P) (e : Entry) → PathEffect mac old call e new → AcceptsNomination old call e path → new.controlling ≡ false → Marked path is_nominated new
+      pub nominated_now : (old new : AgentRecord H P) (call : Call P) (e : Entry) → PathEffect mac old call e new → AcceptsNomination old call e path → new.controlling ≡ false → Marked path is_nominated new
       nominated_now old new call e f (q, id, serving, uses, out) controlled =
           let k = f.replied (issued_as path class.Success id) out refl in
           let on = k.3 (uses-too old call e q k.0 serving k.1 uses) controlled in
           let same : path_of new on.0 ≡ path = on.3 ∙ sym (ap (λ (i : Issued). i.path) k.2) in
           (on.0, on.1, on.2, (ap (λ (w : Path). w.source) same, ap (λ (w : Path). w.destination) same))
 
-      valid_now : (old new : AgentRecord H P) (call : Call P) (e : Entry) → PathEffect mac old call e new → AcceptsSuccessOn call e path → Marked path is_valid new
+      pub valid_now : (old new : AgentRecord H P) (call : Call P) (e : Entry) → PathEffect mac old call e new → AcceptsSuccessOn call e path → Marked path is_valid new
       valid_now old new call e f (at, by, m, brings, success, back) =
           let k = f.taken at by m brings success in
           let on = both (keeps_check m.id k.0) (goes_back by (path_of new k.0)) k.2 in
           (k.0, k.1, k.3, back-on by (path_of new k.0) path on.1 back)
 
-      nomination_accepted : (xs : List (Call P × Entry)) (old new : AgentRecord H P) → IsSound old → (course : Course mac answers xs old new) → AcceptsNominationAlong mac answers xs old new course path
+      pub nomination_accepted : (xs : List (Call P × Entry)) (old new : AgentRecord H P) → IsSound old → (course : Course mac answers xs old new) → AcceptsNominationAlong mac answers xs old new course path
           → Marked path is_nominated new ⊎ EndsAlong mac answers xs old new course path
       nomination_accepted [] old new sound course asks = absurd asks
       nomination_accepted (x ∷ rest) old new sound (mid, s, t, based, step, more) (inl (accepts_nomination, controlled)) =
@@ -111,7 +111,7 @@ module _ {H P : Type 0} where
       nomination_accepted (x ∷ rest) old new sound (mid, s, t, based, step, more) (inr asks) =
           elim (nomination_accepted rest mid new (path_theorem mac answers old mid s t x.0 x.1 sound based step).1 more asks) [ inl m ↦ inl m | inr ends ↦ inr (inr ends) ]
 
-      answered : (xs : List (Call P × Entry)) (old new : AgentRecord H P) → IsSound old → (course : Course mac answers xs old new)
+      pub answered : (xs : List (Call P × Entry)) (old new : AgentRecord H P) → IsSound old → (course : Course mac answers xs old new)
           → (y : Call P × Entry) → Has xs y → AcceptsSuccessOn y.0 y.1 path → Marked path is_valid new ⊎ EndsAlong mac answers xs old new course path
       answered [] old new sound course y has is = absurd has
       answered (x ∷ rest) old new sound (mid, s, t, based, step, more) y (inl same) is =

@@ -34,7 +34,7 @@ use Rattle.is_rules.specs.Queue.{request_at}
 use Rattle.is_rules.specs.Answers.{goes_back, keeps_check_on, TakesSuccess}
 use Rattle.is_rules.specs.Accepting.{Takes}
 use Rattle.is_rules.specs.Checking.{all_asked, ChecksTop, MayCheck}
-use Rattle.is_rules.specs.Timeouts.{is_expired, expired_gone, RemovesExpired, at_timeout, timeout_begun, MaintainsPairs, ServesQueued, TimesOut}
+use Rattle.is_rules.specs.Timeouts.{at_request, is_expired, expired_gone, RemovesExpired, at_timeout, timeout_begun, MaintainsPairs, ServesQueued, TimesOut}
 use Rattle.is_rules.specs.Steps.{Call, ReceivePacket, HandleTimeout, Step}
 use Rattle.is_rules.specs.Sound.{IsSound, is_started_state}
 use Rattle.is_rules.specs.Brought.{Brings}
@@ -72,7 +72,7 @@ pub record Alike (c : Bool) (p q : PairRecord) : Type 0 where
   pub priority : q.priority ≡ p.priority
   pub eligible : is_eligible c q ≡ is_eligible c p
 
-alike_if : (b c : Bool) (p q : PairRecord) → Alike c p q → Alike c p (if b then q else p)
+pub alike_if : (b c : Bool) (p q : PairRecord) → Alike c p q → Alike c p (if b then q else p)
 alike_if true c p q h = h
 alike_if false c p q h = record { number = refl; priority = refl; eligible = refl }
 
@@ -192,14 +192,14 @@ sent_alike Waiting = refl
 sent_alike InProgress = refl
 sent_alike Succeeded = refl
 
-checked_alike : (c : Bool) (now : ℕ) (t : StunTiming) (role : Bool) (id : List ℕ) (p : PairRecord) → Alike c p (checked now t role id p)
+pub checked_alike : (c : Bool) (now : ℕ) (t : StunTiming) (role : Bool) (id : List ℕ) (p : PairRecord) → Alike c p (checked now t role id p)
 checked_alike c now t role id p = record {
   number = refl;
   priority = refl;
   eligible = ap (λ b. b && (c || is_nominated (checked now t role id p))) (sent_alike p.state) ∙ ap (λ b. is_valid p && (c || b)) (sent_nominated p.nomination);
 }
 
-heard_alike : (c : Bool) (now : ℕ) (o : Option ℕ) (p : PairRecord) → Alike c p (heard_at now o p)
+pub heard_alike : (c : Bool) (now : ℕ) (o : Option ℕ) (p : PairRecord) → Alike c p (heard_at now o p)
 heard_alike c now None p = record { number = refl; priority = refl; eligible = refl }
 heard_alike c now (Some at) p = record { number = refl; priority = refl; eligible = refl }
 
@@ -244,6 +244,7 @@ module _ {H P : Type 0} where
     rising = rising-each a.pairs sound.rising;
     below = below-each a.next_number a.pairs sound.below;
     started = λ p has c keeps. sound.started p c has keeps;
+    consented = sound.consented;
   }
 
   removes_expired_top : (now : ℕ) (old new : AgentRecord H P) (path : Option Path) → FitOf old → RemovesExpired now old path new → IsTopSelected old → IsTopSelected new
@@ -360,7 +361,7 @@ module _ {H P : Type 0} where
     takes_valid _ h at by m brings is = absurd brings
 
     timeout_top : (now : ℕ) (emitted : Emitted) (o : Option RequestRecord) → request_at now old ≡ o → request_at now old ≡ None
-        → MatchOption o (MaintainsPairs mac now (timeout_begun now old) s emitted new t) (λ q. ServesQueued mac q (timeout_begun now old) s emitted new t) → IsTopSelected new
+        → MatchOption o (MaintainsPairs mac now (timeout_begun now old) s emitted new t) (λ q. ServesQueued mac q (at_request now (timeout_begun now old)) s emitted new t) → IsTopSelected new
     timeout_top now emitted None is none h = maintains_pairs_top mac now (timeout_begun now old) new s t emitted fit h
     timeout_top now emitted (Some q) is none h = absurd (let no : Some q ≡ None = sym is ∙ none in cc)
 

@@ -38,7 +38,7 @@ use Rattle.is_rules.specs.Serving.{after_request, pair_served, selects_at_reques
 use Rattle.is_rules.specs.Serving.{Drops, RecordsAndResponds, FindsOrAddsPair, AddsUnknownSender, CountsAndServes, ResolvesRoleConflictBy, ResolvesRoleConflict, Serves}
 use Rattle.is_rules.specs.Sound.{IsSound}
 use Rattle.is_rules.specs.Steps.{Call, ReceivePacket, HandleTimeout, Entry, Step, answer_by, done, Done, Flag, Unparsed, Rejected}
-use Rattle.is_rules.specs.Timeouts.{timeout_begun, TimesOut, MaintainsPairs, ServesQueued}
+use Rattle.is_rules.specs.Timeouts.{at_request, timeout_begun, TimesOut, MaintainsPairs, ServesQueued}
 use Rattle.is_theorems.specs.AtOnce.{WereValidOn, RequestsSelect, NominationsSelectAtOnce}
 use Rattle.is_theorems.specs.Asked.{IsAskedOn}
 use Rattle.is_theorems.specs.Logs.{Logged, last_selected}
@@ -126,7 +126,7 @@ module _ {H P : Type 0} where
         (λ _ k. (
         let x : Parts = parts_of All1 All1 All3 s in
         let p : PairRecord = formed s l r in
-        let joins = pushed All1 All1 All3 x x.pairs p state.fit (λ _ has. has) state.fit.rising refl (in_local, in_remote) refl (λ _. inr tt) (λ _. inr tt) in
+        let joins = pushed All1 All1 All3 x x.pairs p state.fit (λ _ has. has) state.fit.rising refl (in_local, in_remote) refl (λ (is : false ≡ true). cc) (λ _. inr tt) (λ _. inr tt) in
         records_top l r s.next_number (with_pair p s) new emitted (record {
           fit = joins.fit;
           at_once = state.at_once;
@@ -218,11 +218,11 @@ module _ {H P : Type 0} where
         subst (λ (a : AgentRecord H P). IsTopSelected a) (sym made) top
 
     early_top : (now : ℕ) (emitted : Emitted) (o : Option RequestRecord) (q : RequestRecord) → request_at now old ≡ o → request_at now old ≡ Some q
-        → MatchOption o (MaintainsPairs mac now (timeout_begun now old) s emitted new t) (λ q. ServesQueued mac q (timeout_begun now old) s emitted new t)
+        → MatchOption o (MaintainsPairs mac now (timeout_begun now old) s emitted new t) (λ q. ServesQueued mac q (at_request now (timeout_begun now old)) s emitted new t)
         → Selects mac q old issued success emitted new
     early_top now emitted None q is some h = none_is q (sym is ∙ some)
     early_top now emitted (Some r) q is some h =
-        serves_top mac r old issued success (first_taken (timeout_begun now old)) new emitted (within r)
+        serves_top mac r old issued success (first_taken (at_request now (timeout_begun now old))) new emitted (within r)
         (record { fit = at_first.fit; at_once = at_first.at_once; keeps = at_first.keeps }) h.0
 
     timeout_top : (now : ℕ) (r : Result (Unit {0}) IceError) (emitted : Emitted) → e ≡ record { answer = answer_by done r; emitted = emitted } → TimesOut mac now old s r emitted new t

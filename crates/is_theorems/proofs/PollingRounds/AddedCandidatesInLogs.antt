@@ -10,7 +10,7 @@ use Rattle.is_rules.specs.Agent.{AgentRecord}
 use Rattle.is_theorems.specs.Asked.{IsAnsweredIn}
 use Rattle.is_rules.specs.Effects.{PathEffect, lite_set_by}
 use Rattle.is_theorems.specs.Logs.{Logged}
-use Rattle.is_theorems.specs.Reached.{is_in_round, IsPassing, PairsAreReached}
+use Rattle.is_theorems.specs.Reached.{IsLasting, is_in_round, IsPassing, PairsAreReached}
 use Rattle.is_theorems.specs.Rounds.{LoggedRound, entries_of, BringsSuccess, RunsOn, IsControllingIn, SegmentSelects, AnsweredRoundsSelect}
 use Rattle.is_theorems.specs.Runs.{IsFresh, Run, Point}
 use Rattle.is_rules.specs.Sending.{path_of}
@@ -140,8 +140,10 @@ module _ {H P : Type 0} (mac : H → List ℕ → List ℕ → List ℕ) (answer
             due = (let due = waits.due in omega (arith, due));
             settled = inl (search (unanswered.invalid p waits.there));
             young = (let young = unanswered.young in omega (arith, young));
+            lasting = lasts at;
           };
           passing = passing;
+          lasting = λ r has. lasts r.now;
           enough = omega (arith, many);
         })) [
           | inl (r, id, has, out) ↦ inl (let x = answered r has id out in selects (x.0, in_entries rounds r x.0 has x.1, x.2))
@@ -149,6 +151,9 @@ module _ {H P : Type 0} (mac : H → List ℕ → List ℕ → List ℕ) (answer
           | inr (inr ended) ↦ inr ended
         ]
       ] where
+        lasts : (m : ℕ) → IsLasting m start p
+        lasts m valid = let no : true ≡ false = sym valid ∙ search (unanswered.invalid p waits.there) in absurd (cc)
+
         selects : (x : Logged P) × Has (entries_of rounds) x × BringsSuccess x → SegmentSelects mac answers first s log (entries_of rounds)
         selects (x, has, success) =
             elim (walk first s log fresh (entries_of rounds) before start last part.at part.following part.rest (entries_of rounds) part.split (λ y there. there) (of_rounds by rounds passing) part.led part.run role
@@ -168,7 +173,8 @@ module _ {H P : Type 0} (mac : H → List ℕ → List ℕ → List ℕ) (answer
         due = (let due = waits.due in omega (arith, due));
         settled = inl (search (unanswered.invalid p waits.there));
         young = (let young = unanswered.young in omega (arith, young));
-      }) (omega (arith, from)) comes done (λ x has. between x has) (λ x has. passing x has) (of_enough enough)) [
+        lasting = lasts r.now;
+      }) (omega (arith, from)) comes done (λ x has. between x has) (λ x has. passing x has) (λ x has. lasts x.now) (of_enough enough)) [
         | inl (inl (x, id, inl is, out)) ↦ inl (in-first (in-round (r ∷ []) r (inl refl) (search (answered r (inl refl) id (ap (λ (z : LoggedRound P). z.timeout.entry.emitted.issued) is ∙ out)))))
         | inl (inl (x, id, inr none, out)) ↦ absurd none
         | inl (inr (inl is)) ↦ inl (in-first (success-is (entries_of (r ∷ [])) (path_of start p) is))
@@ -177,6 +183,9 @@ module _ {H P : Type 0} (mac : H → List ℕ → List ℕ → List ℕ) (answer
         | inr (inr (inl is)) ↦ inl (in-later (success-is (entries_of later) (path_of start p) is))
         | inr (inr (inr ended)) ↦ inr (inr ended)
       ] where
+        lasts : (m : ℕ) → IsLasting m start p
+        lasts m valid = let no : true ≡ false = sym valid ∙ search (unanswered.invalid p waits.there) in absurd (cc)
+
         all : List (Logged P)
         all = entries_of later ++ entries_of (r ∷ [])
 

@@ -10,7 +10,7 @@ use Rattle.is_theorems.specs.AskedCourses.{Ends, EndsAlong}
 use Rattle.is_theorems.specs.Courses.{CourseRound}
 use Rattle.is_theorems.specs.Exchange.{Course}
 use Rattle.is_theorems.specs.Logs.{Logged}
-use Rattle.is_theorems.specs.Reached.{IsPassing, ChecksIn, IsEndedIn, PairsAreReached}
+use Rattle.is_theorems.specs.Reached.{IsLasting, IsPassing, ChecksIn, IsEndedIn, PairsAreReached}
 use Rattle.is_theorems.specs.ReachedCourses.{ChecksAmong, IsAnsweredAmong, PassRounds}
 use Rattle.is_theorems.specs.Rounds.{LoggedRound, entries_of, RunsOn}
 use Rattle.is_theorems.specs.Runs.{Run}
@@ -40,6 +40,17 @@ module _ {P : Type 0} where
       are_passing by before (round_of (entries_of older ++ before) x ∷ older) later
       (λ y there. elim there [
         | inl is ↦ subst (λ (z : LoggedRound P). IsPassing by z) is (is_passing by (entries_of older ++ before) x (are x (inl refl)))
+        | inr k ↦ were y k
+      ])
+      (λ y there. are y (inr there)) r has
+
+  are_at : (Q : ℕ → Type 0) (before : List (Logged P)) (older : List (LoggedRound P)) (rounds : List (CourseRound P)) → ((r : LoggedRound P) → Has older r → Q r.now)
+      → ((r : CourseRound P) → Has rounds r → Q r.now) → (r : LoggedRound P) → Has (rounds_of before older rounds) r → Q r.now
+  are_at Q before older [] were are r has = were r has
+  are_at Q before older (x ∷ later) were are r has =
+      are_at Q before (round_of (entries_of older ++ before) x ∷ older) later
+      (λ y there. elim there [
+        | inl is ↦ subst (λ (z : LoggedRound P). Q z.now) is (are x (inl refl))
         | inr k ↦ were y k
       ])
       (λ y there. are y (inr there)) r has
@@ -145,7 +156,7 @@ module _ {H P : Type 0} (mac : H → List ℕ → List ℕ → List ℕ) (answer
   any = record { u32_after = λ cs. 0; u64_after = λ cs. 0; bytes_after = λ cs n. [] }
 
   pub open-courses-reach : PairsAreReached {H = H} {P = P} mac answers → OpenCoursesReach {H = H} {P = P} mac answers
-  open-courses-reach reached first start last xs r rounds p by fresh course line chain are enough =
+  open-courses-reach reached first start last xs r rounds p by fresh course line chain are lasting enough =
       let before : List (Logged P) = pushed [] xs in
       let path : Path = path_of start p in
       let Gone : Type 0 = EndsAmong mac answers (r ∷ rounds) start last chain path in
@@ -161,11 +172,12 @@ module _ {H P : Type 0} (mac : H → List ℕ → List ℕ → List ℕ) (answer
         began = begun before (round_of ([] ++ before) r) [] rounds;
         line = line;
         passing = are_passing by before [] (r ∷ rounds) (λ x none. absurd none) are;
+        lasting = are_at (λ m. IsLasting m start p) before [] (r ∷ rounds) (λ x none. absurd none) lasting;
         enough = omega (arith, many, enough);
       }))
 
   pub courses-reach-from-due : OpenCoursesReach {H = H} {P = P} mac answers → PairsAreReachedFromDue {H = H} {P = P} mac answers → CoursesReachFromDue {H = H} {P = P} mac answers
-  courses-reach-from-due open_reach reached first start last xs r later p by fresh course line from done early between run passing enough = by-enough enough where
+  courses-reach-from-due open_reach reached first start last xs r later p by fresh course line from done early between run passing lasting enough = by-enough enough where
     path : Path
     path = path_of start p
 
@@ -175,6 +187,10 @@ module _ {H P : Type 0} (mac : H → List ℕ → List ℕ → List ℕ) (answer
     open-from : by < r.now → (x : CourseRound P) → Has (r ∷ later) x → IsOpenRound by x
     open-from late x (inl is) = subst (λ (y : CourseRound P). IsOpenRound by y) is (record { done = done; late = late; early = early; between = between })
     open-from late x (inr has) = passing x has
+
+    lasts : (x : CourseRound P) → Has (r ∷ later) x → IsLasting x.now start p
+    lasts x (inl is) = subst (λ (y : CourseRound P). IsLasting y.now start p) is line.lasting
+    lasts x (inr has) = lasting x has
 
     before : List (Logged P)
     before = pushed [] xs
@@ -207,6 +223,7 @@ module _ {H P : Type 0} (mac : H → List ℕ → List ℕ → List ℕ) (answer
         line (omega (arith, from)) refl done
         (λ x has. between (x.call, x.entry) (part_is (entry_of before (HandleTimeout r.now) r.timeout ∷ before) r.following x has))
         (are_passing by following [] later (λ x none. absurd none) passing)
+        (are_at (λ m. IsLasting m start p) following [] later (λ x none. absurd none) lasting)
         (subst (λ n. SufficesFromDue start run.1 last n) (sym (omega (arith, many))) enough)) [
           | inl here ↦
               elim (reached-back Gone path before (r ∷ []) (IsEndedIn mac answers before start held-first.0 (entries_of (first_round ∷ [])) run.1 held-later.0 held-first.1.0 path) held-first.1.1 here) [
@@ -226,5 +243,5 @@ module _ {H P : Type 0} (mac : H → List ℕ → List ℕ → List ℕ) (answer
 
     by-enough : Suffices by r.now start run.1 last (length later) → IsReached mac answers (r ∷ later) start last run path
     by-enough (inl (late, enough)) =
-        open_reach first start last xs r later p by fresh course line run (λ x has. open-from (omega (arith, late)) x has) (omega (arith, enough))
+        open_reach first start last xs r later p by fresh course line run (λ x has. open-from (omega (arith, late)) x has) lasts (omega (arith, enough))
     by-enough (inr enough) = from-first enough

@@ -8,7 +8,7 @@ use Rattle.is_proto.specs.Lists.{Has}
 use Rattle.is_proto.specs.Times.{MAX}
 use Rattle.is_candidate.specs.Candidates.{CandidateRecord}
 use Rattle.is_pair.specs.Checks.{unanswered_count}
-use Rattle.is_pair.specs.Due.{asked}
+use Rattle.is_pair.specs.Due.{asked, stays_answered}
 use Rattle.is_pair.specs.Pairs.{PairRecord}
 use Rattle.is_stun.specs.declared.header.Class.TheVariants as class
 use Rattle.is_stun.specs.declared.timing.StunTiming.{StunTiming}
@@ -21,7 +21,7 @@ use Rattle.is_rules.specs.declared.emitted.Path.{Path}
 use Rattle.is_theorems.specs.Logs.{Logged}
 use Rattle.is_rules.specs.Polls.{PollsTimeout, NextTimeoutFrom, NextTimeouts, is_waiting, is_idle}
 use Rattle.is_theorems.specs.Progress.{IsChecking}
-use Rattle.is_theorems.specs.Reached.{IsPassing, ChecksIn, is_in_round, IsEndedIn, PairsAreReached, AskedRoundsSelect}
+use Rattle.is_theorems.specs.Reached.{IsInLine, IsLasting, IsPassing, ChecksIn, is_in_round, IsEndedIn, PairsAreReached, AskedRoundsSelect}
 use Rattle.is_theorems.specs.Rounds.{LoggedRound, entries_of, began_at, Part, RunsOn}
 use Rattle.is_theorems.specs.Runs.{IsFresh, Run, IsTopPath}
 use Rattle.is_rules.specs.Sending.{path_of}
@@ -47,7 +47,7 @@ use Rattle.is_theorems.proofs.DuePairs.PollingCycles.{none-left, maintains_pairs
 use Rattle.is_theorems.proofs.CallEffects.FailedCallsAndNewAgents.{mtu_kept, local_kept, enrolment_kept, storing_kept}
 use Rattle.is_theorems.proofs.StoredPairs.PairsThatStay.{none-entered, pairs-stay}
 use Rattle.is_theorems.proofs.RuleEffects.SelectedPaths.{one_pair}
-use Rattle.is_theorems.proofs.DuePairs.AfterNominationAndRemoval.{Base, last_time_of, stays-young}
+use Rattle.is_theorems.proofs.DuePairs.AfterNominationAndRemoval.{Base, Kept, answered-if, answered-on, answered_at, kept_of, last_time_of, stays-young}
 use Rattle.is_theorems.proofs.EarlierChecks.AddedCandidates.{local-goes, remote-goes}
 
 lt-is : (n m : ℕ) → n < m → nat_lt n m ≡ true
@@ -105,7 +105,7 @@ module _ {H P : Type 0} where
   -- ---- a pair that waits for its check
 
   -- before a `handle_timeout` call
-  record Persists (by n : ℕ) (path : Path) (ahead : Bool) (total base now k : ℕ) (a : AgentRecord H P) : Type 0 where
+  record Persists (by n : ℕ) (path : Path) (keeps : ℕ → Bool) (ahead : Bool) (total base now k : ℕ) (a : AgentRecord H P) : Type 0 where
     checking : IsChecking a
     queue : a.queue ≡ []
     pair : PairRecord
@@ -113,6 +113,7 @@ module _ {H P : Type 0} where
     number : pair.number ≡ n
     on : path_of a pair ≡ path
     young : nat_lt (unanswered_count pair.checks) a.timing.max_retransmits ≡ true
+    lasts : (m : ℕ) → keeps m ≡ true → stays_answered a.timing.consent m pair ≡ true
     late : by < now
     early : now < MAX
     ready : Ready now by late early a.timing pair
@@ -120,7 +121,7 @@ module _ {H P : Type 0} where
     count : calls_left ahead a.ahead_turn (leads n by a.pairs) + k + times ahead base ≤ total + times ahead a.next_number
 
   -- after it
-  record Waits (by n : ℕ) (path : Path) (ahead : Bool) (total base at k : ℕ) (a : AgentRecord H P) : Type 0 where
+  record Waits (by n : ℕ) (path : Path) (keeps : ℕ → Bool) (ahead : Bool) (total base at k : ℕ) (a : AgentRecord H P) : Type 0 where
     checking : IsChecking a
     queue : a.queue ≡ []
     last : a.last_time ≡ Some at
@@ -129,14 +130,15 @@ module _ {H P : Type 0} where
     number : pair.number ≡ n
     on : path_of a pair ≡ path
     young : nat_lt (unanswered_count pair.checks) a.timing.max_retransmits ≡ true
+    lasts : (m : ℕ) → keeps m ≡ true → stays_answered a.timing.consent m pair ≡ true
     timeout : ℕ
     before : timeout ≤ by
     due : pair.due ≡ Some timeout
     rules : goes_ahead a.rules ≡ ahead
     count : calls_left ahead a.ahead_turn (leads n by a.pairs) + k + times ahead base ≤ total + times ahead a.next_number
 
-  persists : (by n : ℕ) (path : Path) (ahead : Bool) (total base at k now : ℕ) (a : AgentRecord H P) → by < now → now < MAX → Waits by n path ahead total base at k a → Persists by n path ahead total base now k a
-  persists by n path ahead total base at k now a late early w = record {
+  persists : (by n : ℕ) (path : Path) (keeps : ℕ → Bool) (ahead : Bool) (total base at k now : ℕ) (a : AgentRecord H P) → by < now → now < MAX → Waits by n path keeps ahead total base at k a → Persists by n path keeps ahead total base now k a
+  persists by n path keeps ahead total base at k now a late early w = record {
     checking = w.checking;
     queue = w.queue;
     pair = w.pair;
@@ -144,6 +146,7 @@ module _ {H P : Type 0} where
     number = w.number;
     on = w.on;
     young = w.young;
+    lasts = w.lasts;
     late = late;
     early = early;
     ready = (subst (λ d. d ≤ by) (sym (due-at now w.timeout a.timing w.pair w.due)) w.before, inr (ap is_some w.due));
@@ -151,13 +154,13 @@ module _ {H P : Type 0} where
     count = w.count;
   }
 
-  module _ (mac : H → List ℕ → List ℕ → List ℕ) (answers : P → CandidateRecord → ℕ → ℕ → Type 0) (by n : ℕ) (path : Path) (ahead : Bool) (total base : ℕ) where
+  module _ (mac : H → List ℕ → List ℕ → List ℕ) (answers : P → CandidateRecord → ℕ → ℕ → Type 0) (by n : ℕ) (path : Path) (keeps : ℕ → Bool) (ahead : Bool) (total base : ℕ) where
     -- ---- between two `handle_timeout` calls
 
-    waits-on : (at k : ℕ) → by < at → (old new : AgentRecord H P) (w : Waits by n path ahead total base at k old) → IsSound new → Goes n by old new → Stays old w.pair new → Waits by n path ahead total base at k new
+    waits-on : (at k : ℕ) → by < at → (old new : AgentRecord H P) (w : Waits by n path keeps ahead total base at k old) → IsSound new → Goes n by old new → Stays old w.pair new → Waits by n path keeps ahead total base at k new
     waits-on at k following old new w sound (ground, goes) stays =
         let at_last : last_time_of old ≡ at = ap (λ o. unwrap_or o 0) w.last in
-        let f = goes.fixed w.timeout w.pair.checks (let before = w.before in omega (arith, at_last, before, following)) (w.pair, w.there, w.number, w.due, refl) in
+        let f = goes.fixed w.timeout (kept_of w.pair) (let before = w.before in omega (arith, at_last, before, following)) (w.pair, w.there, w.number, w.due, refl) in
         let one : stays.pair ≡ f.0 = one_pair new.pairs stays.pair f.0 (rising-each new.pairs sound.rising) stays.there f.1 (stays.number ∙ (w.number ∙ sym f.2)) in
         let timing : new.timing ≡ old.timing = ap (λ (g : Ground). g.timing) ground in
         record {
@@ -171,7 +174,8 @@ module _ {H P : Type 0} where
           there = f.1;
           number = f.2;
           on = ap (λ (q : PairRecord). path_of new q) (sym one) ∙ (stays.path ∙ w.on);
-          young = ap (λ cs. nat_lt (unanswered_count cs) new.timing.max_retransmits) f.4 ∙ (ap (λ (t : StunTiming). nat_lt (unanswered_count w.pair.checks) t.max_retransmits) timing ∙ w.young);
+          young = ap (λ (k : Kept). nat_lt (unanswered_count k.0) new.timing.max_retransmits) f.4 ∙ (ap (λ (t : StunTiming). nat_lt (unanswered_count w.pair.checks) t.max_retransmits) timing ∙ w.young);
+          lasts = λ m is. answered-on old.timing new.timing m w.pair f.0 timing (ap (λ (k : Kept). k.1) f.4) (w.lasts m is);
           timeout = w.timeout;
           before = w.before;
           due = f.3;
@@ -222,9 +226,9 @@ module _ {H P : Type 0} where
       sound-at log a t run = runs_sound mac answers (path_theorem mac answers) first a s t log fresh run
 
       walk : (at k : ℕ) → by < at → at < MAX → (before : List (Logged P)) (start last : AgentRecord H P) (u t : Stream) (xs : List (Logged P)) → ((x : Logged P) → Has xs x → is_in_round x.call ≡ true)
-          → Run mac answers first s before start u → (run : RunsOn mac answers before start u xs last t) → Waits by n path ahead total base at k start
-          → IsAnsweredIn xs path ⊎ (IsEndedIn mac answers before start u xs last t run path ⊎ Waits by n path ahead total base at k last)
-      walk at k following early before start last u t [] fits led (is, same) w = inr (inr (subst (λ (a : AgentRecord H P). Waits by n path ahead total base at k a) (sym is) w))
+          → Run mac answers first s before start u → (run : RunsOn mac answers before start u xs last t) → Waits by n path keeps ahead total base at k start
+          → IsAnsweredIn xs path ⊎ (IsEndedIn mac answers before start u xs last t run path ⊎ Waits by n path keeps ahead total base at k last)
+      walk at k following early before start last u t [] fits led (is, same) w = inr (inr (subst (λ (a : AgentRecord H P). Waits by n path keeps ahead total base at k a) (sym is) w))
       walk at k following early before start last u t (x ∷ xs) fits led (mid, v, run, number, given, step) w =
           elim (walk at k following early before start mid u v xs (λ y has. fits y (inr has)) led run w) [
             | inl answered ↦ inl (answered-later path x xs answered)
@@ -247,18 +251,18 @@ module _ {H P : Type 0} where
     -- ---- a `handle_timeout` call
 
     timeout-on : (now k : ℕ) (e : Entry) (old new : AgentRecord H P) (s t : Stream) → e.answer ≡ Done → Step mac answers old s (HandleTimeout now) e new t → IsSound old → IsSound new
-        → Persists by n path ahead total base now k old
-        → ((id : List ℕ) × (e.emitted.issued ≡ Some (issued_as path class.Request id))) ⊎ Waits by n path ahead total base now (suc k) new
-    timeout-on now k e old new s t done step sound sound_new st =
+        → Persists by n path keeps ahead total base now k old → keeps now ≡ true
+        → ((id : List ℕ) × (e.emitted.issued ≡ Some (issued_as path class.Request id))) ⊎ Waits by n path keeps ahead total base now (suc k) new
+    timeout-on now k e old new s t done step sound sound_new st lasting =
         let h = passed-at mac answers old new s t now e done step in
         let p = maintains_pairs-from mac now old s t e.emitted new st.queue h in
         let m = timeout-follows mac now (timeout_begun now old) new s t e.emitted st.checking.peer st.checking.full p in
-        elim (timeout-goes now by st.late st.early mac (timeout_begun now old) new s t e.emitted st.checking.peer st.checking.full (distinct-sound mac old sound) sound.checks st.pair st.there st.young st.ready p) [
+        elim (timeout-goes now by st.late st.early mac (timeout_begun now old) new s t e.emitted st.checking.peer st.checking.full (distinct-sound mac old sound) sound.checks st.pair st.there (st.lasts now lasting) st.young st.ready p) [
           | inl (id, out) ↦ inl (id, out ∙ ap (λ w. Some (issued_as w class.Request id)) st.on)
           | inr (d, before, (q, has, is, due, checks), falls) ↦
               (let stays : Stays old st.pair new = elim (pairs-stay mac answers old new s t (HandleTimeout now) e st.pair sound tt step st.there) [
                 | inl x ↦ x
-                | inr (was_done, none, gone) ↦ (let no : false ≡ true = ap not (sym gone) ∙ stays-young old.lite now old.timing st.pair st.checking.full st.young in absurd (cc))
+                | inr (was_done, none, gone) ↦ (let no : false ≡ true = ap not (sym gone) ∙ stays-young old.lite now old.timing st.pair st.checking.full (st.lasts now lasting) st.young in absurd (cc))
               ] in
               let one : stays.pair ≡ q = one_pair new.pairs stays.pair q (rising-each new.pairs sound_new.rising) stays.there has (stays.number ∙ sym is) in
               let next : new.next_number ≡ old.next_number = ap (λ (b : Base). b.next_number) m.0 in
@@ -277,7 +281,8 @@ module _ {H P : Type 0} where
                 there = has;
                 number = is ∙ st.number;
                 on = ap (λ (x : PairRecord). path_of new x) (sym one) ∙ (stays.path ∙ st.on);
-                young = ap (λ cs. nat_lt (unanswered_count cs) new.timing.max_retransmits) checks ∙ (ap (λ (z : StunTiming). nat_lt (unanswered_count st.pair.checks) z.max_retransmits) timing ∙ st.young);
+                young = ap (λ (k : Kept). nat_lt (unanswered_count k.0) new.timing.max_retransmits) checks ∙ (ap (λ (z : StunTiming). nat_lt (unanswered_count st.pair.checks) z.max_retransmits) timing ∙ st.young);
+                lasts = λ m is. answered-on old.timing new.timing m st.pair q timing (ap (λ (k : Kept). k.1) checks) (st.lasts m is);
                 timeout = d;
                 before = before;
                 due = due;
@@ -318,35 +323,35 @@ module _ {H P : Type 0} where
     reached-later r older (inr answered) = inr (has-following path r.following (r.timeout ∷ entries_of older) (answered-later path r.timeout (entries_of older) answered))
 
     module _ (first : AgentRecord H P) (s : Stream) (fresh : IsFresh first) (before : List (Logged P)) (start : AgentRecord H P) (u : Stream) (led : Run mac answers first s before start u) (at : ℕ)
-        (begin : (late : by < at) (early : at < MAX) → Persists by n path ahead total base at 0 start) where
+        (begin : (late : by < at) (early : at < MAX) → Persists by n path keeps ahead total base at 0 start) where
       abbrev WaitsAfter : List (LoggedRound P) → AgentRecord H P → Type 0
       WaitsAfter [] a = a ≡ start
-      WaitsAfter (r ∷ older) a = Waits by n path ahead total base r.now (length (r ∷ older)) a
+      WaitsAfter (r ∷ older) a = Waits by n path keeps ahead total base r.now (length (r ∷ older)) a
 
       some-is : (x y : ℕ) → Some x ≡ Some y → x ≡ y
       some-is x y e = cc
 
       persists-at : (r : LoggedRound P) (older : List (LoggedRound P)) (old : AgentRecord H P) → began_at (r ∷ older) ≡ Some at → IsPassing by r → WaitsAfter older old
-          → Persists by n path ahead total base r.now (length older) old
+          → Persists by n path keeps ahead total base r.now (length older) old
       persists-at r [] old began passing same =
           let now : r.now ≡ at = some-is r.now at began in
           let late : by < r.now = falls-late by r passing in
           let early : r.now < MAX = falls-early by r passing in
-          subst (λ (a : AgentRecord H P). Persists by n path ahead total base r.now 0 a) (sym same)
-          (subst (λ m. Persists by n path ahead total base m 0 start) (sym now) (begin (omega (arith, late, now)) (omega (arith, early, now))))
-      persists-at r (x ∷ older) old began passing w = persists by n path ahead total base x.now (length (x ∷ older)) r.now old (falls-late by r passing) (falls-early by r passing) w
+          subst (λ (a : AgentRecord H P). Persists by n path keeps ahead total base r.now 0 a) (sym same)
+          (subst (λ m. Persists by n path keeps ahead total base m 0 start) (sym now) (begin (omega (arith, late, now)) (omega (arith, early, now))))
+      persists-at r (x ∷ older) old began passing w = persists by n path keeps ahead total base x.now (length (x ∷ older)) r.now old (falls-late by r passing) (falls-early by r passing) w
 
       older-began : (r : LoggedRound P) (rs : List (LoggedRound P)) → began_at (r ∷ rs) ≡ Some at → (rs ≡ [] ⊎ began_at rs ≡ Some at)
       older-began r [] is = inl refl
       older-began r (x ∷ rs) is = inr is
 
       rounds-go : (rounds : List (LoggedRound P)) (last : AgentRecord H P) (t : Stream) → (rounds ≡ [] ⊎ began_at rounds ≡ Some at) → ((r : LoggedRound P) → Has rounds r → IsPassing by r)
-          → (run : RunsOn mac answers before start u (entries_of rounds) last t)
+          → ((r : LoggedRound P) → Has rounds r → keeps r.now ≡ true) → (run : RunsOn mac answers before start u (entries_of rounds) last t)
           → Reached rounds ⊎ (IsEndedIn mac answers before start u (entries_of rounds) last t run path ⊎ WaitsAfter rounds last)
-      rounds-go [] last t began are (is, same) = inr (inr is)
-      rounds-go (r ∷ older) last t began are run =
+      rounds-go [] last t began are lasting (is, same) = inr (inr is)
+      rounds-go (r ∷ older) last t began are lasting run =
           let h = split-run before start last u t r.following (r.timeout ∷ entries_of older) run in
-          elim (on-halves (here-began began) h (rounds-go older h.2.0 h.2.1 (older-began r older (here-began began)) (λ x has. are x (inr has)) h.2.2)) [
+          elim (on-halves (here-began began) h (rounds-go older h.2.0 h.2.1 (older-began r older (here-began began)) (λ x has. are x (inr has)) (λ x has. lasting x (inr has)) h.2.2)) [
             | inl reached ↦ inl reached
             | inr (inl ended) ↦ inr (inl (split-ended before start last u t r.following (r.timeout ∷ entries_of older) run ended))
             | inr (inr waits) ↦ inr (inr waits)
@@ -361,7 +366,7 @@ module _ {H P : Type 0} where
                 → Reached older ⊎ (IsEndedIn mac answers before start u (entries_of older) h.2.0 h.2.1 h.2.2 path ⊎ WaitsAfter older h.2.0)
                 → Reached (r ∷ older)
                 ⊎ ((IsEndedIn mac answers ((r.timeout ∷ entries_of older) ++ before) h.0 h.1 r.following last t h.3 path ⊎ IsEndedIn mac answers before start u (r.timeout ∷ entries_of older) h.0 h.1 h.2 path)
-                ⊎ Waits by n path ahead total base r.now (length (r ∷ older)) last)
+                ⊎ Waits by n path keeps ahead total base r.now (length (r ∷ older)) last)
             on-halves began (mid, v, (old, z, run_older, number, given, step), back) so_far =
                 elim so_far [
                   | inl reached ↦ inl (reached-later r older reached)
@@ -372,7 +377,7 @@ module _ {H P : Type 0} where
                       let led_mid = run-on mac answers first start mid s u v before (r.timeout ∷ entries_of older) led (old, z, run_older, number, given, step) in
                       elim (timeout-on r.now (length older) r.timeout.entry old mid z v passing.done (subst (λ (c : Call P). Step mac answers old z c r.timeout.entry mid v) passing.comes step)
                       (sound-at first s fresh (entries_of older ++ before) old z led_old) (sound-at first s fresh ((r.timeout ∷ entries_of older) ++ before) mid v led_mid)
-                      (persists-at r older old began passing w)) [
+                      (persists-at r older old began passing w) (lasting r (inl refl))) [
                         | inl (id, out) ↦ inl (inl (r, id, inl refl, out))
                         | inr still_waits ↦
                             elim (walk first s fresh r.now (length (r ∷ older)) (falls-late by r passing) (falls-early by r passing) ((r.timeout ∷ entries_of older) ++ before) mid last v t r.following passing.between led_mid back still_waits) [
@@ -384,14 +389,20 @@ module _ {H P : Type 0} where
                 ]
 
   module _ (mac : H → List ℕ → List ℕ → List ℕ) (answers : P → CandidateRecord → ℕ → ℕ → Type 0) where
+    -- a pair that is not valid never got a response
+    lasts-at : (first : AgentRecord H P) (s : Stream) (log : List (Logged P)) → IsFresh first → (before : List (Logged P)) (start last : AgentRecord H P) (part : List (Logged P)) (p : PairRecord)
+        → Part mac answers first s log before start part last → {at by : ℕ} → IsInLine at by start p → (m : ℕ) → IsLasting m start p → answered_at start p m ≡ true
+    lasts-at first s log fresh before start last part p found line m lasting =
+        answered-if start p m (runs_sound mac answers (path_theorem mac answers) first start s found.at before fresh found.led) line.there lasting
+
     pub pairs-are-reached : PairsAreReached {H = H} {P = P} mac answers
     pairs-are-reached first s log fresh before start last rounds p by found f =
         by-rounds (IsEndedIn mac answers before start found.at (entries_of rounds) last found.following found.run (path_of start p)) rounds f.began (let enough = f.enough in omega (arith, enough))
-        (rounds-go mac answers by p.number (path_of start p) (goes_ahead start.rules) total start.next_number first s fresh before start found.at found.led f.at begin rounds last found.following (inr f.began) f.passing found.run) where
+        (rounds-go mac answers by p.number (path_of start p) (answered_at start p) (goes_ahead start.rules) total start.next_number first s fresh before start found.at found.led f.at begin rounds last found.following (inr f.began) f.passing (λ r has. lasts-at first s log fresh before start last (entries_of rounds) p found f.line r.now (search (f.lasting r has))) found.run) where
           total : ℕ
           total = calls_left (goes_ahead start.rules) start.ahead_turn (leads p.number by start.pairs)
 
-          begin : (late : by < f.at) (early : f.at < MAX) → Persists by p.number (path_of start p) (goes_ahead start.rules) total start.next_number f.at 0 start
+          begin : (late : by < f.at) (early : f.at < MAX) → Persists by p.number (path_of start p) (answered_at start p) (goes_ahead start.rules) total start.next_number f.at 0 start
           begin late early = record {
             checking = f.line.checking;
             queue = f.line.queue;
@@ -400,6 +411,7 @@ module _ {H P : Type 0} where
             number = refl;
             on = refl;
             young = lt-is (unanswered_count p.checks) start.timing.max_retransmits (let young = f.line.young in omega (arith, young));
+            lasts = λ m is. is;
             late = late;
             early = early;
             ready = (let due = f.line.due in omega (arith, due), f.line.settled);
@@ -411,8 +423,8 @@ module _ {H P : Type 0} where
 
           by-rounds : (Gone : Type 0) (rs : List (LoggedRound P)) → began_at rs ≡ Some f.at
               → times (goes_ahead start.rules) (2 * length start.pairs + last.next_number) ≤ length rs + 1 + times (goes_ahead start.rules) start.next_number
-              → Reached mac answers by p.number (path_of start p) (goes_ahead start.rules) total start.next_number rs
-              ⊎ (Gone ⊎ WaitsAfter mac answers by p.number (path_of start p) (goes_ahead start.rules) total start.next_number first s fresh before start found.at found.led f.at begin rs last)
+              → Reached mac answers by p.number (path_of start p) (answered_at start p) (goes_ahead start.rules) total start.next_number rs
+              ⊎ (Gone ⊎ WaitsAfter mac answers by p.number (path_of start p) (answered_at start p) (goes_ahead start.rules) total start.next_number first s fresh before start found.at found.led f.at begin rs last)
               → ChecksIn rs (path_of start p) ⊎ (IsAnsweredIn (entries_of rs) (path_of start p) ⊎ Gone)
           by-rounds Gone rs none enough (inl (inl checks)) = inl checks
           by-rounds Gone rs none enough (inl (inr answered)) = inr (inl answered)

@@ -17,7 +17,7 @@ use Rattle.is_rules.specs.Emitted.{issued_as}
 use Rattle.is_theorems.specs.Exchange.{Course}
 use Rattle.is_theorems.specs.Logs.{Logged}
 use Rattle.is_theorems.specs.Pending.{is_request, is_same_path, is_check_on}
-use Rattle.is_theorems.specs.Reached.{is_in_round, IsPassing, ChecksIn, IsEndedIn}
+use Rattle.is_theorems.specs.Reached.{IsLasting, is_in_round, IsPassing, ChecksIn, IsEndedIn}
 use Rattle.is_theorems.specs.ReachedCourses.{IsPassed, ChecksAmong, IsAnsweredAmong, PassRounds, CoursesReach, CoursesCheck}
 use Rattle.is_theorems.specs.Rounds.{LoggedRound, entries_of, is_between, RunsOn}
 use Rattle.is_rules.specs.Sending.{path_of}
@@ -194,7 +194,7 @@ module _ {H P : Type 0} (mac : H → List ℕ → List ℕ → List ℕ) (answer
             )
 
   pub courses-reach : CoursesReach mac answers
-  courses-reach first start last xs r rounds p by fresh course line chain are enough =
+  courses-reach first start last xs r rounds p by fresh course line chain are lasting enough =
       let before : List (Logged P) = pushed [] xs in
       let all : List (LoggedRound P) = rounds_of before [] (r ∷ rounds) in
       let any : Stream = record { u32_after = λ cs. 0; u64_after = λ cs. 0; bytes_after = λ cs n. [] } in
@@ -208,6 +208,7 @@ module _ {H P : Type 0} (mac : H → List ℕ → List ℕ → List ℕ) (answer
         began = begun before (round_of ([] ++ before) r) [] rounds;
         line = line;
         passing = are_all (λ x. IsPassing by x) before [] (r ∷ rounds) (λ x none. absurd none) (λ front x has. is_passing by front x (are x has));
+        lasting = are_all (λ x. IsLasting x.now start p) before [] (r ∷ rounds) (λ x none. absurd none) (λ front x has. lasting x has);
         enough = omega (arith, many, enough);
       })) [
         | inl checks ↦ elim (checks_among before [] (r ∷ rounds) (path_of start p) checks) [

@@ -1,14 +1,14 @@
 -- The first round leaves a pair that is due by its `handle_timeout` call, and is not checked in it, due as it was. So what holds of
 -- a pair that is due before the rounds holds of it from the second round on.
-use Rattle.std.proofs.Common.{◌≡◌, ℕ, ◌+◌, ◌*◌, ◌<◌, ◌≤◌, true, false, not, List, [], ◌∷◌, ◌++◌, length, map, nat_lt, Option, Some, None, Ok, Err, is_some, unwrap_or, inl, inr, ◌⊎◌, refl, ap, sym, ◌∙◌, subst, arith}
+use Rattle.std.proofs.Common.{◌≡◌, ℕ, ◌+◌, ◌*◌, ◌<◌, ◌≤◌, Bool, true, false, not, List, [], ◌∷◌, ◌++◌, length, map, nat_lt, Option, Some, None, Ok, Err, is_some, unwrap_or, inl, inr, ◌⊎◌, refl, ap, sym, ◌∙◌, subst, arith}
 use Rattle.std.specs.Prelude.{IsSomeAnd}
 use Rattle.std.proofs.lemmas.Bool.{eq-eqb}
 use Rattle.std.proofs.lemmas.Bool.Decides.{nat_tests}
 use Rattle.rand_core.specs.Stream.{Stream}
 use Rattle.is_proto.specs.Lists.{Has}
 use Rattle.is_candidate.specs.Candidates.{CandidateRecord}
-use Rattle.is_pair.specs.Checks.{Check, unanswered_count}
-use Rattle.is_pair.specs.Due.{asked, due_time_of}
+use Rattle.is_pair.specs.Checks.{unanswered_count}
+use Rattle.is_pair.specs.Due.{asked, due_time_of, stays_answered}
 use Rattle.is_pair.specs.Pairs.{PairRecord}
 use Rattle.is_stun.specs.declared.header.Class.TheVariants as class
 use Rattle.is_stun.specs.declared.timing.StunTiming.{StunTiming}
@@ -43,7 +43,7 @@ use Rattle.is_theorems.proofs.CallEffects.ServedRequests.{Has-mapped}
 use Rattle.is_theorems.proofs.DuePairs.PollingCycles.{none-left, maintains_pairs-from, distinct-sound}
 use Rattle.is_theorems.proofs.StoredPairs.PairsThatStay.{none-entered, pairs-stay}
 use Rattle.is_theorems.proofs.RuleEffects.SelectedPaths.{one_pair}
-use Rattle.is_theorems.proofs.DuePairs.AfterNominationAndRemoval.{Base, last_time_of, stays-young}
+use Rattle.is_theorems.proofs.DuePairs.AfterNominationAndRemoval.{Base, Kept, answered-if, answered-on, answered_at, kept_of, last_time_of, stays-young}
 use Rattle.is_theorems.proofs.EarlierChecks.AddedCandidates.{local-goes, remote-goes}
 use Rattle.is_theorems.specs.FirstTimeouts.{IsReachedIn, PairsAreReachedFromDue}
 use Rattle.is_theorems.proofs.EarlierChecks.FirstTimeout.{Other, timeout-goes}
@@ -53,6 +53,9 @@ lt-is n m h = grind (arith, nat_tests, h)
 
 pub lt-from : (n m : ℕ) → nat_lt n m ≡ true → n < m
 lt-from n m h = grind (arith, nat_tests, h)
+
+some-is : (n m : ℕ) → Some n ≡ Some m → n ≡ m
+some-is n m e = cc
 
 -- ---- how many there are
 
@@ -70,7 +73,7 @@ only-one (z ∷ w ∷ zs) x y few has there = absurd (let no : ⊥ = omega (arit
 module _ {H P : Type 0} where
   -- what the pair depends on, and the pair with the number, is as it was
   abbrev pub Keeps : ℕ → AgentRecord H P → AgentRecord H P → Type 0
-  Keeps n old new = (ground_of new ≡ ground_of old) × ((d : ℕ) (cs : List Check) → d ≤ last_time_of old → Fixed n d cs old.pairs → Fixed n d cs new.pairs)
+  Keeps n old new = (ground_of new ≡ ground_of old) × ((d : ℕ) (k : Kept) → d ≤ last_time_of old → Fixed n d k old.pairs → Fixed n d k new.pairs)
 
   pub keeps-to : (n : ℕ) (old needed new : AgentRecord H P) → Keeps n old needed → new ≡ needed → Keeps n old new
   keeps-to n old needed new h made = subst (λ (a : AgentRecord H P). Keeps n old a) (sym made) h
@@ -97,7 +100,7 @@ module _ {H P : Type 0} where
         (λ _ l. either (is_idle old) l (λ _ i. keeps-same n old new i.1) (λ _ i. fixed i.1))
 
   -- after the `handle_timeout` call at time `at`: a pair of the path waits, due by then
-  pub record Waits (by n : ℕ) (path : Path) (at : ℕ) (a : AgentRecord H P) : Type 0 where
+  pub record Waits (by n : ℕ) (path : Path) (keeps : ℕ → Bool) (at : ℕ) (a : AgentRecord H P) : Type 0 where
     pub checking : IsChecking a
     pub queue : a.queue ≡ []
     pub last : a.last_time ≡ Some at
@@ -106,29 +109,31 @@ module _ {H P : Type 0} where
     pub number : pair.number ≡ n
     pub on : path_of a pair ≡ path
     pub young : nat_lt (unanswered_count pair.checks) a.timing.max_retransmits ≡ true
+    pub lasts : (m : ℕ) → keeps m ≡ true → stays_answered a.timing.consent m pair ≡ true
     pub timeout : ℕ
     pub before : timeout ≤ by
     pub due : pair.due ≡ Some timeout
 
-  module _ (mac : H → List ℕ → List ℕ → List ℕ) (answers : P → CandidateRecord → ℕ → ℕ → Type 0) (by n : ℕ) (path : Path) (at : ℕ) where
+  module _ (mac : H → List ℕ → List ℕ → List ℕ) (answers : P → CandidateRecord → ℕ → ℕ → Type 0) (by n : ℕ) (path : Path) (keeps : ℕ → Bool) (at : ℕ) where
     -- ---- the call
 
     pub timeout-on : by ≤ at → (e : Entry) (old new : AgentRecord H P) (s t : Stream) (p : PairRecord) → e.answer ≡ Done → Step mac answers old s (HandleTimeout at) e new t → IsSound old → IsSound new
-        → IsInLine at by old p → p.number ≡ n → path_of old p ≡ path
-        → ((id : List ℕ) × (e.emitted.issued ≡ Some (issued_as path class.Request id))) ⊎ (Other old p × Waits by n path at new)
-    timeout-on from e old new s t p done step sound sound_new line number on =
+        → IsInLine at by old p → ((m : ℕ) → keeps m ≡ true → answered_at old p m ≡ true) → p.number ≡ n → path_of old p ≡ path
+        → ((id : List ℕ) × (e.emitted.issued ≡ Some (issued_as path class.Request id))) ⊎ (Other old p × Waits by n path keeps at new)
+    timeout-on from e old new s t p done step sound sound_new line lasts number on =
+        let answered : answered_at old p at ≡ true = answered-if old p at sound line.there (search line.lasting) in
         let h = passed-at mac answers old new s t at e done step in
         let g = maintains_pairs-from mac at old s t e.emitted new line.queue h in
         let m = timeout-follows mac at (timeout_begun at old) new s t e.emitted line.checking.peer line.checking.full g in
         let few = line.young in
         let young : nat_lt (unanswered_count p.checks) old.timing.max_retransmits ≡ true = lt-is (unanswered_count p.checks) old.timing.max_retransmits (omega (arith, few)) in
         let due = line.due in
-        elim (timeout-goes at by from mac (timeout_begun at old) new s t e.emitted line.checking.peer line.checking.full (distinct-sound mac old sound) p line.there young (omega (arith, due), line.settled) g) [
+        elim (timeout-goes at by from mac (timeout_begun at old) new s t e.emitted line.checking.peer line.checking.full (distinct-sound mac old sound) p line.there answered young (omega (arith, due), line.settled) g) [
           | inl (id, out) ↦ inl (id, out ∙ ap (λ w. Some (issued_as w class.Request id)) on)
           | inr (other, (d, before, (q, has, is, due, checks))) ↦
               (let stays : Stays old p new = elim (pairs-stay mac answers old new s t (HandleTimeout at) e p sound tt step line.there) [
                 | inl x ↦ x
-                | inr (was_done, none, gone) ↦ (let no : false ≡ true = ap not (sym gone) ∙ stays-young old.lite at old.timing p line.checking.full young in absurd (cc))
+                | inr (was_done, none, gone) ↦ (let no : false ≡ true = ap not (sym gone) ∙ stays-young old.lite at old.timing p line.checking.full answered young in absurd (cc))
               ] in
               let one : stays.pair ≡ q = one_pair new.pairs stays.pair q (rising-each new.pairs sound_new.rising) stays.there has (stays.number ∙ sym is) in
               let timing : new.timing ≡ old.timing = ap (λ (b : Base). b.timing) m.0 in
@@ -145,7 +150,8 @@ module _ {H P : Type 0} where
                   there = has;
                   number = is ∙ number;
                   on = ap (λ (x : PairRecord). path_of new x) (sym one) ∙ (stays.path ∙ on);
-                  young = ap (λ cs. nat_lt (unanswered_count cs) new.timing.max_retransmits) checks ∙ (ap (λ (z : StunTiming). nat_lt (unanswered_count p.checks) z.max_retransmits) timing ∙ young);
+                  young = ap (λ (k : Kept). nat_lt (unanswered_count k.0) new.timing.max_retransmits) checks ∙ (ap (λ (z : StunTiming). nat_lt (unanswered_count p.checks) z.max_retransmits) timing ∙ young);
+                  lasts = λ m is. answered-on old.timing new.timing m p q timing (ap (λ (k : Kept). k.1) checks) (lasts m is);
                   timeout = d;
                   before = before;
                   due = due;
@@ -155,10 +161,10 @@ module _ {H P : Type 0} where
 
     -- ---- what comes after it
 
-    pub waits-on : by ≤ at → (old new : AgentRecord H P) (w : Waits by n path at old) → IsSound new → Keeps n old new → Stays old w.pair new → Waits by n path at new
+    pub waits-on : by ≤ at → (old new : AgentRecord H P) (w : Waits by n path keeps at old) → IsSound new → Keeps n old new → Stays old w.pair new → Waits by n path keeps at new
     waits-on from old new w sound (ground, fixed) stays =
         let last : last_time_of old ≡ at = ap (λ o. unwrap_or o 0) w.last in
-        let f = fixed w.timeout w.pair.checks (let before = w.before in omega (arith, last, before, from)) (w.pair, w.there, w.number, w.due, refl) in
+        let f = fixed w.timeout (kept_of w.pair) (let before = w.before in omega (arith, last, before, from)) (w.pair, w.there, w.number, w.due, refl) in
         let one : stays.pair ≡ f.0 = one_pair new.pairs stays.pair f.0 (rising-each new.pairs sound.rising) stays.there f.1 (stays.number ∙ (w.number ∙ sym f.2)) in
         let timing : new.timing ≡ old.timing = ap (λ (g : Ground). g.timing) ground in
         record {
@@ -172,7 +178,8 @@ module _ {H P : Type 0} where
           there = f.1;
           number = f.2;
           on = ap (λ (q : PairRecord). path_of new q) (sym one) ∙ (stays.path ∙ w.on);
-          young = ap (λ cs. nat_lt (unanswered_count cs) new.timing.max_retransmits) f.4 ∙ (ap (λ (t : StunTiming). nat_lt (unanswered_count w.pair.checks) t.max_retransmits) timing ∙ w.young);
+          young = ap (λ (k : Kept). nat_lt (unanswered_count k.0) new.timing.max_retransmits) f.4 ∙ (ap (λ (t : StunTiming). nat_lt (unanswered_count w.pair.checks) t.max_retransmits) timing ∙ w.young);
+          lasts = λ m is. answered-on old.timing new.timing m w.pair f.0 timing (ap (λ (k : Kept). k.1) f.4) (w.lasts m is);
           timeout = w.timeout;
           before = w.before;
           due = f.3;
@@ -226,23 +233,23 @@ module _ {H P : Type 0} where
       Passes before start u xs timeout last t run p =
           ((id : List ℕ) × (timeout.entry.emitted.issued ≡ Some (issued_as path class.Request id)))
           ⊎ (IsAnsweredIn (xs ++ timeout ∷ []) path
-          ⊎ (IsEndedIn mac answers before start u (xs ++ timeout ∷ []) last t run path ⊎ (Other start p × Waits by n path at last)))
+          ⊎ (IsEndedIn mac answers before start u (xs ++ timeout ∷ []) last t run path ⊎ (Other start p × Waits by n path keeps at last)))
 
       walk : by ≤ at → (before : List (Logged P)) (start last : AgentRecord H P) (u t : Stream) (xs : List (Logged P)) (timeout : Logged P) (p : PairRecord)
           → ((x : Logged P) → Has xs x → is_in_round x.call ≡ true) → timeout.call ≡ HandleTimeout at → timeout.entry.answer ≡ Done
           → Run mac answers first s before start u → (run : RunsOn mac answers before start u (xs ++ timeout ∷ []) last t)
-          → IsInLine at by start p → p.number ≡ n → path_of start p ≡ path → Passes before start u xs timeout last t run p
-      walk from before start last u t [] timeout p fits comes done led (mid, v, (is, same), numbered, given, step) line number on =
+          → IsInLine at by start p → ((m : ℕ) → keeps m ≡ true → answered_at start p m ≡ true) → p.number ≡ n → path_of start p ≡ path → Passes before start u xs timeout last t run p
+      walk from before start last u t [] timeout p fits comes done led (mid, v, (is, same), numbered, given, step) line lasts number on =
           let here : Run mac answers first s before mid v = subst (λ (a : AgentRecord H P). Run mac answers first s before a v) (sym is) (subst (λ w. Run mac answers first s before start w) (sym same) led) in
           let sound_last = sound-at (timeout ∷ before) last t (mid, v, here, numbered, given, step) in
           let called : Step mac answers start v (HandleTimeout at) timeout.entry last t =
           subst (λ (a : AgentRecord H P). Step mac answers a v (HandleTimeout at) timeout.entry last t) is (subst (λ (c : Call P). Step mac answers mid v c timeout.entry last t) comes step) in
-          elim (timeout-on from timeout.entry start last v t p done called (sound-at before start u led) sound_last line number on) [
+          elim (timeout-on from timeout.entry start last v t p done called (sound-at before start u led) sound_last line lasts number on) [
             | inl checks ↦ inl checks
             | inr waits ↦ inr (inr (inr waits))
           ]
-      walk from before start last u t (x ∷ xs) timeout p fits comes done led (mid, v, run, numbered, given, step) line number on =
-          elim (walk from before start mid u v xs timeout p (λ y has. fits y (inr has)) comes done led run line number on) [
+      walk from before start last u t (x ∷ xs) timeout p fits comes done led (mid, v, run, numbered, given, step) line lasts number on =
+          elim (walk from before start mid u v xs timeout p (λ y has. fits y (inr has)) comes done led run line lasts number on) [
             | inl checks ↦ inl checks
             | inr (inl (y, has, is)) ↦ inr (inl (y, inr has, is))
             | inr (inr (inl ended)) ↦ inr (inr (inl (inr ended)))
@@ -268,32 +275,41 @@ module _ {H P : Type 0} where
     oldest x (y ∷ older) = oldest y older
 
     pub reached-from-due : PairsAreReached {H = H} {P = P} mac answers → PairsAreReachedFromDue {H = H} {P = P} mac answers
-    reached-from-due reach first s log fresh before start second last r later p by one others line from comes done between passing enough =
-        elim (walk mac answers by p.number (path_of start p) r.now first s fresh (omega (arith, from)) before start second one.at one.following r.following r.timeout p
-        (λ x has. between x has) comes done one.led one.run line refl refl) [
+    reached-from-due reach first s log fresh before start second last r later p by one others line from comes done between passing lasting enough =
+        elim (walk mac answers by p.number (path_of start p) (answered_at start p) r.now first s fresh (omega (arith, from)) before start second one.at one.following r.following r.timeout p
+        (λ x has. between x has) comes done one.led one.run line (λ m is. is) refl refl) [
           | inl (id, out) ↦ inl (inl (r, id, inl refl, out))
           | inr (inl answered) ↦ inl (inr (inl answered))
           | inr (inr (inl ended)) ↦ inl (inr (inr ended))
           | inr (inr (inr (other, w))) ↦ elim enough [
             | inl few ↦ absurd (apart other (omega (arith, few)))
-            | inr many ↦ inr (from-second later others w passing (omega (arith, many)))
+            | inr many ↦ inr (from-second later others w passing (λ x has. answered-if start p x.now sound line.there (lasting x has)) (omega (arith, many)))
           ]
         ] where
+          sound : IsSound start
+          sound = sound-at mac answers by p.number (path_of start p) (answered_at start p) r.now first s fresh before start one.at one.led
+
           -- it is not the only pair
           apart : Other start p → length start.pairs ≤ 1 → ⊥
           apart (o, o_has, is) few =
               let one : o ≡ p = only-one start.pairs o p few o_has line.there in
               no-case (sym is ∙ eq-eqb p.number o.number (ap (λ (x : PairRecord). x.number) (sym one)))
 
+          -- the oldest round is one of them
+          began-lasts : (x : LoggedRound P) (older : List (LoggedRound P)) (m : ℕ) → began_at (x ∷ older) ≡ Some m → ((y : LoggedRound P) → Has (x ∷ older) y → answered_at start p y.now ≡ true)
+              → answered_at start p m ≡ true
+          began-lasts x [] m began all = subst (λ k. answered_at start p k ≡ true) (some-is x.now m began) (all x (inl refl))
+          began-lasts x (y ∷ older) m began all = began-lasts y older m began (λ z has. all z (inr has))
+
           from-second : (rounds : List (LoggedRound P)) → (found : Part mac answers first s log (entries_of (r ∷ []) ++ before) second (entries_of rounds) last)
-              → Waits by p.number (path_of start p) r.now second → ((x : LoggedRound P) → Has rounds x → IsPassing by x)
-              → times (goes_ahead second.rules) (2 * length second.pairs + last.next_number) ≤ length rounds + 1 + times (goes_ahead second.rules) second.next_number
+              → Waits by p.number (path_of start p) (answered_at start p) r.now second → ((x : LoggedRound P) → Has rounds x → IsPassing by x)
+              → ((x : LoggedRound P) → Has rounds x → answered_at start p x.now ≡ true) → times (goes_ahead second.rules) (2 * length second.pairs + last.next_number) ≤ length rounds + 1 + times (goes_ahead second.rules) second.next_number
               → IsReachedIn mac answers rounds found (path_of start p)
-          from-second [] found v passing enough =
+          from-second [] found v passing lasting enough =
               let some = some-there second.pairs v.pair v.there in
               let same : last.next_number ≡ second.next_number = ap (λ (a : AgentRecord H P). a.next_number) found.run.0 in
               absurd (none-suffices (goes_ahead second.rules) (length second.pairs) second.next_number last.next_number some same enough)
-          from-second (x ∷ older) found v passing enough =
+          from-second (x ∷ older) found v passing lasting enough =
               let began = oldest x older in
               let due : due_time_of began.0 second.timing v.pair ≡ v.timeout = due-at began.0 v.timeout second.timing v.pair v.due in
               subst (λ w. IsReachedIn mac answers (x ∷ older) found w) v.on
@@ -307,7 +323,9 @@ module _ {H P : Type 0} where
                   due = subst (λ d. d ≤ by) (sym due) v.before;
                   settled = inr (ap is_some v.due);
                   young = lt-from (unanswered_count v.pair.checks) second.timing.max_retransmits v.young;
+                  lasting = λ valid. v.lasts began.0 (began-lasts x older began.0 began.1 lasting);
                 };
                 passing = passing;
+                lasting = λ y has valid. v.lasts y.now (lasting y has);
                 enough = omega (arith, enough);
               }))

@@ -1,6 +1,6 @@
 -- A controlling agent without a valid pair that is due by its first `handle_timeout` call has none after the round either, or selects
 -- a path in it. So what holds of pairs that are due before the rounds holds of it from the second round on.
-use Rattle.std.proofs.Common.{◌≡◌, ℕ, ◌<◌, ◌≤◌, true, List, [], ◌∷◌, ◌++◌, length, map, Option, Some, None, is_some, inl, inr, ◌⊎◌, refl, ap, sym, ◌∙◌, subst, arith}
+use Rattle.std.proofs.Common.{◌≡◌, ℕ, ◌<◌, ◌≤◌, Bool, true, false, List, [], ◌∷◌, ◌++◌, length, map, Option, Some, None, is_some, inl, inr, ◌⊎◌, refl, ap, sym, ◌∙◌, subst, arith}
 use Rattle.std.proofs.lemmas.Bool.{eq-eqb}
 use Rattle.rand_core.specs.Stream.{Stream}
 use Rattle.is_proto.specs.Lists.{Has}
@@ -42,7 +42,7 @@ use Rattle.is_theorems.proofs.CallEffects.FailedCallsAndNewAgents.{fresh_sound}
 use Rattle.is_theorems.proofs.DuePairs.PollingCycles.{maintains_pairs-from}
 use Rattle.is_theorems.proofs.StoredPairs.PairsThatStay.{pairs-stay}
 use Rattle.is_theorems.proofs.StoredPairs.TransactionsOverPackets.{sound-course}
-use Rattle.is_theorems.proofs.DuePairs.AfterNominationAndRemoval.{Base, base_of as agent_base}
+use Rattle.is_theorems.proofs.DuePairs.AfterNominationAndRemoval.{Base, answered_at, base_of as agent_base}
 use Rattle.is_theorems.specs.FirstChecks.{AreAsManyAsDue, SufficeForDue, CoursesCheckFromDue, times_of}
 use Rattle.is_theorems.proofs.EarlierChecks.FirstTimeout.{Other}
 use Rattle.is_theorems.proofs.PollingRounds.FirstRound.{Keeps, Waits, asks-keeps, between-keeps, keeps-to, lt-from, timeout-on, only-one, waits-on}
@@ -53,13 +53,13 @@ many-times (r ∷ later) = let k = many-times later in omega (arith, k)
 
 module _ {H P : Type 0} where
   -- the pair waits, and none is valid
-  pub record Calm (by n : ℕ) (path : Path) (at : ℕ) (a : AgentRecord H P) : Type 0 where
-    pub waits : Waits by n path at a
+  pub record Calm (by n : ℕ) (path : Path) (keeps : ℕ → Bool) (at : ℕ) (a : AgentRecord H P) : Type 0 where
+    pub waits : Waits by n path keeps at a
     pub invalid : NoneValid a.pairs
     pub role : a.controlling ≡ true
     pub paced : IsPaced a.timing
 
-  module _ (mac : H → List ℕ → List ℕ → List ℕ) (answers : P → CandidateRecord → ℕ → ℕ → Type 0) (by n : ℕ) (path : Path) (at : ℕ) where
+  module _ (mac : H → List ℕ → List ℕ → List ℕ) (answers : P → CandidateRecord → ℕ → ℕ → Type 0) (by n : ℕ) (path : Path) (keeps : ℕ → Bool) (at : ℕ) where
     -- ---- what comes after the call
 
     plain-stays : (old : AgentRecord H P) (c : Call P) (e : Entry) (p : PairRecord) → is_between c ≡ true → MayEnd answers old c e p → ⊥
@@ -70,16 +70,16 @@ module _ {H P : Type 0} where
     plain-stays old _ e p is ends = no-case is
 
     -- the pair still waits, if none became valid
-    still : by ≤ at → (call : Call P) (e : Entry) (old new : AgentRecord H P) (s t : Stream) → is_between call ≡ true → GivesBased call → Calm by n path at old → IsSound old → IsSound new
-        → Step mac answers old s call e new t → new.controlling ≡ true → NoneValid new.pairs → Keeps n old new → Calm by n path at new
-    still from call e old new s t is given c sound sound_new step role invalid keeps =
+    still : by ≤ at → (call : Call P) (e : Entry) (old new : AgentRecord H P) (s t : Stream) → is_between call ≡ true → GivesBased call → Calm by n path keeps at old → IsSound old → IsSound new
+        → Step mac answers old s call e new t → new.controlling ≡ true → NoneValid new.pairs → Keeps n old new → Calm by n path keeps at new
+    still from call e old new s t is given c sound sound_new step role invalid held =
         elim (pairs-stay mac answers old new s t call e c.waits.pair sound given step c.waits.there) [
           | inr ends ↦ absurd (plain-stays old call e c.waits.pair is ends)
           | inl stays ↦ record {
-            waits = waits-on mac answers by n path at from old new c.waits sound_new keeps stays;
+            waits = waits-on mac answers by n path keeps at from old new c.waits sound_new held stays;
             invalid = invalid;
             role = role;
-            paced = subst (λ (z : StunTiming). IsPaced z) (sym (ap (λ (g : Ground). g.timing) keeps.0)) c.paced;
+            paced = subst (λ (z : StunTiming). IsPaced z) (sym (ap (λ (g : Ground). g.timing) held.0)) c.paced;
           }
         ]
 
@@ -111,15 +111,15 @@ module _ {H P : Type 0} where
         of-said (y, inr none, selected_paths) = absurd none
 
       pub on-call : by ≤ at → (call : Call P) (e : Entry) (old new : AgentRecord H P) (s t : Stream) (zs : List (Call P × Entry)) → Course mac answers zs first old → is_between call ≡ true → GivesBased call
-          → Calm by n path at old → IsSound old → IsSound new → Step mac answers old s call e new t → new.controlling ≡ true → Selects call e ⊎ Calm by n path at new
+          → Calm by n path keeps at old → IsSound old → IsSound new → Step mac answers old s call e new t → new.controlling ≡ true → Selects call e ⊎ Calm by n path keeps at new
       on-call from (ReceivePacket now via bytes) e old new s t zs led is given c sound sound_new step role =
           elim (receives mac 0 1 (omega arith) (omega arith) answers (record { at = now; via = via; bytes = bytes; entry = e }) old new s t c.waits.checking.peer c.role c.waits.checking.full c.invalid role step) [
             | inl (m, reads, flag, success) ↦ inl (selects now via bytes e m old new s t zs led c.invalid step role reads flag success)
             | inr (core, grown, spares) ↦
-                elim (between-keeps mac answers by n path at (ReceivePacket now via bytes) e old new s t c.waits.checking.peer c.waits.last c.waits.pair sound c.waits.there c.waits.number c.waits.on refl step) [
+                elim (between-keeps mac answers by n path keeps at (ReceivePacket now via bytes) e old new s t c.waits.checking.peer c.waits.last c.waits.pair sound c.waits.there c.waits.number c.waits.on refl step) [
                   | inl (when, by_path, m, (now_is, path_is, reads, flag), success, back) ↦ inl (selects now via bytes e m old new s t zs led c.invalid step role reads flag success)
                   | inr (inl ends) ↦ absurd ends
-                  | inr (inr keeps) ↦ inr (still from (ReceivePacket now via bytes) e old new s t is given c sound sound_new step role (spares.invalid c.invalid) keeps)
+                  | inr (inr held) ↦ inr (still from (ReceivePacket now via bytes) e old new s t is given c sound sound_new step role (spares.invalid c.invalid) held)
                 ]
           ]
       on-call from PollTransmit e old new s t zs led is given c sound sound_new (packet, emitted, (polled, made), drawn) role =
@@ -131,9 +131,9 @@ module _ {H P : Type 0} where
       on-call from _ e old new s t zs led is given c sound sound_new step role = no-case is
 
       walk : by ≤ at → (xs : List (Call P × Entry)) (old new : AgentRecord H P) (zs : List (Call P × Entry)) → Course mac answers zs first old → AreBetween xs → IsSound old
-          → (course : Course mac answers xs old new) → ControlsAlong mac answers xs old new course → Calm by n path at old
-          → ((x : Call P × Entry) × Has xs x × Selects x.0 x.1) ⊎ Calm by n path at new
-      walk from [] old new zs led fits sound is along c = inr (subst (λ (a : AgentRecord H P). Calm by n path at a) (sym is) c)
+          → (course : Course mac answers xs old new) → ControlsAlong mac answers xs old new course → Calm by n path keeps at old
+          → ((x : Call P × Entry) × Has xs x × Selects x.0 x.1) ⊎ Calm by n path keeps at new
+      walk from [] old new zs led fits sound is along c = inr (subst (λ (a : AgentRecord H P). Calm by n path keeps at a) (sym is) c)
       walk from (x ∷ rest) old new zs led fits sound (mid, s, t, given, step, more) along c =
           let sound_mid : IsSound mid = (path_theorem mac answers old mid s t x.0 x.1 sound given step).1 in
           elim (on-call from x.0 x.1 old mid s t zs led (fits x (inl refl)) given c sound sound_mid step along.0) [
@@ -178,6 +178,7 @@ module _ {H P : Type 0} where
         due = (let due = waits.due in omega (arith, due));
         settled = inl (let none = unanswered.invalid in none p waits.there);
         young = (let young = unanswered.young in omega (arith, young));
+        lasting = λ valid. (let no : true ≡ false = sym valid ∙ (let none = unanswered.invalid in none p waits.there) in absurd (cc));
       }
 
       -- what the call leaves of the others
@@ -191,7 +192,7 @@ module _ {H P : Type 0} where
           let one : o ≡ p = only-one start.pairs o p few o_has waits.there in
           no-case (sym is ∙ eq-eqb p.number o.number (ap (λ (x : PairRecord). x.number) (sym one)))
 
-      from-second : (rounds : List (CourseRound P)) → Calm by p.number path r.now run.1 → (more : CourseRounds mac answers rounds run.1 last) → ((x : CourseRound P) → Has rounds x → IsPassed by x)
+      from-second : (rounds : List (CourseRound P)) → Calm by p.number path (answered_at start p) r.now run.1 → (more : CourseRounds mac answers rounds run.1 last) → ((x : CourseRound P) → Has rounds x → IsPassed by x)
           → AreAsManyAsDue by run.1 (times_of rounds) → ChecksAmong rounds path ⊎ SelectsAmong rounds
       from-second [] c more passing enough = absurd enough
       from-second (second ∷ rounds) c more passing enough =
@@ -210,11 +211,11 @@ module _ {H P : Type 0} where
           (record { invalid = c.invalid; young = lt-from (unanswered_count v.pair.checks) run.1.timing.max_retransmits v.young }) more passing (omega (arith, many, enough)))
 
       from-first : (length start.pairs ≤ 1) ⊎ AreAsManyAsDue by run.1 (times_of later) → ChecksAmong (r ∷ later) path ⊎ SelectsAmong (r ∷ later)
-      from-first enough = elim (timeout-on mac answers by p.number path r.now (omega (arith, from)) r.timeout start run.0 run.2 run.3 p done run.4 sound_start sound_mid line refl refl) [
+      from-first enough = elim (timeout-on mac answers by p.number path (answered_at start p) r.now (omega (arith, from)) r.timeout start run.0 run.2 run.3 p done run.4 sound_start sound_mid line (λ m is. is) refl refl) [
         | inl (id, out) ↦ inl (r, id, inl refl, out)
         | inr (other, w) ↦ elim enough [
           | inl few ↦ absurd (apart other (omega (arith, few)))
-          | inr many ↦ elim (walk mac answers by p.number path r.now select first fresh (omega (arith, from)) r.following run.0 run.1 (xs ++ (HandleTimeout r.now, r.timeout) ∷ []) to-mid (λ x has. between x has) sound_mid run.6 run.7
+          | inr many ↦ elim (walk mac answers by p.number path (answered_at start p) r.now select first fresh (omega (arith, from)) r.following run.0 run.1 (xs ++ (HandleTimeout r.now, r.timeout) ∷ []) to-mid (λ x has. between x has) sound_mid run.6 run.7
               (record {
                 waits = w;
                 invalid = λ q has. (let o = after-call.1.back q has in o.2.valid ∙ (let none = unanswered.invalid in none o.0 o.1));

@@ -23,6 +23,7 @@ module _ {H P : Type 0} (mac : H → List ℕ → List ℕ → List ℕ) (answer
         began = enough.began;
         line = enough.line;
         passing = enough.passing;
+        lasting = enough.lasting;
         enough = (let all = enough.enough in
             let needed : times (goes_ahead start.rules) (2 * pair_bound limit most (gathered_count before) (signal_count before) + last.next_number)
             ≤ length rounds + 1 + times (goes_ahead start.rules) start.next_number = omega (arith, all) in

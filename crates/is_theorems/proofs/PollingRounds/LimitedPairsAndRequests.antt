@@ -135,8 +135,8 @@ module _ {H P : Type 0} (mac : H → List ℕ → List ℕ → List ℕ) (answer
   -- ---- the theorem
 
   pub none-starves : PairsAreReached {H = H} mac answers → NoneIsStarved {H = H} mac answers
-  none-starves reached first s log fresh most limit limited few before start last rounds p by part f =
-      elim (reached first s log fresh before start last rounds p by part (record { at = f.at; began = f.began; line = f.line; passing = f.passing; enough = enough })) [
+  none-starves reached first s log fresh most limit limited few before start last rounds p by part consents f =
+      elim (reached first s log fresh before start last rounds p by part (record { at = f.at; began = f.began; line = f.line; passing = f.passing; lasting = f.lasting; enough = enough })) [
         | inl checks ↦ inl checks
         | inr (inl answered) ↦ inr answered
         | inr (inr ended) ↦ absurd (none-ends before start part.at (entries_of rounds) last part.following part.run (path_of start p) f.steady ended)
@@ -162,7 +162,7 @@ module _ {H P : Type 0} (mac : H → List ℕ → List ℕ → List ℕ) (answer
 
         enough : times (goes_ahead start.rules) (2 * length start.pairs + last.next_number) ≤ length rounds + 1 + times (goes_ahead start.rules) start.next_number
         enough =
-            let added = requests-add-few mac answers first s log fresh before (entries_of rounds) start last part f.line.checking.full f.steady in
+            let added = requests-add-few mac answers first s log fresh before (entries_of rounds) start last part f.line.checking.full f.steady consents in
             let timeouts = few-timeouts by rounds f.passing in
             let sound : IsSound start = runs_sound mac answers (path_theorem mac answers) first start s part.at before fresh part.led in
             let all = f.enough in

@@ -1,15 +1,16 @@
 -- A pair that waits for its check is due at each `poll_timeout` call, so this returns a time at most one pacing interval after the last
 -- `handle_timeout` call.
-use Rattle.std.proofs.Common.{◌≡◌, ℕ, zero, suc, ◌+◌, ◌*◌, ◌<◌, ◌≤◌, max, true, List, [], ◌∷◌, ◌++◌, length, Option, Some, is_some, inl, inr, ◌⊎◌, refl, ap, sym, ◌∙◌, subst, arith}
+use Rattle.std.proofs.Common.{◌≡◌, ℕ, zero, suc, ◌+◌, ◌*◌, ◌<◌, ◌≤◌, max, Bool, true, false, List, [], ◌∷◌, ◌++◌, length, Option, Some, is_some, inl, inr, ◌⊎◌, refl, ap, sym, ◌∙◌, subst, arith}
 use Rattle.std.proofs.Math.Nat.{suc-mul}
 use Rattle.rand_core.specs.Stream.{Stream}
 use Rattle.is_proto.specs.Lists.{Has}
 use Rattle.is_proto.specs.Times.{MAX}
 use Rattle.is_candidate.specs.Candidates.{CandidateRecord}
 use Rattle.is_pair.specs.Checks.{unanswered_count}
-use Rattle.is_pair.specs.Due.{due_time_of}
+use Rattle.is_pair.specs.Due.{due_time_of, call_time_of}
 use Rattle.is_pair.specs.Pairs.{PairRecord}
 use Rattle.is_pair.specs.Turns.{IsPaced}
+use Rattle.is_pair.proofs.ConsentTimes.EndOfConsent.{calls-when-due}
 use Rattle.is_stun.specs.declared.timing.StunTiming.{StunTiming}
 use Rattle.is_rules.specs.declared.emitted.Path.{Path}
 use Rattle.is_rules.specs.Agent.{AgentRecord}
@@ -18,7 +19,7 @@ use Rattle.is_theorems.specs.AskedCourses.{Ends, EndsAlong, IsAnsweredAlong, Suc
 use Rattle.is_theorems.specs.Courses.{SelectsAmong, ControlsAlong, CourseRound, CourseRounds}
 use Rattle.is_theorems.specs.Exchange.{AreBetween, Course}
 use Rattle.is_rules.specs.Polls.{PollsTimeout, soon}
-use Rattle.is_theorems.specs.Reached.{IsInLine}
+use Rattle.is_theorems.specs.Reached.{IsInLine, IsLasting}
 use Rattle.is_theorems.specs.ReachedCourses.{IsPassed, PassRounds}
 use Rattle.is_theorems.specs.Runs.{IsFresh}
 use Rattle.is_rules.specs.Sending.{path_of}
@@ -32,7 +33,7 @@ use Rattle.is_theorems.proofs.DuePairs.FirstDuePair.{due-at, timeout-follows}
 use Rattle.is_theorems.proofs.DuePairs.ChecksAhead.{times, times-kept}
 use Rattle.is_theorems.proofs.CallEffects.FailedCallsAndNewAgents.{fresh_sound}
 use Rattle.is_theorems.proofs.DuePairs.PollingCycles.{maintains_pairs-from}
-use Rattle.is_theorems.proofs.DuePairs.AfterNominationAndRemoval.{Base}
+use Rattle.is_theorems.proofs.DuePairs.AfterNominationAndRemoval.{Base, answered-if, answered_at}
 use Rattle.is_theorems.proofs.DuePairs.AfterPackets.{NoneValid}
 use Rattle.is_theorems.proofs.PathSelection.NominatedByPeerPerAgent.{course_on}
 use Rattle.is_theorems.proofs.StoredPairs.PairsThatStay.{pairs-stay}
@@ -47,12 +48,16 @@ use Rattle.is_theorems.proofs.PollingRounds.FirstRound.{Waits, between-keeps, lt
 use Rattle.is_theorems.proofs.PunctualTimeouts.UnchangedPacing.{pacing-is-set}
 
 -- a pacing interval that only `set_timing_advance` changes
-stays-slow : {P : Type 0} (call : Call P) (old new pace : ℕ) → new ≡ advance_after call old → old ≤ pace → ((by : ℕ) → call ≡ SetTimingAdvance by → by ≤ pace) → new ≤ pace
+pub stays-slow : {P : Type 0} (call : Call P) (old new pace : ℕ) → new ≡ advance_after call old → old ≤ pace → ((by : ℕ) → call ≡ SetTimingAdvance by → by ≤ pace) → new ≤ pace
 stays-slow (SetTimingAdvance by) old new pace is slow keeps = let k : by ≤ pace = keeps by refl in omega (arith, is, k)
 stays-slow _ old new pace is slow keeps = omega (arith, is, slow)
 
 deadline-is : (a b : Option ℕ) → NextTimeout a ≡ NextTimeout b → a ≡ b
 deadline-is a b h = cc
+
+-- what is both valid and not
+never : {X : Type 0} {b : Bool} → b ≡ true → b ≡ false → X
+never is isnt = let no : true ≡ false = sym is ∙ isnt in absurd (cc)
 
 -- ---- the times of rounds
 
@@ -74,20 +79,22 @@ module _ {P : Type 0} where
       omega (arith, k, m)
 
 module _ {H P : Type 0} where
-  module _ (mac : H → List ℕ → List ℕ → List ℕ) (answers : P → CandidateRecord → ℕ → ℕ → Type 0) (pace delay by n : ℕ) (path : Path) where
+  module _ (mac : H → List ℕ → List ℕ → List ℕ) (answers : P → CandidateRecord → ℕ → ℕ → Type 0) (pace delay by n : ℕ) (path : Path) (keeps : ℕ → Bool) where
     -- ---- one round
 
     -- `poll_timeout` while the pair waits
-    deadline-soon : (at : ℕ) → by ≤ at → (old new : AgentRecord H P) (deadline : ℕ) → Waits by n path at old → old.timing_advance ≤ pace → PollsTimeout old (Some deadline) new
+    deadline-soon : (at : ℕ) → by ≤ at → (old new : AgentRecord H P) (deadline : ℕ) → Waits by n path keeps at old → old.timing_advance ≤ pace → PollsTimeout old (Some deadline) new
         → deadline ≤ at + pace
     deadline-soon at from old new deadline w slow h =
-        let k : deadline ≤ max (due_time_of at old.timing w.pair) (soon old at) = timeouts-in-time old new (Some deadline) h at w.last w.checking.full w.pair w.there in
+        let polled : deadline ≤ max (call_time_of at old.timing w.pair) (soon old at) = timeouts-in-time old new (Some deadline) h at w.last w.checking.full w.pair w.there in
+        let called : call_time_of at old.timing w.pair ≤ due_time_of at old.timing w.pair = calls-when-due at old.timing w.pair in
+        let k : deadline ≤ max (due_time_of at old.timing w.pair) (soon old at) = omega (arith, polled, called) in
         let due : due_time_of at old.timing w.pair ≡ w.timeout = due-at at w.timeout old.timing w.pair w.due in
         let l : deadline ≤ max w.timeout (soon old at) = subst (λ d. deadline ≤ max d (soon old at)) due k in
         let before = w.before in
         omega (arith, l, before, from, slow)
 
-    prompt-here : (at : ℕ) → by ≤ at → (call : Call P) (e : Entry) (old mid : AgentRecord H P) (s t : Stream) (deadline next : ℕ) → Waits by n path at old → Step mac answers old s call e mid t
+    prompt-here : (at : ℕ) → by ≤ at → (call : Call P) (e : Entry) (old mid : AgentRecord H P) (s t : Stream) (deadline next : ℕ) → Waits by n path keeps at old → Step mac answers old s call e mid t
         → call ≡ PollTimeout → old.timing_advance ≤ pace → e.answer ≡ NextTimeout (Some deadline) → next ≤ deadline + delay → next ≤ at + (pace + delay)
     prompt-here at from call e old mid s t deadline next w step called slow reported close =
         let polled : Step mac answers old s PollTimeout e mid t = subst (λ (c : Call P). Step mac answers old s c e mid t) called step in
@@ -101,28 +108,28 @@ module _ {H P : Type 0} where
     Passed at xs old new course =
         IsAnsweredAlong xs path
         ⊎ (EndsAlong mac answers xs old new course path
-        ⊎ (Waits by n path at new × (new.timing_advance ≤ pace) × ((next : ℕ) → IsPrompt delay next xs → next ≤ at + (pace + delay))))
+        ⊎ (Waits by n path keeps at new × (new.timing_advance ≤ pace) × ((next : ℕ) → IsPrompt delay next xs → next ≤ at + (pace + delay))))
 
-    walk : (at : ℕ) → by ≤ at → (xs : List (Call P × Entry)) (old new : AgentRecord H P) → Waits by n path at old → IsSound old → old.timing_advance ≤ pace → KeepsPace pace xs → AreInRound xs
+    walk : (at : ℕ) → by ≤ at → (xs : List (Call P × Entry)) (old new : AgentRecord H P) → Waits by n path keeps at old → IsSound old → old.timing_advance ≤ pace → KeepsPace pace xs → AreInRound xs
         → (course : Course mac answers xs old new) → Passed at xs old new course
-    walk at from [] old new w sound slow keeps fits is =
+    walk at from [] old new w sound slow keeping fits is =
         inr (inr (
-          subst (λ (a : AgentRecord H P). Waits by n path at a) (sym is) w,
+          subst (λ (a : AgentRecord H P). Waits by n path keeps at a) (sym is) w,
           subst (λ (a : AgentRecord H P). a.timing_advance ≤ pace) (sym is) slow,
           λ next none. absurd none.2,
         ))
-    walk at from (x ∷ rest) old new w sound slow keeps fits (mid, s, t, given, step, more) =
+    walk at from (x ∷ rest) old new w sound slow keeping fits (mid, s, t, given, step, more) =
         let sound_mid : IsSound mid = (path_theorem mac answers old mid s t x.0 x.1 sound given step).1 in
-        let slow_mid : mid.timing_advance ≤ pace = stays-slow x.0 old.timing_advance mid.timing_advance pace (pacing-is-set mac answers old mid s t x.0 x.1 step) (omega (arith, slow)) (λ k is. keeps x k (inl refl) is) in
+        let slow_mid : mid.timing_advance ≤ pace = stays-slow x.0 old.timing_advance mid.timing_advance pace (pacing-is-set mac answers old mid s t x.0 x.1 step) (omega (arith, slow)) (λ k is. keeping x k (inl refl) is) in
         let ends-here : MayEnd answers old x.0 x.1 w.pair → Ends answers old x.0 x.1 path =
         λ ends. (w.pair, w.there, (ap (λ (y : Path). y.source) w.on, ap (λ (y : Path). y.destination) w.on), ends) in
-        elim (between-keeps mac answers by n path at x.0 x.1 old mid s t w.checking.peer w.last w.pair sound w.there w.number w.on (fits x (inl refl)) step) [
+        elim (between-keeps mac answers by n path keeps at x.0 x.1 old mid s t w.checking.peer w.last w.pair sound w.there w.number w.on (fits x (inl refl)) step) [
           | inl accepts ↦ inl (x, inl refl, accepts)
           | inr (inl ends) ↦ inr (inl (inl (ends-here ends)))
           | inr (inr kept) ↦ elim (pairs-stay mac answers old mid s t x.0 x.1 w.pair sound given step w.there) [
             | inr ends ↦ inr (inl (inl (ends-here ends)))
             | inl stays ↦
-                elim (walk at from rest mid new (waits-on mac answers by n path at from old mid w sound_mid kept stays) sound_mid slow_mid (λ y k has. keeps y k (inr has)) (λ y has. fits y (inr has)) more) [
+                elim (walk at from rest mid new (waits-on mac answers by n path keeps at from old mid w sound_mid kept stays) sound_mid slow_mid (λ y k has. keeping y k (inr has)) (λ y has. fits y (inr has)) more) [
                   | inl (y, has, accepts) ↦ inl (y, inr has, accepts)
                   | inr (inl ends) ↦ inr (inl (inr ends))
                   | inr (inr (after, slow_after, prompt)) ↦
@@ -143,8 +150,8 @@ module _ {H P : Type 0} where
 
     -- ---- rounds
 
-    in-line : (at now : ℕ) (a : AgentRecord H P) → (w : Waits by n path at a) → IsInLine now by a w.pair
-    in-line at now a w =
+    in-line : (at now : ℕ) (a : AgentRecord H P) → (w : Waits by n path keeps at a) → IsLasting now a w.pair → IsInLine now by a w.pair
+    in-line at now a w lasting =
         let due : due_time_of now a.timing w.pair ≡ w.timeout = due-at now w.timeout a.timing w.pair w.due in
         record {
           checking = w.checking;
@@ -153,29 +160,31 @@ module _ {H P : Type 0} where
           due = subst (λ d. d ≤ by) (sym due) w.before;
           settled = inr (ap is_some w.due);
           young = lt-from (unanswered_count w.pair.checks) a.timing.max_retransmits w.young;
+          lasting = lasting;
         }
 
-    timely : (r : CourseRound P) (later : List (CourseRound P)) (old last : AgentRecord H P) (p : PairRecord) → IsSound old → IsInLine r.now by old p → p.number ≡ n → path_of old p ≡ path
+    timely : (r : CourseRound P) (later : List (CourseRound P)) (old last : AgentRecord H P) (p : PairRecord) → IsSound old → IsInLine r.now by old p
+        → ((m : ℕ) → keeps m ≡ true → answered_at old p m ≡ true) → p.number ≡ n → path_of old p ≡ path
         → by ≤ r.now → r.timeout.answer ≡ Done → AreInRound r.following → (run : PassRounds mac answers (r ∷ later) old last) → ((x : CourseRound P) → Has later x → IsOpenRound by x)
-        → old.timing_advance ≤ pace → ((x : CourseRound P) → Has (r ∷ later) x → KeepsPace pace x.following) → IsPunctual delay r later
+        → ((x : CourseRound P) → Has later x → keeps x.now ≡ true) → old.timing_advance ≤ pace → ((x : CourseRound P) → Has (r ∷ later) x → KeepsPace pace x.following) → IsPunctual delay r later
         → ComeBy r.now (pace + delay) (r ∷ later) ⊎ IsReachedBy mac answers (r.now + length later * (pace + delay)) (r ∷ later) old last run path
-    timely r [] old last p sound line number on from done between run opens slow keeps punctual = inl (omega arith, tt)
-    timely r (x ∷ later) old last p sound line number on from done between (mid, after, s, t, step, course, more) opens slow keeps (prompt, punctual) =
+    timely r [] old last p sound line lasts number on from done between run opens lasting slow keeping punctual = inl (omega arith, tt)
+    timely r (x ∷ later) old last p sound line lasts number on from done between (mid, after, s, t, step, course, more) opens lasting slow keeping (prompt, punctual) =
         let sound_mid : IsSound mid = (path_theorem mac answers old mid s t (HandleTimeout r.now) r.timeout sound tt step).1 in
         let same : mid.timing_advance ≡ old.timing_advance = pacing-is-set mac answers old mid s t (HandleTimeout r.now) r.timeout step in
         let m : suc (length later) * (pace + delay) ≡ length later * (pace + delay) + (pace + delay) = suc-mul (length later) (pace + delay) in
-        elim (timeout-on mac answers by n path r.now (omega (arith, from)) r.timeout old mid s t p done step sound sound_mid line number on) [
+        elim (timeout-on mac answers by n path keeps r.now (omega (arith, from)) r.timeout old mid s t p done step sound sound_mid line lasts number on) [
           | inl (id, out) ↦ inr (inl (r, inl refl, (id, out), omega arith))
-          | inr (other, w) ↦ elim (walk r.now (omega (arith, from)) r.following mid after w sound_mid (omega (arith, slow, same)) (keeps r (inl refl)) (λ y has. between y has) course) [
+          | inr (other, w) ↦ elim (walk r.now (omega (arith, from)) r.following mid after w sound_mid (omega (arith, slow, same)) (keeping r (inl refl)) (λ y has. between y has) course) [
             | inl answered ↦ inr (inr (inl (r, inl refl, answered)))
             | inr (inl ends) ↦ inr (inr (inr (inl ends)))
             | inr (inr (v, slow_after, in_time)) ↦
                 (let close : x.now ≤ r.now + (pace + delay) = in_time x.now prompt in
                 let round : IsOpenRound by x = opens x (inl refl) in
                 let late = round.late in
-                elim (timely x later after last v.pair (sound-course mac answers r.following mid after sound_mid course) (in-line r.now x.now after v) v.number v.on
+                elim (timely x later after last v.pair (sound-course mac answers r.following mid after sound_mid course) (in-line r.now x.now after v (λ valid. v.lasts x.now (lasting x (inl refl)))) v.lasts v.number v.on
                 (omega (arith, late)) round.done (λ y has. (let fits = round.between in fits y has)) more (λ y has. opens y (inr has))
-                (omega (arith, slow_after)) (λ y has. keeps y (inr has)) punctual) [
+                (λ y has. lasting y (inr has)) (omega (arith, slow_after)) (λ y has. keeping y (inr has)) punctual) [
                   | inl come ↦ inl (omega arith, come-later x.now (r.now + (pace + delay)) (pace + delay) (x ∷ later) (omega (arith, close)) come)
                   | inr (inl (y, has, out, by_then)) ↦ inr (inl (y, inr has, out, omega (arith, by_then, close, m)))
                   | inr (inr (inl (y, has, is))) ↦ inr (inr (inl (y, inr has, is)))
@@ -196,9 +205,9 @@ module _ {H P : Type 0} where
         let sound : IsSound start = sound-after first start xs fresh course in
         let sound_mid : IsSound mid = (path_theorem mac answers start mid s t (HandleTimeout now) timeout sound tt step).1 in
         let same : mid.timing_advance ≡ start.timing_advance = pacing-is-set mac answers start mid s t (HandleTimeout now) timeout step in
-        elim (timeout-on mac answers by p.number (path_of start p) now (omega (arith, from)) timeout start mid s t p done step sound sound_mid line refl refl) [
+        elim (timeout-on mac answers by p.number (path_of start p) (answered_at start p) now (omega (arith, from)) timeout start mid s t p done step sound sound_mid line (λ m is. is) refl refl) [
           | inl checks ↦ inr (inl checks)
-          | inr (other, w) ↦ elim (walk mac answers pace delay by p.number (path_of start p) now (omega (arith, from)) following mid after w sound_mid (omega (arith, slow, same)) (λ y k has. keeps y k has) (λ y has. between y has) more) [
+          | inr (other, w) ↦ elim (walk mac answers pace delay by p.number (path_of start p) (answered_at start p) now (omega (arith, from)) following mid after w sound_mid (omega (arith, slow, same)) (λ y k has. keeps y k has) (λ y has. between y has) more) [
             | inl answered ↦ inr (inr (inl answered))
             | inr (inl ends) ↦ inr (inr (inr ends))
             | inr (inr (v, slow_after, in_time)) ↦ inl (in_time next prompt)
@@ -206,9 +215,9 @@ module _ {H P : Type 0} where
         ]
 
     pub rounds-come-in-time : RoundsComeInTime {H = H} {P = P} mac answers
-    rounds-come-in-time first start last xs r later p by pace delay fresh course line from done early between run opens timed =
-        timely mac answers pace delay by p.number (path_of start p) r later start last p (sound-after first start xs fresh course) line refl refl (omega (arith, from)) done
-        (λ y has. between y has) run opens (let begins = timed.begins in omega (arith, begins)) timed.keeps timed.punctual
+    rounds-come-in-time first start last xs r later p by pace delay fresh course line from done early between run opens lasting timed =
+        timely mac answers pace delay by p.number (path_of start p) (answered_at start p) r later start last p (sound-after first start xs fresh course) line (λ m is. is) refl refl (omega (arith, from)) done
+        (λ y has. between y has) run opens (λ x has. answered-if start p x.now (sound-after first start xs fresh course) line.there (lasting x has)) (let begins = timed.begins in omega (arith, begins)) timed.keeps timed.punctual
 
     -- ---- the rounds that suffice
 
@@ -293,24 +302,25 @@ module _ {H P : Type 0} where
     reach-all : CoursesReachFromDue {H = H} {P = P} mac answers
         → (first start last : AgentRecord H P) (xs : List (Call P × Entry)) (r : CourseRound P) (later : List (CourseRound P)) (p : PairRecord) (by pace delay : ℕ)
         → IsFresh first → Course mac answers xs first start → IsInLine r.now by start p → by ≤ r.now → r.timeout.answer ≡ Done → r.now < MAX → AreInRound r.following
-        → (run : PassRounds mac answers (r ∷ later) start last) → ((x : CourseRound P) → Has later x → IsOpenRound by x) → Suffices by r.now start run.1 last (length later)
+        → (run : PassRounds mac answers (r ∷ later) start last) → ((x : CourseRound P) → Has later x → IsOpenRound by x)
+        → ((x : CourseRound P) → Has later x → IsLasting x.now start p) → Suffices by r.now start run.1 last (length later)
         → IsTimed pace delay start r later → IsReachedBy mac answers (r.now + length later * (pace + delay)) (r ∷ later) start last run (path_of start p)
-    reach-all reach first start last xs r later p by pace delay fresh course line from done early between run opens enough timed =
-        elim (rounds-come-in-time first start last xs r later p by pace delay fresh course line (omega (arith, from)) done (omega (arith, early)) (λ y has. between y has) run opens timed) [
+    reach-all reach first start last xs r later p by pace delay fresh course line from done early between run opens lasting enough timed =
+        elim (rounds-come-in-time first start last xs r later p by pace delay fresh course line (omega (arith, from)) done (omega (arith, early)) (λ y has. between y has) run opens (λ x has. lasting x has) timed) [
           | inr reached ↦ reached
-          | inl come ↦ elim (reach first start last xs r later p by fresh course line (omega (arith, from)) done (omega (arith, early)) (λ y has. between y has) run opens enough) [
+          | inl come ↦ elim (reach first start last xs r later p by fresh course line (omega (arith, from)) done (omega (arith, early)) (λ y has. between y has) run opens (λ x has. lasting x has) enough) [
             | inl (y, id, has, out) ↦ inl (y, has, (id, out), come-all r.now (pace + delay) r later y has come)
             | inr others ↦ inr others
           ]
         ]
 
     pub courses-reach-in-time : CoursesReachFromDue {H = H} {P = P} mac answers → CoursesReachInTime {H = H} {P = P} mac answers
-    courses-reach-in-time reach first start last xs r later p by pace delay many fresh course line from done early between run opens enough long timed =
+    courses-reach-in-time reach first start last xs r later p by pace delay many fresh course line from done early between run opens lasting enough long timed =
         let c = cut delay many r later start last (sound-after first start xs fresh course) run (omega (arith, long)) timed.punctual in
         let fewer = c.fewer in
         let count : length c.front ≡ many = c.count in
         elim (reach-all reach first start c.end xs r c.front p by pace delay fresh course line (omega (arith, from)) done (omega (arith, early)) (λ y has. between y has)
-        (run.0, run.1, run.2, run.3, run.4, run.5, c.more) (λ y has. opens y (c.within y has))
+        (run.0, run.1, run.2, run.3, run.4, run.5, c.more) (λ y has. opens y (c.within y has)) (λ y has. lasting y (c.within y has))
         (subst (λ k. Suffices by r.now start run.1 c.end k) (sym count) (suffices-earlier by r.now many start run.1 c.end last (omega (arith, fewer)) enough))
         (record { begins = (let begins = timed.begins in omega (arith, begins)); keeps = λ y has. timed.keeps y (elim has [ inl is ↦ inl is | inr there ↦ inr (c.within y there) ]); punctual = c.punctual })) [
           | inl (y, inl is, out, by_then) ↦ inl (y, inl is, out, subst (λ k. y.now ≤ r.now + k * (pace + delay)) count by_then)
@@ -323,26 +333,26 @@ module _ {H P : Type 0} where
 
     -- ---- rounds in which only packets and polls come
 
-    module _ (pace delay by n : ℕ) (path : Path) (select : SuccessesSelect {H = H} {P = P} mac answers) (first : AgentRecord H P) (fresh : IsFresh first) where
+    module _ (pace delay by n : ℕ) (path : Path) (keeps : ℕ → Bool) (select : SuccessesSelect {H = H} {P = P} mac answers) (first : AgentRecord H P) (fresh : IsFresh first) where
       -- a success response selects a path, or the pair waits and the next call comes in time
       calm-walk : (at : ℕ) → by ≤ at → (xs : List (Call P × Entry)) (old new : AgentRecord H P) (zs : List (Call P × Entry)) → Course mac answers zs first old → AreBetween xs → IsSound old
-          → (course : Course mac answers xs old new) → ControlsAlong mac answers xs old new course → Calm by n path at old → old.timing_advance ≤ pace → KeepsPace pace xs
-          → ((x : Call P × Entry) × Has xs x × Selects mac answers by n path at select first fresh x.0 x.1)
-          ⊎ (Calm by n path at new × (new.timing_advance ≤ pace) × ((next : ℕ) → IsPrompt delay next xs → next ≤ at + (pace + delay)))
-      calm-walk at from [] old new zs led fits sound is along c slow keeps =
+          → (course : Course mac answers xs old new) → ControlsAlong mac answers xs old new course → Calm by n path keeps at old → old.timing_advance ≤ pace → KeepsPace pace xs
+          → ((x : Call P × Entry) × Has xs x × Selects mac answers by n path keeps at select first fresh x.0 x.1)
+          ⊎ (Calm by n path keeps at new × (new.timing_advance ≤ pace) × ((next : ℕ) → IsPrompt delay next xs → next ≤ at + (pace + delay)))
+      calm-walk at from [] old new zs led fits sound is along c slow keeping =
           inr (
-            subst (λ (a : AgentRecord H P). Calm by n path at a) (sym is) c,
+            subst (λ (a : AgentRecord H P). Calm by n path keeps at a) (sym is) c,
             subst (λ (a : AgentRecord H P). a.timing_advance ≤ pace) (sym is) slow,
             λ next none. absurd none.2,
           )
-      calm-walk at from (x ∷ rest) old new zs led fits sound (mid, s, t, given, step, more) along c slow keeps =
+      calm-walk at from (x ∷ rest) old new zs led fits sound (mid, s, t, given, step, more) along c slow keeping =
           let sound_mid : IsSound mid = (path_theorem mac answers old mid s t x.0 x.1 sound given step).1 in
-          let slow_mid : mid.timing_advance ≤ pace = stays-slow x.0 old.timing_advance mid.timing_advance pace (pacing-is-set mac answers old mid s t x.0 x.1 step) (omega (arith, slow)) (λ k is. keeps x k (inl refl) is) in
-          elim (on-call mac answers by n path at select first fresh from x.0 x.1 old mid s t zs led (fits x (inl refl)) given c sound sound_mid step along.0) [
+          let slow_mid : mid.timing_advance ≤ pace = stays-slow x.0 old.timing_advance mid.timing_advance pace (pacing-is-set mac answers old mid s t x.0 x.1 step) (omega (arith, slow)) (λ k is. keeping x k (inl refl) is) in
+          elim (on-call mac answers by n path keeps at select first fresh from x.0 x.1 old mid s t zs led (fits x (inl refl)) given c sound sound_mid step along.0) [
             | inl selected ↦ inl (x, inl refl, selected)
             | inr calm ↦
                 elim (calm-walk at from rest mid new (zs ++ x ∷ []) (course_on mac answers zs (x ∷ []) first old mid led (mid, s, t, given, step, refl)) (λ y has. fits y (inr has)) sound_mid more along.1 calm slow_mid
-                (λ y k has. keeps y k (inr has))) [
+                (λ y k has. keeping y k (inr has))) [
                   | inl (y, has, selected) ↦ inl (y, inr has, selected)
                   | inr (after, slow_after, prompt) ↦ inr (after, slow_after, λ next k. by-place next k.0 k.1 k.2 k.3 k.4 k.5 prompt)
                 ]
@@ -350,7 +360,7 @@ module _ {H P : Type 0} where
             by-place : (next : ℕ) (y : Call P × Entry) (deadline : ℕ) → Has (x ∷ rest) y → y.0 ≡ PollTimeout → y.1.answer ≡ NextTimeout (Some deadline) → next ≤ deadline + delay
                 → ((next : ℕ) → IsPrompt delay next rest → next ≤ at + (pace + delay)) → next ≤ at + (pace + delay)
             by-place next y deadline (inl is) called reported close prompt =
-                prompt-here mac answers pace delay by n path at (omega (arith, from)) x.0 x.1 old mid s t deadline next c.waits step (ap (λ (z : Call P × Entry). z.0) is ∙ called) (omega (arith, slow))
+                prompt-here mac answers pace delay by n path keeps at (omega (arith, from)) x.0 x.1 old mid s t deadline next c.waits step (ap (λ (z : Call P × Entry). z.0) is ∙ called) (omega (arith, slow))
                 (ap (λ (z : Call P × Entry). z.1.answer) is ∙ reported) (omega (arith, close))
             by-place next y deadline (inr has) called reported close prompt = prompt next (y, deadline, has, called, reported, close)
 
@@ -368,8 +378,8 @@ module _ {H P : Type 0} where
           → ((x : CourseRound P) → Has later x → IsPassed by x)
           → old.timing_advance ≤ pace → ((x : CourseRound P) → Has (r ∷ later) x → KeepsPace pace x.following) → IsPunctual delay r later
           → ComeBy r.now (pace + delay) (r ∷ later) ⊎ (ChecksBy (r.now + length later * (pace + delay)) (r ∷ later) path ⊎ SelectsAmong (r ∷ later))
-      calm-timely r [] old last zs p led sound unchanged_step from done between run opens slow keeps punctual = inl (omega arith, tt)
-      calm-timely r (x ∷ later) old last zs p led sound unchanged_step from done between (mid, after, s, t, step, role, course, along, more) opens slow keeps (prompt, punctual) =
+      calm-timely r [] old last zs p led sound unchanged_step from done between run opens slow keeping punctual = inl (omega arith, tt)
+      calm-timely r (x ∷ later) old last zs p led sound unchanged_step from done between (mid, after, s, t, step, role, course, along, more) opens slow keeping (prompt, punctual) =
           let sound_mid : IsSound mid = (path_theorem mac answers old mid s t (HandleTimeout r.now) r.timeout sound tt step).1 in
           let same : mid.timing_advance ≡ old.timing_advance = pacing-is-set mac answers old mid s t (HandleTimeout r.now) r.timeout step in
           let m : suc (length later) * (pace + delay) ≡ length later * (pace + delay) + (pace + delay) = suc-mul (length later) (pace + delay) in
@@ -377,7 +387,8 @@ module _ {H P : Type 0} where
           course_on mac answers zs ((HandleTimeout r.now, r.timeout) ∷ []) first old mid led (mid, s, t, tt, step, refl) in
           let after-call = timeout-follows mac r.now (timeout_begun r.now old) mid s t r.timeout.emitted unchanged_step.line.checking.peer unchanged_step.line.checking.full
           (maintains_pairs-from mac r.now old s t r.timeout.emitted mid unchanged_step.line.queue (passed-at mac answers old mid s t r.now r.timeout done step)) in
-          elim (timeout-on mac answers by n path r.now (omega (arith, from)) r.timeout old mid s t p done step sound sound_mid unchanged_step.line unchanged_step.number unchanged_step.on) [
+          elim (timeout-on mac answers by n path keeps r.now (omega (arith, from)) r.timeout old mid s t p done step sound sound_mid unchanged_step.line
+          (λ m _. answered-if old p m sound unchanged_step.line.there (λ valid. never valid (unchanged_step.invalid p unchanged_step.line.there))) unchanged_step.number unchanged_step.on) [
             | inl (id, out) ↦ inr (inl (r, inl refl, (id, out), omega arith))
             | inr (other, w) ↦ elim (calm-walk r.now (omega (arith, from)) r.following mid after (zs ++ (HandleTimeout r.now, r.timeout) ∷ []) to-mid (λ y has. between y has) sound_mid course along
                 (record {
@@ -385,7 +396,7 @@ module _ {H P : Type 0} where
                   invalid = λ q has. (let o = after-call.1.back q has in o.2.valid ∙ unchanged_step.invalid o.0 o.1);
                   role = role;
                   paced = subst (λ (z : StunTiming). IsPaced z) (sym (ap (λ (b : Base). b.timing) after-call.0)) unchanged_step.paced;
-                }) (omega (arith, slow, same)) (keeps r (inl refl))) [
+                }) (omega (arith, slow, same)) (keeping r (inl refl))) [
                   | inl (y, has, (accepts, selected_paths)) ↦ inr (inr (r, inl refl, (y, has, accepts, selected_paths)))
                   | inr (c, slow_after, in_time) ↦
                       (let close : x.now ≤ r.now + (pace + delay) = in_time x.now prompt in
@@ -395,7 +406,7 @@ module _ {H P : Type 0} where
                       (course_on mac answers (zs ++ (HandleTimeout r.now, r.timeout) ∷ []) r.following first mid after to-mid course)
                       (sound-course mac answers r.following mid after sound_mid course)
                       (record {
-                        line = in-line mac answers pace delay by n path r.now x.now after c.waits;
+                        line = in-line mac answers pace delay by n path keeps r.now x.now after c.waits (λ valid. never valid (c.invalid c.waits.pair c.waits.there));
                         number = c.waits.number;
                         on = c.waits.on;
                         invalid = c.invalid;
@@ -403,7 +414,7 @@ module _ {H P : Type 0} where
                         paced = c.paced;
                       })
                       (omega (arith, late)) round.done (λ y has. (let fits = round.between in fits y has)) more (λ y has. opens y (inr has))
-                      (omega (arith, slow_after)) (λ y has. keeps y (inr has)) punctual) [
+                      (omega (arith, slow_after)) (λ y has. keeping y (inr has)) punctual) [
                         | inl come ↦ inl (omega arith, come-later x.now (r.now + (pace + delay)) (pace + delay) (x ∷ later) (omega (arith, close)) come)
                         | inr (inl (y, has, out, by_then)) ↦ inr (inl (y, inr has, out, omega (arith, by_then, close, m)))
                         | inr (inr (y, has, selected)) ↦ inr (inr (y, inr has, selected))
@@ -413,7 +424,7 @@ module _ {H P : Type 0} where
 
     pub courses-check-in-time : CoursesCheckFromDue {H = H} {P = P} mac answers → SuccessesSelect {H = H} {P = P} mac answers → CoursesCheckInTime {H = H} {P = P} mac answers
     courses-check-in-time check select first start last xs r later p by pace delay fresh course role waits unanswered from done early between run passing enough timed =
-        elim (calm-timely pace delay by p.number (path_of start p) select first fresh r later start last xs p course (sound-after first start xs fresh course)
+        elim (calm-timely pace delay by p.number (path_of start p) (answered_at start p) select first fresh r later start last xs p course (sound-after first start xs fresh course)
         (record {
           line = record {
             checking = waits.checking;
@@ -422,6 +433,7 @@ module _ {H P : Type 0} where
             due = (let due = waits.due in omega (arith, due));
             settled = inl (let none = unanswered.invalid in none p waits.there);
             young = (let young = unanswered.young in omega (arith, young));
+            lasting = λ valid. (let none = unanswered.invalid in never valid (none p waits.there));
           };
           number = refl;
           on = refl;

@@ -10,6 +10,7 @@ use Rattle.is_pair.specs.Pairs.{PairRecord}
 use Rattle.is_stun.specs.declared.header.Class.{Class}
 use Rattle.is_stun.specs.declared.header.Class.TheVariants as class
 use Rattle.is_stun.specs.Message.{Message}
+use Rattle.is_stun.specs.declared.timing.StunTiming.{StunTiming}
 use Rattle.is_rules.specs.Accepting.{Takes}
 use Rattle.is_rules.specs.Agent.{AgentRecord}
 use Rattle.is_rules.specs.Answers.{is_role_conflict, TakesSuccess, LeavesRole, TakesFailure}
@@ -31,7 +32,7 @@ use Rattle.is_rules.specs.Roles.{conflict_of, switched}
 use Rattle.is_rules.specs.Serving.{is_misled, names_another, pair_served, request_counted, selects_at_requests, with_sender, with_sender_at, Drops, Queues, RecordsAndResponds, FindsOrAddsPair, AddsUnknownSender, CountsAndServes, ResolvesRoleConflictBy, ResolvesRoleConflict, Serves}
 use Rattle.is_rules.specs.Steps.{SetMtu, SetControlTieBreaker, SetMaxCandidatePairs, SetMaxDiscovered, SetIceLite, SetRenomination, SetRules, SetTimingAdvance, SetInitialStunRto, SetMaxStunRto, SetMaxStunRetransmits, SetLiteTimeout, SetLocalPreference, SetControlling, SetLocalCredentials, SetRemoteCredentials, SkipPairIds, AddLocalCandidate, AddRemoteCandidate, InvalidateCandidate, RestartIce, RecreateCandidatePairs, ReceivePacket, HandleTimeout, PollTransmit, PollTimeout, PollEvent, Entry, Becomes, Receives, NotCalled, quiet}
 use Rattle.is_rules.specs.Settings.{with_retransmits}
-use Rattle.is_rules.specs.Timeouts.{at_timeout, is_expired, expired_gone, timeout_begun, RemovesExpired, MaintainsPairs, ServesQueued}
+use Rattle.is_rules.specs.Timeouts.{at_request, at_timeout, is_expired, expired_gone, timeout_begun, RemovesExpired, MaintainsPairs, ServesQueued}
 use Rattle.is_rules.specs.Queue.{request_at}
 use Rattle.is_theorems.proofs.CallEffects.AddedCandidates.{by_adding_local, by_adding_remote, by_waking}
 use Rattle.is_theorems.proofs.RuleEffects.UnchangedSettings.{either}
@@ -39,12 +40,28 @@ use Rattle.is_theorems.proofs.RuleEffects.NominatedPairs.{SelectsPath, selects_p
 use Rattle.is_theorems.proofs.CallEffects.FailedCallsAndNewAgents.{mtu_kept, local_kept, remote_kept, restart_kept, recreation_kept, enrolment_kept, storing_kept}
 use Rattle.is_theorems.specs.Pacing.{PacingIsSet}
 
+-- what the times of timeouts depend on, pairs aside
+pub record Clock : Type 0 where
+  pub lite : Bool
+  pub timing : StunTiming
+  pub last_time : Option ℕ
+
+pub record Pace : Type 0 where
+  pub timing_advance : ℕ
+  pub clock : Clock
+
 module _ {H P : Type 0} where
+  abbrev pub clock_of : AgentRecord H P → Clock
+  clock_of a = record { lite = a.lite; timing = a.timing; last_time = a.last_time }
+
+  abbrev pub pace_of : AgentRecord H P → Pace
+  pace_of a = record { timing_advance = a.timing_advance; clock = clock_of a }
+
   abbrev Same : AgentRecord H P → AgentRecord H P → Type 0
-  Same old new = new.timing_advance ≡ old.timing_advance
+  Same old new = pace_of new ≡ pace_of old
 
   made-of : (old new : AgentRecord H P) → new ≡ old → Same old new
-  made-of old new made = ap (λ (a : AgentRecord H P). a.timing_advance) made
+  made-of old new made = ap (λ (a : AgentRecord H P). pace_of a) made
 
   -- ---- nomination
 
@@ -131,7 +148,7 @@ module _ {H P : Type 0} where
     by-class class.Indication now old mid via m emitted h = absurd h
     by-class class.Unknown now old mid via m emitted h = absurd h
 
-    receives : (answers : P → CandidateRecord → ℕ → ℕ → Type 0) (now : ℕ) (old new : AgentRecord H P) (via : Path) (bytes : List ℕ) (e : Entry) → Receives mac answers now old via bytes e new → Same old new
+    pub receives : (answers : P → CandidateRecord → ℕ → ℕ → Type 0) (now : ℕ) (old new : AgentRecord H P) (via : Path) (bytes : List ℕ) (e : Entry) → Receives mac answers now old via bytes e new → Same old new
     receives answers now old new via bytes e (inl (fault, has_fault, is, made)) = made-of old new made
     receives answers now old new via bytes e (inr (m, reads, (Ok true, emitted, is, (accepted, (mid, takes_it, made))))) =
         made-of _ new made ∙ by-class m.class now old mid via m emitted takes_it
@@ -150,66 +167,69 @@ module _ {H P : Type 0} where
         (λ _ k. made-of _ new k.1)
         (λ _ k. tops now peer k.0 (all_asked now old) new s t issued k.2)
 
-    maintains : (now : ℕ) (old new : AgentRecord H P) (s t : Stream) (emitted : Emitted) → MaintainsPairs mac now old s emitted new t → Same old new
+    pub maintains : (now : ℕ) (old new : AgentRecord H P) (s t : Stream) (emitted : Emitted) → MaintainsPairs mac now old s emitted new t → Same (at_timeout now old) new
     maintains now old new s t emitted (first, second, issued, named, kept, nominating, giving, checking, is) =
         checks now kept.remote_creds kept new s t issued checking ∙ (gives-up-same now named kept second giving ∙ nominates-same (at_timeout now old) named first nominating)
 
     times-out : (now : ℕ) (request : Option RequestRecord) (old new : AgentRecord H P) (s t : Stream) (emitted : Emitted)
-        → MatchOption request (MaintainsPairs mac now old s emitted new t) (λ q. ServesQueued mac q old s emitted new t) → Same old new
-    times-out now None old new s t emitted h = maintains now old new s t emitted h
-    times-out now (Some q) old new s t emitted h = serves q _ new emitted h.0
+        → MatchOption request (MaintainsPairs mac now old s emitted new t) (λ q. ServesQueued mac q (at_request now old) s emitted new t) → new.timing_advance ≡ old.timing_advance
+    times-out now None old new s t emitted h = ap (λ (p : Pace). p.timing_advance) (maintains now old new s t emitted h)
+    times-out now (Some q) old new s t emitted h = ap (λ (p : Pace). p.timing_advance) (serves q _ new emitted h.0)
 
   -- ---- the other calls
 
-  forms : (mid new : AgentRecord H P) (all : List Combination) → FormsAll mid all new → Same mid new
-  forms mid new all (f, each, made) = made-of _ new made
+  paced-of : (old new : AgentRecord H P) → new ≡ old → new.timing_advance ≡ old.timing_advance
+  paced-of old new made = ap (λ (a : AgentRecord H P). a.timing_advance) made
 
-  invalidates : (old new : AgentRecord H P) (l r : Option ℕ) (found : Bool) → InvalidatesAt l r old found new → Same old new
-  invalidates old new (Some place) r found h = made-of _ new h.1
-  invalidates old new None (Some place) found h = made-of _ new h.1
-  invalidates old new None None found h = made-of old new h.1
+  forms : (mid new : AgentRecord H P) (all : List Combination) → FormsAll mid all new → new.timing_advance ≡ mid.timing_advance
+  forms mid new all (f, each, made) = paced-of _ new made
+
+  invalidates : (old new : AgentRecord H P) (l r : Option ℕ) (found : Bool) → InvalidatesAt l r old found new → new.timing_advance ≡ old.timing_advance
+  invalidates old new (Some place) r found h = paced-of _ new h.1
+  invalidates old new None (Some place) found h = paced-of _ new h.1
+  invalidates old new None None found h = paced-of old new h.1
 
   retransmits : (b : Bool) (n : ℕ) (old new : AgentRecord H P) (s t : Stream) (e : Entry)
-      → MatchBool b ((e ≡ quiet NotCalled) × (new ≡ old) × (t ≡ s)) (Becomes (with_retransmits n old) s e new t) → Same old new
-  retransmits true n old new s t e h = made-of old new h.1
-  retransmits false n old new s t e h = made-of _ new h.1
+      → MatchBool b ((e ≡ quiet NotCalled) × (new ≡ old) × (t ≡ s)) (Becomes (with_retransmits n old) s e new t) → new.timing_advance ≡ old.timing_advance
+  retransmits true n old new s t e h = paced-of old new h.1
+  retransmits false n old new s t e h = paced-of _ new h.1
 
   module _ (mac : H → List ℕ → List ℕ → List ℕ) (answers : P → CandidateRecord → ℕ → ℕ → Type 0) where
     pub pacing-is-set : PacingIsSet {H = H} {P = P} mac answers
-    pacing-is-set old new s t (SetMtu target warn) e (Ok _, reported, h, drawn) = made-of _ new h.1
-    pacing-is-set old new s t (SetMtu target warn) e (Err error, reported, h, drawn) = made-of old new (mtu_kept old new target warn error h)
-    pacing-is-set old new s t (SetControlTieBreaker tie) e h = made-of _ new h.1
-    pacing-is-set old new s t (SetMaxCandidatePairs n) e h = made-of _ new h.1
-    pacing-is-set old new s t (SetMaxDiscovered limit) e h = made-of _ new h.1
-    pacing-is-set old new s t (SetIceLite lite) e h = made-of _ new h.1
-    pacing-is-set old new s t (SetRenomination renominates) e h = made-of _ new h.1
-    pacing-is-set old new s t (SetRules rules) e h = made-of _ new h.1
-    pacing-is-set old new s t (SetTimingAdvance by) e h = made-of _ new h.1
-    pacing-is-set old new s t (SetInitialStunRto rto) e h = made-of _ new h.1
-    pacing-is-set old new s t (SetMaxStunRto rto) e h = made-of _ new h.1
+    pacing-is-set old new s t (SetMtu target warn) e (Ok _, reported, h, drawn) = paced-of _ new h.1
+    pacing-is-set old new s t (SetMtu target warn) e (Err error, reported, h, drawn) = paced-of old new (mtu_kept old new target warn error h)
+    pacing-is-set old new s t (SetControlTieBreaker tie) e h = paced-of _ new h.1
+    pacing-is-set old new s t (SetMaxCandidatePairs n) e h = paced-of _ new h.1
+    pacing-is-set old new s t (SetMaxDiscovered limit) e h = paced-of _ new h.1
+    pacing-is-set old new s t (SetIceLite lite) e h = paced-of _ new h.1
+    pacing-is-set old new s t (SetRenomination renominates) e h = paced-of _ new h.1
+    pacing-is-set old new s t (SetRules rules) e h = paced-of _ new h.1
+    pacing-is-set old new s t (SetTimingAdvance by) e h = paced-of _ new h.1
+    pacing-is-set old new s t (SetInitialStunRto rto) e h = paced-of _ new h.1
+    pacing-is-set old new s t (SetMaxStunRto rto) e h = paced-of _ new h.1
     pacing-is-set old new s t (SetMaxStunRetransmits n) e h = retransmits (n == 0) n old new s t e h
-    pacing-is-set old new s t (SetLiteTimeout by) e h = made-of _ new h.1
-    pacing-is-set old new s t (SetLocalPreference object) e h = made-of _ new h.1
-    pacing-is-set old new s t (SetControlling controlling) e h = made-of _ new h.1
-    pacing-is-set old new s t (SetLocalCredentials creds) e (Ok _, reported, h, drawn) = made-of _ new h.1
-    pacing-is-set old new s t (SetLocalCredentials creds) e (Err error, reported, h, drawn) = made-of old new (local_kept old new creds error h)
-    pacing-is-set old new s t (SetRemoteCredentials creds) e (Ok _, reported, h, drawn) = made-of _ new h.1
-    pacing-is-set old new s t (SetRemoteCredentials creds) e (Err error, reported, h, drawn) = made-of old new (remote_kept old new creds error h)
-    pacing-is-set old new s t (SkipPairIds n) e h = made-of _ new h.1
+    pacing-is-set old new s t (SetLiteTimeout by) e h = paced-of _ new h.1
+    pacing-is-set old new s t (SetLocalPreference object) e h = paced-of _ new h.1
+    pacing-is-set old new s t (SetControlling controlling) e h = paced-of _ new h.1
+    pacing-is-set old new s t (SetLocalCredentials creds) e (Ok _, reported, h, drawn) = paced-of _ new h.1
+    pacing-is-set old new s t (SetLocalCredentials creds) e (Err error, reported, h, drawn) = paced-of old new (local_kept old new creds error h)
+    pacing-is-set old new s t (SetRemoteCredentials creds) e (Ok _, reported, h, drawn) = paced-of _ new h.1
+    pacing-is-set old new s t (SetRemoteCredentials creds) e (Err error, reported, h, drawn) = paced-of old new (remote_kept old new creds error h)
+    pacing-is-set old new s t (SkipPairIds n) e h = paced-of _ new h.1
     pacing-is-set old new s t (AddLocalCandidate c) e (Ok place, reported, h, drawn) = by_adding_local old new answers c place h
-        (λ made. made-of old new made) (λ x _ f. forms _ new _ f) (λ k _ f. forms _ new _ f) (λ x _ k f. forms _ new _ f)
-    pacing-is-set old new s t (AddLocalCandidate c) e (Err error, reported, h, drawn) = made-of old new (enrolment_kept answers old new c error h)
+        (λ made. paced-of old new made) (λ x _ f. forms _ new _ f) (λ k _ f. forms _ new _ f) (λ x _ k f. forms _ new _ f)
+    pacing-is-set old new s t (AddLocalCandidate c) e (Err error, reported, h, drawn) = paced-of old new (enrolment_kept answers old new c error h)
     pacing-is-set old new s t (AddRemoteCandidate c) e (Ok _, reported, h, drawn) = by_adding_remote old new c h
-        (λ made. made-of old new made) (λ f. forms _ new _ f) (λ k _ addr f. forms _ new _ f)
-    pacing-is-set old new s t (AddRemoteCandidate c) e (Err error, reported, h, drawn) = made-of old new (storing_kept old new c error h)
+        (λ made. paced-of old new made) (λ f. forms _ new _ f) (λ k _ addr f. forms _ new _ f)
+    pacing-is-set old new s t (AddRemoteCandidate c) e (Err error, reported, h, drawn) = paced-of old new (storing_kept old new c error h)
     pacing-is-set old new s t (InvalidateCandidate c) e (found, reported, h, drawn) = invalidates old new (place_to_discard c old.local) (place_to_discard c old.remote) found h
-    pacing-is-set old new s t (RestartIce creds keep) e (Ok _, reported, h, drawn) = made-of _ new h.1
-    pacing-is-set old new s t (RestartIce creds keep) e (Err error, reported, h, drawn) = made-of old new (restart_kept old new creds keep error h)
+    pacing-is-set old new s t (RestartIce creds keep) e (Ok _, reported, h, drawn) = paced-of _ new h.1
+    pacing-is-set old new s t (RestartIce creds keep) e (Err error, reported, h, drawn) = paced-of old new (restart_kept old new creds keep error h)
     pacing-is-set old new s t RecreateCandidatePairs e (Ok _, reported, (some, h), drawn) = forms _ new _ h
-    pacing-is-set old new s t RecreateCandidatePairs e (Err error, reported, h, drawn) = made-of old new (recreation_kept old new error h)
-    pacing-is-set old new s t (ReceivePacket now via bytes) e (h, drawn) = receives mac answers now old new via bytes e h
+    pacing-is-set old new s t RecreateCandidatePairs e (Err error, reported, h, drawn) = paced-of old new (recreation_kept old new error h)
+    pacing-is-set old new s t (ReceivePacket now via bytes) e (h, drawn) = ap (λ (p : Pace). p.timing_advance) (receives mac answers now old new via bytes e h)
     pacing-is-set old new s t (HandleTimeout now) e (Ok _, emitted, reported, h) = times-out mac now (request_at now old) (timeout_begun now old) new s t emitted h
-    pacing-is-set old new s t (HandleTimeout now) e (Err error, emitted, reported, (may, nothing, made, drawn)) = made-of old new made
-    pacing-is-set old new s t PollTransmit e (given, reported, (polled, made), drawn) = made-of _ new made
-    pacing-is-set old new s t PollTimeout e (deadline, reported, h, drawn) = by_waking old new deadline h (λ made. made-of old new made) (λ at made. made-of _ new made)
-    pacing-is-set old new s t PollEvent e (given, reported, (polled, made), drawn) = made-of _ new made
+    pacing-is-set old new s t (HandleTimeout now) e (Err error, emitted, reported, (may, nothing, made, drawn)) = paced-of old new made
+    pacing-is-set old new s t PollTransmit e (given, reported, (polled, made), drawn) = paced-of _ new made
+    pacing-is-set old new s t PollTimeout e (deadline, reported, h, drawn) = by_waking old new deadline h (λ made. paced-of old new made) (λ at made. paced-of _ new made)
+    pacing-is-set old new s t PollEvent e (given, reported, (polled, made), drawn) = paced-of _ new made

@@ -11,6 +11,7 @@ use Rattle.is_proto.specs.Lists.{same}
 use Rattle.is_proto.specs.declared.error.IceError.{IceError}
 use Rattle.is_candidate.specs.Candidates.{CandidateRecord, candidate_at}
 use Rattle.is_pair.specs.Multiset.{change_at, is_numbered, is_valid_at, rises}
+use Rattle.is_pair.specs.Due as due
 use Rattle.is_pair.specs.Due.{asked}
 use Rattle.is_pair.specs.Pairs.{PairRecord, is_nominated, checked, validated, with_request}
 use Rattle.is_pair.proofs.PairEntries.ChangedEntry.{rises-changed, rises-filter}
@@ -39,7 +40,9 @@ use Rattle.is_rules.specs.Roles.{conflict_of, switched, switched_sides, with_pri
 use Rattle.is_rules.specs.Serving.{selects_at_requests, after_request, validated_by_peer, is_misled, names_another, pair_served, request_counted, with_sender, with_sender_at, Drops, Queues, RecordsAndResponds, FindsOrAddsPair, AddsUnknownSender, CountsAndServes, ResolvesRoleConflictBy, ResolvesRoleConflict, Serves}
 use Rattle.is_rules.specs.States.{evaluated}
 use Rattle.is_rules.specs.Steps.{Entry, Receives}
-use Rattle.is_rules.specs.Timeouts.{at_timeout, expired_gone, is_expired, timeout_begun, RemovesExpired, MaintainsPairs, TimesOut}
+use Rattle.is_theorems.specs.NotStarved.{HaveConsent}
+use Rattle.is_rules.specs.Timeouts.{at_request, at_timeout, expired_gone, is_expired, timeout_begun, RemovesExpired, MaintainsPairs, TimesOut}
+use Rattle.is_theorems.proofs.DuePairs.AfterNominationAndRemoval.{Base, Thins, consent-same, nominates-thins}
 use Rattle.is_theorems.proofs.RuleEffects.UnchangedSettings.{either}
 use Rattle.is_theorems.proofs.RuleEffects.ChangedPairs.{self_kept}
 use Rattle.is_theorems.proofs.RuleEffects.TriggeredPairs.{triggered_by, by_trigger}
@@ -240,12 +243,12 @@ module _ {H P : Type 0} where
 
       -- ---- timeouts
 
-      gives-up : (now : ℕ) (old new : AgentRecord H P) (path : Option Path) → old.lite ≡ false → old.timing.max_retransmits ≡ m → RemovesExpired now old path new → Spends 0 old new × (rises old.pairs ≡ true → rises new.pairs ≡ true)
-      gives-up now old new path full same_most h = either (list_any (is_expired now old) old.pairs) h
+      gives-up : (now : ℕ) (old new : AgentRecord H P) (path : Option Path) → old.lite ≡ false → old.timing.max_retransmits ≡ m → HaveConsent now old → RemovesExpired now old path new → Spends 0 old new × (rises old.pairs ≡ true → rises new.pairs ≡ true)
+      gives-up now old new path full same_most consents h = either (list_any (is_expired now old) old.pairs) h
           (λ _ k. (
           let gone : unspents m old.pairs ≤ unspents m (expired_gone now old).pairs =
           unspents-filter m (λ p. not (is_expired now old p)) old.pairs
-          (λ p is. subst (λ n. n - length p.checks ≡ 0) same_most (all-spent old.lite now old.timing p full is)) in
+          (λ p has is. subst (λ n. n - length p.checks ≡ 0) same_most (all-spent old.lite now old.timing p full (consents p has) is)) in
           let named = spends-on 0 0 old (expired_gone now old) k.0 (refl, omega arith, omega (arith, gone)) (nominates-spends (expired_gone now old) k.0 path k.1) in (
             spends-to 0 old (evaluated now k.0) new (named.0, named.1, named.2) k.2,
             λ rising. ap (λ (a : AgentRecord H P). rises a.pairs) k.2 ∙ (nominates-rises (expired_gone now old) k.0 path k.1 ∙ rises-filter (λ p. not (is_expired now old p)) old.pairs rising),
@@ -270,22 +273,27 @@ module _ {H P : Type 0} where
                 (rising-each (map (asked now old.timing) old.pairs) (rises-changed (asked now old.timing) (λ x. refl) old.pairs ∙ rising)) in
                 spends-to 1 old _ new (refl, omega arith, (let le = all in omega (arith, le, one))) made
 
-      maintains : (now : ℕ) (old new : AgentRecord H P) (s t : Stream) (emitted : Emitted) → old.lite ≡ false → old.timing.max_retransmits ≡ m → rises old.pairs ≡ true
+      maintains : (now : ℕ) (old new : AgentRecord H P) (s t : Stream) (emitted : Emitted) → old.lite ≡ false → old.timing.max_retransmits ≡ m → rises old.pairs ≡ true → HaveConsent now old
           → MaintainsPairs mac now old s emitted new t → Spends 1 old new
-      maintains now old new s t emitted full same_most rising (first, second, issued, named, kept, nominating, giving, checking, is) =
+      maintains now old new s t emitted full same_most rising consents (first, second, issued, named, kept, nominating, giving, checking, is) =
           let a = nominates-spends (at_timeout now old) named first nominating in
           let named_full : named.lite ≡ false = ap (λ (x : Held). x.lite) a.0 ∙ full in
           let named_most : named.timing.max_retransmits ≡ m = ap (λ (x : Held). x.timing.max_retransmits) a.0 ∙ same_most in
-          let b = gives-up now named kept second named_full named_most giving in
+          let b = gives-up now named kept second named_full named_most (consents-named (nominates-thins 0 (at_timeout now old) named first nominating)) giving in
           let kept_rising = b.1 (nominates-rises (at_timeout now old) named first nominating ∙ rising) in
           let c = check now kept.remote_creds kept new s t issued (ap (λ (x : Held). x.lite) b.0.0 ∙ named_full) kept_rising checking in
           let all = spends-on 0 1 (at_timeout now old) kept new (spends-on 0 0 (at_timeout now old) named kept a b.0) c in
-          (all.0, all.1, all.2)
+          (all.0, all.1, all.2) where
+            consents-named : Thins 0 (at_timeout now old) named → HaveConsent now named
+            consents-named thins q has =
+                let o = thins.1.back q has in
+                consent-same named.timing.consent now o.0 q o.2.consented o.2.heard
+                ∙ (ap (λ (b : Base). due.has_consent b.timing.consent now o.0) thins.0 ∙ consents o.0 o.1)
 
-      pub times-out-spends : (now : ℕ) (old new : AgentRecord H P) (s t : Stream) (r : Result (Unit {0}) IceError) (emitted : Emitted) → old.lite ≡ false → old.timing.max_retransmits ≡ m → rises old.pairs ≡ true
+      pub times-out-spends : (now : ℕ) (old new : AgentRecord H P) (s t : Stream) (r : Result (Unit {0}) IceError) (emitted : Emitted) → old.lite ≡ false → old.timing.max_retransmits ≡ m → rises old.pairs ≡ true → HaveConsent now old
           → TimesOut mac now old s r emitted new t → Spends 1 old new
-      times-out-spends now old new s t (Ok _) emitted full same_most rising h = by (request_at now old) h where
-        by : (q : Option RequestRecord) → MatchOption q (MaintainsPairs mac now (timeout_begun now old) s emitted new t) (λ q. Serves mac q (first_taken (timeout_begun now old)) emitted new × (t ≡ s)) → Spends 1 old new
-        by None k = let all = maintains now (timeout_begun now old) new s t emitted full same_most rising k in (all.0, all.1, all.2)
-        by (Some q) (k, drawn) = let all = serves-spends q (first_taken (timeout_begun now old)) new emitted k in let less = all.2 in (all.0, all.1, omega (arith, less))
-      times-out-spends now old new s t (Err error) emitted full same_most rising (may, is, made, drawn) = spends-to 1 old old new (refl, omega arith, omega arith) made
+      times-out-spends now old new s t (Ok _) emitted full same_most rising consents h = by (request_at now old) h where
+        by : (q : Option RequestRecord) → MatchOption q (MaintainsPairs mac now (timeout_begun now old) s emitted new t) (λ q. Serves mac q (first_taken (at_request now (timeout_begun now old))) emitted new × (t ≡ s)) → Spends 1 old new
+        by None k = let all = maintains now (timeout_begun now old) new s t emitted full same_most rising consents k in (all.0, all.1, all.2)
+        by (Some q) (k, drawn) = let all = serves-spends q (first_taken (at_request now (timeout_begun now old))) new emitted k in let less = all.2 in (all.0, all.1, omega (arith, less))
+      times-out-spends now old new s t (Err error) emitted full same_most rising consents (may, is, made, drawn) = spends-to 1 old old new (refl, omega arith, omega arith) made

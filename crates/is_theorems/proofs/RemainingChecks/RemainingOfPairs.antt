@@ -1,5 +1,5 @@
 -- How many checks pairs still send before they may be removed after timeout.
-use Rattle.std.proofs.Common.{◌≡◌, ℕ, zero, suc, ◌+◌, ◌-◌, ◌*◌, ◌<◌, ◌≤◌, ◌||◌, Bool, true, false, not, List, [], ◌∷◌, ◌++◌, length, map, filter, nat_lt, Some, inl, inr, refl, ap, sym, subst, arith, if◌then◌else◌}
+use Rattle.std.proofs.Common.{◌≡◌, ℕ, zero, suc, ◌+◌, ◌-◌, ◌*◌, ◌<◌, ◌≤◌, ◌&&◌, ◌||◌, Bool, true, false, not, List, [], ◌∷◌, ◌++◌, length, map, filter, nat_lt, Some, inl, inr, refl, ap, sym, subst, arith, if◌then◌else◌}
 use Rattle.std.specs.Prelude.{slice_get, slice_set}
 use Rattle.std.proofs.Math.Nat.{suc-mul}
 use Rattle.std.proofs.lemmas.Bool.{eqb-true, ltb-false}
@@ -43,18 +43,19 @@ pub unspent-checked : (m now : ℕ) (t : StunTiming) (b : Bool) (id : List ℕ) 
 unspent-checked m now t b id p = let k = checked-length t.max_retransmits p.checks (check_of now b id p) in omega (arith, k)
 
 -- a pair that is removed after timeout
-spent-by : (e h b u i : Bool) → not (not (e || h || b || u || i)) ≡ false → b ≡ false
-spent-by true h b u i is = absurd (cc)
-spent-by false true b u i is = absurd (cc)
-spent-by false false true u i is = absurd (cc)
-spent-by false false false u i is = refl
+spent-by : (c e h b u i : Bool) → c ≡ true → not (not (c && (e || h || b || u || i))) ≡ false → b ≡ false
+spent-by false e h b u i has is = absurd (cc)
+spent-by true true h b u i has is = absurd (cc)
+spent-by true false true b u i has is = absurd (cc)
+spent-by true false false true u i has is = absurd (cc)
+spent-by true false false false u i has is = refl
 
-pub all-spent : (lite : Bool) (now : ℕ) (t : StunTiming) (p : PairRecord) → lite ≡ false → not (due.is_pair_expired lite now t p) ≡ false → unspent t.max_retransmits p ≡ 0
-all-spent true now t p full gone = absurd (cc)
-all-spent false now t p full gone =
+pub all-spent : (lite : Bool) (now : ℕ) (t : StunTiming) (p : PairRecord) → lite ≡ false → due.has_consent t.consent now p ≡ true → not (due.is_pair_expired lite now t p) ≡ false → unspent t.max_retransmits p ≡ 0
+all-spent true now t p full has gone = absurd (cc)
+all-spent false now t p full has gone =
     let many : t.max_retransmits ≤ length p.checks =
     ltb-false (length p.checks) t.max_retransmits
-    (spent-by (due.has_early_checks t.early now t p) (due.is_heard now p) (nat_lt (length p.checks) t.max_retransmits) (nat_lt (unanswered_count p.checks) t.max_retransmits) (due.is_in_time now t p.checks) gone) in
+    (spent-by (due.has_consent t.consent now p) (due.has_early_checks t.early now t p) (due.is_heard now p) (nat_lt (length p.checks) t.max_retransmits) (nat_lt (unanswered_count p.checks) t.max_retransmits) (due.is_in_time now t p.checks) has gone) in
     omega (arith, many)
 
 -- ---- lists of pairs
@@ -84,12 +85,12 @@ unspents-push m x (y ∷ ys) none = further (unspent m y) (unspents m (ys ++ x �
   further : (a b c : ℕ) → b ≡ c + m → a + b ≡ a + c + m
   further a b c h = omega (arith, h)
 
-pub unspents-filter : (m : ℕ) (keep : PairRecord → Bool) (xs : List PairRecord) → ((p : PairRecord) → keep p ≡ false → unspent m p ≡ 0) → unspents m xs ≤ unspents m (filter keep xs)
+pub unspents-filter : (m : ℕ) (keep : PairRecord → Bool) (xs : List PairRecord) → ((p : PairRecord) → Has xs p → keep p ≡ false → unspent m p ≡ 0) → unspents m xs ≤ unspents m (filter keep xs)
 unspents-filter m keep [] spent = omega arith
-unspents-filter m keep (x ∷ xs) spent = kept (keep x) refl (unspents-filter m keep xs spent) where
+unspents-filter m keep (x ∷ xs) spent = kept (keep x) refl (unspents-filter m keep xs (λ p has. spent p (inr has))) where
   kept : (b : Bool) → keep x ≡ b → unspents m xs ≤ unspents m (filter keep xs) → unspent m x + unspents m xs ≤ unspents m (if b then x ∷ filter keep xs else filter keep xs)
   kept true is le = sums (unspent m x) (unspent m x) (unspents m xs) (unspents m (filter keep xs)) (omega arith) le
-  kept false is le = none (unspent m x) (unspents m xs) (unspents m (filter keep xs)) (spent x is) le where
+  kept false is le = none (unspent m x) (unspents m xs) (unspents m (filter keep xs)) (spent x (inl refl) is) le where
     none : (a b c : ℕ) → a ≡ 0 → b ≤ c → a + b ≤ c
     none a b c h k = omega (arith, h, k)
 

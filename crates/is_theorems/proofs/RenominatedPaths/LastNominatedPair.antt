@@ -40,7 +40,7 @@ use Rattle.is_rules.specs.Sending.{path_between, path_of}
 use Rattle.is_rules.specs.Serving.{selects_at_requests, after_request, Drops, is_misled, names_another, nominated_last, pair_served, replied, request_counted, sender_candidate, served, validated_by_peer, with_sender, with_sender_at, RecordsAndResponds, FindsOrAddsPair, AddsUnknownSender, CountsAndServes, ResolvesRoleConflictBy, ResolvesRoleConflict, Serves}
 use Rattle.is_rules.specs.Sound.{IsSound}
 use Rattle.is_rules.specs.Steps.{Call, Entry, ReceivePacket, HandleTimeout, Done, Flag, answer_by, done, Receives, Step}
-use Rattle.is_rules.specs.Timeouts.{at_timeout, expired_gone, is_expired, timeout_begun, RemovesExpired, MaintainsPairs, ServesQueued, TimesOut}
+use Rattle.is_rules.specs.Timeouts.{at_request, at_timeout, expired_gone, is_expired, timeout_begun, RemovesExpired, MaintainsPairs, ServesQueued, TimesOut}
 use Rattle.is_theorems.proofs.BasicLemmas.EqualAddresses.{both}
 use Rattle.is_theorems.proofs.PathSelection.NominatedByPeer.{uses-too}
 use Rattle.is_theorems.proofs.CallEffects.CallsThatEmitNothing.{is_calm, calm}
@@ -358,12 +358,12 @@ module _ {H P : Type 0} where
     )
 
     timeout-by : (now : ℕ) → x.call ≡ HandleTimeout now → (emitted : Emitted) (o : Option RequestRecord) → request_at now old ≡ o → x.entry ≡ record { answer = Done; emitted = emitted }
-        → MatchOption o (MaintainsPairs mac now (timeout_begun now old) s emitted new t) (λ q. ServesQueued mac q (timeout_begun now old) s emitted new t) → Records old x new
+        → MatchOption o (MaintainsPairs mac now (timeout_begun now old) s emitted new t) (λ q. ServesQueued mac q (at_request now (timeout_begun now old)) s emitted new t) → Records old x new
     timeout-by now comes emitted None is e_is h = no-response now comes is (maintains-last mac now (timeout_begun now old) new s t emitted h)
     timeout-by now comes emitted (Some q) is e_is (h, drawn) =
-        by-serving q (first_taken (timeout_begun now old)) new emitted
+        by-serving q (first_taken (at_request now (timeout_begun now old))) new emitted
         (subst (λ (c : Call P). IsServing old c x.entry q) (sym comes) (is, ap (λ (y : Entry). y.answer) e_is)) (ap (λ (y : Entry). y.emitted) e_is) refl refl
-        (serves mac q (first_taken (timeout_begun now old)) new emitted sound.based h)
+        (serves mac q (first_taken (at_request now (timeout_begun now old))) new emitted sound.based h)
 
     timeout : (now : ℕ) → x.call ≡ HandleTimeout now → (r : Result (Unit {0}) IceError) (emitted : Emitted) → x.entry ≡ record { answer = answer_by done r; emitted = emitted }
         → TimesOut mac now old s r emitted new t → Records old x new

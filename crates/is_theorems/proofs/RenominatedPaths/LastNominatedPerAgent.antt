@@ -5,7 +5,7 @@ use Rattle.std.specs.Option.{option_and_then}
 use Rattle.rand_core.specs.Stream.{Stream}
 use Rattle.is_proto.specs.Lists.{Has}
 use Rattle.is_candidate.specs.Candidates.{CandidateRecord}
-use Rattle.is_pair.specs.Multiset.{change_at, change_pair, keeps_check}
+use Rattle.is_pair.specs.Multiset.{change_at, change_pair, keeps_check, is_named_by}
 use Rattle.is_pair.specs.Pairs.{PairRecord, checked, is_nominated, is_valid}
 use Rattle.is_rules.specs.declared.emitted.Path.{Path}
 use Rattle.is_rules.specs.Agent.{AgentRecord}
@@ -18,7 +18,7 @@ use Rattle.is_rules.specs.Effects.{PathEffect}
 use Rattle.is_theorems.specs.Exchange.{Course}
 use Rattle.is_rules.specs.Issuing.{via_out}
 use Rattle.is_theorems.specs.Logs.{Logged}
-use Rattle.is_rules.specs.Nominating.{eligible_numbered, followed, if_eligible, is_named_by, stays_nominated}
+use Rattle.is_rules.specs.Nominating.{eligible_numbered, followed, if_eligible, stays_nominated}
 use Rattle.is_rules.specs.Points.{IsTopSelected}
 use Rattle.is_rules.specs.Queue.{request_at}
 use Rattle.is_rules.specs.Sending.{path_of}

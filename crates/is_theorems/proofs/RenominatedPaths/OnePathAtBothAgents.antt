@@ -7,7 +7,7 @@ use Rattle.rand_core.specs.Stream.{Stream}
 use Rattle.is_proto.specs.Lists.{Has}
 use Rattle.is_proto.specs.Packets.{Packet}
 use Rattle.is_candidate.specs.Candidates.{CandidateRecord}
-use Rattle.is_pair.specs.Multiset.{change_at, change_pair, is_numbered, pair_numbered, IsGreatest}
+use Rattle.is_pair.specs.Multiset.{change_at, change_pair, is_numbered, pair_numbered, IsGreatest, is_named_by}
 use Rattle.is_pair.specs.Pairs.{PairRecord, checked, is_nominated, is_valid}
 use Rattle.is_stun.specs.Message.{AttributesRecord, Message}
 use Rattle.is_stun.specs.Reading.{Reads}
@@ -18,7 +18,7 @@ use Rattle.is_theorems.specs.Asked.{IsOnlyPair, IsAnsweredIn, IsAskedOn, MayEndI
 use Rattle.is_rules.specs.Checking.{check_message, check_sent}
 use Rattle.is_rules.specs.Issuing.{via_out}
 use Rattle.is_theorems.specs.Logs.{Logged, last_selected}
-use Rattle.is_rules.specs.Nominating.{eligible_numbered, favored, followed, if_eligible, is_eligible, is_named_by, remains, selection_of, stays_nominated, IsChosen}
+use Rattle.is_rules.specs.Nominating.{eligible_numbered, favored, followed, if_eligible, is_eligible, remains, selection_of, stays_nominated, IsChosen}
 use Rattle.is_rules.specs.Brought.{IsServing}
 use Rattle.is_rules.specs.Points.{IsNominationPoint, IsTopSelected}
 use Rattle.is_rules.specs.Queue.{request_at}

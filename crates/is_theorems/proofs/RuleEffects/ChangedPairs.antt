@@ -14,7 +14,7 @@ use Rattle.is_rules.specs.Nominating.{is_eligible, nominated_by_self, Nominates,
 use Rattle.is_rules.specs.Timeouts.{is_expired, expired_gone, RemovesExpired}
 use Rattle.is_theorems.proofs.RuleEffects.UnchangedSettings.{either}
 use Rattle.is_theorems.proofs.RuleEffects.SelectedPaths.{Evaluates, evaluates_none, one_pair, some_is, none_is}
-use Rattle.is_theorems.proofs.RuleEffects.EarlierAndNewPairs.{Parts, path_in, Fit, IsStarted, IsNominatedIn, Persisted, Onward, here, onward, thinned, Has-filter}
+use Rattle.is_theorems.proofs.RuleEffects.EarlierAndNewPairs.{Parts, path_in, Fit, IsConsented, IsStarted, IsNominatedIn, Persisted, Onward, here, onward, thinned, Has-filter}
 use Rattle.is_rules.proofs.PairLists.ChosenPair.{chosen-able}
 use Rattle.is_theorems.proofs.RuleEffects.NominatedPairs.{selected_paths, SelectsPath, selects_path}
 
@@ -87,6 +87,7 @@ module _ (asks met : Path → Type 0) (sent : Path → List ℕ → Bool → Typ
     pub still_valid : is_valid was ≡ true → is_valid now ≡ true
     pub still_nominated : is_nominated was ≡ true → is_nominated now ≡ true
     pub started : IsStarted was → IsStarted now
+    pub consented : IsStarted was → IsConsented was → IsConsented now
 
   pub unchanged : (path : Path) (p : PairRecord) → Changed path p p
   unchanged path p = record {
@@ -99,6 +100,7 @@ module _ (asks met : Path → Type 0) (sent : Path → List ℕ → Bool → Typ
     still_valid = λ is. is;
     still_nominated = λ is. is;
     started = λ s. s;
+    consented = λ _ had. had;
   }
 
   -- each pair changes so
@@ -135,6 +137,9 @@ module _ (asks met : Path → Type 0) (sent : Path → List ℕ → Bool → Typ
       started = λ p has. (
           let o = Has-map f x.pairs p has in
           subst (λ (q : PairRecord). IsStarted q) o.2 ((changes o.0 o.1).started (fit.started o.0 o.1)));
+      consented = λ p has. (
+          let o = Has-map f x.pairs p has in
+          subst (λ (q : PairRecord). IsConsented q) o.2 ((changes o.0 o.1).consented (fit.started o.0 o.1) (fit.consented o.0 o.1)));
     };
   }
 
@@ -161,6 +166,7 @@ module _ (asks met : Path → Type 0) (sent : Path → List ℕ → Bool → Typ
     still_valid = λ is. is;
     still_nominated = λ is. refl;
     started = λ s. s;
+    consented = λ _ had. had;
   }
   nominates_now path false p asking = record {
     number = refl;
@@ -172,6 +178,7 @@ module _ (asks met : Path → Type 0) (sent : Path → List ℕ → Bool → Typ
     still_valid = λ is. is;
     still_nominated = λ is. refl;
     started = λ s. s;
+    consented = λ _ had. had;
   }
 
   by_self : (fresh free : Bool) (path : Path) (lite : Bool) (p : PairRecord) → (free ≡ true → asks path) → Changed path p (if fresh && free then nominated lite p else p)

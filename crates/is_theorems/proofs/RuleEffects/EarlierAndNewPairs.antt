@@ -1,10 +1,10 @@
 -- The effect of each change on pairs: a pair existed before, or is added.
-use Rattle.std.proofs.Common.{◌≡◌, ℕ, ◌+◌, ◌<◌, ◌≤◌, Bool, true, false, not, List, [], ◌∷◌, ◌++◌, filter, length, Some, None, inl, inr, ◌⊎◌, refl, ap, sym, ◌∙◌, subst, arith, if◌then◌else◌}
+use Rattle.std.proofs.Common.{◌≡◌, ℕ, ◌+◌, ◌<◌, ◌≤◌, Bool, true, false, not, List, [], ◌∷◌, ◌++◌, filter, length, is_some, Option, Some, None, inl, inr, ◌⊎◌, refl, ap, sym, ◌∙◌, subst, arith, if◌then◌else◌}
 use Rattle.std.specs.Prelude.{nat_lt}
 use Rattle.is_proto.specs.Lists.{Has}
 use Rattle.is_candidate.specs.Candidates.{CandidateRecord, base_of, candidate_at}
 use Rattle.is_pair.specs.Checks.{Check}
-use Rattle.is_pair.specs.Pairs.{PairRecord, is_valid, is_nominated, taking_over}
+use Rattle.is_pair.specs.Pairs.{PairRecord, is_valid, is_nominated, last_of, taking_over}
 use Rattle.is_pair.specs.States.{is_valid_state, is_nominated_state, state_from, nomination_from}
 use Rattle.is_pair.specs.declared.pair.states.CheckState.TheVariants.{Waiting, InProgress, Succeeded}
 use Rattle.is_pair.specs.declared.pair.states.CheckState.{CheckState}
@@ -79,11 +79,15 @@ path_in x p = record {
 abbrev pub IsStarted : PairRecord → Type 0
 IsStarted p = (c : Check) → Has p.checks c → is_started_state p.state ≡ true
 
+abbrev pub IsConsented : PairRecord → Type 0
+IsConsented p = is_some p.consented ≡ true → is_valid p ≡ true
+
 pub record Fit (x : Parts) : Type 0 where
   pub placed : ArePlaced x.local x.remote x.pairs
   pub rising : AreRising x.pairs
   pub below : AllBelow x.next_number x.pairs
   pub started : (p : PairRecord) → Has x.pairs p → IsStarted p
+  pub consented : (p : PairRecord) → Has x.pairs p → IsConsented p
 
 abbrev pub IsValidIn : Parts → Path → Type 0
 IsValidIn x path = (p : PairRecord) × Has x.pairs p × (is_valid p ≡ true) × (path_in x p ≡ path)
@@ -217,16 +221,17 @@ module _ (asks met : Path → Type 0) (sent : Path → List ℕ → Bool → Typ
       rising = rising-filter keep x.pairs fit.rising;
       below = λ p has. fit.below p (Has-filter keep x.pairs p has);
       started = λ p has. fit.started p (Has-filter keep x.pairs p has);
+      consented = λ p has. fit.consented p (Has-filter keep x.pairs p has);
     };
   }
 
   -- a pair is added after some of the pairs, without checks
   pub pushed : (x : Parts) (ps : List PairRecord) (p : PairRecord) → Fit x → ((q : PairRecord) → Has ps q → Has x.pairs q) → AreRising ps
-      → p.number ≡ x.next_number → IsPlaced x.local x.remote p → p.checks ≡ []
+      → p.number ≡ x.next_number → IsPlaced x.local x.remote p → p.checks ≡ [] → IsConsented p
       → (is_valid p ≡ true → IsValidIn x (path_in x p) ⊎ met (path_in x p))
       → (is_nominated p ≡ true → IsNominatedIn x (path_in x p) ⊎ asks (path_in x p))
       → Onward x (record x { pairs = ps ++ p ∷ []; next_number = x.next_number + 1 })
-  pushed x ps p fit among rising number placed unchecked valid asked = record {
+  pushed x ps p fit among rising number placed unchecked consented valid asked = record {
     counter = omega arith;
     pairs = λ q has. elim (Has-push ps p q has) [
       | inl was ↦ inl (stays x _ q (among q was) refl)
@@ -248,6 +253,10 @@ module _ (asks met : Path → Type 0) (sent : Path → List ℕ → Bool → Typ
       started = λ q has. elim (Has-push ps p q has) [
         | inl was ↦ fit.started q (among q was)
         | inr now ↦ subst (λ (r : PairRecord). IsStarted r) now (λ c keeps. absurd (subst (λ cs. Has cs c) unchecked keeps))
+      ];
+      consented = λ q has. elim (Has-push ps p q has) [
+        | inl was ↦ fit.consented q (among q was)
+        | inr now ↦ subst (λ (r : PairRecord). IsConsented r) now consented
       ];
     };
   }
@@ -288,6 +297,10 @@ module _ (asks met : Path → Type 0) (sent : Path → List ℕ → Bool → Typ
   taken_state true other p = refl
   taken_state false other p = refl
 
+  taken_consent : (lite : Bool) (other p : PairRecord) → (taking_over lite other p).consented ≡ last_of other.consented p.consented
+  taken_consent true other p = refl
+  taken_consent false other p = refl
+
   taken_nomination : (lite : Bool) (other p : PairRecord) → (taking_over lite other p).nomination ≡ nomination_from other.nomination p.nomination
   taken_nomination true other p = refl
   taken_nomination false other p = refl
@@ -297,6 +310,20 @@ module _ (asks met : Path → Type 0) (sent : Path → List ℕ → Bool → Typ
   taken_rest true other p = (refl, refl, refl, refl)
   taken_rest false other p = (refl, refl, refl, refl)
 
+  consented_from : (had : Option ℕ) (state : CheckState) → (is_some had ≡ true → is_valid_state state ≡ true) → is_some (last_of had None) ≡ true
+      → is_valid_state (state_from state Waiting) ≡ true
+  consented_from None state valid is = let no : false ≡ true = is in absurd (cc)
+  consented_from (Some at) state valid is = by state (valid refl) where
+    by : (s : CheckState) → is_valid_state s ≡ true → is_valid_state (state_from s Waiting) ≡ true
+    by Waiting same = same
+    by InProgress same = same
+    by Succeeded same = refl
+
+  taken_consented : (lite : Bool) (other p : PairRecord) → (p.state ≡ Waiting) × (p.consented ≡ None) → IsConsented other → IsConsented (taking_over lite other p)
+  taken_consented lite other p blank had is = ap (λ k. is_valid_state k) (taken_state lite other p)
+      ∙ (ap (λ k. is_valid_state (state_from other.state k)) blank.0
+      ∙ consented_from other.consented other.state had (ap (λ k. is_some (last_of other.consented k)) (sym blank.1) ∙ ap (λ k. is_some k) (sym (taken_consent lite other p)) ∙ is))
+
   abbrev IsIn : SidesRecord → Combination → Type 0
   IsIn s at = (at.0 < length s.local) × (at.1 < length s.remote)
 
@@ -304,7 +331,7 @@ module _ (asks met : Path → Type 0) (sent : Path → List ℕ → Bool → Typ
   tries_one s at old new placed fit (None, none, made) =
       let p : PairRecord = pair_of s at old.next_number in
       subst (λ (f : Formed). Onward (parts_with s old) (parts_with s f)) (sym made)
-      (pushed (parts_with s old) old.pairs p fit (λ q has. has) fit.rising refl placed refl
+      (pushed (parts_with s old) old.pairs p fit (λ q has. has) fit.rising refl placed refl (λ (is : false ≡ true). cc)
       (λ (is : false ≡ true). cc) (λ (is : false ≡ true). cc))
   tries_one s at old new placed fit (Some found, (has, redundant, greatest), made) =
       choose (nat_lt found.priority (combined_priority s at)) (λ f. new ≡ f) _ old made
@@ -319,6 +346,7 @@ module _ (asks met : Path → Type 0) (sent : Path → List ℕ → Bool → Typ
       rest.1
       (subst (λ l. l < length s.local) (sym rest.2) placed.0, subst (λ r. r < length s.remote) (sym rest.3) placed.1)
       rest.0
+      (taken_consented s.lite found own (refl, refl) (fit.consented found has))
       (λ is. inl (found, has, valid-from found.state (ap is_valid_state (sym (taken_state s.lite found own)) ∙ is), same_path))
       (λ is. inl (found, has, nominated-from found.nomination (ap is_nominated_state (sym (taken_nomination s.lite found own)) ∙ is), same_path)))))
       (λ dropped. subst (λ (f : Formed). Onward (parts_with s old) (parts_with s f)) (sym dropped) (here (parts_with s old) fit))

@@ -1,7 +1,8 @@
 -- What nomination leaves, by the pair that it selects.
-use Rattle.std.proofs.Common.{◌≡◌, ℕ, ◌||◌, Bool, true, false, not, length, nat_lt, Option, Some, None, refl, ap, ◌∙◌, if◌then◌else◌}
+use Rattle.std.proofs.Common.{◌≡◌, ℕ, ◌&&◌, ◌||◌, Bool, true, false, not, length, nat_lt, Option, Some, None, refl, ap, ◌∙◌, if◌then◌else◌}
 use Rattle.std.specs.Prelude.{MatchBool}
 use Rattle.is_stun.specs.declared.timing.StunTiming.{StunTiming}
+use Rattle.is_stun.specs.declared.timing.Consent.{Consent}
 use Rattle.is_stun.specs.declared.timing.EarlyRto.{EarlyRto}
 use Rattle.is_pair.specs.declared.pair.states.NominationState.{NominationState}
 use Rattle.is_pair.specs.declared.pair.states.NominationState.TheVariants.{Nominated, Success}
@@ -24,16 +25,26 @@ early_nominated : (o : Option EarlyRto) (now : ℕ) (t : StunTiming) (n : Nomina
 early_nominated None now t n p = refl
 early_nominated (Some e) now t n p = refl
 
+consent_nominated : (o : Option Consent) (now : ℕ) (n : NominationState) (p : PairRecord) → due.has_consent o now (record p { nomination = n }) ≡ due.has_consent o now p
+consent_nominated None now n p = refl
+consent_nominated (Some c) now n p = refl
+
 pub expired_nominated : (lite l : Bool) (now : ℕ) (t : StunTiming) (p : PairRecord) → due.is_pair_expired lite now t (nominated l p) ≡ due.is_pair_expired lite now t p
 expired_nominated lite l now t p = by l where
-  expires : Bool → Bool
-  expires early =
-      not (if lite then is_lite_alive now t p else (early || due.is_heard now p || nat_lt (length p.checks) t.max_retransmits
+  expires : (consents early : Bool) → Bool
+  expires consents early =
+      not (if lite then is_lite_alive now t p else consents && (early || due.is_heard now p || nat_lt (length p.checks) t.max_retransmits
       || nat_lt (unanswered_count p.checks) t.max_retransmits || due.is_in_time now t p.checks))
 
+  alike : (n : NominationState) → expires (due.has_consent t.consent now (record p { nomination = n })) (due.has_early_checks t.early now t (record p { nomination = n }))
+      ≡ expires (due.has_consent t.consent now p) (due.has_early_checks t.early now t p)
+  alike n =
+      ap (λ b. expires b (due.has_early_checks t.early now t (record p { nomination = n }))) (consent_nominated t.consent now n p)
+      ∙ ap (λ b. expires (due.has_consent t.consent now p) b) (early_nominated t.early now t n p)
+
   by : (l : Bool) → due.is_pair_expired lite now t (nominated l p) ≡ due.is_pair_expired lite now t p
-  by true = ap (λ b. expires b) (early_nominated t.early now t Success p)
-  by false = ap (λ b. expires b) (early_nominated t.early now t Nominated p)
+  by true = alike Success
+  by false = alike Nominated
 
 module _ {H P : Type 0} where
   -- the pair becomes the selected one

@@ -33,7 +33,7 @@ use Rattle.is_rules.specs.Request.{RequestRecord, request_in}
 use Rattle.is_rules.specs.Roles.{conflict_of, switched}
 use Rattle.is_rules.specs.Serving.{selects_at_requests, is_misled, names_another, pair_served, request_counted, sender_candidate, with_sender, with_sender_at, Drops, Queues, RecordsAndResponds, FindsOrAddsPair, AddsUnknownSender, CountsAndServes, ResolvesRoleConflictBy, ResolvesRoleConflict, Serves}
 use Rattle.is_rules.specs.Steps.{Entry, Receives}
-use Rattle.is_rules.specs.Timeouts.{MaintainsPairs, TimesOut, timeout_begun}
+use Rattle.is_rules.specs.Timeouts.{at_request, MaintainsPairs, TimesOut, timeout_begun}
 use Rattle.is_theorems.proofs.RuleEffects.UnchangedSettings.{either}
 use Rattle.is_theorems.proofs.BasicLemmas.UsernamesAndFirstMatches.{neither}
 use Rattle.is_theorems.proofs.StorageBounds.BoundedLists.{Lists, Within, fits-brought, fits-put, is_own}
@@ -199,8 +199,8 @@ module _ {H P : Type 0} where
       pub timed : (now : ℕ) (old new : AgentRecord H P) (s t : Stream) (r : Result (Unit {0}) IceError) (emitted : Emitted) → IsWithin most old.max_discovered
           → TimesOut mac now old s r emitted new t → Stays old new
       timed now old new s t (Ok _) emitted limit h = by (request_at now old) h where
-        by : (q : Option RequestRecord) → MatchOption q (MaintainsPairs mac now (timeout_begun now old) s emitted new t) (λ q. Serves mac q (first_taken (timeout_begun now old)) emitted new × (t ≡ s)) → Stays old new
+        by : (q : Option RequestRecord) → MatchOption q (MaintainsPairs mac now (timeout_begun now old) s emitted new t) (λ q. Serves mac q (first_taken (at_request now (timeout_begun now old))) emitted new × (t ≡ s)) → Stays old new
         by None k = by_same old new (maintains_pairs_same mac now (timeout_begun now old) new s t emitted k)
         by (Some q) (k, drawn) =
-            λ within. (serves mac q (first_taken (timeout_begun now old)) new emitted k).1 limit (record { local = within.local; remote = within.remote; sources = within.sources })
+            λ within. (serves mac q (first_taken (at_request now (timeout_begun now old))) new emitted k).1 limit (record { local = within.local; remote = within.remote; sources = within.sources })
       timed now old new s t (Err error) emitted limit (may, is, made, drawn) = by_same old new (same old new made)

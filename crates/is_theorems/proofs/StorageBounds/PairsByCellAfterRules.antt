@@ -40,7 +40,7 @@ use Rattle.is_rules.specs.Roles.{conflict_of, switched, switched_sides, with_pri
 use Rattle.is_rules.specs.Serving.{selects_at_requests, after_request, is_misled, names_another, pair_served, request_counted, served, validated_by_peer, with_sender, with_sender_at, Drops, Queues, RecordsAndResponds, FindsOrAddsPair, AddsUnknownSender, CountsAndServes, ResolvesRoleConflictBy, ResolvesRoleConflict, Serves}
 use Rattle.is_rules.specs.States.{evaluated}
 use Rattle.is_rules.specs.Steps.{Entry, Receives}
-use Rattle.is_rules.specs.Timeouts.{RemovesExpired, MaintainsPairs, TimesOut, at_timeout, expired_gone, is_expired, timeout_begun}
+use Rattle.is_rules.specs.Timeouts.{at_request, RemovesExpired, MaintainsPairs, TimesOut, at_timeout, expired_gone, is_expired, timeout_begun}
 use Rattle.is_theorems.proofs.BasicLemmas.EqualAddresses.{both}
 use Rattle.is_theorems.proofs.StorageBounds.BoundedLists.{is_own}
 use Rattle.is_theorems.proofs.StorageBounds.PairsByCell.{cell_of, cells, cells-map, cells-set, extras, extras-agree, extras-filter, extras-new, is_cell}
@@ -320,7 +320,7 @@ module _ {H P : Type 0} where
 
     pub timed : (now : ℕ) (old new : AgentRecord H P) (s t : Stream) (r : Result (Unit {0}) IceError) (emitted : Emitted) → TimesOut mac now old s r emitted new t → Fewer old new
     timed now old new s t (Ok _) emitted h = by (request_at now old) h where
-      by : (q : Option RequestRecord) → MatchOption q (MaintainsPairs mac now (timeout_begun now old) s emitted new t) (λ q. Serves mac q (first_taken (timeout_begun now old)) emitted new × (t ≡ s)) → Fewer old new
+      by : (q : Option RequestRecord) → MatchOption q (MaintainsPairs mac now (timeout_begun now old) s emitted new t) (λ q. Serves mac q (first_taken (at_request now (timeout_begun now old))) emitted new × (t ≡ s)) → Fewer old new
       by None k = maintains_pairs_fewer mac now (timeout_begun now old) new s t emitted k
-      by (Some q) (k, drawn) = serves mac q (first_taken (timeout_begun now old)) new emitted k
+      by (Some q) (k, drawn) = serves mac q (first_taken (at_request now (timeout_begun now old))) new emitted k
     timed now old new s t (Err error) emitted (may, is, made, drawn) = unchanged old new made

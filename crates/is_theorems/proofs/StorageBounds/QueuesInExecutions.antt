@@ -32,7 +32,7 @@ use Rattle.is_rules.specs.Restarting.{Restarts, Recreates, cleared, emptied}
 use Rattle.is_rules.specs.Serving.{Serves}
 use Rattle.is_rules.specs.Settings.{SetsMtu}
 use Rattle.is_rules.specs.Steps.{Call, SetMtu, SetControlTieBreaker, SetMaxCandidatePairs, SetMaxDiscovered, SetIceLite, SetRenomination, SetRules, SetTimingAdvance, SetInitialStunRto, SetMaxStunRto, SetMaxStunRetransmits, SetLiteTimeout, SetLocalPreference, SetControlling, SetLocalCredentials, SetRemoteCredentials, SkipPairIds, AddLocalCandidate, AddRemoteCandidate, InvalidateCandidate, RestartIce, RecreateCandidatePairs, ReceivePacket, HandleTimeout, PollTransmit, PollTimeout, PollEvent, Entry, Receives, Step, MayDo, Polled, Happened, answer_by, done, quiet}
-use Rattle.is_rules.specs.Timeouts.{MaintainsPairs, TimesOut, timeout_begun}
+use Rattle.is_rules.specs.Timeouts.{at_request, MaintainsPairs, TimesOut, timeout_begun}
 use Rattle.is_theorems.proofs.CallEffects.AddedCandidates.{by_adding_local, by_adding_remote, by_waking}
 use Rattle.is_theorems.proofs.RuleEffects.UnchangedSettings.{either}
 use Rattle.is_theorems.proofs.CallEffects.FailedCallsAndNewAgents.{mtu_kept, local_kept, remote_kept, restart_kept, recreation_kept, enrolment_kept, storing_kept}
@@ -232,11 +232,11 @@ module _ {H P : Type 0} where
                 (grown 1 5 (packets_of {P = P} (HandleTimeout now)) (events_of {P = P} (HandleTimeout now)) m n (lines_of old) (lines_of new) (omega arith) (omega arith) g w),
             λ limit limited. holds limit 1 5 old new g,
           ) where
-            by : (q : Option RequestRecord) → MatchOption q (MaintainsPairs mac now (timeout_begun now old) s emitted new t) (λ q. Serves mac q (first_taken (timeout_begun now old)) emitted new × (t ≡ s)) → Adds 1 5 old new
+            by : (q : Option RequestRecord) → MatchOption q (MaintainsPairs mac now (timeout_begun now old) s emitted new t) (λ q. Serves mac q (first_taken (at_request now (timeout_begun now old))) emitted new × (t ≡ s)) → Adds 1 5 old new
             by None k = more 0 2 1 3 old (timeout_begun now old) new (begun_adds now old) (maintains_adds mac now (timeout_begun now old) new s t emitted k)
             by (Some q) (k, drawn) =
                 most 1 3 1 5 old new (omega arith) (omega arith)
-                (more 0 2 1 1 old (timeout_begun now old) new (begun_adds now old) (serves_adds mac q (first_taken (timeout_begun now old)) new emitted k))
+                (more 0 2 1 1 old (timeout_begun now old) new (begun_adds now old) (serves_adds mac q (first_taken (at_request now (timeout_begun now old))) new emitted k))
 
       polls_packet : (given : Option Packet) → e ≡ quiet (Polled given) → IsPolled old.packets given new.packets → new ≡ record old { packets = new.packets } → Moves PollTransmit
       polls_packet None is polled made =

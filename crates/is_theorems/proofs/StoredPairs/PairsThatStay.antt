@@ -26,7 +26,7 @@ use Rattle.is_rules.specs.Settings.{with_rtos}
 use Rattle.is_rules.specs.Sound.{IsSound}
 use Rattle.is_theorems.specs.Staying.{Stays, IsOfDiscarded, MayEnd, PairsStay, EndsIn, PairsStayOn}
 use Rattle.is_rules.specs.Steps.{Call, SetMtu, SetControlTieBreaker, SetMaxCandidatePairs, SetMaxDiscovered, SetIceLite, SetRenomination, SetRules, SetTimingAdvance, SetInitialStunRto, SetMaxStunRto, SetMaxStunRetransmits, SetLiteTimeout, SetLocalPreference, SetControlling, SetLocalCredentials, SetRemoteCredentials, SkipPairIds, AddLocalCandidate, AddRemoteCandidate, InvalidateCandidate, RestartIce, RecreateCandidatePairs, ReceivePacket, HandleTimeout, PollTransmit, PollTimeout, PollEvent, Done, Flag, Entry, Receives, Step}
-use Rattle.is_rules.specs.Timeouts.{timeout_begun, is_expired, MaintainsPairs, ServesQueued}
+use Rattle.is_rules.specs.Timeouts.{at_request, timeout_begun, is_expired, MaintainsPairs, ServesQueued}
 use Rattle.is_theorems.proofs.CallEffects.PathAndTradeEffects.{path_theorem}
 use Rattle.is_theorems.proofs.CallEffects.AddedCandidates.{by_waking}
 use Rattle.is_theorems.proofs.RuleEffects.UnchangedSettings.{either}
@@ -109,13 +109,13 @@ module _ {H P : Type 0} where
       packet now path bytes (inr (m, reads, (Err error, emitted, is, (may, nothing, made)))) = as-it-was made
 
       timeout-by : (now : ℕ) (emitted : Emitted) (o : Option RequestRecord) → request_at now old ≡ o → e.answer ≡ Done
-          → MatchOption o (MaintainsPairs mac now (timeout_begun now old) s emitted new t) (λ q. ServesQueued mac q (timeout_begun now old) s emitted new t)
+          → MatchOption o (MaintainsPairs mac now (timeout_begun now old) s emitted new t) (λ q. ServesQueued mac q (at_request now (timeout_begun now old)) s emitted new t)
           → Persists p.number new.pairs ⊎ ((e.answer ≡ Done) × (request_at now old ≡ None) × (is_expired now old p ≡ true))
       timeout-by now emitted None none is_done h = elim (maintains_pairs-leaves mac now (timeout_begun now old) new s t emitted h p has) [
         | inl persists ↦ inl persists
         | inr gone ↦ inr (is_done, none, gone)
       ]
-      timeout-by now emitted (Some q) is is_done (h, drawn) = inl (kept (keep-serves mac q (first_taken (timeout_begun now old)) new emitted h))
+      timeout-by now emitted (Some q) is is_done (h, drawn) = inl (kept (keep-serves mac q (first_taken (at_request now (timeout_begun now old))) new emitted h))
 
       lasts : (call : Call P) → Step mac answers old s call e new t → Persists p.number new.pairs ⊎ MayEnd answers old call e p
       lasts (SetMtu target warn) (Ok _, is, h, drawn) = inl (becomes _ (λ n x. x) h.1)

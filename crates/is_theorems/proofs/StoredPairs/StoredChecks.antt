@@ -42,7 +42,7 @@ use Rattle.is_rules.specs.Roles.{conflict_of, switched}
 use Rattle.is_rules.specs.Sending.{path_of}
 use Rattle.is_rules.specs.Serving.{is_misled, names_another, request_counted, with_sender, with_sender_at, Drops, RecordsAndResponds, FindsOrAddsPair, AddsUnknownSender, CountsAndServes, ResolvesRoleConflictBy, ResolvesRoleConflict, Serves}
 use Rattle.is_rules.specs.Steps.{Entry, HandleTimeout, Step}
-use Rattle.is_rules.specs.Timeouts.{timeout_begun, MaintainsPairs, ServesQueued, TimesOut}
+use Rattle.is_rules.specs.Timeouts.{at_request, timeout_begun, MaintainsPairs, ServesQueued, TimesOut}
 use Rattle.is_rules.specs.Emitted.{issued_only, issued_as, reversed}
 use Rattle.is_theorems.proofs.CallEffects.PathAndTradeEffects.{path_theorem}
 use Rattle.is_theorems.proofs.RuleEffects.UnchangedSettings.{either}
@@ -185,12 +185,12 @@ module _ {H P : Type 0} (mac : H → List ℕ → List ℕ → List ℕ) (answer
         Kept = list_any (keeps_check_on sent (reversed (via_out check)) id) sent.pairs ≡ true
 
         timeout : (some : 0 < sent.timing.max_retransmits) (emitted : Emitted) → e.emitted ≡ emitted → (o : Option RequestRecord)
-            → MatchOption o (MaintainsPairs mac now (timeout_begun now a) s emitted sent t) (λ q. ServesQueued mac q (timeout_begun now a) s emitted sent t) → Kept
+            → MatchOption o (MaintainsPairs mac now (timeout_begun now a) s emitted sent t) (λ q. ServesQueued mac q (at_request now (timeout_begun now a)) s emitted sent t) → Kept
         timeout some emitted is None (first, second, issued, named, kept, nominating, giving, checking, emitted_is) =
             may_check now kept.remote_creds kept sent s t issued (via_out check) id some
             (sym (ap (λ (x : Emitted). x.issued) emitted_is) ∙ sym (ap (λ (x : Emitted). x.issued) is) ∙ sends.emitted) checking
         timeout some emitted is (Some q) (serving, drawn) =
-            absurd (serves q (first_taken (timeout_begun now a)) sent emitted serving (via_out check) id (sym (ap (λ (x : Emitted). x.issued) is) ∙ sends.emitted))
+            absurd (serves q (first_taken (at_request now (timeout_begun now a))) sent emitted serving (via_out check) id (sym (ap (λ (x : Emitted). x.issued) is) ∙ sends.emitted))
 
         by : (some : 0 < sent.timing.max_retransmits) (r : Result (Unit {0}) IceError) (emitted : Emitted) → e.emitted ≡ emitted → TimesOut mac now a s r emitted sent t → Kept
         by some (Ok done) emitted is h = timeout some emitted is (request_at now a) h
@@ -237,11 +237,11 @@ module _ {H P : Type 0} (mac : H → List ℕ → List ℕ → List ℕ) (answer
           next (Some p) chosen k = pair_checked remote p (all_asked now old) issued (next-is-due now (all_asked now old) p chosen).0 known emitted k
 
     timeout : (emitted : Emitted) → e.emitted ≡ emitted → (o : Option RequestRecord)
-        → MatchOption o (MaintainsPairs mac now (timeout_begun now a) s emitted sent t) (λ q. ServesQueued mac q (timeout_begun now a) s emitted sent t) → Checks now via id sent
+        → MatchOption o (MaintainsPairs mac now (timeout_begun now a) s emitted sent t) (λ q. ServesQueued mac q (at_request now (timeout_begun now a)) s emitted sent t) → Checks now via id sent
     timeout emitted is None (first, second, issued, named, kept, nominating, giving, checking, emitted_is) =
         checked kept.remote_creds kept issued refl (sym (ap (λ (x : Emitted). x.issued) emitted_is) ∙ sym (ap (λ (x : Emitted). x.issued) is) ∙ out) checking
     timeout emitted is (Some q) (serving, drawn) =
-        absurd (serves q (first_taken (timeout_begun now a)) sent emitted serving via id (sym (ap (λ (x : Emitted). x.issued) is) ∙ out))
+        absurd (serves q (first_taken (at_request now (timeout_begun now a))) sent emitted serving via id (sym (ap (λ (x : Emitted). x.issued) is) ∙ out))
 
     by : (r : Result (Unit {0}) IceError) (emitted : Emitted) → e.emitted ≡ emitted → TimesOut mac now a s r emitted sent t → Checks now via id sent
     by (Ok done) emitted is h = timeout emitted is (request_at now a) h

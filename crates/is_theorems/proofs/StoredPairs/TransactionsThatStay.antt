@@ -50,7 +50,7 @@ use Rattle.is_theorems.proofs.BasicLemmas.UsernamesAndFirstMatches.{any_has}
 use Rattle.is_theorems.proofs.CallEffects.ServedRequests.{Has-mapped}
 use Rattle.is_theorems.proofs.StoredPairs.TransactionsOverPackets.{sound-course}
 use Rattle.is_rules.specs.Steps.{Call, SetMtu, SetControlTieBreaker, SetMaxCandidatePairs, SetMaxDiscovered, SetIceLite, SetRenomination, SetRules, SetTimingAdvance, SetInitialStunRto, SetMaxStunRto, SetMaxStunRetransmits, SetLiteTimeout, SetLocalPreference, SetControlling, SetLocalCredentials, SetRemoteCredentials, SkipPairIds, AddLocalCandidate, AddRemoteCandidate, InvalidateCandidate, RestartIce, RecreateCandidatePairs, ReceivePacket, HandleTimeout, PollTransmit, PollTimeout, PollEvent, Done, Flag, Entry, Receives, Step}
-use Rattle.is_rules.specs.Timeouts.{timeout_begun, MaintainsPairs, ServesQueued}
+use Rattle.is_rules.specs.Timeouts.{at_request, timeout_begun, MaintainsPairs, ServesQueued}
 use Rattle.is_theorems.proofs.CallEffects.PathAndTradeEffects.{path_theorem}
 use Rattle.is_theorems.proofs.CallEffects.AddedCandidates.{by_waking}
 use Rattle.is_theorems.proofs.RuleEffects.UnchangedSettings.{either}
@@ -139,7 +139,7 @@ module _ {H P : Type 0} where
       Lasts call = Persists p new.pairs ⊎ (Sends mac old.timing.max_retransmits p e.emitted.issued new ⊎ MayEnd answers old call e p)
 
       timeout-by : (now : ℕ) (emitted : Emitted) (o : Option RequestRecord) → request_at now old ≡ o → e.answer ≡ Done → e.emitted ≡ emitted
-          → MatchOption o (MaintainsPairs mac now (timeout_begun now old) s emitted new t) (λ q. ServesQueued mac q (timeout_begun now old) s emitted new t) → Lasts (HandleTimeout now)
+          → MatchOption o (MaintainsPairs mac now (timeout_begun now old) s emitted new t) (λ q. ServesQueued mac q (at_request now (timeout_begun now old)) s emitted new t) → Lasts (HandleTimeout now)
       timeout-by now emitted None none is_done says h = elim (maintains_pairs mac now (timeout_begun now old) new s t emitted h p has) [
         | inl persists ↦ inl persists
         | inr more ↦
@@ -148,7 +148,7 @@ module _ {H P : Type 0} where
               | inr gone ↦ inr (is_done, none, gone)
             ])
       ]
-      timeout-by now emitted (Some q) is is_done says (h, drawn) = inl (kept (keep-serves mac q (first_taken (timeout_begun now old)) new emitted h))
+      timeout-by now emitted (Some q) is is_done says (h, drawn) = inl (kept (keep-serves mac q (first_taken (at_request now (timeout_begun now old))) new emitted h))
 
       lasts : (call : Call P) → Step mac answers old s call e new t → Lasts call
       lasts (SetMtu target warn) (Ok _, is, h, drawn) = inl (becomes _ (keeps-self old.pairs) h.1)

@@ -103,6 +103,7 @@ module _ {H P : Type 0} (mac : H → List ℕ → List ℕ → List ℕ) (provid
       nomination = Nominated;
       answers = 1;
       total_round_trip = milliseconds 50;
+      consented = Some 0;
     } ∷ [];
     stats = record no_stats { bind_request_sent = 1; bind_success_recv = 1; discovered_recv_count = 1; nomination_send_count = 1 };
   }

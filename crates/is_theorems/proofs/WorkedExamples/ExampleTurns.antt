@@ -10,6 +10,7 @@ use Rattle.is_candidate.specs.declared.candidate.kind.CandidateKind.TheVariants.
 use Rattle.is_pair.specs.Due.{asked, GoesBefore}
 use Rattle.is_pair.specs.Pairs.{PairRecord, new_pair}
 use Rattle.is_rules.specs.declared.event.IceConnectionState.TheVariants.{Connected, Disconnected}
+use Rattle.is_rules.specs.declared.kinds.Precedence.{Precedence}
 use Rattle.is_rules.specs.Agent.{AgentRecord, default_timing, original_rules, modern_rules}
 use Rattle.is_rules.specs.Checking.{all_asked, check_sent, IsNextToCheck}
 use Rattle.is_rules.specs.Kinds.{kind_of, TurnsBefore}
@@ -27,6 +28,10 @@ host_pair = new_pair 0 0 0 9151313343271665150
 abbrev reflexive_pair : PairRecord
 reflexive_pair = new_pair 1 0 1 7277816997797166591
 
+-- Urgent pairs come before all kinds, and no path is selected.
+abbrev urgent_ahead : Precedence
+urgent_ahead = record { selected = None; urgent = true }
+
 -- both pairs, which are due now
 abbrev due_pairs : List PairRecord
 due_pairs = asked 0 default_timing host_pair ∷ asked 0 default_timing reflexive_pair ∷ []
@@ -42,21 +47,22 @@ host_first q (inr (inr none)) = absurd none
 
 -- Kind 3 comes before kind 7 in a round that begins with kind 0.
 reflexive_first : (q : PairRecord) → Has due_pairs q
-    → TurnsBefore (own_1 ∷ []) remote_candidates true 0 0 default_timing (asked 0 default_timing reflexive_pair) q
+    → TurnsBefore (own_1 ∷ []) remote_candidates urgent_ahead 0 0 default_timing (asked 0 default_timing reflexive_pair) q
 reflexive_first q (inl same) =
-    let earlier : 5 < 9 = omega arith in
-    subst (λ x. TurnsBefore (own_1 ∷ []) remote_candidates true 0 0 default_timing (asked 0 default_timing reflexive_pair) x) same (inl earlier)
+    let earlier : 6 < 10 = omega arith in
+    subst (λ x. TurnsBefore (own_1 ∷ []) remote_candidates urgent_ahead 0 0 default_timing (asked 0 default_timing reflexive_pair) x) same (inl earlier)
 reflexive_first q (inr (inl same)) =
-    subst (λ x. TurnsBefore (own_1 ∷ []) remote_candidates true 0 0 default_timing (asked 0 default_timing reflexive_pair) x) same (inr (refl, inr (refl, omega arith)))
+    subst (λ x. TurnsBefore (own_1 ∷ []) remote_candidates urgent_ahead 0 0 default_timing (asked 0 default_timing reflexive_pair) x) same
+    (inr (refl, inr (refl, omega arith)))
 reflexive_first q (inr (inr none)) = absurd none
 
 -- After kind 3, the round goes on with kind 7.
-host_next : (q : PairRecord) → Has due_pairs q → TurnsBefore (own_1 ∷ []) remote_candidates true 4 0 default_timing (asked 0 default_timing host_pair) q
+host_next : (q : PairRecord) → Has due_pairs q → TurnsBefore (own_1 ∷ []) remote_candidates urgent_ahead 4 0 default_timing (asked 0 default_timing host_pair) q
 host_next q (inl same) =
-    subst (λ x. TurnsBefore (own_1 ∷ []) remote_candidates true 4 0 default_timing (asked 0 default_timing host_pair) x) same (inr (refl, inr (refl, omega arith)))
+    subst (λ x. TurnsBefore (own_1 ∷ []) remote_candidates urgent_ahead 4 0 default_timing (asked 0 default_timing host_pair) x) same (inr (refl, inr (refl, omega arith)))
 host_next q (inr (inl same)) =
-    let earlier : 9 < 21 = omega arith in
-    subst (λ x. TurnsBefore (own_1 ∷ []) remote_candidates true 4 0 default_timing (asked 0 default_timing host_pair) x) same (inl earlier)
+    let earlier : 10 < 22 = omega arith in
+    subst (λ x. TurnsBefore (own_1 ∷ []) remote_candidates urgent_ahead 4 0 default_timing (asked 0 default_timing host_pair) x) same (inl earlier)
 host_next q (inr (inr none)) = absurd none
 
 -- A request arrived on the pair, which is not valid: it is urgent, and comes before kind 7.
@@ -64,12 +70,12 @@ abbrev urgent_pair : PairRecord
 urgent_pair = record reflexive_pair { requests = 1; last_request = Some 0 }
 
 urgent_first : (q : PairRecord) → Has (asked 0 default_timing host_pair ∷ asked 0 default_timing urgent_pair ∷ []) q
-    → TurnsBefore (own_1 ∷ []) remote_candidates true 4 0 default_timing (asked 0 default_timing urgent_pair) q
+    → TurnsBefore (own_1 ∷ []) remote_candidates urgent_ahead 4 0 default_timing (asked 0 default_timing urgent_pair) q
 urgent_first q (inl same) =
-    let earlier : 0 < 9 = omega arith in
-    subst (λ x. TurnsBefore (own_1 ∷ []) remote_candidates true 4 0 default_timing (asked 0 default_timing urgent_pair) x) same (inl earlier)
+    let earlier : 1 < 10 = omega arith in
+    subst (λ x. TurnsBefore (own_1 ∷ []) remote_candidates urgent_ahead 4 0 default_timing (asked 0 default_timing urgent_pair) x) same (inl earlier)
 urgent_first q (inr (inl same)) =
-    subst (λ x. TurnsBefore (own_1 ∷ []) remote_candidates true 4 0 default_timing (asked 0 default_timing urgent_pair) x) same (inr (refl, inr (refl, omega arith)))
+    subst (λ x. TurnsBefore (own_1 ∷ []) remote_candidates urgent_ahead 4 0 default_timing (asked 0 default_timing urgent_pair) x) same (inr (refl, inr (refl, omega arith)))
 urgent_first q (inr (inr none)) = absurd none
 
 module _ {H : Type 0} (P : Type 0) (mac : H → List ℕ → List ℕ → List ℕ) (provider : H) where

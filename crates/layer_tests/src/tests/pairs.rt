@@ -6,6 +6,7 @@ ghost use Rattle.is_pair.specs.Pairs.{new_pair};
 
 mod checklist;
 mod checks;
+mod consent;
 mod due;
 mod early;
 mod order;

@@ -8,8 +8,8 @@ use super::at;
 use is_candidate::CandidateKind;
 use is_pair::checklist::{Checklist, PairPriority, PairTest};
 use is_pair::pair::{CandidatePair, PairId};
-use is_proto::IceError;
-use is_stun::stun::{StunTiming, TransId};
+use is_proto::{Duration, IceError, Instant};
+use is_stun::stun::{Consent, StunTiming, TransId};
 use rand_core::SeedableRng;
 use rand_pcg::Pcg32;
 use std::alloc::Global;
@@ -105,6 +105,21 @@ impl Paths {
         )
     }
 
+    /// The response to the check with this id.
+    fn answer(&mut self, id: TransId, millis: u64) -> Result<(), Fail> {
+        let Some(pair) = self.list.awaiting(id, &Any) else {
+            return Err(Fail::from("the check was forgotten"));
+        };
+        let number = pair.id().0;
+        self.list.record_binding_response(number, at(millis), id);
+        Ok(())
+    }
+
+    /// The earliest time at which a pair is due, or its consent ends.
+    fn next_call(&self, millis: u64) -> Instant {
+        self.list.earliest_call(at(millis), &self.timing)
+    }
+
     fn remove(&mut self, number: u64) {
         self.list.remove(number);
     }
@@ -175,6 +190,26 @@ fn the_order_follows_the_priorities(rt: HostRuntime) -> Result<(), Fail> {
     assert!(rt; paths.least() == Some(0));
     paths.list.evict(1);
     assert!(rt; paths.least() == Some(3));
+    Ok(())
+}
+
+/// The first pair has a response to its check at 0 s, and the second pair has none.
+#[test]
+fn the_end_of_consent_is_an_earliest_time(rt: HostRuntime) -> Result<(), Fail> {
+    let mut paths = paths_of(rt.alloc(), 9, &[50, 60])?;
+    paths.timing.consent = Some(Consent {
+        timeout: Duration::from_millis(400),
+        strict: true,
+    });
+    let first = paths.check(0, 0, 1)?;
+    paths.answer(first, 50)?;
+    paths.check(1, 0, 2)?;
+    assert!(rt; paths.next_call(50) == at(250));
+    paths.check(0, 250, 3)?;
+    paths.check(1, 250, 4)?;
+    assert!(rt; paths.next_call(250) == at(400));
+    paths.timing.consent = None;
+    assert!(rt; paths.next_call(250) == at(750));
     Ok(())
 }
 

@@ -50,41 +50,45 @@ fn headers(rt: HostRuntime) {
     assert!(rt; fault_of(&[0; 20]) == Some(ParseFault::Magic));
     assert!(rt; fault_with(FAILURE, &[]).is_none());
 }
+/// Attributes whose length is wrong.
+static LENGTHS: [([u8; 4], ParseFault); 12] = [
+    ([0x00, 0x06, 0, 1], ParseFault::AttributeLength),
+    ([0x00, 0x08, 0, 0], ParseFault::IntegrityLength),
+    ([0x00, 0x09, 0, 0], ParseFault::ErrorCodeLength),
+    ([0x00, 0x0c, 0, 0], ParseFault::ChannelLength),
+    ([0x00, 0x0d, 0, 0], ParseFault::LifetimeLength),
+    ([0x00, 0x12, 0, 0], ParseFault::XorAddress),
+    ([0x00, 0x16, 0, 0], ParseFault::XorAddress),
+    ([0x00, 0x20, 0, 0], ParseFault::XorAddress),
+    ([0x00, 0x24, 0, 0], ParseFault::PriorityLength),
+    ([0x80, 0x28, 0, 0], ParseFault::FingerprintLength),
+    ([0x80, 0x29, 0, 0], ParseFault::ControlledLength),
+    ([0x80, 0x2a, 0, 0], ParseFault::ControllingLength),
+];
 
 #[test]
 fn lengths_of_values(rt: HostRuntime) {
-    for (attribute, fault) in [
-        ([0x00, 0x06, 0, 1], ParseFault::AttributeLength),
-        ([0x00, 0x08, 0, 0], ParseFault::IntegrityLength),
-        ([0x00, 0x09, 0, 0], ParseFault::ErrorCodeLength),
-        ([0x00, 0x0c, 0, 0], ParseFault::ChannelLength),
-        ([0x00, 0x0d, 0, 0], ParseFault::LifetimeLength),
-        ([0x00, 0x12, 0, 0], ParseFault::XorAddress),
-        ([0x00, 0x16, 0, 0], ParseFault::XorAddress),
-        ([0x00, 0x20, 0, 0], ParseFault::XorAddress),
-        ([0x00, 0x24, 0, 0], ParseFault::PriorityLength),
-        ([0x80, 0x28, 0, 0], ParseFault::FingerprintLength),
-        ([0x80, 0x29, 0, 0], ParseFault::ControlledLength),
-        ([0x80, 0x2a, 0, 0], ParseFault::ControllingLength),
-    ] {
-        assert!(rt; fault_with(FAILURE, &attribute) == Some(fault));
+    for (attribute, fault) in &LENGTHS {
+        assert!(rt; fault_with(FAILURE, attribute) == Some(*fault));
     }
     let use_candidate = [0x00, 0x25, 0, 1, 0, 0, 0, 0];
     assert!(rt; fault_with(FAILURE, &use_candidate) == Some(ParseFault::UseCandidateLength));
 }
+/// Attributes whose value is wrong.
+static VALUES: [([u8; 8], ParseFault); 4] = [
+    ([0x00, 0x09, 0, 4, 0, 0, 8, 0], ParseFault::ErrorCodeTop),
+    ([0x00, 0x09, 0, 4, 0, 0, 2, 0], ParseFault::ErrorClass),
+    (
+        [0x00, 0x0c, 0, 4, 0x3f, 0xff, 0, 0],
+        ParseFault::ChannelRange,
+    ),
+    ([0x00, 0x06, 0, 1, 0xff, 0, 0, 0], ParseFault::TextNotUtf8),
+];
 
 #[test]
 fn values(rt: HostRuntime) {
-    for (attribute, fault) in [
-        ([0x00, 0x09, 0, 4, 0, 0, 8, 0], ParseFault::ErrorCodeTop),
-        ([0x00, 0x09, 0, 4, 0, 0, 2, 0], ParseFault::ErrorClass),
-        (
-            [0x00, 0x0c, 0, 4, 0x3f, 0xff, 0, 0],
-            ParseFault::ChannelRange,
-        ),
-        ([0x00, 0x06, 0, 1, 0xff, 0, 0, 0], ParseFault::TextNotUtf8),
-    ] {
-        assert!(rt; fault_with(FAILURE, &attribute) == Some(fault));
+    for (attribute, fault) in &VALUES {
+        assert!(rt; fault_with(FAILURE, attribute) == Some(*fault));
     }
     let mut username = [b'a'; 520];
     username[..4].copy_from_slice(&[0x00, 0x06, 0x02, 0x02]);

@@ -9,16 +9,18 @@ use Rattle.is_agent.proofs.agent.Agent.begin_with_request.Goals as goal
 
 pub unreachable-requires : goal.unreachable-requires
 unreachable-requires g c =
-    let old = record_of c.args.self.now in let items = c.begin_timeout.new.self.queue.items in
+    let old = record_of c.args.self.now in let items = c.note_request.new.self.queue.items in
     let empty : items ≡ [] = own-tail items (c.in-None.ensures.items ∙ c.in-None.ensures.rest) in
-    let views = ap (λ (s : AgentRecord g.row.H.Denot g.row.P.Denot). s.queue) c.begin_timeout.ensures.begun in
+    let queue = λ (s : AgentRecord g.row.H.Denot g.row.P.Denot). s.queue in
+    let views = ap queue c.note_request.ensures.noted ∙ ap queue c.begin_timeout.ensures.begun in
     let none : slice_get old.queue c.args.expired ≡ None =
     sym (first-left c.args.now.0 old items c.args.expired views c.requires.expired) ∙ ap (λ (xs : List Waiting). head (map waiting_view xs)) empty in
     not-some (slice_get old.queue c.args.expired) none c.requires.left
 
 pub returns-clause-first : goal.returns-clause-first
 returns-clause-first g c =
-    let old = record_of c.args.self.now in let items = c.begin_timeout.new.self.queue.items in
-    let views = ap (λ (s : AgentRecord g.row.H.Denot g.row.P.Denot). s.queue) c.begin_timeout.ensures.begun in
+    let old = record_of c.args.self.now in let items = c.note_request.new.self.queue.items in
+    let queue = λ (s : AgentRecord g.row.H.Denot g.row.P.Denot). s.queue in
+    let views = ap queue c.note_request.ensures.noted ∙ ap queue c.begin_timeout.ensures.begun in
     ap (λ (xs : List Waiting). head (map waiting_view xs)) (sym c.in-Some.ensures.items)
     ∙ first-left c.args.now.0 old items c.args.expired views c.requires.expired

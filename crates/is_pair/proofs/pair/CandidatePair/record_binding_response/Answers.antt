@@ -1,5 +1,4 @@
 use Rattle.std.proofs.Common.{ap}
-use Rattle.is_pair.specs.Checks.{Check}
 use Rattle.is_pair.specs.Pairs.{PairRecord}
 use Rattle.is_pair.proofs.StoredChecks.LastChecks.{found_at, found_where_kept}
 use Rattle.is_pair.proofs.pair.CandidatePair.record_binding_response.Goals as goal
@@ -14,7 +13,5 @@ returns c =
     let place = c.in-Some.place in
     let check = c.index-attempt.result.now in
     let checks = ap (λ (p : PairRecord). p.checks) c.self.view_is in
-    let sent = ap (λ (k : Check). k.sent) c.attempt.view_is in
-    let nominated = ap (λ (k : Check). k.nominated) c.attempt.view_is in
     let at = found_at c.args.trans_id.0 c.args.self.now.checks place check (cc c.in-Some.ensures) (cc c.index-attempt.ensures) in
     (place, check, at, rw (← c.self.view_is) (cc))

@@ -1,0 +1,355 @@
+//! Consent (RFC 7675): how long the last response, and the peer's checks, keep a pair; and the selected pair, whose checks come first.
+
+use super::rules::TRIGGERS;
+use super::settings::{MODERN, ORIGINAL};
+use super::step::Call::*;
+use super::step::Emitted::*;
+use super::step::Held::*;
+use super::step::Packet::*;
+use super::step::Shown::*;
+use super::step::Start::*;
+use super::step::Step::*;
+use super::step::{At, Count, Message, Setting, Step};
+use super::story::{Story, play};
+use super::*;
+use is::stun::Consent;
+use is::{Duration, Rules};
+
+#[test]
+fn consent_ends_by_the_clock(rt: HostRuntime) -> Result<(), Fail> {
+    play(rt.alloc(), &ENDS)?;
+    play(rt.alloc(), &TWO)
+}
+
+#[test]
+fn the_selected_pair_is_checked_first(rt: HostRuntime) -> Result<(), Fail> {
+    play(rt.alloc(), &FIRST)
+}
+
+#[test]
+fn an_ordinary_session_is_as_before(rt: HostRuntime) -> Result<(), Fail> {
+    play(rt.alloc(), &SAME)
+}
+
+/// A response keeps a pair for 5 s, and nothing else does.
+const STRICT: Rules = Rules {
+    consent: Some(Consent {
+        timeout: Duration(5_000_000_000),
+        strict: true,
+    }),
+    ..ORIGINAL
+};
+
+/// The same, and the peer's checks keep it for 15 s.
+const LENIENT: Rules = Rules {
+    consent: Some(Consent {
+        timeout: Duration(5_000_000_000),
+        strict: false,
+    }),
+    ..ORIGINAL
+};
+
+/// The address of `PEER`.
+const THERE: At = At(2, 2000);
+
+/// Another host candidate of the peer, of less priority, and its address.
+const OTHER: &str = "candidate:1 1 udp 2130706174 10.0.0.3 3000 typ host";
+
+const ELSEWHERE: At = At(3, 3000);
+
+// ---- when consent ends
+
+/// The second check, at 50 ms, is the last one with a response. The peer's requests still arrive. The RTOs are 500 ms, 1 s and 2 s; after
+/// that the peer is silent, and only checks without a response count: 1 s after the third of them, and 2 s after the fourth.
+const CUT: [Step; 17] = [
+    Does(Check(0)),
+    Takes(Answer(10, THERE)),
+    Does(CheckTo(50, THERE, true)),
+    Takes(Answer(60, THERE)),
+    Emits(Events("RcNCD")),
+    Shows(NextAt(550)),
+    Does(Check(550)),
+    Shows(NextAt(1550)),
+    Does(Check(1550)),
+    Shows(NextAt(3550)),
+    Write(Message::Request(false, false), "nearpass"),
+    Takes(Served(2000, THERE)),
+    Does(Check(3550)),
+    Shows(NextAt(4550)),
+    Does(Check(4550)),
+    Counts(Count::Checks, 6),
+    Shows(Connected),
+];
+
+const ENDS: [Story; 10] = [
+    Story(
+        "a_strict_consent",
+        &[Begin(Paired), Set(Setting::Rules(STRICT))],
+    ),
+    Story("a_cut_after_the_second_check", &CUT),
+    Story(
+        "a_strict_consent_ends_5_s_after_the_second_check",
+        &[
+            Shows(NextAt(5050)),
+            Does(Timeout(5049)),
+            Holds(HasPair(PEER, true)),
+            Does(Timeout(5050)),
+            Emits(NoPacket),
+            Holds(HasPair(PEER, false)),
+            Emits(Events("x")),
+            Shows(NextAt(8050)),
+        ],
+    ),
+    Story(
+        "a_consent_that_is_not_strict",
+        &[Begin(Paired), Set(Setting::Rules(LENIENT))],
+    ),
+    Story("the_same_cut", &CUT),
+    Story(
+        "the_request_at_2_s_keeps_it_for_15_s",
+        &[
+            Shows(NextAt(6550)),
+            Does(Check(6550)),
+            Shows(NextAt(9550)),
+            Does(Check(9550)),
+            Shows(NextAt(12550)),
+            Does(Check(12550)),
+            Shows(NextAt(15550)),
+            Does(Check(15550)),
+            // 3 s before the next check
+            Shows(NextAt(17000)),
+            Does(Timeout(16900)),
+            Emits(NoPacket),
+            Holds(HasPair(PEER, true)),
+            Shows(NextAt(17000)),
+            Does(Timeout(17000)),
+            Emits(NoPacket),
+            Holds(HasPair(PEER, false)),
+            Emits(Events("x")),
+        ],
+    ),
+    Story(
+        "no_consent",
+        &[Begin(Paired), Set(Setting::Rules(ORIGINAL))],
+    ),
+    Story("the_cut_again", &CUT),
+    Story(
+        "without_the_rule_nine_checks_end_it",
+        &[
+            Shows(NextAt(6550)),
+            Does(Timeout(17000)),
+            Emits(Sends),
+            Holds(HasPair(PEER, true)),
+            Shows(Connected),
+        ],
+    ),
+    Story(
+        "without_a_response_there_is_no_consent_to_end",
+        &[
+            Begin(Paired),
+            Set(Setting::Rules(STRICT)),
+            Does(Check(0)),
+            Does(Check(6000)),
+            Does(Check(12_000)),
+            Shows(NextAt(13_000)),
+            Holds(HasPair(PEER, true)),
+        ],
+    ),
+];
+
+// ---- two paths, of which the selected one is cut. Since more than 60 s have passed, a nominated pair is due before all others
+
+const TWO: [Story; 1] = [Story(
+    "the_other_path_is_selected_when_consent_ends",
+    &[
+        Begin(Unpaired),
+        Set(Setting::Rules(STRICT)),
+        Does(Peer(PEER)),
+        Does(Peer(OTHER)),
+        Does(CheckTo(100_000, THERE, false)),
+        Takes(Answer(100_010, THERE)),
+        Does(CheckTo(100_050, THERE, true)),
+        Takes(Answer(100_060, THERE)),
+        Does(CheckTo(100_100, ELSEWHERE, false)),
+        Takes(Answer(100_110, ELSEWHERE)),
+        Emits(Selected(Some(THERE))),
+        // the path is cut in one direction: the peer's requests arrive
+        Shows(NextAt(100_350)),
+        Does(CheckTo(100_350, ELSEWHERE, false)),
+        Takes(Answer(100_360, ELSEWHERE)),
+        Shows(NextAt(100_550)),
+        Does(CheckTo(100_550, THERE, true)),
+        Shows(NextAt(100_850)),
+        Does(CheckTo(100_850, ELSEWHERE, false)),
+        Takes(Answer(100_860, ELSEWHERE)),
+        Does(CheckTo(101_550, THERE, true)),
+        Does(CheckTo(101_850, ELSEWHERE, false)),
+        Takes(Answer(101_860, ELSEWHERE)),
+        Write(Message::Request(false, false), "nearpass"),
+        Takes(Served(103_000, THERE)),
+        Shows(NextAt(103_550)),
+        Does(CheckTo(103_550, THERE, true)),
+        Shows(NextAt(103_850)),
+        Does(CheckTo(103_850, ELSEWHERE, false)),
+        Takes(Answer(103_860, ELSEWHERE)),
+        Shows(NextAt(104_550)),
+        Does(CheckTo(104_550, THERE, true)),
+        Emits(Selected(None)),
+        Shows(ValidPath(Some((At(1, 1000), THERE)))),
+        Shows(NextAt(105_050)),
+        Does(Timeout(105_050)),
+        Emits(Selected(Some(ELSEWHERE))),
+        Holds(HasPair(PEER, false)),
+        Shows(Connected),
+        Shows(ValidPath(Some((At(1, 1000), ELSEWHERE)))),
+    ],
+)];
+
+// ---- every second check may go to the selected pair
+
+/// Only the selected pair may go first.
+const SELECTED_FIRST: Rules = Rules {
+    selected_first: true,
+    ..ORIGINAL
+};
+
+/// The same, and urgent pairs after it.
+const SELECTED_AND_URGENT: Rules = Rules {
+    selected_first: true,
+    ..TRIGGERS
+};
+
+/// The last of 21 candidates of the peer.
+const LAST: At = At(22, 2000);
+
+const FIRST: [Story; 3] = [
+    // an RTO of 40 ms, so that the first pair is always due
+    Story(
+        "of_100_pairs_the_selected_one_has_every_second_check",
+        &[
+            Begin(Unpaired),
+            Set(Setting::Rules(SELECTED_FIRST)),
+            Set(Setting::InitialRto(40)),
+            Set(Setting::MaxRto(40)),
+            Does(Peers(100)),
+            Does(CheckTo(100_000, THERE, false)),
+            Takes(Answer(100_010, THERE)),
+            Does(CheckTo(100_050, THERE, true)),
+            Takes(Answer(100_060, THERE)),
+            Does(CheckTo(100_100, At(3, 2000), false)),
+            Does(CheckTo(100_150, THERE, true)),
+            Does(CheckTo(100_200, At(4, 2000), false)),
+            Does(CheckTo(100_250, THERE, true)),
+            Does(CheckTo(100_300, At(5, 2000), false)),
+            Does(CheckTo(100_350, THERE, true)),
+            Does(CheckTo(100_400, At(6, 2000), false)),
+        ],
+    ),
+    Story(
+        "without_the_rule_it_comes_after_99_others",
+        &[
+            Begin(Unpaired),
+            Set(Setting::Rules(ORIGINAL)),
+            Set(Setting::InitialRto(40)),
+            Set(Setting::MaxRto(40)),
+            Does(Peers(100)),
+            Does(CheckTo(100_000, THERE, false)),
+            Takes(Answer(100_010, THERE)),
+            Does(CheckTo(100_050, THERE, true)),
+            Takes(Answer(100_060, THERE)),
+            Does(CheckTo(100_100, At(3, 2000), false)),
+            Does(CheckTo(100_150, At(4, 2000), false)),
+            Does(CheckTo(100_200, At(5, 2000), false)),
+        ],
+    ),
+    // the selected pair is due 150 ms after its last check
+    Story(
+        "the_selected_pair_goes_before_an_urgent_one",
+        &[
+            Begin(Unpaired),
+            Set(Setting::Rules(SELECTED_AND_URGENT)),
+            Set(Setting::InitialRto(150)),
+            Set(Setting::MaxRto(150)),
+            Does(Peers(21)),
+            Does(CheckTo(0, THERE, false)),
+            Takes(Answer(10, THERE)),
+            Does(CheckTo(50, THERE, true)),
+            Takes(Answer(60, THERE)),
+            Does(CheckTo(100, At(3, 2000), false)),
+            Does(CheckTo(150, At(4, 2000), false)),
+            Write(Message::Request(false, false), "nearpass"),
+            Takes(Served(160, LAST)),
+            Does(CheckTo(200, THERE, true)),
+            Does(CheckTo(250, At(5, 2000), false)),
+            Does(CheckTo(300, LAST, false)),
+        ],
+    ),
+];
+
+// ---- a session in which each check has a response, and one cut
+
+/// All rules but those of consent, of the selected pair, and of calls that serve requests.
+const BEFORE: Rules = Rules {
+    consent: None,
+    selected_first: false,
+    timeout_after_requests: false,
+    ..MODERN
+};
+
+/// Each check has a response until 6.55 s; then nothing arrives. A series of nine checks begins at 9.55 s, before consent ends at 36.15 s.
+const SESSION: [Step; 44] = [
+    Does(Check(0)),
+    Takes(Answer(10, THERE)),
+    Shows(NextAt(50)),
+    Does(CheckTo(50, THERE, true)),
+    Takes(Answer(60, THERE)),
+    Emits(Events("RcNCD")),
+    Write(Message::Request(false, false), "nearpass"),
+    Takes(Served(500, THERE)),
+    Shows(NextAt(550)),
+    Does(CheckTo(550, THERE, true)),
+    Takes(Answer(560, THERE)),
+    Shows(NextAt(1550)),
+    Does(CheckTo(1550, THERE, true)),
+    Takes(Answer(1560, THERE)),
+    Shows(NextAt(3550)),
+    Does(CheckTo(3550, THERE, true)),
+    Takes(Answer(3560, THERE)),
+    Shows(NextAt(6550)),
+    Does(CheckTo(6550, THERE, true)),
+    Takes(Answer(6560, THERE)),
+    Shows(NextAt(9550)),
+    Does(Check(9550)),
+    Shows(NextAt(12_550)),
+    Does(Check(12_550)),
+    Shows(NextAt(13_050)),
+    Does(Check(13_050)),
+    Shows(NextAt(14_050)),
+    Does(Check(14_050)),
+    Shows(NextAt(16_050)),
+    Does(Check(16_050)),
+    Shows(NextAt(19_050)),
+    Does(Check(19_050)),
+    Shows(NextAt(22_050)),
+    Does(Check(22_050)),
+    Shows(NextAt(25_050)),
+    Does(Check(25_050)),
+    Shows(NextAt(28_050)),
+    Does(Check(28_050)),
+    Shows(NextAt(31_050)),
+    Counts(Count::Checks, 15),
+    Does(Timeout(31_050)),
+    Emits(NoPacket),
+    Holds(HasPair(PEER, false)),
+    Emits(Events("x")),
+];
+
+const SAME: [Story; 4] = [
+    Story("all_rules", &[Begin(Paired), Set(Setting::Rules(MODERN))]),
+    Story("a_session_by_all_rules", &SESSION),
+    Story(
+        "all_rules_but_three",
+        &[Begin(Paired), Set(Setting::Rules(BEFORE))],
+    ),
+    Story("the_same_session", &SESSION),
+];

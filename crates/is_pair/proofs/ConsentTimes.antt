@@ -1,0 +1,3 @@
+-- How long a pair has consent, and what renews it.
+pub mod RenewedConsent
+pub mod EndOfConsent

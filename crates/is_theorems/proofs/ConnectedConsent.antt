@@ -1,0 +1,6 @@
+-- A connected agent has consent.
+pub mod ConnectedPairs
+pub mod ConnectedCourses
+pub mod AnsweredPairs
+pub mod AnsweredCourses
+pub mod AnsweredLately

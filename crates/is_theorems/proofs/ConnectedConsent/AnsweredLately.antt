@@ -1,0 +1,60 @@
+-- A connected agent that is never lite has a response to a recent check on its path, or a recent check of the peer.
+use Rattle.std.proofs.Common.{◌≡◌, ℕ, ◌-◌, ◌*◌, ◌<◌, ◌&&◌, ◌||◌, Bool, true, false, not, List, nat_lt, is_some, Option, Some, None, inl, inr, ◌⊎◌, refl, sym, ◌∙◌, subst, arith}
+use Rattle.std.specs.Option.{option_map_or}
+use Rattle.std.proofs.lemmas.Bool.Decides.{nat_tests}
+use Rattle.is_proto.specs.Times.{SECOND, later}
+use Rattle.is_candidate.specs.Candidates.{CandidateRecord}
+use Rattle.is_pair.specs.Due.{has_consent, is_heard}
+use Rattle.is_pair.specs.Pairs.{is_nominated, is_recent, is_valid, PairRecord}
+use Rattle.is_stun.specs.declared.timing.Consent.{Consent}
+use Rattle.is_rules.specs.Agent.{AgentRecord}
+use Rattle.is_rules.specs.Steps.{HandleTimeout}
+use Rattle.is_theorems.specs.ConsentCourses.{AreNeverLite, ConnectedAreAnswered, IsAliveBy}
+use Rattle.is_theorems.proofs.BasicLemmas.EqualAddresses.{both}
+use Rattle.is_theorems.proofs.ConnectedConsent.AnsweredCourses.{along, steps}
+use Rattle.is_theorems.proofs.ConnectedConsent.AnsweredPairs.{IsFirm}
+use Rattle.is_theorems.proofs.ConnectedConsent.ConnectedCourses.{connected-have-consent}
+
+less : (n m : ℕ) → nat_lt n m ≡ true → n < m
+less n m h = grind (arith, nat_tests, h)
+
+alive : (c : Consent) (now : ℕ) (p : PairRecord) → is_some p.consented ≡ true → has_consent (Some c) now p ≡ true → IsAliveBy c now p
+alive c now p some consent = from p.consented refl some consent where
+  no-case : false ≡ true → ⊥
+  no-case h = cc
+
+  Heard : Type 0
+  Heard = (c.strict ≡ false) × ((at : ℕ) × (p.last_request ≡ Some at) × (now - at < 15 * SECOND))
+
+  arrived : c.strict ≡ false → (o : Option ℕ) → p.last_request ≡ o → option_map_or (is_recent now) o false ≡ true → Heard
+  arrived loose None is h = absurd (no-case h)
+  arrived loose (Some at) is h = (loose, (at, is, less (now - at) (15 * SECOND) h))
+
+  heard : (strict : Bool) → c.strict ≡ strict → (not strict && is_heard now p) ≡ true → Heard
+  heard true is h = absurd (no-case h)
+  heard false is h = arrived is p.last_request refl h
+
+  recent : (sent : ℕ) (b : Bool) → nat_lt now (later sent c.timeout.0) ≡ b → (b || (not c.strict && is_heard now p)) ≡ true → (now < later sent c.timeout.0) ⊎ Heard
+  recent sent true lt h = inl (less now (later sent c.timeout.0) lt)
+  recent sent false lt h = inr (heard c.strict refl h)
+
+  from : (o : Option ℕ) → p.consented ≡ o → is_some o ≡ true
+      → (option_map_or (λ at. nat_lt now (later at c.timeout.0)) o true || (not c.strict && is_heard now p)) ≡ true → IsAliveBy c now p
+  from None is none h = absurd (no-case none)
+  from (Some sent) is there h = elim (recent sent (nat_lt now (later sent c.timeout.0)) refl h) [
+    | inl lt ↦ (sent, is, inl (omega (arith, lt)))
+    | inr k ↦ (let loose : c.strict ≡ false = k.0 in let young = k.1.2 in (sent, is, inr (search loose, (k.1.0, k.1.1, omega (arith, young)))))
+  ]
+
+module _ {H P : Type 0} (mac : H → List ℕ → List ℕ → List ℕ) where
+  pub connected-are-answered : (answers : P → CandidateRecord → ℕ → ℕ → Type 0) → ConnectedAreAnswered mac answers
+  connected-are-answered answers before now timeout last c k full rule =
+      let never : AreNeverLite before = search full in
+      let ruled : last.rules.consent ≡ Some c = search rule in
+      let begins : IsFirm k.first = subst (λ (a : AgentRecord H P). IsFirm a) (sym k.fresh.2) ((refl, refl), λ q none. absurd none) in
+      let near = along mac answers before k.first k.near never k.course begins in
+      let firm = steps mac answers k.near last k.drawn k.left timeout near (HandleTimeout now) refl k.step in
+      let top = connected-have-consent mac answers before now timeout last k in
+      let valid = (both (is_valid top.0) (last.controlling || is_nominated top.0) top.2).0 in
+      let consent = subst (λ o. has_consent o now top.0 ≡ true) (firm.0.1 ∙ ruled) top.4 in
+      (top.0, top.1, alive c now top.0 (firm.1 top.0 top.1 valid) consent, top.3)

@@ -1,0 +1,134 @@
+-- If the agent is connected after a `handle_timeout` call that serves no early request, a pair is valid and nominated.
+use Rattle.std.proofs.Common.{◌≡◌, ℕ, ◌&&◌, ◌||◌, Bool, true, false, not, List, [], ◌∷◌, map, Option, Some, None, inl, inr, refl, sym, ◌∙◌, subst, if◌then◌else◌}
+use Rattle.std.specs.List.{list_any}
+use Rattle.rand_core.specs.Stream.{Stream}
+use Rattle.is_proto.specs.Lists.{Has}
+use Rattle.is_pair.specs.Due.{asked}
+use Rattle.is_pair.specs.Multiset.{change_at, is_numbered}
+use Rattle.is_pair.specs.Pairs.{PairRecord, checked, heard, is_nominated, is_valid, nominated}
+use Rattle.is_rules.specs.Agent.{AgentRecord}
+use Rattle.is_rules.specs.Checking.{all_asked, ChecksTop, MayCheck}
+use Rattle.is_rules.specs.Connecting.{is_connected}
+use Rattle.is_rules.specs.declared.credentials.IceCreds.{IceCreds}
+use Rattle.is_rules.specs.declared.emitted.Emitted.{Emitted}
+use Rattle.is_rules.specs.declared.emitted.Issued.{Issued}
+use Rattle.is_rules.specs.declared.emitted.Path.{Path}
+use Rattle.is_rules.specs.declared.event.IceConnectionState.{IceConnectionState}
+use Rattle.is_rules.specs.declared.event.IceConnectionState.TheVariants.{New, Checking, Connected, Completed, Disconnected}
+use Rattle.is_rules.specs.Nominating.{followed, nominated_by_self, Nominates, remains, selection_of}
+use Rattle.is_rules.specs.States.{evaluated, has_nominated, has_possible, is_nominated_and_valid, next_state}
+use Rattle.is_rules.specs.Timeouts.{at_timeout, is_expired, MaintainsPairs, RemovesExpired, timeout_begun}
+use Rattle.is_theorems.proofs.BasicLemmas.EqualAddresses.{both}
+use Rattle.is_theorems.proofs.CallEffects.ServedRequests.{Has-mapped}
+use Rattle.is_theorems.proofs.PathSelection.NominationPoints.{Alike, alike_if, checked_alike, heard_alike}
+use Rattle.is_theorems.proofs.RuleEffects.NominatedPairs.{SelectsPath, selects_path}
+use Rattle.is_theorems.proofs.RuleEffects.UnchangedSettings.{either}
+
+-- ---- the next state
+
+no-case : false ≡ true → ⊥
+no-case h = cc
+
+unselected : (possible : Bool) → is_connected (if possible then Checking else Disconnected) ≡ true → ⊥
+unselected true h = no-case h
+unselected false h = no-case h
+
+connected-selected : (state : IceConnectionState) (selected possible lite : Bool) → is_connected (next_state state selected possible lite) ≡ true → selected ≡ true
+connected-selected New selected possible lite h = absurd (no-case h)
+connected-selected Checking true possible lite h = refl
+connected-selected Checking false possible lite h = absurd (unselected possible h)
+connected-selected Connected true possible lite h = refl
+connected-selected Connected false possible lite h = absurd (unselected possible h)
+connected-selected Completed true possible lite h = refl
+connected-selected Completed false possible lite h = absurd (unselected possible h)
+connected-selected Disconnected true possible lite h = refl
+connected-selected Disconnected false possible lite h = absurd (unselected possible h)
+
+-- ---- pairs
+
+any-found : (test : PairRecord → Bool) (ps : List PairRecord) → list_any test ps ≡ true → (p : PairRecord) × Has ps p × (test p ≡ true)
+any-found test [] is = absurd (no-case is)
+any-found test (p ∷ ps) is = by (test p) refl is (any-found test ps) where
+  by : (b : Bool) → test p ≡ b → (b || list_any test ps) ≡ true → (list_any test ps ≡ true → (q : PairRecord) × Has ps q × (test q ≡ true))
+      → (q : PairRecord) × Has (p ∷ ps) q × (test q ≡ true)
+  by true here h others = (p, inl refl, here)
+  by false here h others = let k = others h in (k.0, inr k.1, k.2)
+
+stays-able : (n : ℕ) (c l : Bool) (p : PairRecord) → is_nominated_and_valid p ≡ true → is_nominated_and_valid (change_at n (nominated_by_self c l) p) ≡ true
+stays-able n c l p able = at (is_numbered n p) where
+  by : (b : Bool) → is_nominated p ≡ b → b ≡ true → is_nominated_and_valid (if not b && (c || l) then nominated l p else p) ≡ true
+  by true is h = able
+  by false is h = absurd (no-case h)
+
+  self : is_nominated_and_valid (nominated_by_self c l p) ≡ true
+  self = by (is_nominated p) refl (both (is_valid p) (is_nominated p) able).1
+
+  at : (b : Bool) → is_nominated_and_valid (if b then nominated_by_self c l p else p) ≡ true
+  at true = self
+  at false = able
+
+abbrev HasNominated : List PairRecord → Type 0
+HasNominated ps = (p : PairRecord) × Has ps p × (is_nominated_and_valid p ≡ true)
+
+alike-nominated : (f : PairRecord → PairRecord) (ps : List PairRecord) → ((p : PairRecord) → Alike false p (f p)) → HasNominated ps → HasNominated (map f ps)
+alike-nominated f ps alike (p, has, able) = (f p, Has-mapped f ps p has, (alike p).eligible ∙ able)
+
+module _ {H P : Type 0} where
+  -- The agent is connected only if a pair is valid and nominated.
+  abbrev pub IsBacked : AgentRecord H P → Type 0
+  IsBacked a = is_connected a.state ≡ true → HasNominated a.pairs
+
+  abbrev Backs : AgentRecord H P → AgentRecord H P → Type 0
+  Backs old new = IsBacked old → IsBacked new
+
+  same-backs : (old new : AgentRecord H P) → new ≡ old → Backs old new
+  same-backs old new same b = subst (λ (a : AgentRecord H P). IsBacked a) (sym same) b
+
+  evaluated-backed : (now : ℕ) (a : AgentRecord H P) → IsBacked (evaluated now a)
+  evaluated-backed now a connected =
+      any-found is_nominated_and_valid a.pairs (connected-selected a.state (has_nominated a) (has_possible now a) a.lite connected)
+
+  -- ---- changes of pairs
+
+  nominates-backs : (old new : AgentRecord H P) (path : Option Path) → Nominates old path new → Backs old new
+  nominates-backs old new path h b = from (selects_path old new path h) where
+    from : SelectsPath old path new → IsBacked new
+    from (None, none, (is, same)) = same-backs old new same b
+    from (Some top, chosen, k) = either (remains (followed old) top (selection_of old)) k
+        (λ _ l. same-backs old new l.1 b)
+        (λ _ l. subst (λ (a : AgentRecord H P). IsBacked a) (sym l.1) (λ connected.
+        (let o = b connected in let f = change_at top.number (nominated_by_self old.controlling old.lite) in
+        (f o.0, Has-mapped f old.pairs o.0 o.1, stays-able top.number old.controlling old.lite o.0 o.2))))
+
+  gives-up-backs : (now : ℕ) (old new : AgentRecord H P) (path : Option Path) → RemovesExpired now old path new → Backs old new
+  gives-up-backs now old new path h b = either (list_any (is_expired now old) old.pairs) h
+      (λ _ k. subst (λ (a : AgentRecord H P). IsBacked a) (sym k.2) (evaluated-backed now k.0))
+      (λ _ k. same-backs old new k.1 b)
+
+  module _ (mac : H → List ℕ → List ℕ → List ℕ) where
+    checks-backs : (now : ℕ) (remote : Option IceCreds) (old new : AgentRecord H P) (s t : Stream) (issued : Option Issued)
+        → MayCheck mac now remote old s issued new t → Backs old new
+    checks-backs now None old new s t issued (is, made, drawn) b = same-backs old new made b
+    checks-backs now (Some peer) old new s t issued h b = either old.lite h
+        (λ _ k. subst (λ (a : AgentRecord H P). IsBacked a) (sym k.1) (λ connected.
+        alike-nominated (heard now) old.pairs (λ p. heard_alike false now p.last_request p) (b connected)))
+        (λ _ k. next k.0 k.2) where
+          asks : is_connected old.state ≡ true → HasNominated (map (asked now old.timing) old.pairs)
+          asks connected = alike-nominated (asked now old.timing) old.pairs (λ p. record { number = refl; priority = refl; eligible = refl }) (b connected)
+
+          next : (due : Option PairRecord) → ChecksTop mac now peer due (all_asked now old) s issued new t → IsBacked new
+          next None (is, made, drawn) = subst (λ (a : AgentRecord H P). IsBacked a) (sym made) asks
+          next (Some p) (id, drawn, values, is, made) = subst (λ (a : AgentRecord H P). IsBacked a) (sym made) (λ connected.
+              alike-nominated (change_at p.number (checked now old.timing old.controlling id)) (map (asked now old.timing) old.pairs)
+              (λ q. alike_if (is_numbered p.number q) false q (checked now old.timing old.controlling id q) (checked_alike false now old.timing old.controlling id q))
+              (asks connected))
+
+    -- ---- the call
+
+    pub maintained-backed : (now : ℕ) (old new : AgentRecord H P) (s t : Stream) (emitted : Emitted)
+        → MaintainsPairs mac now (timeout_begun now old) s emitted new t → IsBacked new
+    maintained-backed now old new s t emitted (first, second, issued, named, kept, nominating, giving, checking, is) =
+        let a = nominates-backs (at_timeout now (timeout_begun now old)) named first nominating (begun) in
+        checks-backs now kept.remote_creds kept new s t issued checking (gives-up-backs now named kept second giving a) where
+          begun : IsBacked (at_timeout now (timeout_begun now old))
+          begun connected = evaluated-backed now old connected

@@ -1,0 +1,5 @@
+use Rattle.is_theorems.proofs.ConnectedConsent.AnsweredCourses.{valid-have-consented}
+use Rattle.is_theorems.proofs.consent.valid_have_consented.Goals as goal
+
+pub returns : goal.returns
+returns g c = valid-have-consented _ _
