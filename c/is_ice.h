@@ -15,7 +15,7 @@
  *         `at` has passed:     is_ice_handle_timeout(&agent, now, random, sizeof random);
  *     }
  *
- * c/examples/peer.c is a complete program over UDP sockets.
+ * examples/peer.c, next to the documents, is a complete program over UDP sockets. is_ice.hpp has the calls for C++17.
  *
  * Return codes. A call returns IS_ICE_OK; or a code above 0 if there was nothing to do or to return, as IS_ICE_NOTHING;
  * or an error below 0. A call that fails leaves the agent unchanged and can be repeated, also after
@@ -39,6 +39,8 @@
  *
  * Memory comes from the program's malloc, realloc and free, through three functions that are linked with the library.
  * The comment of a call says if it does not allocate.
+ *
+ * Stack. A call needs at most 32 KiB of stack, malloc and free included (x86-64, glibc). So a thread with 64 KiB is enough.
  *
  * Threads. An agent may move between threads: any thread may use an is_ice_agent, one call at a time. The caller orders
  * the calls, by a lock, by the start or the join of a thread, or by a sequentially consistent atomic. Agents share no
@@ -94,7 +96,8 @@ enum {
     IS_ICE_BAD_LIMIT = -13,            /* a limit of 0 retransmits */
     IS_ICE_TOO_FEW_RANDOM_BYTES = -14, /* see the call */
     IS_ICE_BAD_MESSAGE = -15,          /* see is_ice_stun_write, for this and the next */
-    IS_ICE_MESSAGE_TOO_LONG = -16
+    IS_ICE_MESSAGE_TOO_LONG = -16,
+    IS_ICE_TOO_MANY_CANDIDATES = -17   /* as many candidates of the side are listed as is_ice_set_max_candidates allows */
 };
 
 /* is_ice_code_text - describes a code for a message: a zero-terminated text with static lifetime. */
@@ -121,14 +124,18 @@ static inline const char *is_ice_code_text(int32_t code)
     case IS_ICE_TOO_FEW_RANDOM_BYTES: return "too few random bytes";
     case IS_ICE_BAD_MESSAGE: return "STUN message that cannot be written";
     case IS_ICE_MESSAGE_TOO_LONG: return "STUN message or one of its texts too long";
+    case IS_ICE_TOO_MANY_CANDIDATES: return "too many candidates";
     default: return "unknown code";
     }
 }
 
 /* is_ice_version - returns the version of the library's interface. It equals IS_ICE_VERSION if this header belongs to
  * the library. It increases with each change of a name, an argument, a struct or a code. Does not allocate. */
-#define IS_ICE_VERSION 4
+#define IS_ICE_VERSION 5
 uint32_t is_ice_version(void);
+
+/* The version of the release that this header is of: 0.12 is that of the Rust crate `is` whose API it has. */
+#define IS_ICE_VERSION_TEXT "0.12.1"
 
 /* ---- types */
 
@@ -228,6 +235,7 @@ typedef struct is_ice_agent_status {
     size_t mtu;
     size_t mtu_warn;
     uint64_t ice_timeout; /* how long a pair's checks go on without a response, before the pair is removed */
+    size_t max_candidates; /* see is_ice_set_max_candidates */
 } is_ice_agent_status;
 
 /* Counters since the last restart. */
@@ -299,8 +307,12 @@ typedef struct is_ice_agent_rules {
     uint64_t triggered_checks; /* so many requests on a pair trigger a check of it */
     size_t early_retransmits;  /* so many early retransmissions without a response, */
     uint64_t early_interval;   /* and the time before each */
+    uint64_t consent_timeout;  /* so long after its last answered check a pair is removed */
     bool kinds_in_turn;        /* until a path is selected, every second check goes to the next kind of pairs */
     bool selects_at_once;      /* a controlled agent selects a valid pair when the request that nominates it arrives */
+    bool strict_consent;       /* the other agent's checks do not keep a pair */
+    bool selected_first;       /* every second check goes to the selected pair if it is due */
+    bool timeout_after_requests; /* is_ice_poll_timeout returns a time after an early request was served, too */
 } is_ice_agent_rules;
 
 /* ---- creating */
@@ -376,7 +388,7 @@ IS_ICE_QUIET_CALL int32_t is_ice_set_tie_breaker(is_ice_agent *agent, uint64_t t
  * pairs are next formed. IS_ICE_OK. Value: 100. */
 IS_ICE_QUIET_CALL int32_t is_ice_set_max_pairs(is_ice_agent *agent, size_t limit);
 
-/* No limit: see is_ice_set_max_discovered. */
+/* No limit: see is_ice_set_max_discovered and is_ice_set_max_candidates. */
 #define IS_ICE_NO_LIMIT ((size_t)-1)
 
 /* is_ice_set_max_discovered - limits how many peer-reflexive candidates packets bring of each side: requests remote
@@ -399,6 +411,13 @@ IS_ICE_QUIET_CALL int32_t is_ice_set_max_pairs(is_ice_agent *agent, size_t limit
  * limit before the first packet: a lower one removes no candidate. IS_ICE_OK. Value: 32. */
 IS_ICE_QUIET_CALL int32_t is_ice_set_max_discovered(is_ice_agent *agent, size_t limit);
 
+/* is_ice_set_max_candidates - limits how many candidates of each side there are when the program adds one, so that the
+ * other agent's signaling costs no more memory and time. If is_ice_local_candidate returns as many, is_ice_add_local
+ * fails with IS_ICE_TOO_MANY_CANDIDATES, and so does is_ice_add_remote for is_ice_remote_candidate. So candidates that
+ * packets brought count; they come without regard to this limit (is_ice_set_max_discovered is theirs). An invalidated
+ * candidate does not count. A lower limit removes no candidate. IS_ICE_OK. Value: 100. */
+IS_ICE_QUIET_CALL int32_t is_ice_set_max_candidates(is_ice_agent *agent, size_t limit);
+
 /* is_ice_set_timing_advance - sets the pacing interval Ta (RFC 8445, section 14.2): the least time from the last
  * is_ice_handle_timeout call to the next one that is_ice_poll_timeout returns. Each is_ice_handle_timeout call sends at
  * most one packet. IS_ICE_OK. Value: 50 ms. */
@@ -416,23 +435,23 @@ IS_ICE_QUIET_CALL int32_t is_ice_set_max_rto(is_ice_agent *agent, uint64_t nanos
 
 /* is_ice_set_max_retransmits - sets after how many checks in a row without a response a pair is removed. It is not
  * removed while the last of them may still be answered in time, nor within 15 s of a check of the other agent on it.
- * With the default values that is at most 29.6 s after its last answered check: within the 30 s of RFC 7675, after which
- * a browser gives it up and does not nominate it again. With 9, and 3 s by is_ice_set_max_rto, it is 24.5 s. A pair
- * without any response has its early retransmissions (is_ice_set_rules) besides. One whose nomination has no response may
- * be removed up to 0.7 s later.
+ * With the default values and few pairs that is up to 29.6 s after its last answered check; with many pairs each check
+ * waits for its turn, and the consent_timeout of is_ice_set_rules ends the pair. A pair without any response has its
+ * early retransmissions (is_ice_set_rules) besides.
  * IS_ICE_OK. IS_ICE_BAD_LIMIT: the limit is 0. Value: 11. */
 IS_ICE_CALL int32_t is_ice_set_max_retransmits(is_ice_agent *agent, size_t limit);
 
-/* is_ice_modern_rules, is_ice_original_rules - return the rules that make agents connect sooner, and those of the Rust
- * crate `is` 0.12.0, of which each is off. The first are: 4 requests trigger checks, 4 early retransmissions, each after
- * 100 ms, and both other rules. On any thread. IS_ICE_OK. */
+/* is_ice_modern_rules, is_ice_original_rules - return the rules that connect sooner and end consent in time, and those of
+ * the Rust crate `is` 0.12.0, of which each is off. The first are: 4 requests trigger checks; 4 early retransmissions,
+ * each after 100 ms; consent for 29.6 s, not strict; and each other rule is on. On any thread. IS_ICE_OK. */
 IS_ICE_QUIET_CALL int32_t is_ice_modern_rules(is_ice_agent_rules *rules);
 IS_ICE_QUIET_CALL int32_t is_ice_original_rules(is_ice_agent_rules *rules);
 
 /* is_ice_set_rules - sets what the agent does beyond the behavior of the Rust crate `is` 0.12.0. To change one rule,
  * change its field in what is_ice_rules or is_ice_modern_rules returned: a later version of this header may have further
  * fields. The other agent may have other rules. The struct is copied. is_ice_rules returns what was set, except for
- * early_interval: without early retransmissions it is 0. IS_ICE_OK. Value: is_ice_modern_rules.
+ * early_interval without early retransmissions, and strict_consent without consent_timeout: these are 0 and false.
+ * IS_ICE_OK. Value: is_ice_modern_rules.
  *
  * kinds_in_turn: until a path is selected, every second check goes to the next kind of pairs, and the others to the pair
  * that is due first, as without the rule (RFC 8445, section 6.1.4.2). So a path through NATs is found soon, however many
@@ -451,7 +470,18 @@ IS_ICE_QUIET_CALL int32_t is_ice_original_rules(is_ice_agent_rules *rules);
  * path sooner on a network that loses packets, and sends more on one with long delays.
  *
  * selects_at_once: a controlled agent selects a pair in the is_ice_handle_packet call of the request that nominates it,
- * if the pair was valid before (RFC 8445, section 7.3.1.5), and not only in the next is_ice_handle_timeout call. */
+ * if the pair was valid before (RFC 8445, section 7.3.1.5), and not only in the next is_ice_handle_timeout call.
+ *
+ * consent_timeout: a pair is removed so long after its last check that got a response was sent, however many pairs there
+ * are (RFC 7675, section 5.1). Unless strict_consent is true, the other agent's checks keep the pair too, each for 15 s.
+ * is_ice_poll_timeout returns a time no later than this end, except for pacing. What removes a pair without this rule
+ * still does. A browser gives a path up after 30 s, and does not nominate it again. 0: no such rule.
+ *
+ * selected_first: every second check may go to the selected pair, if it is due, before all others. So its consent is
+ * renewed in time, however many pairs there are.
+ *
+ * timeout_after_requests: is_ice_poll_timeout returns a time after each is_ice_handle_timeout call that returned
+ * IS_ICE_OK. Without this rule it returns IS_ICE_NOTHING until one of these has served no early request. */
 IS_ICE_QUIET_CALL int32_t is_ice_set_rules(is_ice_agent *agent, const is_ice_agent_rules *rules);
 
 /* is_ice_set_mtu - stores how long a packet may be, and the length to warn about; is_ice_status returns both.
@@ -499,9 +529,10 @@ IS_ICE_CALL int32_t is_ice_set_remote_credentials(
  *
  * IS_ICE_OK: added; *index is its index, at which is_ice_local_candidate returns its text. IS_ICE_NOTHING: it is
  * redundant, or the agent is lite and it is not a host candidate; *index is the index of the first local candidate that
- * has its address, base and protocol, or IS_ICE_NO_INDEX. After an error *index is unchanged. IS_ICE_BAD_ADDRESS: an
- * unknown family, kind, protocol or TCP type, or a TCP type over UDP. IS_ICE_BAD_CANDIDATE: an address that no candidate
- * may have, or a server-reflexive candidate whose base has another IP version (is_ice_candidate_refusal says which).
+ * has its address, base and protocol, or IS_ICE_NO_INDEX. After an error *index is unchanged.
+ * IS_ICE_TOO_MANY_CANDIDATES: see is_ice_set_max_candidates; nothing else is looked at. IS_ICE_BAD_ADDRESS: an unknown
+ * family, kind, protocol or TCP type, or a TCP type over UDP. IS_ICE_BAD_CANDIDATE: an address that no candidate may
+ * have, or a server-reflexive candidate whose base has another IP version (is_ice_candidate_refusal says which).
  * IS_ICE_PRIORITY_TOO_HIGH. IS_ICE_PAIR_IDS_EXHAUSTED. IS_ICE_OUT_OF_MEMORY. */
 IS_ICE_CALL int32_t is_ice_add_local(is_ice_agent *agent, const is_ice_candidate *candidate, size_t *index);
 
@@ -519,8 +550,9 @@ IS_ICE_CALL int32_t is_ice_add_local(is_ice_agent *agent, const is_ice_candidate
  * IS_ICE_OK: added; *index is its index, at which is_ice_remote_candidate returns its text. IS_ICE_NOTHING: a pair has an
  * equal one; *index is the index of the first remote candidate that equals it in address, base, protocol, kind and related
  * address, or IS_ICE_NO_INDEX. IS_ICE_OTHER_COMPONENT, IS_ICE_OTHER_UFRAG: ignored for that; *index is IS_ICE_NO_INDEX.
- * After an error *index is unchanged. IS_ICE_NOT_UTF8. IS_ICE_BAD_CANDIDATE: it is not a candidate
- * (is_ice_line_refusal says why). IS_ICE_PAIR_IDS_EXHAUSTED. IS_ICE_OUT_OF_MEMORY. */
+ * After an error *index is unchanged. IS_ICE_TOO_MANY_CANDIDATES: see is_ice_set_max_candidates; nothing else is looked
+ * at. IS_ICE_NOT_UTF8. IS_ICE_BAD_CANDIDATE: it is not a candidate (is_ice_line_refusal says why).
+ * IS_ICE_PAIR_IDS_EXHAUSTED. IS_ICE_OUT_OF_MEMORY. */
 IS_ICE_CALL int32_t is_ice_add_remote(is_ice_agent *agent, const uint8_t *line, size_t length, size_t *index);
 
 /* is_ice_invalidate_local - removes a candidate and its pairs, as when an interface is gone: the local candidate that
@@ -641,8 +673,8 @@ IS_ICE_CALL int32_t is_ice_line_to_json(
  * empty `candidate`, is IS_ICE_BAD_CANDIDATE.
  *
  * IS_ICE_OK. IS_ICE_NOT_UTF8. IS_ICE_BAD_CANDIDATE: not JSON, no object, without a candidate, with one that is not one,
- * or a username fragment that is not one word (is_ice_json_refusal says which). IS_ICE_BUFFER_TOO_SHORT.
- * IS_ICE_OUT_OF_MEMORY. */
+ * a username fragment that is not one word, or more than 8 opening brackets, '[' and '{', also within strings
+ * (is_ice_json_refusal says which). IS_ICE_BUFFER_TOO_SHORT. IS_ICE_OUT_OF_MEMORY. */
 IS_ICE_CALL int32_t is_ice_line_from_json(
     const uint8_t *json, size_t json_length, uint8_t *buffer, size_t size, size_t *length);
 
@@ -710,11 +742,12 @@ IS_ICE_CALL int32_t is_ice_accepts_message(is_ice_agent *agent, const uint8_t *b
 /* is_ice_poll_timeout - returns the time at which to call is_ice_handle_timeout next. A later call only adds its delay.
  *
  * Call it before packets are polled. While a packet or an early request is queued, the time is one Ta after the last
- * is_ice_handle_timeout call, and at that call a controlled agent selects its pair. After packets were polled, it is
- * the time of the next check. A packet for which the buffer was too short does not count as queued here. Does not
- * allocate.
+ * is_ice_handle_timeout call. At that call the state follows, and without the rule selects_at_once a controlled agent
+ * selects its pair. After packets were polled, it is the time of the next check, or of the end of consent, if that is
+ * sooner. A packet for which the buffer was too short does not count as queued here. Does not allocate.
  *
- * IS_ICE_OK: *at is the time. IS_ICE_NOTHING: is_ice_handle_timeout was not called yet; *at is unchanged. */
+ * IS_ICE_OK: *at is the time. IS_ICE_NOTHING: no is_ice_handle_timeout call has returned IS_ICE_OK yet (see also
+ * timeout_after_requests of is_ice_set_rules); *at is unchanged. */
 IS_ICE_CALL int32_t is_ice_poll_timeout(is_ice_agent *agent, uint64_t *at);
 
 /* is_ice_poll_transmit - returns the next packet to send and removes it from the agent. Its bytes are at the start of
@@ -982,13 +1015,13 @@ IS_ICE_SIZE(is_ice_candidate, 60);
 IS_ICE_SIZE(is_ice_fields, 120);
 IS_ICE_SIZE(is_ice_packet, 72);
 IS_ICE_SIZE(is_ice_event, 68);
-IS_ICE_SIZE(is_ice_agent_status, 32);
+IS_ICE_SIZE(is_ice_agent_status, 40);
 IS_ICE_SIZE(is_ice_agent_stats, 40);
 IS_ICE_SIZE(is_ice_nominated_pair, 88);
 IS_ICE_SIZE(is_ice_pair, 96);
 IS_ICE_SIZE(is_ice_kind_preferences, 8);
 IS_ICE_SIZE(is_ice_preference_table, 16);
-IS_ICE_SIZE(is_ice_agent_rules, 32);
+IS_ICE_SIZE(is_ice_agent_rules, 40);
 IS_ICE_SIZE(is_ice_stun_transaction, 12);
 IS_ICE_SIZE(is_ice_stun_result, 32);
 IS_ICE_SIZE(is_ice_stun_number, 16);

@@ -68,7 +68,8 @@ static void set_number(void)
 
 static void set_limit(void)
 {
-    static int32_t (*const calls[])(is_ice_agent *, size_t) = {is_ice_set_max_pairs, is_ice_set_max_discovered, is_ice_set_max_retransmits};
+    static int32_t (*const calls[])(is_ice_agent *, size_t) = {is_ice_set_max_pairs, is_ice_set_max_discovered, is_ice_set_max_retransmits,
+        is_ice_set_max_candidates};
     which = below(COUNT(calls));
     size_t value = (size_t)number();
     CALL((which == 2 && value == 0 ? BAD_LIMIT : OK) | QUIET, calls[which](agents[on], value));
@@ -97,9 +98,11 @@ static void set_preference(void)
 static bool is_read(const is_ice_agent_rules *given, const is_ice_agent_rules *told)
 {
     uint64_t interval = given->early_retransmits > 0 ? given->early_interval : 0;
+    bool strict = given->consent_timeout > 0 && given->strict_consent;
     return told->kinds_in_turn == given->kinds_in_turn && told->selects_at_once == given->selects_at_once
         && told->triggered_checks == given->triggered_checks && told->early_retransmits == given->early_retransmits
-        && told->early_interval == interval;
+        && told->early_interval == interval && told->consent_timeout == given->consent_timeout && told->strict_consent == strict
+        && told->selected_first == given->selected_first && told->timeout_after_requests == given->timeout_after_requests;
 }
 
 /* Sets the rules of the original, those of a new agent, or each rule to a value of its own, and reads them. */
@@ -113,7 +116,8 @@ static void set_rules(void)
     else if (kind % 4 == 1) CALL(OK | QUIET, is_ice_modern_rules(given));
     else {
         given->triggered_checks = number(), given->early_retransmits = (size_t)number(), given->early_interval = number();
-        given->kinds_in_turn = one_in(2), given->selects_at_once = one_in(2);
+        given->consent_timeout = number(), given->kinds_in_turn = one_in(2), given->selects_at_once = one_in(2);
+        given->strict_consent = one_in(2), given->selected_first = one_in(2), given->timeout_after_requests = one_in(2);
     }
     on = agent;
     if (CALL(OK | QUIET, is_ice_set_rules(agents[on], given)) != IS_ICE_OK) return;
@@ -148,7 +152,8 @@ static void add_local(void)
 {
     const is_ice_candidate *candidate = candidate_argument();
     size_t *index = argument(sizeof *index);
-    int32_t code = CALL(OK | NOTHING | BAD_ADDRESS | BAD_CANDIDATE | PRIORITY | NO_IDS, is_ice_add_local(agents[on], candidate, index));
+    int32_t code = CALL(OK | NOTHING | TOO_MANY | BAD_ADDRESS | BAD_CANDIDATE | PRIORITY | NO_IDS,
+        is_ice_add_local(agents[on], candidate, index));
     if (code < 0) filled(code, index, sizeof *index);
 }
 
@@ -156,7 +161,7 @@ static void add_remote(void)
 {
     struct bytes text = line();
     size_t *index = argument(sizeof *index);
-    int32_t code = CALL(OK | NOTHING | OTHER | NOT_UTF8 | BAD_CANDIDATE | NO_IDS,
+    int32_t code = CALL(OK | NOTHING | OTHER | TOO_MANY | NOT_UTF8 | BAD_CANDIDATE | NO_IDS,
         is_ice_add_remote(agents[on], text.bytes, text.length, index));
     if (code < 0) filled(code, index, sizeof *index);
 }
@@ -296,9 +301,10 @@ static void line_fields(void)
         is_ice_line_fields(text.bytes, text.length, o.bytes, o.size, o.length, fields));
     written_fields(code, o, fields);
     on = agent;
-    int32_t added = CALL(OK | NOTHING | OTHER | NOT_UTF8 | BAD_CANDIDATE | NO_IDS,
+    int32_t added = CALL(OK | NOTHING | OTHER | TOO_MANY | NOT_UTF8 | BAD_CANDIDATE | NO_IDS,
         is_ice_add_remote(agents[on], text.bytes, text.length, index));
-    if (code == IS_ICE_OUT_OF_MEMORY || added == IS_ICE_OUT_OF_MEMORY || added == IS_ICE_NO_AGENT) return;
+    if (code == IS_ICE_OUT_OF_MEMORY || added == IS_ICE_OUT_OF_MEMORY || added == IS_ICE_NO_AGENT || added == IS_ICE_TOO_MANY_CANDIDATES)
+        return;
     bool is_candidate = code == IS_ICE_OK || code == IS_ICE_BUFFER_TOO_SHORT;
     if (is_candidate == (added == IS_ICE_BAD_CANDIDATE || added == IS_ICE_NOT_UTF8))
         stop("the agent reads another text than is_ice_line_fields");

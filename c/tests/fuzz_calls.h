@@ -84,14 +84,14 @@ static const char *const passwords[AGENTS] = {"password of the left one", "passw
 
 /* What queries say of an agent. */
 struct view {
-    uint64_t values[27];
+    uint64_t values[30];
 };
 
 /* A code as the number of a bit. */
 static unsigned bit_of(int32_t code)
 {
-    if (code > IS_ICE_OTHER_UFRAG || code < IS_ICE_MESSAGE_TOO_LONG) stop("there is no such code");
-    return code > IS_ICE_OK ? 16 + (unsigned)code : (unsigned)-code;
+    if (code > IS_ICE_OTHER_UFRAG || code < IS_ICE_TOO_MANY_CANDIDATES) stop("there is no such code");
+    return code > IS_ICE_OK ? 17 + (unsigned)code : (unsigned)-code;
 }
 
 static void view(is_ice_agent *agent, struct view *v)
@@ -106,10 +106,11 @@ static void view(is_ice_agent *agent, struct view *v)
     if (is_ice_status(agent, &status) != IS_ICE_OK) return;
     uint64_t timeout = 0, *to = v->values;
     *to++ = (uint64_t)status.state, *to++ = status.controlling, *to++ = status.lite, *to++ = status.mtu, *to++ = status.mtu_warn;
-    *to++ = status.ice_timeout;
+    *to++ = status.ice_timeout, *to++ = status.max_candidates;
     if (is_ice_rules(agent, &rules) == IS_ICE_OK) {
         *to++ = rules.triggered_checks, *to++ = rules.early_retransmits, *to++ = rules.early_interval;
-        *to++ = (uint64_t)rules.kinds_in_turn * 2 + rules.selects_at_once;
+        *to++ = (uint64_t)rules.kinds_in_turn * 2 + rules.selects_at_once, *to++ = rules.consent_timeout;
+        *to++ = (uint64_t)rules.strict_consent * 4 + (uint64_t)rules.selected_first * 2 + rules.timeout_after_requests;
     }
     if (is_ice_stats(agent, &stats) == IS_ICE_OK) {
         *to++ = stats.bind_request_sent, *to++ = stats.bind_success_recv, *to++ = stats.bind_request_recv;
@@ -140,8 +141,8 @@ static bool is_utf8(const uint8_t *text, size_t length)
 
 enum {
     OK = 1u << 0,
-    NOTHING = 1u << 17,
-    OTHER = 1u << 18 | 1u << 19, /* of another component, or of another username fragment */
+    NOTHING = 1u << 18,
+    OTHER = 1u << 19 | 1u << 20, /* of another component, or of another username fragment */
     HAS_AGENT = 1u << 2,
     NOT_UTF8 = 1u << 3,
     BAD_ADDRESS = 1u << 4,
@@ -156,9 +157,10 @@ enum {
     FEW_RANDOM = 1u << 14,
     BAD_MESSAGE = 1u << 15,
     TOO_LONG = 1u << 16,
-    QUIET = 1u << 20, /* the call does not allocate */
-    QUERY = 1u << 21, /* nor change the agent */
-    MOVES = 1u << 22  /* IS_ICE_BUFFER_TOO_SHORT takes the packet out of those for which is_ice_poll_timeout returns an early time */
+    TOO_MANY = 1u << 17,
+    QUIET = 1u << 21, /* the call does not allocate */
+    QUERY = 1u << 22, /* nor change the agent */
+    MOVES = 1u << 23  /* IS_ICE_BUFFER_TOO_SHORT takes the packet out of those for which is_ice_poll_timeout returns an early time */
 };
 
 static struct view before;

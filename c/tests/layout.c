@@ -33,6 +33,7 @@ static void offsets(void)
     AT(is_ice_event, state, 60), AT(is_ice_event, protocol, 64);
     AT(is_ice_agent_status, state, 0), AT(is_ice_agent_status, controlling, 4), AT(is_ice_agent_status, lite, 5);
     AT(is_ice_agent_status, mtu, 8), AT(is_ice_agent_status, mtu_warn, 16), AT(is_ice_agent_status, ice_timeout, 24);
+    AT(is_ice_agent_status, max_candidates, 32);
     AT(is_ice_agent_stats, bind_request_sent, 0), AT(is_ice_agent_stats, bind_success_recv, 8);
     AT(is_ice_agent_stats, bind_request_recv, 16), AT(is_ice_agent_stats, discovered_recv_count, 24);
     AT(is_ice_agent_stats, nomination_send_count, 32);
@@ -48,7 +49,9 @@ static void offsets(void)
     AT(is_ice_kind_preferences, server_reflexive, 4), AT(is_ice_kind_preferences, relayed, 6);
     AT(is_ice_preference_table, v4, 0), AT(is_ice_preference_table, v6, 8);
     AT(is_ice_agent_rules, triggered_checks, 0), AT(is_ice_agent_rules, early_retransmits, 8);
-    AT(is_ice_agent_rules, early_interval, 16), AT(is_ice_agent_rules, kinds_in_turn, 24), AT(is_ice_agent_rules, selects_at_once, 25);
+    AT(is_ice_agent_rules, early_interval, 16), AT(is_ice_agent_rules, consent_timeout, 24);
+    AT(is_ice_agent_rules, kinds_in_turn, 32), AT(is_ice_agent_rules, selects_at_once, 33), AT(is_ice_agent_rules, strict_consent, 34);
+    AT(is_ice_agent_rules, selected_first, 35), AT(is_ice_agent_rules, timeout_after_requests, 36);
 }
 
 static is_ice_agent made(void)
@@ -67,20 +70,23 @@ static void settings(void)
     memset(&s, 0xaa, sizeof s);
     HOLD(is_ice_status(&agent, &s) == IS_ICE_OK);
     HOLD(s.state == IS_ICE_NEW && !s.controlling && !s.lite);
-    HOLD(s.mtu == 1150 && s.mtu_warn == 1280 && s.ice_timeout == UINT64_C(26700000000));
+    HOLD(s.mtu == 1150 && s.mtu_warn == 1280 && s.ice_timeout == UINT64_C(26700000000) && s.max_candidates == 100);
     HOLD(is_ice_set_controlling(&agent, true) == IS_ICE_OK && is_ice_set_mtu(&agent, 600, 700) == IS_ICE_OK);
     HOLD(is_ice_set_max_retransmits(&agent, 2) == IS_ICE_OK && is_ice_set_max_rto(&agent, 400000000) == IS_ICE_OK);
     HOLD(is_ice_status(&agent, &s) == IS_ICE_OK);
     HOLD(s.controlling && !s.lite && s.mtu == 600 && s.mtu_warn == 700 && s.ice_timeout == 800000000);
     HOLD(is_ice_set_controlling(&agent, false) == IS_ICE_OK && is_ice_set_lite(&agent, true) == IS_ICE_OK);
-    HOLD(is_ice_status(&agent, &s) == IS_ICE_OK && !s.controlling && s.lite);
+    HOLD(is_ice_set_max_candidates(&agent, 5) == IS_ICE_OK);
+    HOLD(is_ice_status(&agent, &s) == IS_ICE_OK && !s.controlling && s.lite && s.max_candidates == 5);
     is_ice_agent_free(&agent);
 }
 
 static bool same_rules(const is_ice_agent_rules *a, const is_ice_agent_rules *b)
 {
     return a->triggered_checks == b->triggered_checks && a->early_retransmits == b->early_retransmits
-        && a->early_interval == b->early_interval && a->kinds_in_turn == b->kinds_in_turn && a->selects_at_once == b->selects_at_once;
+        && a->early_interval == b->early_interval && a->consent_timeout == b->consent_timeout && a->kinds_in_turn == b->kinds_in_turn
+        && a->selects_at_once == b->selects_at_once && a->strict_consent == b->strict_consent && a->selected_first == b->selected_first
+        && a->timeout_after_requests == b->timeout_after_requests;
 }
 
 /* is_ice_agent_rules: what is set is read. */
@@ -99,8 +105,10 @@ static void rules(void)
     memset(&modern, 0, sizeof modern), memset(&original, 0xff, sizeof original), memset(&r, 0, sizeof r);
     HOLD(is_ice_modern_rules(&modern) == IS_ICE_OK && modern.kinds_in_turn && modern.triggered_checks == 4);
     HOLD(modern.early_retransmits == 4 && modern.early_interval == 100000000 && modern.selects_at_once);
+    HOLD(modern.consent_timeout == 29600000000 && !modern.strict_consent && modern.selected_first && modern.timeout_after_requests);
     HOLD(is_ice_original_rules(&original) == IS_ICE_OK && !original.kinds_in_turn && original.triggered_checks == 0);
     HOLD(original.early_retransmits == 0 && original.early_interval == 0 && !original.selects_at_once);
+    HOLD(original.consent_timeout == 0 && !original.strict_consent && !original.selected_first && !original.timeout_after_requests);
     HOLD(is_ice_rules(&agent, &r) == IS_ICE_OK && same_rules(&r, &modern));
     keeps_rules(&agent, &original), keeps_rules(&agent, &modern);
     r = original, r.kinds_in_turn = true, keeps_rules(&agent, &r);
@@ -108,7 +116,11 @@ static void rules(void)
     r = original, r.early_retransmits = SIZE_MAX, keeps_rules(&agent, &r);
     r.early_interval = UINT64_MAX, keeps_rules(&agent, &r);
     r = original, r.selects_at_once = true, keeps_rules(&agent, &r);
-    r = original, r.early_interval = 7;
+    r = original, r.consent_timeout = UINT64_MAX, keeps_rules(&agent, &r);
+    r.strict_consent = true, keeps_rules(&agent, &r);
+    r = original, r.selected_first = true, keeps_rules(&agent, &r);
+    r = original, r.timeout_after_requests = true, keeps_rules(&agent, &r);
+    r = original, r.early_interval = 7, r.strict_consent = true;
     HOLD(is_ice_set_rules(&agent, &r) == IS_ICE_OK && is_ice_rules(&agent, &r) == IS_ICE_OK && same_rules(&r, &original));
     is_ice_agent_free(&agent);
     r = modern;

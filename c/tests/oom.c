@@ -115,6 +115,7 @@ static void introduce(struct story *s)
     QUIET(IS_ICE_OK, is_ice_set_tie_breaker(&s->b, 5));
     QUIET(IS_ICE_OK, is_ice_set_max_pairs(&s->b, 100));
     QUIET(IS_ICE_OK, is_ice_set_max_discovered(&s->b, 32));
+    QUIET(IS_ICE_OK, is_ice_set_max_candidates(&s->b, 100));
     QUIET(IS_ICE_OK, is_ice_set_timing_advance(&s->b, 50000000));
     QUIET(IS_ICE_OK, is_ice_set_initial_rto(&s->b, 250000000));
     QUIET(IS_ICE_OK, is_ice_set_max_rto(&s->b, UINT64_C(2900000000)));

@@ -1,9 +1,8 @@
 /* Measures how many bytes of stack each call of is_ice.h needs, and shows that a thread with 64 KiB is enough for them.
  *
  * A story makes every call in several situations, on a thread with a stack of its own. Before each call the stack below it is
- * painted, and afterwards the lowest word that has changed counts. That includes what malloc, realloc and free need. The story
- * first plays on a thread with 64 KiB, without JSON that has nested members, and then on one with 512 KiB. Each need is at most
- * MOST, except that of the two calls that read JSON. */
+ * painted, and afterwards the lowest word that has changed counts. That includes what malloc, realloc and free need. Each
+ * need is at most MOST, and the thread has twice as much, which the story needs too. */
 #define _GNU_SOURCE
 #include "measuring.h"
 #include <pthread.h>
@@ -12,7 +11,6 @@
 enum {
     LEAST = 32, /* words that are not painted: a call counts as needing 256 bytes at least */
     SMALL = 64 * 1024,
-    LARGE = 512 * 1024,
     MOST = 32 * 1024,
     HOSTS = 10,       /* of each agent: 100 pairs, the limit of a new agent */
     NAMES = 128,
@@ -66,7 +64,6 @@ struct story {
     is_ice_agent a, b;
     uint64_t now;
     uint8_t count;    /* random bytes are made of it */
-    bool is_nested;   /* with JSON that has nested members */
     struct message last;
 };
 
@@ -108,6 +105,7 @@ static void set(struct story *s)
     CALL(IS_ICE_OK, is_ice_set_tie_breaker(&s->b, 5));
     CALL(IS_ICE_OK, is_ice_set_max_pairs(&s->b, HOSTS * HOSTS));
     CALL(IS_ICE_OK, is_ice_set_max_discovered(&s->b, LIMIT));
+    CALL(IS_ICE_OK, is_ice_set_max_candidates(&s->b, 4 * HOSTS));
     CALL(IS_ICE_OK, is_ice_set_timing_advance(&s->b, 50 * MS));
     CALL(IS_ICE_OK, is_ice_set_initial_rto(&s->b, 250 * MS));
     CALL(IS_ICE_OK, is_ice_set_max_rto(&s->b, 3 * SECOND));
@@ -356,15 +354,14 @@ static void *tell(void *told)
     messages(s);
     json_without_nesting();
     change(s);
-    if (!s->is_nested) return told;
-    static const size_t levels[] = {1, 8, 64, 100, 120, 126, 127, 128, NESTED};
+    static const size_t levels[] = {1, 3, 5, 6, 7, 8, 9, 126, 127, 128, NESTED};
     for (size_t i = 0; i < sizeof levels / sizeof *levels; i++)
         read_nested("[", "]", levels[i]), read_nested("{\"a\":", "}", levels[i]), read_nested("[1,", "]", levels[i]);
     return told;
 }
 
 /* Tells the story on a thread with a stack of this size. */
-static void run(size_t size, bool is_nested)
+static void run(size_t size)
 {
     static struct story s;
     pthread_attr_t attributes;
@@ -373,23 +370,16 @@ static void run(size_t size, bool is_nested)
     uint8_t *at = mmap(NULL, size + fence, PROT_READ | PROT_WRITE, MAP_PRIVATE | MAP_ANONYMOUS, -1, 0);
     if (at == MAP_FAILED || mprotect(at, fence, PROT_NONE) != 0) fail("stack", "no memory");
     memset(&s, 0, sizeof s);
-    s.now = 60 * SECOND, s.is_nested = is_nested, low = (uint64_t *)(void *)(at + fence);
+    s.now = 60 * SECOND, low = (uint64_t *)(void *)(at + fence);
     if (pthread_attr_init(&attributes) != 0 || pthread_attr_setstack(&attributes, low, size) != 0) fail("stack", "no thread may have it");
     if (pthread_create(&thread, &attributes, tell, &s) != 0 || pthread_join(thread, NULL) != 0) fail("stack", "no thread");
     munmap(at, size + fence);
 }
 
-static bool reads_json(const char *name)
-{
-    return strcmp(name, "is_ice_line_from_json") == 0 || strcmp(name, "is_ice_json_refusal") == 0;
-}
-
-/* The greatest need of a call that reads no JSON. */
 static size_t greatest(void)
 {
     size_t most = 0;
     for (size_t i = 0; i < need_count; i++) {
-        if (reads_json(needs[i].name)) continue;
         if (needs[i].need > MOST) fail(needs[i].name, "it needs more than 32 KiB of stack");
         if (needs[i].need > most) most = needs[i].need;
     }
@@ -398,12 +388,9 @@ static size_t greatest(void)
 
 int main(void)
 {
-    run(SMALL, false);
-    for (size_t i = 0; i < need_count; i++)
-        if (reads_json(needs[i].name)) printf("%s without nested members: %zu bytes\n", needs[i].name, needs[i].need);
-    run(LARGE, true);
+    run(SMALL);
     for (size_t i = 0; i < need_count; i++) printf("%7zu  %s\n", needs[i].need, needs[i].name);
     size_t most = greatest();
-    printf("%zu calls on a stack of 64 KiB; at most %zu bytes, without JSON\n", need_count, most);
+    printf("%zu calls on a stack of 64 KiB; at most %zu bytes\n", need_count, most);
     return 0;
 }

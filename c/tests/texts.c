@@ -64,6 +64,18 @@ static void refusals(void)
     HOLD(is_ice_json_refusal(TEXT("\xff"), buffer, sizeof buffer, &length) == IS_ICE_NOT_UTF8);
 }
 
+/* Eight opening brackets, of which seven are the value of "x"; and one more, in a string. */
+static void brackets(void)
+{
+    static const char eight[] = "{\"candidate\":\"candidate:1 1 udp 7 10.0.0.9 9 typ host\",\"x\":[{\"y\":[[[[[]]]]]}]}";
+    static const char nine[] = "{\"candidate\":\"candidate:1 1 udp 7 10.0.0.9 9 typ host x [\",\"x\":[{\"y\":[[[[[]]]]]}]}";
+    HOLD(is_ice_line_from_json(TEXT(eight), buffer, sizeof buffer, &length) == IS_ICE_OK);
+    HOLD(holds_text("candidate:1 1 udp 7 10.0.0.9 9 typ host"));
+    HOLD(is_ice_line_from_json(TEXT(nine), buffer, sizeof buffer, &length) == IS_ICE_BAD_CANDIDATE);
+    HOLD(is_ice_json_refusal(TEXT(nine), buffer, sizeof buffer, &length) == IS_ICE_OK);
+    HOLD(holds_text("candidate info has more than 8 opening brackets"));
+}
+
 static void lines(void)
 {
     /* RFC 8445, section 5.1.2.1: 126 * 2^24 + 65534 * 2^8 + 255 over UDP. */
@@ -124,12 +136,41 @@ static void pairs(void)
     is_ice_agent_free(&agent);
 }
 
+/* At the limit none is added to either side, and the agent is as before; an invalidated candidate makes room. */
+static void limits(void)
+{
+    is_ice_candidate host = {{4, {10, 0, 0, 1}, 1000, 0, 0}, {4, {10, 0, 0, 1}, 1000, 0, 0}, IS_ICE_HOST, IS_ICE_UDP, 0};
+    is_ice_agent agent = {false, NULL};
+    size_t index = 9;
+    HOLD(is_ice_set_max_candidates(&agent, 1) == IS_ICE_NO_AGENT);
+    HOLD(is_ice_agent_new(&agent, TEXT("near"), TEXT("nearpass"), 7) == IS_ICE_OK);
+    for (uint16_t i = 0; i < 100; i++) {
+        host.address.port = (uint16_t)(1000 + i);
+        HOLD(is_ice_add_local(&agent, &host, &index) == IS_ICE_OK && index == i);
+    }
+    host.address.port = 999;
+    HOLD(is_ice_add_local(&agent, &host, &index) == IS_ICE_TOO_MANY_CANDIDATES && index == 99);
+    HOLD(is_ice_local_candidate(&agent, 100, buffer, sizeof buffer, &length) == IS_ICE_NOTHING);
+    HOLD(is_ice_add_remote(&agent, TEXT(line), &index) == IS_ICE_OK && index == 0);
+    HOLD(is_ice_set_max_candidates(&agent, 1) == IS_ICE_OK);
+    HOLD(is_ice_add_remote(&agent, TEXT("candidate:1 1 udp 7 192.0.2.1 1 typ host"), &index) == IS_ICE_TOO_MANY_CANDIDATES && index == 0);
+    HOLD(is_ice_add_remote(&agent, TEXT("\xff"), &index) == IS_ICE_TOO_MANY_CANDIDATES);
+    HOLD(is_ice_remote_candidate(&agent, 1, buffer, sizeof buffer, &length) == IS_ICE_NOTHING);
+    HOLD(is_ice_invalidate(&agent, TEXT(line)) == IS_ICE_OK);
+    HOLD(is_ice_add_remote(&agent, TEXT("candidate:1 1 udp 7 192.0.2.1 1 typ host"), &index) == IS_ICE_OK && index == 0);
+    HOLD(is_ice_set_max_candidates(&agent, IS_ICE_NO_LIMIT) == IS_ICE_OK);
+    HOLD(is_ice_add_local(&agent, &host, &index) == IS_ICE_OK && index == 100);
+    is_ice_agent_free(&agent);
+}
+
 int main(void)
 {
     json();
     refusals();
+    brackets();
     lines();
     preferences();
     pairs();
+    limits();
     return 0;
 }

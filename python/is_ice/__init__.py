@@ -1,9 +1,11 @@
 """A proved ICE agent (RFC 8445) for Python: a class over the C interface.
 
 The agent has no sockets, threads or clocks. The caller passes in the time, candidates and datagrams. The agent returns
-packets to send, events, and the time of its next timeout. `python/README.md` shows the loop, and `python/peer.py` is a program
-over UDP sockets.
+packets to send, events, and the time of its next timeout. README.md shows the loop, and `peer.py` is a program over UDP
+sockets: both are in `python/` of a clone, and in `share/doc/is_ice/` of an environment that has the wheel.
 """
+
+__version__ = "0.12.1"
 
 from .address import Protocol, SocketAddress
 from .agent import IceAgent, new_creds
@@ -24,6 +26,7 @@ from .errors import (
     PairIdsExhausted,
     PriorityTooHigh,
     TooFewRandomBytes,
+    TooManyCandidates,
     Unparsed,
 )
 from .events import (
@@ -53,14 +56,15 @@ from .lines import (
     line_with_address,
     line_with_ufrag,
 )
-from .rules import EarlyRto, Rules
+from .rules import Consent, EarlyRto, Rules
 
 __all__ = [
     "AddResult", "BadAddress", "BadCandidate", "BadLimit", "BadMessage", "Candidate", "CandidateFields", "CandidateKind", "CandidatePair",
-    "CheckState", "CredentialsTooLong", "DiscoveredRecv", "EarlyRto", "HasAgent", "IceAgent", "IceAgentEvent", "IceAgentStats",
+    "CheckState", "Consent", "CredentialsTooLong", "DiscoveredRecv", "EarlyRto", "HasAgent", "IceAgent", "IceAgentEvent", "IceAgentStats",
     "IceConnectionState", "IceConnectionStateChange",
     "IceCreds", "IceError", "IceRestart", "KindPreferences", "MessageTooLong", "MtuTooSmall", "NoAgent", "NominatedPair", "NominatedSend",
     "NotUtf8", "OutOfMemory", "PairIdsExhausted", "PriorityTooHigh", "Protocol", "Rules", "SocketAddress", "TcpType",
-    "TooFewRandomBytes", "Transmit", "Unparsed", "candidate_fields", "candidate_line", "default_local_preference", "has_mdns_name",
-    "line_fields", "line_from_json", "line_name", "line_refusal", "line_to_json", "line_with_address", "line_with_ufrag", "new_creds",
+    "TooFewRandomBytes", "TooManyCandidates", "Transmit", "Unparsed", "candidate_fields", "candidate_line", "default_local_preference",
+    "has_mdns_name", "line_fields", "line_from_json", "line_name", "line_refusal", "line_to_json", "line_with_address", "line_with_ufrag",
+    "new_creds",
 ]

@@ -7,7 +7,7 @@ import os
 from ctypes import POINTER, c_bool, c_char_p, c_int32, c_size_t, c_uint8, c_uint16, c_uint32, c_uint64, c_void_p
 from pathlib import Path
 
-VERSION = 4
+VERSION = 5
 NAME = "libis_ice.so"
 CREDENTIALS_RANDOM = 38
 TIMEOUT_RANDOM = 12
@@ -75,6 +75,7 @@ class Status(ctypes.Structure):
         ("mtu", c_size_t),
         ("mtu_warn", c_size_t),
         ("ice_timeout", c_uint64),
+        ("max_candidates", c_size_t),
     ]
 
 
@@ -146,8 +147,12 @@ class AgentRules(ctypes.Structure):
         ("triggered_checks", c_uint64),
         ("early_retransmits", c_size_t),
         ("early_interval", c_uint64),
+        ("consent_timeout", c_uint64),
         ("kinds_in_turn", c_bool),
         ("selects_at_once", c_bool),
+        ("strict_consent", c_bool),
+        ("selected_first", c_bool),
+        ("timeout_after_requests", c_bool),
     ]
 
 
@@ -206,8 +211,8 @@ class StunTexts(ctypes.Structure):
 
 
 # The sizes of the structs that c/is_ice.h asserts.
-SIZES = {Agent: 16, Address: 28, Candidate: 60, Fields: 120, Packet: 72, Event: 68, Status: 32, Stats: 40, Nominated: 88, Pair: 96,
-         KindPreferences: 8, PreferenceTable: 16, AgentRules: 32, StunTransaction: 12, StunResult: 32, StunNumber: 16,
+SIZES = {Agent: 16, Address: 28, Candidate: 60, Fields: 120, Packet: 72, Event: 68, Status: 40, Stats: 40, Nominated: 88, Pair: 96,
+         KindPreferences: 8, PreferenceTable: 16, AgentRules: 40, StunTransaction: 12, StunResult: 32, StunNumber: 16,
          StunMessage: 232, StunSpan: 24, StunTexts: 144}
 
 _AGENT = POINTER(Agent)
@@ -239,6 +244,7 @@ PROTOTYPES: dict[str, list[object]] = {
     "is_ice_set_tie_breaker": [_AGENT, c_uint64],
     "is_ice_set_max_pairs": [_AGENT, c_size_t],
     "is_ice_set_max_discovered": [_AGENT, c_size_t],
+    "is_ice_set_max_candidates": [_AGENT, c_size_t],
     "is_ice_set_timing_advance": [_AGENT, c_uint64],
     "is_ice_set_initial_rto": [_AGENT, c_uint64],
     "is_ice_set_max_rto": [_AGENT, c_uint64],
@@ -294,19 +300,21 @@ PROTOTYPES: dict[str, list[object]] = {
 
 
 def library_path() -> Path:
-    """The shared library: the one next to this module, else that of IS_ICE_LIBRARY, else that of python/build in a clone."""
+    """The shared library: the one next to this module, else that of IS_ICE_LIB, else that of python/build in a clone.
+
+    If IS_ICE_LIB names an archive (.a), as for C and Rust, it is the one that python/build linked from it."""
     folder = Path(__file__).resolve().parent
-    installed, named = folder / NAME, os.environ.get("IS_ICE_LIBRARY")
+    installed, named = folder / NAME, os.environ.get("IS_ICE_LIB", "")
     if installed.exists():
         return installed
-    return Path(named) if named else folder.parent / "out" / NAME
+    return Path(named) if named and not named.endswith(".a") else folder.parent / "out" / NAME
 
 
 def load(path: Path | None = None) -> ctypes.CDLL:
     """Loads the library and sets its prototypes. OSError if it does not exist or has another version."""
     path = path or library_path()
     if not path.exists():
-        raise OSError(f"{path} does not exist: run python/build, or set IS_ICE_LIBRARY to a shared library")
+        raise OSError(f"{path} does not exist: run python/build, or set IS_ICE_LIB to a shared library")
     library = ctypes.CDLL(str(path))
     library.is_ice_version.restype, library.is_ice_version.argtypes = c_uint32, []
     if library.is_ice_version() != VERSION:

@@ -35,6 +35,13 @@ from .lines import line_refusal
 from .rules import Rules, rules_from, struct_of_rules
 
 
+_NO_LIMIT = (1 << 64) - 1
+
+
+def _limit_of(limit: int | None) -> int:
+    return _NO_LIMIT if limit is None else in_range(limit, 64, "a limit")
+
+
 def new_creds(random: bytes | None = None) -> IceCreds:
     """Creates credentials from 38 random bytes, by default those of the system. Who predicts them knows the password."""
     random = os.urandom(_abi.CREDENTIALS_RANDOM) if random is None else random
@@ -134,8 +141,16 @@ class IceAgent(Unique):
         served. A response counts as ever at the limit, and its mapped address is not listed. Set the limit before the first
         packet.
         """
-        most = (1 << 64) - 1 if limit is None else in_range(limit, 64, "a limit")
-        done(self._c.is_ice_set_max_discovered(self._at, most))
+        done(self._c.is_ice_set_max_discovered(self._at, _limit_of(limit)))
+
+    def set_max_candidates(self, limit: int | None) -> None:
+        """Limits how many candidates of each side there are when one is added. Default: 100. None: no limit, as in the original.
+
+        If `local_candidates` has as many, `add_local_candidate` raises TooManyCandidates, and so does `add_remote_candidate` for
+        `remote_candidates`. So the peer's signaling costs no more memory and time. A lower limit removes no candidate, and packets
+        bring candidates without regard to it: `set_max_discovered` limits them.
+        """
+        done(self._c.is_ice_set_max_candidates(self._at, _limit_of(limit)))
 
     def set_timing_advance(self, nanoseconds: int) -> None:
         """Sets the pacing interval Ta: the least time between two timeouts, each of which sends at most one packet. Default: 50 ms."""
@@ -205,7 +220,10 @@ class IceAgent(Unique):
     # ---- candidates
 
     def add_local_candidate(self, candidate: Candidate) -> str | None:
-        """Adds a candidate that was gathered, and returns its text for signaling, or None if it is redundant."""
+        """Adds a candidate that was gathered, and returns its text for signaling, or None if it is redundant.
+
+        TooManyCandidates if there are as many as `set_max_candidates` allows.
+        """
         struct, index = struct_of(candidate), c_size_t()
         code = self._c.is_ice_add_local(self._at, byref(struct), byref(index))
         if code == BadCandidate.code:
@@ -218,7 +236,7 @@ class IceAgent(Unique):
         """Adds a candidate of the peer, by its text ("candidate:.."), and returns whether it was added, known, or why it was ignored.
 
         BadCandidate says what is wrong with it. A candidate with an mDNS name is a BadCandidate too; `line_name` says what to do with
-        it.
+        it. TooManyCandidates if there are as many as `set_max_candidates` allows.
         """
         text = utf8(line)
         code = self._c.is_ice_add_remote(self._at, text, len(text), byref(c_size_t()))
@@ -361,6 +379,12 @@ class IceAgent(Unique):
     def ice_timeout(self) -> int:
         """How long a pair's checks go on without a response, before the pair is removed."""
         return int(self._status.ice_timeout)
+
+    @property
+    def max_candidates(self) -> int | None:
+        """How many candidates of each side there may be when one is added. None: any number."""
+        limit = int(self._status.max_candidates)
+        return None if limit == _NO_LIMIT else limit
 
     @property
     def rules(self) -> Rules:

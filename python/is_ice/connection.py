@@ -28,8 +28,8 @@ from ._unique import Unique
 from .address import SocketAddress
 from .agent import IceAgent
 from .attribute import CandidateAttribute
-from .candidate import AddResult, Candidate, CandidateFields, CandidateKind
-from .errors import HasAgent, IceError, NoAgent
+from .candidate import Candidate, CandidateFields, CandidateKind
+from .errors import HasAgent, IceError, NoAgent, TooManyCandidates
 from .events import IceAgentEvent, IceConnectionState, IceConnectionStateChange, IceCreds, NominatedSend
 from .gather import Allocation, MdnsResolver, ServerAddress, TurnServer, all_of, allocate, server_reflexive_candidates, turn_client
 from .interfaces import host_addresses
@@ -42,7 +42,6 @@ _log = logging.getLogger(__name__)
 _PATIENCE = 30.0  # seconds until `connect` fails
 _MOST_BYTES = 1 << 20  # of datagrams that wait for `recv`; then the oldest ones are lost
 _MOST_DATAGRAMS = 4096
-_MOST_CANDIDATES = 100
 _MOST_CHARACTERS = 4096  # of a candidate's text
 _LOGGED = 200  # characters of what a peer signaled
 
@@ -73,8 +72,8 @@ RemoteCandidate = Union[str, _WithSdp]
 class Connection(Unique):
     """An ICE connection with one component. It cannot be copied or pickled.
 
-    `max_candidates` limits the candidates of each side, to 100 by default: later ones are left out. Mapped addresses and senders that the
-    agent discovers count for its own limit, `set_max_discovered`.
+    `max_candidates` limits the candidates of each side: see `IceAgent.set_max_candidates`. What is beyond it is left out, and no more
+    mDNS names are resolved at a time.
     """
 
     closed_event: Callable[[], Any] = ConnectionClosed
@@ -103,7 +102,6 @@ class Connection(Unique):
         self.remote_is_lite = False
         self.remote_username: str | None = None
         self.remote_password: str | None = None
-        self.max_candidates = _MOST_CANDIDATES
         self._use_ipv4, self._use_ipv6, self._addresses = use_ipv4, use_ipv6, addresses
         self.agent = IceAgent()
         self.agent.set_controlling(ice_controlling)
@@ -117,7 +115,6 @@ class Connection(Unique):
     def _start_state(self) -> None:
         self._allocations: list[Allocation] = []
         self._gathering: asyncio.Task[None] | None = None
-        self._gathered = self._signaled = 0  # candidates of each side
         self._remote_end = self._connected = self._closed = False
         self._names: set[asyncio.Task[None]] = set()  # mDNS names that are being resolved
         self._unknown_hosts = 0  # mDNS names that are not resolved: checks of these hosts may come all the same
@@ -128,7 +125,16 @@ class Connection(Unique):
         self._ending: asyncio.Task[None] | None = None
         self._inbox = Inbox(_MOST_BYTES, _MOST_DATAGRAMS)
 
-    # ---- role, credentials and candidates
+    # ---- limit, role, credentials and candidates
+
+    @property
+    def max_candidates(self) -> int | None:
+        """How many candidates of each side there may be when one is added. None: any number."""
+        return self.agent.max_candidates
+
+    @max_candidates.setter
+    def max_candidates(self, limit: int | None) -> None:
+        self.agent.set_max_candidates(limit)
 
     @property
     def ice_controlling(self) -> bool:
@@ -212,6 +218,8 @@ class Connection(Unique):
 
     def _host_addresses(self) -> Sequence[str]:
         found = host_addresses(self._use_ipv4, self._use_ipv6) if self._addresses is None else self._addresses
+        if self.max_candidates is None:
+            return found
         room = max(0, self.max_candidates - (self.turn_server is not None))
         if len(found) > room:
             _log.warning("host candidates at %d of %d addresses", room, len(found))
@@ -242,14 +250,18 @@ class Connection(Unique):
             self._loop.wake()
 
     def _add_local(self, candidate: Candidate) -> None:
-        room = self.max_candidates - (self.turn_server is not None and candidate.kind is not CandidateKind.RELAYED)
-        if self._closed or self._gathered >= room:
+        if self._closed or self._takes_the_last_place(candidate):
             return
         try:
-            if self.agent.add_local_candidate(candidate):  # otherwise it is redundant, as a server-reflexive one without a NAT
-                self._gathered += 1
+            self.agent.add_local_candidate(candidate)
         except IceError as error:
             _log.warning("no candidate at %s: %s", candidate.address, error)
+
+    def _takes_the_last_place(self, candidate: Candidate) -> bool:
+        """Whether the candidate would take the place that is left for the relayed one."""
+        if self.max_candidates is None or self.turn_server is None or candidate.kind is CandidateKind.RELAYED:
+            return False
+        return len(self.agent.local_candidates()) >= self.max_candidates - 1
 
     # ---- signaling
 
@@ -270,8 +282,8 @@ class Connection(Unique):
             self._take_candidate("candidate:" + sdp.removeprefix("candidate:"))
 
     def _take_candidate(self, line: str) -> None:
-        if self._signaled >= self.max_candidates or len(line) > _MOST_CHARACTERS:
-            _log.info("left out a candidate of %d characters: there are %d", len(line), self._signaled)
+        if len(line) > _MOST_CHARACTERS:
+            _log.info("left out a candidate of %d characters", len(line))
             return
         try:
             if (name := line_name(line)) is None:
@@ -284,12 +296,12 @@ class Connection(Unique):
 
     def _add_remote(self, line: str) -> None:
         _checked_fields(line)
-        if self.agent.add_remote_candidate(line) is AddResult.ADDED:
-            self._signaled += 1
+        self.agent.add_remote_candidate(line)
         self._loop.wake()
 
     def _resolve(self, line: str, name: str) -> None:
-        self._signaled += 1
+        if self.max_candidates is not None and len(self._names) >= self.max_candidates:
+            raise TooManyCandidates
         self._unknown_hosts += 1
         task = asyncio.ensure_future(self._add_named(line, name))
         self._names.add(task)
@@ -299,7 +311,6 @@ class Connection(Unique):
         ip = await self._mdns.resolve(name)
         if ip is None:
             return  # a check of the host may come all the same
-        self._signaled -= 1
         self._unknown_hosts -= 1
         try:
             self._add_remote(line_with_address(line, ip))

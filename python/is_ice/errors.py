@@ -114,6 +114,12 @@ class MessageTooLong(IceError):
     code, text = -16, "STUN message or one of its texts too long"
 
 
+class TooManyCandidates(IceError):
+    """There are as many candidates of the side as `IceAgent.set_max_candidates` allows."""
+
+    code, text = -17, "too many candidates"
+
+
 _BY_CODE: dict[int, type[IceError]] = {kind.code: kind for kind in IceError.__subclasses__()}
 
 

@@ -25,6 +25,18 @@ class EarlyRto:
 
 
 @dataclass(frozen=True)
+class Consent:
+    """How long the response to a check keeps a pair: so many nanoseconds after the check was sent.
+
+    With `strict` only responses keep a pair, as in RFC 7675; otherwise the peer's checks keep it too, each for 15 s. With a timeout of
+    0 there is no such rule.
+    """
+
+    timeout: int
+    strict: bool = False
+
+
+@dataclass(frozen=True)
 class Rules:
     """What an agent does beyond the original's behavior, one field for each rule. An agent begins with `Rules.modern()`.
 
@@ -47,12 +59,23 @@ class Rules:
 
     `selects_at_once`: a controlled agent selects a pair in the `handle_packet` call of the request that nominates it, if the pair was
     valid before (RFC 8445, section 7.3.1.5), and not only in the next `handle_timeout` call.
+
+    `consent`: a pair is removed so long after its last check that got a response was sent, however many pairs there are (RFC 7675,
+    section 5.1). `poll_timeout` returns a time no later than this, except for pacing. What removes a pair without this rule still does.
+
+    `selected_first`: every second check may go to the selected pair, if it is due, before all others. So its consent is renewed in
+    time, however many pairs there are.
+
+    `timeout_after_requests`: `poll_timeout` returns a time after each `handle_timeout` call, also after one that serves an early request.
     """
 
     kinds_in_turn: bool
     triggered_checks: int | None
     early_rto: EarlyRto | None
     selects_at_once: bool
+    consent: Consent | None
+    selected_first: bool
+    timeout_after_requests: bool
 
     @staticmethod
     def original() -> Rules:
@@ -61,7 +84,7 @@ class Rules:
 
     @staticmethod
     def modern() -> Rules:
-        """Returns the rules that make agents connect sooner, with which a new agent begins."""
+        """Returns the rules with which a new agent begins: they make agents connect sooner, and end consent in time."""
         return rules_from(library.calls.is_ice_modern_rules)
 
 
@@ -70,16 +93,24 @@ def rules_from(call: Callable[..., int], *arguments: Any) -> Rules:
     rules = _abi.AgentRules()
     done(call(*arguments, byref(rules)))
     early = EarlyRto(rules.early_retransmits, rules.early_interval) if rules.early_retransmits else None
-    return Rules(rules.kinds_in_turn, rules.triggered_checks or None, early, rules.selects_at_once)
+    consent = Consent(rules.consent_timeout, rules.strict_consent) if rules.consent_timeout else None
+    return Rules(
+        rules.kinds_in_turn, rules.triggered_checks or None, early, rules.selects_at_once, consent, rules.selected_first,
+        rules.timeout_after_requests,
+    )
 
 
 def struct_of_rules(rules: Rules) -> _abi.AgentRules:
     """Converts to the library's struct. ValueError if a number does not fit into 64 bits."""
-    early = rules.early_rto or EarlyRto(0, 0)
+    early, consent = rules.early_rto or EarlyRto(0, 0), rules.consent or Consent(0)
     return _abi.AgentRules(
         triggered_checks=in_range(rules.triggered_checks or 0, 64, "a number of requests"),
         early_retransmits=in_range(early.retransmits, 64, "a number of retransmissions"),
         early_interval=in_range(early.interval, 64, "a time"),
+        consent_timeout=in_range(consent.timeout, 64, "a time"),
         kinds_in_turn=rules.kinds_in_turn,
         selects_at_once=rules.selects_at_once,
+        strict_consent=consent.strict,
+        selected_first=rules.selected_first,
+        timeout_after_requests=rules.timeout_after_requests,
     )

@@ -27,6 +27,7 @@ from is_ice import (
     BadLimit,
     Candidate,
     CheckState,
+    Consent,
     CredentialsTooLong,
     DiscoveredRecv,
     EarlyRto,
@@ -43,6 +44,7 @@ from is_ice import (
     Rules,
     SocketAddress,
     TooFewRandomBytes,
+    TooManyCandidates,
     Unparsed,
     has_mdns_name,
     line_refusal,
@@ -214,6 +216,52 @@ def seconds_of_a_cut(agents: tuple[IceAgent, IceAgent]) -> float:
     return (now - begun) / SECOND
 
 
+def seconds_without_responses(consent: Consent | None) -> float:
+    """Loses all responses to the first agent, and none of the other's checks. Returns how long the first one then is connected, at most a
+    minute and a second."""
+    a, b = agents = two_agents()
+    a.set_rules(dataclasses.replace(a.rules, consent=consent))
+    now, answered = BEGINNING, 0
+    while now < BEGINNING + 30 * SECOND or a.stats.bind_success_recv == answered:
+        answered, now = a.stats.bind_success_recv, now + SECOND // 20
+        turn(agents, now)
+    begun = now
+    while a.state.is_connected() and now < begun + 61 * SECOND:
+        now += SECOND // 20
+        turn_without_responses(a, b, now)
+    return (now - begun) / SECOND
+
+
+def turn_without_responses(a: IceAgent, b: IceAgent, now: int) -> None:
+    """Calls `handle_timeout` of both, and delivers what they send, except for responses to the first one."""
+    for agent in (a, b):
+        agent.handle_timeout(now)
+    for agent, other in ((a, b), (b, a)):
+        while packet := agent.poll_transmit():
+            if other is b or is_request(packet.contents):
+                other.handle_packet(now, packet.source, packet.destination, packet.contents)
+
+
+def is_request(contents: bytes) -> bool:
+    """Whether a STUN message is a Binding request: its type (RFC 8489, section 5)."""
+    return contents[:2] == b"\x00\x01"
+
+
+def has_timeout_after_an_early_request(rules: Rules) -> bool:
+    """Whether `poll_timeout` returns a time after the first `handle_timeout`, which serves an early request."""
+    a, b = two_agents()
+    late = IceAgent(a.local_credentials)
+    late.set_rules(rules)
+    late.add_local_candidate(Candidate.host(HERE))
+    b.handle_timeout(BEGINNING)
+    packet = b.poll_transmit()
+    assert packet is not None
+    late.handle_packet(BEGINNING, packet.source, packet.destination, packet.contents)
+    late.set_remote_credentials(b.local_credentials)
+    late.handle_timeout(BEGINNING + SECOND // 20)
+    return late.poll_timeout() is not None
+
+
 class Sessions(unittest.TestCase):
     def test_two_agents_connect(self) -> None:
         a, b = two_agents()
@@ -302,6 +350,17 @@ class Sessions(unittest.TestCase):
             agent.set_max_stun_retransmits(9)
         self.assertAlmostEqual(seconds_of_a_cut(agents), 24.5, delta=0.1)
 
+    def test_a_path_that_is_cut_one_way_ends_by_the_rule_on_consent(self) -> None:
+        """The peer's checks arrive and its responses are lost. By RFC 7675, section 5.1, only responses keep consent."""
+        self.assertAlmostEqual(seconds_without_responses(Consent(29_600_000_000, strict=True)), 29.6, delta=0.1)
+        self.assertGreater(seconds_without_responses(Consent(29_600_000_000)), 60)
+        self.assertGreater(seconds_without_responses(None), 60)
+
+    def test_a_timeout_after_an_early_request(self) -> None:
+        """The first `handle_timeout` serves a request that came before the peer's credentials."""
+        self.assertTrue(has_timeout_after_an_early_request(Rules.modern()))
+        self.assertFalse(has_timeout_after_an_early_request(Rules.original()))
+
     def test_a_restart(self) -> None:
         a, b = two_agents()
         play((a, b))
@@ -372,12 +431,17 @@ class Errors(unittest.TestCase):
     def test_rules(self) -> None:
         early = EarlyRto(retransmits=4, interval=SECOND // 10)
         self.assertEqual(self.agent.rules, Rules.modern())
-        self.assertEqual(Rules.modern(), Rules(kinds_in_turn=True, triggered_checks=4, early_rto=early, selects_at_once=True))
-        self.assertEqual(Rules.original(), Rules(kinds_in_turn=False, triggered_checks=None, early_rto=None, selects_at_once=False))
+        self.assertEqual(Rules.modern(), Rules(
+            kinds_in_turn=True, triggered_checks=4, early_rto=early, selects_at_once=True, consent=Consent(29_600_000_000, strict=False),
+            selected_first=True, timeout_after_requests=True))
+        self.assertEqual(Rules.original(), Rules(
+            kinds_in_turn=False, triggered_checks=None, early_rto=None, selects_at_once=False, consent=None, selected_first=False,
+            timeout_after_requests=False))
         most = (1 << 64) - 1
         changes: tuple[dict[str, Any], ...] = (
             {"kinds_in_turn": False}, {"triggered_checks": None}, {"triggered_checks": most}, {"early_rto": None},
-            {"early_rto": EarlyRto(most, most)}, {"early_rto": EarlyRto(1, 0)}, {"selects_at_once": False},
+            {"early_rto": EarlyRto(most, most)}, {"early_rto": EarlyRto(1, 0)}, {"selects_at_once": False}, {"consent": None},
+            {"consent": Consent(most, strict=True)}, {"consent": Consent(1)}, {"selected_first": False}, {"timeout_after_requests": False},
         )
         for change in changes:
             for rules in (Rules.modern(), Rules.original()):
@@ -386,12 +450,13 @@ class Errors(unittest.TestCase):
                 self.assertEqual(self.agent.rules, changed)
 
     def test_rules_that_count_to_0_are_none(self) -> None:
-        self.agent.set_rules(dataclasses.replace(Rules.original(), triggered_checks=0, early_rto=EarlyRto(0, 7)))
+        self.agent.set_rules(dataclasses.replace(Rules.original(), triggered_checks=0, early_rto=EarlyRto(0, 7), consent=Consent(0, True)))
         self.assertEqual(self.agent.rules, Rules.original())
 
     def test_rules_that_are_refused(self) -> None:
         refused: tuple[dict[str, Any], ...] = (
             {"triggered_checks": -1}, {"triggered_checks": 1 << 64}, {"early_rto": EarlyRto(1 << 64, 0)}, {"early_rto": EarlyRto(1, -1)},
+            {"consent": Consent(-1)}, {"consent": Consent(1 << 64)},
         )
         for change in refused:
             self.assertRaises(ValueError, self.agent.set_rules, dataclasses.replace(Rules.modern(), **change))
@@ -518,6 +583,19 @@ class Values(unittest.TestCase):
         self.assertEqual(agent.add_remote_candidate(LINE_OF_THERE.replace("2000", "2002")), AddResult.ADDED)
         self.assertEqual([result.name for result in AddResult if result.is_ignored], ["OTHER_COMPONENT", "OTHER_UFRAG"])
 
+    def test_at_the_limit_no_candidate_is_added(self) -> None:
+        agent = IceAgent()
+        self.assertEqual(agent.max_candidates, 100)
+        agent.set_max_candidates(1)
+        agent.add_local_candidate(Candidate.host(HERE))
+        agent.add_remote_candidate(LINE_OF_THERE)
+        self.assertRaises(TooManyCandidates, agent.add_local_candidate, Candidate.host(THERE))
+        self.assertRaises(TooManyCandidates, agent.add_remote_candidate, LINE_OF_THERE.replace("2000", "2002"))
+        self.assertEqual((len(agent.local_candidates()), len(agent.remote_candidates())), (1, 1))
+        agent.set_max_candidates(None)
+        self.assertIsNone(agent.max_candidates)
+        self.assertEqual(agent.add_remote_candidate(LINE_OF_THERE.replace("2000", "2002")), AddResult.ADDED)
+
     def test_addresses_print_as_in_scripts(self) -> None:
         self.assertEqual(str(SocketAddress("2001:db8::1", 80)), "[2001:db8::1]:80")
         self.assertEqual(SocketAddress("2001:db8::1", 80).version, 6)
@@ -560,9 +638,11 @@ class Values(unittest.TestCase):
     def test_the_library_next_to_the_module_comes_first(self) -> None:
         with tempfile.TemporaryDirectory() as folder, mock.patch.object(_abi, "__file__", str(Path(folder, "is_ice", "_abi.py"))):
             with mock.patch.dict(os.environ):
-                os.environ.pop("IS_ICE_LIBRARY", None)
+                os.environ.pop("IS_ICE_LIB", None)
                 self.assertEqual(_abi.library_path(), Path(folder).resolve() / "out" / _abi.NAME)
-                os.environ["IS_ICE_LIBRARY"] = "/elsewhere/lib.so"
+                os.environ["IS_ICE_LIB"] = "/elsewhere/libis_c.a"
+                self.assertEqual(_abi.library_path(), Path(folder).resolve() / "out" / _abi.NAME)
+                os.environ["IS_ICE_LIB"] = "/elsewhere/lib.so"
                 self.assertEqual(_abi.library_path(), Path("/elsewhere/lib.so"))
                 installed = Path(folder).resolve() / "is_ice" / _abi.NAME
                 installed.parent.mkdir()

@@ -5,12 +5,14 @@ use crate::creds::IceCreds;
 use crate::error::{CallError, found, or_panic};
 use crate::event::{IceAgentEvent, IceAgentStats, IceConnectionState, SelectedPath, Transmit};
 use crate::ffi;
+use crate::hmac::Sha1HmacProvider;
 use crate::pair::CandidatePair;
+use crate::preference::LocalPreference;
 use crate::proto::{Protocol, address_of, socket_of};
 use crate::stun::{StunMessage, StunPacket};
-use std::cell::RefCell;
 use std::fmt;
 use std::net::SocketAddr;
+use std::sync::{Arc, Mutex, PoisonError};
 use std::time::{Duration, Instant};
 
 /// The first instant on the agent's clock: late enough for what the agent subtracts.
@@ -29,21 +31,27 @@ const BEGINNING: Duration = Duration::from_secs(60);
 /// assert_eq!(state, is::IceConnectionState::New);
 /// ```
 ///
-/// One thread uses it at a time: it is not `Sync`. Several threads share it in a `Mutex`.
+/// It is `Sync`: several threads may ask it at once, and one waits for the other. Calls that change it take `&mut self`, so threads that
+/// make them share it in a `Mutex`.
 ///
-/// ```compile_fail
-/// fn share<T: Sync>(_: T) {}
-/// share(is::IceAgent::new(is::IceCreds::new()));
+/// ```
+/// let agent = is::IceAgent::new(is::IceCreds::new());
+/// std::thread::scope(|scope| {
+///     scope.spawn(|| assert!(!agent.controlling()));
+///     scope.spawn(|| assert_eq!(agent.local_candidates().count(), 0));
+/// });
 /// ```
 pub struct IceAgent {
-    /// Queries take `&self`, although each call of the library borrows the agent mutably.
-    held: RefCell<Box<ffi::Agent>>,
+    /// Queries take `&self`, although each call of the library borrows the agent mutably: so there is one at a time.
+    held: Mutex<Box<ffi::Agent>>,
     first: Option<Instant>,
     /// The credentials are in the library too: these are what `local_credentials` and `remote_credentials` return references to.
     pub(crate) local: IceCreds,
     pub(crate) remote: Option<IceCreds>,
     /// What `add_local_candidate` returns a reference to.
     added: Option<Candidate>,
+    /// The library calls no function of the program, so this one is called before a candidate is added.
+    pub(crate) preference: Option<Arc<dyn LocalPreference>>,
 }
 
 pub(crate) fn nanoseconds(duration: Duration) -> u64 {
@@ -64,6 +72,12 @@ impl IceAgent {
         or_panic(IceAgent::try_new(local_credentials))
     }
 
+    /// As `new`. The agent does not call the provider, which the original needs: its HMAC-SHA1 is that of the library, which is proved.
+    #[track_caller]
+    pub fn with_hmac(local_credentials: IceCreds, _sha1_hmac_provider: &'static dyn Sha1HmacProvider) -> IceAgent {
+        IceAgent::new(local_credentials)
+    }
+
     /// As `new`.
     ///
     /// # Errors
@@ -72,21 +86,27 @@ impl IceAgent {
     pub fn try_new(local_credentials: IceCreds) -> Result<IceAgent, CallError> {
         let tie_breaker = u64::from_ne_bytes(ffi::random().ok_or(CallError::NoRandomBytes)?);
         let agent = ffi::Agent::new(&local_credentials.ufrag, &local_credentials.pass, tie_breaker).map_err(CallError::of)?;
-        Ok(IceAgent { held: RefCell::new(agent), first: None, local: local_credentials, remote: None, added: None })
+        Ok(IceAgent { held: Mutex::new(agent), first: None, local: local_credentials, remote: None, added: None, preference: None })
     }
 
     pub(crate) fn ask<R>(&self, call: impl FnOnce(&mut ffi::Agent) -> R) -> R {
-        call(&mut self.held.borrow_mut())
+        // No call of the library panics, so whatever poisoned the lock left the agent whole.
+        call(&mut self.held.lock().unwrap_or_else(PoisonError::into_inner))
+    }
+
+    /// The agent, for a call that changes it: no lock is taken.
+    fn held(&mut self) -> &mut ffi::Agent {
+        self.held.get_mut().unwrap_or_else(PoisonError::into_inner)
     }
 
     /// Whether a call returned `OK`, and not `NOTHING`; or its error.
     pub(crate) fn tell(&mut self, call: impl FnOnce(&mut ffi::Agent) -> i32) -> Result<bool, CallError> {
-        found(call(self.held.get_mut()))
+        found(call(self.held()))
     }
 
     /// Makes a call that always returns `OK`.
     pub(crate) fn set(&mut self, call: impl FnOnce(&mut ffi::Agent) -> i32) {
-        let code = call(self.held.get_mut());
+        let code = call(self.held());
         debug_assert_eq!(code, ffi::OK);
     }
 }
@@ -145,15 +165,18 @@ impl IceAgent {
             .map(Candidate::listed_local)
     }
 
-    /// Adds a local candidate that was gathered, and returns it with the priority that the agent gives it. Returns `None` if it is
-    /// redundant, was read from a text, or is peer-reflexive.
+    /// Adds a local candidate, and returns it with the priority and the foundation that the agent gives it. Returns `None` if it is
+    /// redundant or peer-reflexive, if no local candidate may have its address, or if there are as many as
+    /// [`IceAgent::set_max_candidates`] allows.
+    ///
+    /// One that was read from a text is added with its address as its base, since a text has none, and as component 1.
     ///
     /// # Panics
     ///
     /// If out of memory, among others: `try_add_local_candidate` returns an error then.
     #[track_caller]
     pub fn add_local_candidate(&mut self, c: Candidate) -> Option<&Candidate> {
-        or_panic(self.try_add_local_candidate(c))
+        or_panic(self.try_add_local_candidate(c).or_else(|why| left_out(why, None)))
     }
 
     /// As `add_local_candidate`.
@@ -161,10 +184,10 @@ impl IceAgent {
     /// # Errors
     ///
     /// [`CallError::OutOfMemory`]: it may have been added, and not be listed. [`CallError::PairIdsExhausted`],
-    /// [`CallError::PriorityTooHigh`].
+    /// [`CallError::PriorityTooHigh`], [`CallError::TooManyCandidates`].
     pub fn try_add_local_candidate(&mut self, c: Candidate) -> Result<Option<&Candidate>, CallError> {
-        let Some(given) = c.given() else { return Ok(None) };
-        let mut index = 0;
+        self.prefer(&c)?;
+        let (given, mut index) = (c.as_gathered(), 0);
         let is_added = self.tell(|agent| known(ffi::is_ice_add_local(agent, &given, &mut index)))?;
         if !is_added {
             return Ok(None);
@@ -173,7 +196,17 @@ impl IceAgent {
         Ok(self.added.as_ref())
     }
 
-    /// Adds a candidate of the peer.
+    /// Passes on the preference that the program's function, if any, gives the candidate.
+    fn prefer(&mut self, c: &Candidate) -> Result<(), CallError> {
+        let Some(preference) = self.preference.clone() else { return Ok(()) };
+        let is_alike = |listed: &&Candidate| listed.kind() == c.kind() && listed.addr().is_ipv6() == c.addr().is_ipv6();
+        let same_kind = self.try_local_candidates()?.iter().filter(is_alike).count();
+        let number = u16::try_from(preference.calculate(c, same_kind)).map_err(|_| CallError::PriorityTooHigh)?;
+        self.set(|agent| ffi::is_ice_set_local_preference(agent, number));
+        Ok(())
+    }
+
+    /// Adds a candidate of the peer, unless there are as many as [`IceAgent::set_max_candidates`] allows.
     ///
     /// # Panics
     ///
@@ -181,7 +214,7 @@ impl IceAgent {
     /// other reason.
     #[track_caller]
     pub fn add_remote_candidate(&mut self, c: Candidate) {
-        or_panic(self.try_add_remote_candidate(c));
+        or_panic(self.try_add_remote_candidate(c).or_else(|why| left_out(why, false)));
     }
 
     /// As `add_remote_candidate`. Returns whether it was added: a candidate of a component other than 1, of another username fragment
@@ -189,14 +222,14 @@ impl IceAgent {
     ///
     /// # Errors
     ///
-    /// [`CallError::OutOfMemory`], [`CallError::PairIdsExhausted`], [`CallError::BadCandidate`].
+    /// [`CallError::OutOfMemory`], [`CallError::PairIdsExhausted`], [`CallError::BadCandidate`], [`CallError::TooManyCandidates`].
     pub fn try_add_remote_candidate(&mut self, c: Candidate) -> Result<bool, CallError> {
         self.tell(|agent| agent.add_remote(c.text(), &mut 0))
     }
 
     /// Removes a candidate and its pairs: a local one, else a remote one. Returns whether there was one.
     ///
-    /// A local candidate is removed by what [`IceAgent::local_candidates`] lists, or what was added. One that was read from a text has
+    /// A local candidate is removed by what [`IceAgent::local_candidates`] lists, or what was gathered. One that was read from a text has
     /// no base, so only a host or a relayed one equals it. A local peer-reflexive candidate is not removed.
     ///
     /// # Panics
@@ -246,9 +279,15 @@ impl IceAgent {
     }
 }
 
-/// The code of a call with a gathered candidate, which the library takes for none if it is peer-reflexive.
+/// The result of the original's form, which leaves out what is beyond the limit.
+fn left_out<T>(why: CallError, nothing: T) -> Result<T, CallError> {
+    if why == CallError::TooManyCandidates { Ok(nothing) } else { Err(why) }
+}
+
+/// The code of a call with a local candidate, which the library takes for none if it is peer-reflexive, or no local one may have its
+/// address.
 fn known(code: i32) -> i32 {
-    if code == ffi::BAD_ADDRESS { ffi::NOTHING } else { code }
+    if matches!(code, ffi::BAD_ADDRESS | ffi::BAD_CANDIDATE) { ffi::NOTHING } else { code }
 }
 
 /// All candidates, by index from 0.
@@ -368,7 +407,7 @@ impl IceAgent {
     /// The next packet to send.
     pub fn poll_transmit(&mut self) -> Option<Transmit> {
         let mut packet = ffi::Packet::default();
-        let agent = self.held.get_mut();
+        let agent = self.held();
         let contents = ffi::bytes(|buffer, length| {
             let code = agent.poll_transmit(buffer, &mut packet);
             *length = packet.length;
@@ -382,14 +421,14 @@ impl IceAgent {
     /// until `handle_timeout`, as `examples/udp.rs` does.
     pub fn poll_timeout(&mut self) -> Option<Instant> {
         let mut at = 0;
-        let is_some = ffi::is_ice_poll_timeout(self.held.get_mut(), &mut at) == ffi::OK;
+        let is_some = ffi::is_ice_poll_timeout(self.held(), &mut at) == ffi::OK;
         is_some.then(|| self.instant(at)).flatten()
     }
 
     /// The next event.
     pub fn poll_event(&mut self) -> Option<IceAgentEvent> {
         let mut event = ffi::Event::default();
-        let is_some = ffi::is_ice_poll_event(self.held.get_mut(), &mut event) == ffi::OK;
+        let is_some = ffi::is_ice_poll_event(self.held(), &mut event) == ffi::OK;
         is_some.then(|| IceAgentEvent::of(&event, &self.local))
     }
 

@@ -133,6 +133,65 @@ impl Candidate {
             .map_err(|code| IceError::of(code, |buffer, length| ffi::line_refusal(line, buffer, length)))
     }
 
+    /// Creates the candidate that [`Candidate::from_sdp_string`] reads of these fields.
+    ///
+    /// ```
+    /// use is::{Candidate, CandidateKind, Protocol};
+    ///
+    /// let address = "10.0.0.2:2000".parse().unwrap();
+    /// let candidate = Candidate::from_parts("1".to_owned(), 1, Protocol::Udp, 7, address, CandidateKind::Host, None, None, None);
+    /// assert_eq!(candidate, Candidate::from_sdp_string("candidate:1 1 udp 7 10.0.0.2 2000 typ host").unwrap());
+    /// ```
+    ///
+    /// # Panics
+    ///
+    /// If the foundation or the username fragment is empty or has white space, or if out of memory. `try_from_parts` returns an error
+    /// then.
+    #[allow(clippy::too_many_arguments)]
+    #[track_caller]
+    pub fn from_parts(
+        foundation: String,
+        component_id: u16,
+        proto: Protocol,
+        prio: u32,
+        addr: SocketAddr,
+        kind: CandidateKind,
+        raddr: Option<SocketAddr>,
+        tcptype: Option<TcpType>,
+        ufrag: Option<String>,
+    ) -> Candidate {
+        or_panic(Candidate::try_from_parts(foundation, component_id, proto, prio, addr, kind, raddr, tcptype, ufrag))
+    }
+
+    /// As `from_parts`.
+    ///
+    /// # Errors
+    ///
+    /// `BadCandidate` says why it is not a candidate.
+    #[allow(clippy::too_many_arguments)]
+    pub fn try_from_parts(
+        foundation: String,
+        component_id: u16,
+        proto: Protocol,
+        prio: u32,
+        addr: SocketAddr,
+        kind: CandidateKind,
+        raddr: Option<SocketAddr>,
+        tcptype: Option<TcpType>,
+        ufrag: Option<String>,
+    ) -> Result<Candidate, IceError> {
+        let (ip, port) = (addr.ip(), addr.port());
+        let related = raddr.map_or(String::new(), |raddr| format!(" raddr {} rport {}", raddr.ip(), raddr.port()));
+        let role = tcptype.map_or(String::new(), |tcptype| format!(" tcptype {tcptype}"));
+        let line = format!("candidate:{foundation} {component_id} {proto} {prio} {ip} {port} typ {kind}{related}{role}");
+        let mut candidate = Candidate::from_sdp_string(&line)?;
+        if candidate.fields.foundation_length != foundation.len() {
+            return Err(IceError::BadCandidate("bad foundation".to_owned()));
+        }
+        ufrag.map_or(Ok(()), |ufrag| candidate.try_set_ufrag(&ufrag))?;
+        Ok(candidate)
+    }
+
     /// The mDNS name that a candidate attribute has instead of an address, with which browsers hide the addresses of their hosts.
     /// [`Candidate::from_mdns`] reads it once the name is resolved.
     ///
@@ -203,8 +262,13 @@ fn read(line: &str) -> Result<(String, ffi::Fields), i32> {
 impl Candidate {
     /// As the library takes a candidate that was gathered; none if it was read, or is listed as a remote one.
     pub(crate) fn given(&self) -> Option<ffi::Gathered> {
+        self.is_local.then(|| self.as_gathered())
+    }
+
+    /// As the library takes a candidate to add it as a local one. A text has no base, so one that was read has its address as base.
+    pub(crate) fn as_gathered(&self) -> ffi::Gathered {
         let ffi::Fields { address, local, kind, protocol, tcptype, .. } = self.fields;
-        self.is_local.then_some(ffi::Gathered { address, base: local, kind, protocol, tcptype })
+        ffi::Gathered { address, base: if self.is_local { local } else { address }, kind, protocol, tcptype }
     }
 
     /// As the library takes any other candidate.

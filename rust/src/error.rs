@@ -51,7 +51,7 @@ pub enum CallError {
     NoRandomBytes,
     /// The call may form more pairs than there are pair numbers left: 2^64 in the life of an agent.
     PairIdsExhausted,
-    /// A local candidate of priority 4294967295.
+    /// A local candidate of priority 4294967295, or of a local preference above 65535.
     PriorityTooHigh,
     /// The candidate is one that an agent lists as a local one, and its text cannot be read, since the username fragment of the agent is
     /// no word: it is empty, for example.
@@ -60,12 +60,14 @@ pub enum CallError {
     MtuTooSmall,
     /// A limit of 0 retransmits.
     BadLimit,
+    /// There are as many candidates of the side as [`IceAgent::set_max_candidates`](crate::IceAgent::set_max_candidates) allows.
+    TooManyCandidates,
     /// Another code of `c/is_ice.h`, which no call of this crate returns.
     Other(i32),
 }
 
 impl CallError {
-    const CODES: [(i32, CallError); 7] = [
+    const CODES: [(i32, CallError); 8] = [
         (ffi::CREDENTIALS_TOO_LONG, CallError::CredentialsTooLong),
         (ffi::OUT_OF_MEMORY, CallError::OutOfMemory),
         (ffi::PAIR_IDS_EXHAUSTED, CallError::PairIdsExhausted),
@@ -73,6 +75,7 @@ impl CallError {
         (ffi::BAD_CANDIDATE, CallError::BadCandidate),
         (ffi::MTU_TOO_SMALL, CallError::MtuTooSmall),
         (ffi::BAD_LIMIT, CallError::BadLimit),
+        (ffi::TOO_MANY_CANDIDATES, CallError::TooManyCandidates),
     ];
 
     pub(crate) fn of(code: i32) -> CallError {
@@ -154,7 +157,7 @@ mod tests {
 
     #[test]
     fn each_code_keeps_its_text() {
-        for code in -16..0 {
+        for code in -17..0 {
             assert_eq!((CallError::of(code).to_string().as_str(), found(code)), (ffi::text_of(code), Err(CallError::of(code))));
         }
         assert_eq!((found(ffi::OK), found(ffi::NOTHING), found(3)), (Ok(true), Ok(false), Ok(false)));

@@ -4,7 +4,7 @@
 //! - An `Agent` is created zeroed, in a box that it never leaves, and its fields are private to this module. So it is never copied,
 //!   and only the library writes it.
 //! - A call borrows an `Agent` mutably, so there is one call at a time. An `Agent` is `Send`, for the reason at its impl. It has a
-//!   raw pointer, so it is not `Sync`.
+//!   raw pointer, so it is not `Sync`: an `IceAgent` has it in a `Mutex`.
 //! - References and slices are not null, and a mutable one overlaps no other argument.
 
 use std::ptr;
@@ -24,6 +24,7 @@ pub(crate) const MTU_TOO_SMALL: i32 = -10;
 pub(crate) const CREDENTIALS_TOO_LONG: i32 = -11;
 pub(crate) const PRIORITY_TOO_HIGH: i32 = -12;
 pub(crate) const BAD_LIMIT: i32 = -13;
+pub(crate) const TOO_MANY_CANDIDATES: i32 = -17;
 
 /// The text of each code, as in `is_ice_code_text` of the header.
 pub(crate) fn text_of(code: i32) -> &'static str {
@@ -44,6 +45,7 @@ pub(crate) fn text_of(code: i32) -> &'static str {
         -14 => "too few random bytes",
         -15 => "STUN message that cannot be written",
         -16 => "STUN message or one of its texts too long",
+        -17 => "too many candidates",
         _ => "unknown code",
     }
 }
@@ -126,6 +128,7 @@ pub(crate) struct Status {
     pub(crate) mtu: usize,
     pub(crate) mtu_warn: usize,
     pub(crate) ice_timeout: u64,
+    pub(crate) max_candidates: usize,
 }
 
 #[repr(C)]
@@ -193,8 +196,12 @@ pub(crate) struct AgentRules {
     pub(crate) triggered_checks: u64,
     pub(crate) early_retransmits: usize,
     pub(crate) early_interval: u64,
+    pub(crate) consent_timeout: u64,
     pub(crate) kinds_in_turn: bool,
     pub(crate) selects_at_once: bool,
+    pub(crate) strict_consent: bool,
+    pub(crate) selected_first: bool,
+    pub(crate) timeout_after_requests: bool,
 }
 
 #[repr(C)]
@@ -262,9 +269,9 @@ pub(crate) struct StunTexts {
 const _: () = {
     assert!(size_of::<Agent>() == 16 && size_of::<Address>() == 28 && size_of::<Gathered>() == 60);
     assert!(size_of::<Fields>() == 120 && std::mem::offset_of!(Fields, foundation_length) == 88);
-    assert!(size_of::<Packet>() == 72 && size_of::<Event>() == 68 && size_of::<Status>() == 32);
+    assert!(size_of::<Packet>() == 72 && size_of::<Event>() == 68 && size_of::<Status>() == 40);
     assert!(size_of::<Stats>() == 40 && size_of::<Nominated>() == 88 && size_of::<Pair>() == 96);
-    assert!(size_of::<KindPreferences>() == 8 && size_of::<PreferenceTable>() == 16 && size_of::<AgentRules>() == 32);
+    assert!(size_of::<KindPreferences>() == 8 && size_of::<PreferenceTable>() == 16 && size_of::<AgentRules>() == 40);
     assert!(size_of::<StunTransaction>() == 12 && size_of::<StunResult>() == 32);
     assert!(size_of::<StunNumber>() == 16 && size_of::<StunMessage>() == 232);
     assert!(size_of::<StunSpan>() == 24 && size_of::<StunTexts>() == 144);
@@ -288,6 +295,7 @@ unsafe extern "C" {
     pub(crate) safe fn is_ice_set_tie_breaker(agent: &mut Agent, tie_breaker: u64) -> i32;
     pub(crate) safe fn is_ice_set_max_pairs(agent: &mut Agent, limit: usize) -> i32;
     pub(crate) safe fn is_ice_set_max_discovered(agent: &mut Agent, limit: usize) -> i32;
+    pub(crate) safe fn is_ice_set_max_candidates(agent: &mut Agent, limit: usize) -> i32;
     pub(crate) safe fn is_ice_set_timing_advance(agent: &mut Agent, nanoseconds: u64) -> i32;
     pub(crate) safe fn is_ice_set_initial_rto(agent: &mut Agent, nanoseconds: u64) -> i32;
     pub(crate) safe fn is_ice_set_max_rto(agent: &mut Agent, nanoseconds: u64) -> i32;
@@ -432,7 +440,7 @@ unsafe extern "C" {
 impl Agent {
     /// Creates an agent with these credentials.
     pub(crate) fn new(ufrag: &str, pass: &str, tie_breaker: u64) -> Result<Box<Agent>, i32> {
-        assert_eq!(is_ice_version(), 4, "is_ice.h belongs to another library");
+        assert_eq!(is_ice_version(), 5, "is_ice.h belongs to another library");
         let mut agent = Box::new(Agent { is_held: false, at: ptr::null_mut() });
         #[allow(unsafe_code)]
         // SAFETY: both texts are slices that are read. The agent is zeroed, and stays in its box.

@@ -1,7 +1,7 @@
 //! A proved ICE agent (RFC 8445) with the API of the crate `is` 0.12.0.
 //!
 //! Names, arguments and results are those of that crate, so a program that uses it needs only another line in its Cargo.toml. The
-//! agent is this repository's: written in Rattle, proved, and called over its C interface, `c/is_ice.h`.
+//! agent is written in Rattle, proved, and called over its C interface. README.md has the loop and the examples.
 //!
 //! ```
 //! use is::{Candidate, IceAgent, IceCreds};
@@ -13,15 +13,13 @@
 //! ```
 //!
 //! Differences, in addition to those of the agent in docs/DIFFERENCES.md:
-//! - An [`IceAgent`] is `Send` and not `Sync`: it may move between threads, and threads share it in a `Mutex`.
 //! - An error that the original does not have, such as out of memory, is a panic that names it, as each method documents. Each of these
 //!   methods has a second form that returns a [`CallError`]: [`IceAgent::try_set_remote_credentials`], for example.
-//! - A local preference is a number or a table, [`LocalPreference`], not a callback.
-//! - HMAC-SHA1 is the proved one: there is no `with_hmac`. Random bytes are those of the system, by `getentropy`.
+//! - HMAC-SHA1 is the proved one: [`IceAgent::with_hmac`] does not call its provider. Random bytes are those of the system, by `getentropy`.
 //! - [`stun::StunMessage`]: `verify` and `to_bytes` do not call the HMAC function that they get. [`stun::StunMessage::binding_query`] writes a
 //!   Binding request without credentials.
-//! - Candidate JSON is a text, by [`Candidate::to_json`] and [`Candidate::from_json`]: there is no serde. There is no
-//!   `Candidate::from_parts`: [`Candidate::from_sdp_string`] reads the same fields.
+//! - Candidate JSON is a text, by [`Candidate::to_json`] and [`Candidate::from_json`]: a clone has a
+//!   package with serde.
 
 mod agent;
 mod builder;
@@ -30,14 +28,18 @@ mod creds;
 mod error;
 mod event;
 mod ffi;
+mod hmac;
 mod pair;
 mod preference;
 mod proto;
 mod rules;
+#[cfg(feature = "serde")]
+mod serde;
 mod settings;
 pub mod stun;
 mod stun_builder;
 mod stun_texts;
+mod stun_timing;
 
 pub use agent::IceAgent;
 pub use builder::CandidateBuilder;
@@ -45,7 +47,8 @@ pub use candidate::{Candidate, CandidateKind};
 pub use creds::IceCreds;
 pub use error::{CallError, IceError, StunError};
 pub use event::{IceAgentEvent, IceAgentStats, IceConnectionState, SelectedPath, Transmit};
+pub use hmac::{DefaultSha1HmacProvider, Sha1HmacProvider};
 pub use pair::{CandidatePair, CheckState};
 pub use preference::{KindPreferences, LocalPreference, PreferenceTable, default_local_preference, try_default_local_preference};
 pub use proto::{Protocol, TcpType};
-pub use rules::{EarlyRto, Rules};
+pub use rules::{Consent, EarlyRto, Rules};

@@ -1,12 +1,14 @@
 //! Candidate pairs, as an agent lists them.
 
+use crate::candidate::Candidate;
 use crate::ffi;
 use std::time::{Duration, Instant};
 
 /// The state of a pair's checks (RFC 8445, section 6.1.2.6). No pair is frozen, and one that fails is removed.
-#[derive(Clone, Copy, Debug, PartialEq, Eq)]
+#[derive(Clone, Copy, Debug, Default, PartialEq, Eq)]
 pub enum CheckState {
     /// No check was sent.
+    #[default]
     Waiting,
     /// A check was sent, and none had a response.
     InProgress,
@@ -43,6 +45,72 @@ pub struct CandidatePair {
     pub last_request: Option<Instant>,
     /// When its next check is due, once the session has started.
     pub due: Option<Instant>,
+}
+
+/// Names of the original for the fields.
+impl CandidatePair {
+    /// The index of its local candidate in [`crate::IceAgent::local_candidates`].
+    pub fn local_idx(&self) -> usize {
+        self.local
+    }
+
+    /// The index of its remote candidate in [`crate::IceAgent::remote_candidates`].
+    pub fn remote_idx(&self) -> usize {
+        self.remote
+    }
+
+    /// Its local candidate, in the list of [`crate::IceAgent::local_candidates`].
+    ///
+    /// # Panics
+    ///
+    /// If the list is shorter.
+    pub fn local_candidate<'a>(&self, cs: &'a [Candidate]) -> &'a Candidate {
+        &cs[self.local]
+    }
+
+    /// Its remote candidate, in the list of [`crate::IceAgent::remote_candidates`].
+    ///
+    /// # Panics
+    ///
+    /// If the list is shorter.
+    pub fn remote_candidate<'a>(&self, cs: &'a [Candidate]) -> &'a Candidate {
+        &cs[self.remote]
+    }
+
+    /// Its priority.
+    pub fn prio(&self) -> u64 {
+        self.priority
+    }
+
+    /// The state of its checks.
+    pub fn state(&self) -> CheckState {
+        self.state
+    }
+
+    /// Whether it is nominated.
+    pub fn is_nominated(&self) -> bool {
+        self.nominated
+    }
+
+    /// When the last check of the peer arrived on it.
+    pub fn remote_binding_request_time(&self) -> Option<Instant> {
+        self.last_request
+    }
+
+    /// The last round-trip time.
+    pub fn last_successful_rtt(&self) -> Option<Duration> {
+        self.rtt
+    }
+
+    /// The number of responses to its checks.
+    pub fn responses_received(&self) -> u64 {
+        self.responses
+    }
+
+    /// The sum of the round-trip times of its checks.
+    pub fn total_round_trip_time(&self) -> Duration {
+        self.total_rtt
+    }
 }
 
 impl CandidatePair {

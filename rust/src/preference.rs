@@ -3,6 +3,7 @@
 use crate::candidate::Candidate;
 use crate::error::{CallError, found, or_panic};
 use crate::ffi;
+use std::panic::RefUnwindSafe;
 
 /// Local preferences by kind, for one IP version (RFC 8445, section 5.1.2.1).
 #[derive(Clone, Copy, Debug, PartialEq, Eq)]
@@ -17,7 +18,8 @@ pub struct KindPreferences {
     pub relayed: u16,
 }
 
-/// Local preferences by IP version and kind.
+/// Local preferences by IP version and kind: a candidate gets that of its kind and version, less one for each earlier candidate of the
+/// same kind and version, at least 0.
 #[derive(Clone, Copy, Debug, PartialEq, Eq)]
 pub struct PreferenceTable {
     /// Of IPv4 addresses.
@@ -26,16 +28,28 @@ pub struct PreferenceTable {
     pub v6: KindPreferences,
 }
 
-/// The local preference of local candidates that are added later.
-#[derive(Clone, Copy, Debug, Default, PartialEq, Eq)]
-pub enum LocalPreference {
-    /// Host before reflexive before relayed candidates, IPv6 just before IPv4, earlier before later ones.
-    #[default]
-    ByDefault,
-    /// This number for each candidate.
-    Fixed(u16),
-    /// The table's number for kind and IP version, less one for each earlier candidate of the same kind and version, at least 0.
-    ByKind(PreferenceTable),
+/// Gives each local candidate its local preference (RFC 8445, section 5.1.2.1), as a function with these arguments does.
+///
+/// ```
+/// use is::{Candidate, IceAgent, IceCreds, default_local_preference};
+///
+/// let mut agent = IceAgent::new(IceCreds::new());
+/// agent.set_local_preference(|c: &Candidate, same_kind: usize| match c.addr().ip().is_loopback() {
+///     true => 0,
+///     false => default_local_preference(c, same_kind),
+/// });
+/// let added = agent.add_local_candidate(Candidate::host("127.0.0.1:5000".parse().unwrap(), "udp").unwrap());
+/// assert_eq!(added.map(Candidate::prio), Some(126 << 24 | 255));
+/// ```
+pub trait LocalPreference: RefUnwindSafe + Send + Sync + 'static {
+    /// The local preference of a candidate, at most 65535. `same_kind` counts the listed local candidates of its kind and IP version.
+    fn calculate(&self, c: &Candidate, same_kind: usize) -> u32;
+}
+
+impl<F: Fn(&Candidate, usize) -> u32 + RefUnwindSafe + Send + Sync + 'static> LocalPreference for F {
+    fn calculate(&self, c: &Candidate, same_kind: usize) -> u32 {
+        self(c, same_kind)
+    }
 }
 
 impl KindPreferences {
@@ -49,16 +63,9 @@ impl KindPreferences {
     }
 }
 
-impl LocalPreference {
-    pub(crate) fn set(&self, agent: &mut ffi::Agent) -> i32 {
-        match self {
-            LocalPreference::ByDefault => ffi::is_ice_reset_local_preference(agent),
-            LocalPreference::Fixed(number) => ffi::is_ice_set_local_preference(agent, *number),
-            LocalPreference::ByKind(table) => {
-                let table = ffi::PreferenceTable { v4: table.v4.raw(), v6: table.v6.raw() };
-                ffi::is_ice_set_preference_table(agent, &table)
-            }
-        }
+impl PreferenceTable {
+    pub(crate) fn raw(&self) -> ffi::PreferenceTable {
+        ffi::PreferenceTable { v4: self.v4.raw(), v6: self.v6.raw() }
     }
 }
 

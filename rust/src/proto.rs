@@ -3,6 +3,7 @@
 use crate::ffi;
 use std::fmt;
 use std::net::{IpAddr, Ipv4Addr, Ipv6Addr, SocketAddr, SocketAddrV6};
+use std::str::FromStr;
 
 /// The transport protocol of a candidate's packets.
 #[derive(Clone, Copy, Debug, PartialEq, Eq, PartialOrd, Ord, Hash)]
@@ -52,14 +53,20 @@ impl TryFrom<&str> for Protocol {
     }
 }
 
-impl fmt::Display for Protocol {
-    fn fmt(&self, f: &mut fmt::Formatter<'_>) -> fmt::Result {
-        f.write_str(match self {
+impl From<Protocol> for &'static str {
+    fn from(protocol: Protocol) -> &'static str {
+        match protocol {
             Protocol::Udp => "udp",
             Protocol::Tcp => "tcp",
             Protocol::SslTcp => "ssltcp",
             Protocol::Tls => "tls",
-        })
+        }
+    }
+}
+
+impl fmt::Display for Protocol {
+    fn fmt(&self, f: &mut fmt::Formatter<'_>) -> fmt::Result {
+        f.write_str((*self).into())
     }
 }
 
@@ -90,6 +97,24 @@ impl TcpType {
             3 => Some(TcpType::So),
             _ => None,
         }
+    }
+}
+
+const TCP_TYPES: [(&str, TcpType); 3] = [("active", TcpType::Active), ("passive", TcpType::Passive), ("so", TcpType::So)];
+
+impl fmt::Display for TcpType {
+    fn fmt(&self, f: &mut fmt::Formatter<'_>) -> fmt::Result {
+        f.write_str(TCP_TYPES.iter().find(|known| known.1 == *self).map_or("", |known| known.0))
+    }
+}
+
+impl FromStr for TcpType {
+    type Err = String;
+
+    /// Reads the word of a candidate attribute, as `active`.
+    fn from_str(word: &str) -> Result<TcpType, String> {
+        let known = TCP_TYPES.iter().find(|known| known.0 == word);
+        known.map(|known| known.1).ok_or_else(|| format!("unknown TCP type: {word}"))
     }
 }
 

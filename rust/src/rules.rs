@@ -40,6 +40,25 @@ pub struct Rules {
     /// A controlled agent selects a pair in the [`IceAgent::handle_packet`] call of the request that nominates it, if the pair was valid
     /// before (RFC 8445, section 7.3.1.5), and not only in the next [`IceAgent::handle_timeout`] call.
     pub selects_at_once: bool,
+    /// A pair is removed this long after its last check that got a response was sent, however many pairs there are (RFC 7675, section
+    /// 5.1). [`IceAgent::poll_timeout`] returns a time no later than this, except for pacing. What removes a pair without this rule
+    /// still does.
+    pub consent: Option<Consent>,
+    /// Every second check may go to the selected pair, if it is due, before all others. So its consent is renewed in time, however many
+    /// pairs there are.
+    pub selected_first: bool,
+    /// [`IceAgent::poll_timeout`] returns a time after each [`IceAgent::handle_timeout`] call, also after one that serves an early
+    /// request.
+    pub timeout_after_requests: bool,
+}
+
+/// How long the response to a check keeps a pair: see [`Rules::consent`].
+#[derive(Clone, Copy, Debug, PartialEq, Eq)]
+pub struct Consent {
+    /// How long after that check was sent. With 0 there is no such rule.
+    pub timeout: Duration,
+    /// Whether only responses keep a pair, as in RFC 7675. Otherwise the peer's checks keep it too, each for 15 s.
+    pub strict: bool,
 }
 
 /// How checks are repeated before the RTO counts: see [`Rules::early_rto`].
@@ -57,7 +76,7 @@ impl Rules {
         Rules::of(|rules| ffi::is_ice_original_rules(rules))
     }
 
-    /// The rules that make agents connect sooner, with which a new agent begins.
+    /// The rules with which a new agent begins: they make agents connect sooner, and end consent in time.
     pub fn modern() -> Rules {
         Rules::of(|rules| ffi::is_ice_modern_rules(rules))
     }
@@ -68,11 +87,15 @@ impl Rules {
         let code = call(&mut rules);
         debug_assert_eq!(code, ffi::OK);
         let (retransmits, interval) = (rules.early_retransmits, Duration::from_nanos(rules.early_interval));
+        let (timeout, strict) = (Duration::from_nanos(rules.consent_timeout), rules.strict_consent);
         Rules {
             kinds_in_turn: rules.kinds_in_turn,
             triggered_checks: (rules.triggered_checks > 0).then_some(rules.triggered_checks),
             early_rto: (retransmits > 0).then_some(EarlyRto { retransmits, interval }),
             selects_at_once: rules.selects_at_once,
+            consent: (rules.consent_timeout > 0).then_some(Consent { timeout, strict }),
+            selected_first: rules.selected_first,
+            timeout_after_requests: rules.timeout_after_requests,
         }
     }
 
@@ -81,8 +104,12 @@ impl Rules {
             triggered_checks: self.triggered_checks.unwrap_or(0),
             early_retransmits: self.early_rto.map_or(0, |early| early.retransmits),
             early_interval: self.early_rto.map_or(0, |early| nanoseconds(early.interval)),
+            consent_timeout: self.consent.map_or(0, |consent| nanoseconds(consent.timeout)),
             kinds_in_turn: self.kinds_in_turn,
             selects_at_once: self.selects_at_once,
+            strict_consent: self.consent.is_some_and(|consent| consent.strict),
+            selected_first: self.selected_first,
+            timeout_after_requests: self.timeout_after_requests,
         }
     }
 }

@@ -4,8 +4,9 @@ use crate::agent::{IceAgent, nanoseconds};
 use crate::creds::IceCreds;
 use crate::error::{CallError, or_panic};
 use crate::ffi;
-use crate::preference::LocalPreference;
+use crate::preference::{LocalPreference, PreferenceTable};
 use std::ops::RangeInclusive;
+use std::sync::Arc;
 use std::time::Duration;
 
 impl IceAgent {
@@ -58,6 +59,21 @@ impl IceAgent {
         self.set(|agent| ffi::is_ice_set_max_discovered(agent, max.unwrap_or(usize::MAX)));
     }
 
+    /// Limits how many candidates of each side there are when one is added. Default: 100. `None`: no limit, as in the original.
+    ///
+    /// If [`IceAgent::local_candidates`] has as many, [`IceAgent::add_local_candidate`] returns `None`; if
+    /// [`IceAgent::remote_candidates`] has, [`IceAgent::add_remote_candidate`] leaves the candidate out. So the peer's signaling costs
+    /// no more memory and time. The forms that return an error fail with [`CallError::TooManyCandidates`]. A lower limit removes no
+    /// candidate, and packets bring candidates without regard to it: [`IceAgent::set_max_discovered`] limits them.
+    pub fn set_max_candidates(&mut self, max: Option<usize>) {
+        self.set(|agent| ffi::is_ice_set_max_candidates(agent, max.unwrap_or(usize::MAX)));
+    }
+
+    /// How many candidates of each side there may be when one is added. `None`: any number.
+    pub fn max_candidates(&self) -> Option<usize> {
+        Some(self.status().max_candidates).filter(|max| *max != usize::MAX)
+    }
+
     /// Whether the agent is a lite agent.
     pub fn ice_lite(&self) -> bool {
         self.status().lite
@@ -93,9 +109,9 @@ impl IceAgent {
         self.set(|agent| ffi::is_ice_set_initial_rto(agent, nanoseconds(timeout)));
     }
 
-    /// Sets the longest time from one check of a pair until the next one is due. Default: 2.9 s; in the original 3 s. With the default
-    /// values a path that stops responding is removed 29.6 s after the last check that got a response, within the 30 s of RFC 7675,
-    /// section 5.1; with the original's after 24.5 s.
+    /// Sets the longest time from one check of a pair until the next one is due. Default: 2.9 s; in the original 3 s. With few pairs
+    /// and the default values a path that stops responding is removed within 29.6 s of the last check that got a response. However many
+    /// pairs there are, [`Rules::consent`](crate::Rules::consent) ends it by then.
     pub fn set_max_stun_rto(&mut self, timeout: Duration) {
         self.set(|agent| ffi::is_ice_set_max_rto(agent, nanoseconds(timeout)));
     }
@@ -128,9 +144,23 @@ impl IceAgent {
         self.tell(|agent| ffi::is_ice_set_max_retransmits(agent, num)).map(drop)
     }
 
-    /// Sets the local preference of local candidates that are added later.
-    pub fn set_local_preference(&mut self, p: LocalPreference) {
-        self.set(|agent| p.set(agent));
+    /// Sets the function that gives local candidates that are added later their local preference: a closure, or a [`LocalPreference`].
+    /// It is called when a candidate is added, and the number passed on. `move |_, _| number` gives each the same one.
+    pub fn set_local_preference(&mut self, p: impl LocalPreference) {
+        self.preference = Some(Arc::new(p));
+    }
+
+    /// Sets the local preference of local candidates that are added later, by a table.
+    pub fn set_preference_table(&mut self, table: PreferenceTable) {
+        self.preference = None;
+        self.set(|agent| ffi::is_ice_set_preference_table(agent, &table.raw()));
+    }
+
+    /// Returns to the local preference of a new agent, [`default_local_preference`](crate::default_local_preference), for local candidates
+    /// that are added later.
+    pub fn reset_local_preference(&mut self) {
+        self.preference = None;
+        self.set(|agent| ffi::is_ice_reset_local_preference(agent));
     }
 
     /// How long a pair's checks go on without a response, before the pair is removed.

@@ -1,12 +1,15 @@
 //! STUN messages (RFC 8489): those that a caller passes to an agent, and those of clients and servers, read and written.
 
-use crate::error::{CallError, StunError, or_panic};
+use crate::error::{CallError, or_panic};
 use crate::ffi;
 use crate::proto::{Protocol, socket_of};
 use crate::stun_texts::{Texts, find, write};
+use std::marker::PhantomData;
 use std::net::SocketAddr;
 
+pub use crate::error::StunError;
 pub use crate::stun_builder::Builder as StunMessageBuilder;
+pub use crate::stun_timing::{DEFAULT_MAX_RETRANSMITS, StunTiming};
 
 // The types of the attributes that contain a text or data (RFC 8489, section 18.3; RFC 8656, section 18).
 const USERNAME: u16 = 0x0006;
@@ -135,6 +138,10 @@ impl BindingResponse {
         Some(BindingResponse::Failed(result.error_code, reason.ok()?))
     }
 }
+
+/// Attributes without values. The original exports the type, but no call takes or returns it: [`StunMessage`] has the values.
+#[derive(Clone, Copy, Debug, Default, PartialEq, Eq)]
+pub struct Attributes<'a>(PhantomData<&'a str>);
 
 /// A STUN message: either a parsed one, which borrows the bytes that it was parsed from, or a built one, which can be written.
 #[derive(Clone, Copy, Debug, PartialEq, Eq)]

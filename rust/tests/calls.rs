@@ -3,8 +3,8 @@
 mod world;
 
 use is::stun::{StunMessage, StunPacket};
-use is::{CallError, Candidate, CandidateKind, CheckState, EarlyRto, IceAgent, IceAgentEvent, IceConnectionState, IceCreds, IceError};
-use is::{KindPreferences, LocalPreference, PreferenceTable, Protocol, Rules, StunError, TcpType};
+use is::{CallError, Candidate, CandidateKind, CheckState, Consent, EarlyRto, IceAgent, IceAgentEvent, IceConnectionState, IceCreds};
+use is::{IceError, KindPreferences, LocalPreference, PreferenceTable, Protocol, Rules, StunError, TcpType};
 use std::time::{Duration, Instant};
 use world::{at, creds, host, ms};
 
@@ -175,11 +175,12 @@ fn delays_are_set() {
 fn rules_begin_as_documented() {
     let (modern, original) = (Rules::modern(), Rules::original());
     assert_eq!(IceAgent::new(creds("near")).rules(), modern);
-    assert!(modern.kinds_in_turn && modern.selects_at_once);
+    assert!(modern.kinds_in_turn && modern.selects_at_once && modern.selected_first && modern.timeout_after_requests);
+    assert_eq!(modern.consent, Some(Consent { timeout: ms(29_600), strict: false }));
     assert_eq!(modern.triggered_checks, Some(4));
     assert_eq!(modern.early_rto, Some(EarlyRto { retransmits: 4, interval: ms(100) }));
-    assert!(!original.kinds_in_turn && !original.selects_at_once);
-    assert_eq!((original.triggered_checks, original.early_rto), (None, None));
+    assert!(!original.kinds_in_turn && !original.selects_at_once && !original.selected_first && !original.timeout_after_requests);
+    assert_eq!((original.triggered_checks, original.early_rto, original.consent), (None, None, None));
 }
 
 /// The rules of an agent after these were set.
@@ -191,13 +192,17 @@ fn rules_after(rules: Rules) -> Rules {
 
 #[test]
 fn rules_are_set() {
-    let changes: [fn(&mut Rules); 6] = [
+    let changes: [fn(&mut Rules); 10] = [
         |rules| *rules = Rules::original(),
         |rules| rules.kinds_in_turn = !rules.kinds_in_turn,
         |rules| rules.triggered_checks = Some(u64::MAX),
         |rules| rules.early_rto = Some(EarlyRto { retransmits: usize::MAX, interval: Duration::from_nanos(u64::MAX) }),
         |rules| rules.early_rto = Some(EarlyRto { retransmits: 1, interval: Duration::ZERO }),
         |rules| rules.selects_at_once = !rules.selects_at_once,
+        |rules| rules.consent = Some(Consent { timeout: Duration::from_nanos(u64::MAX), strict: true }),
+        |rules| rules.consent = Some(Consent { timeout: Duration::from_nanos(1), strict: false }),
+        |rules| rules.selected_first = !rules.selected_first,
+        |rules| rules.timeout_after_requests = !rules.timeout_after_requests,
     ];
     for change in changes {
         for mut rules in [Rules::modern(), Rules::original()] {
@@ -212,6 +217,7 @@ fn rules_that_count_to_0_are_none() {
     let mut rules = Rules::original();
     rules.triggered_checks = Some(0);
     rules.early_rto = Some(EarlyRto { retransmits: 0, interval: ms(7) });
+    rules.consent = Some(Consent { timeout: Duration::ZERO, strict: true });
     assert_eq!(rules_after(rules), Rules::original());
 }
 
@@ -364,11 +370,18 @@ fn a_local_candidate_is_removed_as_gathered_and_as_listed() {
 
 /// A text says nothing about the base.
 #[test]
-fn a_local_candidate_that_was_read_is_not_added() {
+fn a_local_candidate_that_was_read_is_added_with_its_address_as_base() {
     let mut agent = IceAgent::new(creds("near"));
     for candidate in gathered() {
         let read = Candidate::from_sdp_string(&candidate.to_sdp_string()).unwrap();
+        let added = agent.add_local_candidate(read.clone()).expect("a new one").clone();
+        let said = |of: &Candidate| (of.addr(), of.proto(), of.kind(), of.tcptype());
+        assert_eq!((said(&added), added.local(), added.ufrag()), (said(&read), read.addr(), Some("near")));
         assert_eq!(agent.add_local_candidate(read), None);
+        assert!(agent.invalidate_candidate(&added));
+    }
+    for line in ["candidate:1 1 udp 7 224.0.0.1 9 typ host", "candidate:1 1 udp 7 10.0.0.1 9 typ prflx"] {
+        assert_eq!(agent.try_add_local_candidate(Candidate::from_sdp_string(line).unwrap()), Ok(None));
     }
     agent.add_local_candidate(host("10.0.0.1:1000")).expect("a new one");
     assert!(agent.invalidate_candidate(&Candidate::from_sdp_string(&host("10.0.0.1:1000").to_sdp_string()).unwrap()));
@@ -401,14 +414,43 @@ fn preferences_are_set() {
     let prio = |agent: &mut IceAgent, address: &str| agent.add_local_candidate(host(address)).expect("a new one").prio();
     let v4 = KindPreferences { host: 100, peer_reflexive: 0, server_reflexive: 0, relayed: 0 };
     let v6 = KindPreferences { host: 7, ..v4 };
-    agent.set_local_preference(LocalPreference::ByKind(PreferenceTable { v4, v6 }));
+    agent.set_preference_table(PreferenceTable { v4, v6 });
     assert_eq!(prio(&mut agent, "10.0.0.1:1"), 126 << 24 | 100 << 8 | 255);
     assert_eq!(prio(&mut agent, "10.0.0.2:1"), 126 << 24 | 99 << 8 | 255);
     assert_eq!(prio(&mut agent, "[2001:db8::1]:1"), 126 << 24 | 7 << 8 | 255);
-    agent.set_local_preference(LocalPreference::Fixed(5));
+    agent.set_local_preference(|_: &Candidate, _: usize| 5);
     assert_eq!(prio(&mut agent, "10.0.0.3:1"), 126 << 24 | 5 << 8 | 255);
-    agent.set_local_preference(LocalPreference::ByDefault);
+    agent.reset_local_preference();
     assert_eq!(prio(&mut agent, "10.0.0.4:1"), 126 << 24 | (65534 - 6) << 8 | 255);
+}
+
+/// Prefers ports: its object keeps state of its own.
+struct ByPort(u32);
+
+impl LocalPreference for ByPort {
+    fn calculate(&self, c: &Candidate, same_kind: usize) -> u32 {
+        self.0 + u32::from(c.addr().port()) + same_kind as u32
+    }
+}
+
+#[test]
+fn a_preference_object_gets_the_candidate_and_the_count_of_its_kind() {
+    let mut agent = IceAgent::new(creds("near"));
+    let prio = |agent: &mut IceAgent, c: Candidate| agent.try_add_local_candidate(c).map(|added| added.expect("a new one").prio());
+    agent.set_local_preference(ByPort(1000));
+    assert_eq!(prio(&mut agent, host("10.0.0.1:1")), Ok(126 << 24 | 1001 << 8 | 255));
+    assert_eq!(prio(&mut agent, host("[2001:db8::1]:2")), Ok(126 << 24 | 1002 << 8 | 255));
+    assert_eq!(prio(&mut agent, host("10.0.0.2:3")), Ok(126 << 24 | 1004 << 8 | 255));
+    let reflexive = Candidate::server_reflexive(at("192.0.2.1:9"), at("10.0.0.1:1"), "udp").unwrap();
+    assert_eq!(prio(&mut agent, reflexive), Ok(100 << 24 | 1009 << 8 | 255));
+    agent.set_local_preference(|_: &Candidate, _: usize| 65535);
+    assert_eq!(prio(&mut agent, host("10.0.0.3:1")), Ok(126 << 24 | 65535 << 8 | 255));
+    let count = agent.local_candidates().count();
+    agent.set_local_preference(|_: &Candidate, _: usize| 65536);
+    assert_eq!(prio(&mut agent, host("10.0.0.4:1")), Err(CallError::PriorityTooHigh));
+    assert_eq!(agent.local_candidates().count(), count);
+    agent.set_local_preference(is::default_local_preference);
+    assert_eq!(prio(&mut agent, host("10.0.0.5:1")), Ok(126 << 24 | (65534 - 6) << 8 | 255));
 }
 
 // ---- others
@@ -508,6 +550,23 @@ fn a_text_that_cannot_be_read_is_an_error() {
     let listed = agent.add_local_candidate(host("10.0.0.1:1000")).expect("a new one").clone();
     assert_eq!((listed.ufrag(), paired().try_add_remote_candidate(listed.clone())), (Some("a b"), Ok(false)));
     assert_eq!(Candidate::from_json(&listed.to_json()).unwrap().ufrag(), Some("a"));
+}
+
+#[test]
+fn at_the_limit_no_candidate_is_added() {
+    let mut agent = IceAgent::new(creds("near"));
+    assert_eq!(agent.max_candidates(), Some(100));
+    agent.set_max_candidates(Some(1));
+    assert!(agent.add_local_candidate(host("10.0.0.1:1000")).is_some());
+    agent.add_remote_candidate(Candidate::from_sdp_string(PEER).unwrap());
+    let another = Candidate::from_sdp_string(&PEER.replace("2000", "2002")).unwrap();
+    assert_eq!(agent.try_add_local_candidate(host("10.0.0.1:1001")), Err(CallError::TooManyCandidates));
+    assert_eq!(agent.try_add_remote_candidate(another.clone()), Err(CallError::TooManyCandidates));
+    assert!(agent.add_local_candidate(host("10.0.0.1:1001")).is_none());
+    agent.add_remote_candidate(another.clone());
+    assert_eq!((agent.local_candidates().count(), agent.remote_candidates().count()), (1, 1));
+    agent.set_max_candidates(None);
+    assert_eq!((agent.max_candidates(), agent.try_add_remote_candidate(another)), (None, Ok(true)));
 }
 
 #[test]

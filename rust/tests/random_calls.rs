@@ -5,9 +5,12 @@
 
 mod random;
 
-use is::stun::{BindingResponse, StunMessage, StunMessageBuilder, StunPacket, TransId};
-use is::{Candidate, IceAgent, IceAgentEvent, IceCreds, KindPreferences, LocalPreference, PreferenceTable, Protocol, TcpType};
-use is::{EarlyRto, Rules, default_local_preference, try_default_local_preference};
+use is::stun::{BindingResponse, StunMessage, StunMessageBuilder, StunPacket, StunTiming, TransId};
+use is::{
+    Candidate, CandidateKind, DefaultSha1HmacProvider, IceAgent, IceAgentEvent, IceCreds, KindPreferences, PreferenceTable, Protocol,
+    TcpType,
+};
+use is::{Consent, EarlyRto, Rules, default_local_preference, try_default_local_preference};
 use random::Random;
 use std::hint::black_box;
 use std::net::SocketAddr;
@@ -79,7 +82,7 @@ const GROUPS: [fn(&mut Session); 16] = [
 impl Session {
     fn new(seed: u64) -> Session {
         let mut random = Random(seed);
-        let mut agents = [IceAgent::new(creds("near")), IceAgent::new(creds("farr"))];
+        let mut agents = [IceAgent::new(creds("near")), IceAgent::with_hmac(creds("farr"), &DefaultSha1HmacProvider)];
         if !random.once_in(4) {
             agents[0].set_controlling(true);
             agents[0].set_remote_credentials(creds("farr"));
@@ -162,6 +165,18 @@ impl Session {
         self.keep(made);
     }
 
+    /// A candidate of its parts.
+    fn build(&mut self) {
+        let (foundation, ufrag, component) = (self.random.text(), self.random.text(), self.random.number() as u16);
+        let (priority, addr, related) = (self.random.number() as u32, self.random.address(), self.random.address());
+        let kind = *self.random.pick(&[CandidateKind::Host, CandidateKind::ServerReflexive, CandidateKind::Relayed]);
+        let (related, ufrag) = (self.random.once_in(2).then_some(related), self.random.once_in(2).then_some(ufrag));
+        let made = Candidate::try_from_parts(foundation, component, Protocol::Udp, priority, addr, kind, related, None, ufrag);
+        self.keep(made);
+        let addr = "10.0.0.1:1000".parse().unwrap();
+        self.keep(Ok(Candidate::from_parts("1".to_owned(), 1, Protocol::Udp, 7, addr, kind, None, None, None)));
+    }
+
     fn read(&mut self) {
         let (line, json, ip) = (self.random.line(), self.random.json(), self.random.ip());
         black_box(Candidate::mdns_name(&line));
@@ -172,6 +187,7 @@ impl Session {
             _ => Candidate::from_sdp_string(&line),
         };
         self.keep(made);
+        self.build();
         let (ufrag, mut named) = (self.random.text(), self.any_candidate());
         let before = named.clone();
         match named.try_set_ufrag(&ufrag) {
@@ -219,6 +235,8 @@ impl Session {
         let mut rules = if self.random.once_in(2) { Rules::modern() } else { Rules::original() };
         rules.triggered_checks = self.random.once_in(2).then_some(count as u64);
         rules.early_rto = self.random.once_in(2).then_some(EarlyRto { retransmits, interval });
+        let (timeout, strict) = (self.random.duration(), self.random.once_in(2));
+        rules.consent = self.random.once_in(2).then_some(Consent { timeout, strict });
         rules
     }
 
@@ -226,8 +244,9 @@ impl Session {
         let (number, duration, creds) = (self.random.number(), self.random.duration(), self.random.creds());
         let (flag, side) = (self.random.once_in(2), self.side());
         let (table, rules) = (self.table(), self.rules());
+        self.timing();
         let agent = &mut self.agents[side];
-        match self.random.below(19) {
+        match self.random.below(20) {
             0 => agent.set_mtu(588..=number),
             1 => _ = black_box(agent.try_set_mtu(number..=number)),
             2 => agent.set_control_tie_breaker(number as u64),
@@ -241,11 +260,14 @@ impl Session {
             10 => agent.set_lite_timeout(duration),
             11 => agent.set_max_stun_retransmits(number.max(1)),
             12 => _ = black_box(agent.try_set_max_stun_retransmits(number)),
-            13 => agent.set_local_preference(table),
+            13 if flag => agent.set_preference_table(table),
+            13 if number > 99 => agent.set_local_preference(move |_: &Candidate, _: usize| u32::from(number as u16)),
+            13 => agent.reset_local_preference(),
             14 => agent.set_controlling(flag),
             15 => _ = black_box(agent.try_set_local_credentials(creds)),
             16 => _ = black_box(agent.try_set_remote_credentials(creds)),
             17 => agent.set_rules(rules),
+            18 => agent.set_max_candidates(flag.then_some(number)),
             _ => {
                 agent.set_local_credentials(self::creds("near"));
                 agent.set_remote_credentials(self::creds("farr"));
@@ -253,15 +275,21 @@ impl Session {
         }
     }
 
-    fn table(&mut self) -> LocalPreference {
+    /// The settings of retransmissions as a value.
+    fn timing(&mut self) {
+        let (initial_rto, max_rto) = (self.random.duration(), self.random.duration());
+        let timing = StunTiming { initial_rto, max_retransmits: self.random.number(), max_rto };
+        black_box((timing.try_timeout().ok(), timing.max_retransmits(), timing.max_rto(), StunTiming::default().timeout()));
+    }
+
+    fn table(&mut self) -> PreferenceTable {
         let mut kinds = || KindPreferences {
             host: self.random.number() as u16,
             peer_reflexive: self.random.number() as u16,
             server_reflexive: self.random.number() as u16,
             relayed: self.random.number() as u16,
         };
-        let table = PreferenceTable { v4: kinds(), v6: kinds() };
-        *self.random.pick(&[LocalPreference::ByDefault, LocalPreference::Fixed(table.v4.host), LocalPreference::ByKind(table)])
+        PreferenceTable { v4: kinds(), v6: kinds() }
     }
 
     // ---- queries
@@ -272,6 +300,7 @@ impl Session {
         black_box((
             agent.mtu(),
             agent.mtu_warn(),
+            agent.max_candidates(),
             agent.ice_lite(),
             agent.controlling(),
             agent.ice_timeout(),
@@ -281,6 +310,10 @@ impl Session {
         black_box((agent.state().is_connected(), agent.state().is_disconnected(), agent.rules()));
         black_box((agent.nominated_pair_rtt(), agent.nominated_pair_total_rtt(), agent.nominated_pair_responses_received()));
         black_box((agent.selected_path(), agent.has_viable_remote_candidate(address), agent.pairs().count()));
+        for pair in agent.pairs().take(2) {
+            black_box((pair.local_idx(), pair.remote_idx(), pair.is_nominated(), pair.remote_binding_request_time()));
+            black_box((pair.last_successful_rtt(), pair.total_round_trip_time()));
+        }
         assert_eq!(agent.local_candidates().collect::<Vec<_>>(), agent.try_local_candidates().unwrap());
         assert_eq!(agent.remote_candidates().collect::<Vec<_>>(), agent.try_remote_candidates().unwrap());
         for text in [format!("{agent:?}"), format!("{:?} {:?}", agent.local_credentials(), agent.remote_credentials())] {

@@ -159,3 +159,19 @@ fn the_pair_of_a_candidate_is_found() {
     assert_eq!(agent.pairs().find(|listed| listed.remote == 1), Some(pair));
     assert_eq!(agent.find_pair_for_equivalent_remote_candidate(&read(&LINE.replace("host", "srflx"))), None);
 }
+
+#[test]
+fn fields_are_those_of_the_text() {
+    let address = "192.0.2.3:3000".parse().unwrap();
+    let with = |foundation: &str, ufrag: Option<&str>| {
+        let (foundation, ufrag) = (foundation.to_owned(), ufrag.map(str::to_owned));
+        let (raddr, role) = (Some("10.0.0.3:9".parse().unwrap()), Some(TcpType::Passive));
+        Candidate::try_from_parts(foundation, 2, Protocol::Tcp, 7, address, CandidateKind::ServerReflexive, raddr, role, ufrag)
+    };
+    let line = "candidate:a+/1 2 tcp 7 192.0.2.3 3000 typ srflx raddr 10.0.0.3 rport 9 tcptype passive";
+    assert_eq!(with("a+/1", None), Candidate::from_sdp_string(line));
+    assert_eq!(with("a+/1", Some("near")), Candidate::from_sdp_string(&format!("{line} ufrag near")));
+    for (foundation, ufrag) in [("", None), ("1 2", None), ("1 1 udp 7 10.0.0.1 9 typ host x", None), ("1", Some("")), ("1", Some("a b"))] {
+        assert!(matches!(with(foundation, ufrag), Err(IceError::BadCandidate(_))), "{foundation:?} {ufrag:?}");
+    }
+}

@@ -4,9 +4,9 @@ use Rattle.std.specs.List.{find}
 use Rattle.std.proofs.Math.Seq.{drop-cons}
 use Rattle.std.proofs.lemmas.Bool.{eqb-true, eqb-false, eq-eqb, ne_eqb, cond-true, cond-false}
 use Rattle.std.proofs.lemmas.Option.{slice_get_within, get_or_from_slice_get}
-use Rattle.is_pair.specs.Multiset.{is_numbered}
+use Rattle.is_pair.specs.Multiset.{is_numbered, is_named_by}
 use Rattle.is_pair.specs.Pairs.{PairRecord}
-use Rattle.is_rules.specs.Nominating.{is_named_by, pair_selected}
+use Rattle.is_rules.specs.Nominating.{pair_selected}
 
 -- ---- the first pair of a list
 

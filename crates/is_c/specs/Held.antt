@@ -1,5 +1,5 @@
 -- What a slot holds, and what the contracts of the exports have in common.
-use Rattle.std.specs.Prelude.{◌≡◌, Option, Some, None, option_map, ℤ}
+use Rattle.std.specs.Prelude.{◌≡◌, ℕ, Option, Some, None, option_map, ℤ}
 use Rattle.is_proto.specs.declared.hmac_provider.DefaultSha1HmacProvider.{DefaultSha1HmacProvider}
 use Rattle.is_proto.specs.Packets.{Packet, packet_of}
 use Rattle.is_rules.specs.Agent.{AgentRecord}
@@ -12,13 +12,14 @@ use Rattle.is_c.specs.declared.slot.Slot.{Slot}
 abbrev pub Held : Type 0
 Held = AgentRecord DefaultSha1HmacProvider Preference
 
--- the agent, and a packet that waits for a longer buffer
+-- the agent, a packet that waits for a longer buffer, and the limit on candidates of each side
 pub record HomeRecord : Type 0 where
   pub agent : Held
   pub waiting : Option Packet
+  pub max_candidates : ℕ
 
 abbrev pub home_of : Home → HomeRecord
-home_of h = record { agent = record_of h.agent; waiting = option_map packet_of h.waiting }
+home_of h = record { agent = record_of h.agent; waiting = option_map packet_of h.waiting; max_candidates = h.max_candidates }
 
 abbrev pub held_by : Slot → Option HomeRecord
 held_by slot = option_map home_of slot.handle.home
@@ -33,10 +34,14 @@ At Does (Some old) code (Some new) = Does old code new
 abbrev pub AgentBecomes : (Held → Held) → HomeRecord → ℤ → HomeRecord → Type 0
 AgentBecomes change old code new = (code ≡ OK) × (new ≡ record old { agent = change old.agent })
 
+-- only the agent may change
+abbrev pub KeepsRest : HomeRecord → HomeRecord → Type 0
+KeepsRest old new = (new.waiting ≡ old.waiting) × (new.max_candidates ≡ old.max_candidates)
+
 -- a call of the library, whose result the code contains
 abbrev pub Calls : {R : Type 0} → (Held → R → Held → Type 0) → (R → ℤ) → HomeRecord → ℤ → HomeRecord → Type 0
 Calls {R} Does to_code old code new =
-    (r : R) × Does old.agent r new.agent × (code ≡ to_code r) × (new.waiting ≡ old.waiting)
+    (r : R) × Does old.agent r new.agent × (code ≡ to_code r) × KeepsRest old new
 
 -- a call that fails before the library is called
 abbrev pub Rejects : ℤ → HomeRecord → ℤ → HomeRecord → Type 0

@@ -1,20 +1,35 @@
 -- Candidate JSON in the caller's buffer.
-use Rattle.std.specs.Prelude.{◌⊎◌, ℕ, List, Some, None, MatchOption, Result, Ok, Err, ℤ}
+use Rattle.std.specs.Prelude.{◌⊎◌, ℕ, ◌==◌, ◌||◌, Bool, nat_lt, count_by, codes, List, Some, None, MatchOption, MatchBool, Result, Ok, Err, IsErrAnd, ℤ}
 use Rattle.std.specs.Str.{IsUtf8}
 use Rattle.serde_json.specs.Written.{compact_text}
 use Rattle.is_proto.specs.declared.error.IceError.{IceError}
 use Rattle.is_candidate.specs.Candidates.{CandidateRecord}
 use Rattle.is_candidate.specs.Infos.{info_of, ReadsInfoText}
+use Rattle.is_candidate.specs.Rejections.{RejectsWith}
 use Rattle.is_c.specs.Candidates.{Made, ReadsBytes}
 use Rattle.is_c.specs.Codes.{NOT_UTF8, OUT_OF_MEMORY, code_of}
 use Rattle.is_c.specs.Lines.{KeepsWord, PutsMade}
 use Rattle.is_c.specs.Rejections.{ReturnsWhy}
 use Rattle.is_c.specs.Texts.{Puts, PutsNone}
 
--- the candidate of a JSON text, if the bytes are UTF-8 and its username fragment, if it has one, is one word
+-- '[' or '{'
+abbrev pub is_bracket : ℕ → Bool
+is_bracket b = b == 91 || b == 123
+
+-- more opening brackets than are read, those within strings included
+abbrev pub has_many_brackets : List ℕ → Bool
+has_many_brackets json = nat_lt 8 (count_by is_bracket json)
+
+-- the candidate of a JSON text, if the text has few brackets and its username fragment, if it has one, is one word
+abbrev pub ReadsFlat : List ℕ → Result CandidateRecord IceError → Type 0
+ReadsFlat json r =
+    MatchBool (has_many_brackets json)
+    (IsErrAnd r (RejectsWith (codes "candidate info has more than 8 opening brackets")))
+    ((read : Result CandidateRecord IceError) × ReadsInfoText json read × KeepsWord read r)
+
+-- the same of bytes, if they are UTF-8
 abbrev pub ReadsInfoBytes : List ℕ → Made → Type 0
-ReadsInfoBytes json made =
-    MatchOption made (¬ IsUtf8 json) (λ r. (read : Result CandidateRecord IceError) × ReadsInfoText json read × KeepsWord read r)
+ReadsInfoBytes json made = MatchOption made (¬ IsUtf8 json) (ReadsFlat json)
 
 -- the object of the candidate, as JSON without white space
 abbrev pub PutsInfo : CandidateRecord → List ℕ → ℕ → ℤ → List ℕ → ℕ → Type 0

@@ -22,7 +22,7 @@ use Rattle.is_c.specs.declared.packets.Packet.{Packet}
 use Rattle.is_c.specs.Addresses.{socket_of, protocol_of}
 use Rattle.is_c.specs.Codes.{OK, NOTHING, BAD_ADDRESS, UNPARSED, BUFFER_TOO_SHORT, TOO_FEW_RANDOM_BYTES, done_code, flag_code}
 use Rattle.is_c.specs.Credentials.{MakesCreds}
-use Rattle.is_c.specs.Held.{Held, HomeRecord, Rejects}
+use Rattle.is_c.specs.Held.{Held, HomeRecord, KeepsRest, Rejects}
 use Rattle.is_c.specs.Random.{given_steps}
 use Rattle.is_c.specs.Texts.{with_front}
 
@@ -48,7 +48,7 @@ abbrev pub TakesBytes : Mac → ℕ → Path → List ℕ → HomeRecord → ℤ
 TakesBytes mac now path bytes old code new =
     ((e : StunError) × FailsBy bytes e × Rejects UNPARSED old code new)
     ⊎ ((m : Message) × Reads bytes m × ((r : Result Bool IceError) × ((emitted : Emitted)
-    × HandlesPacket mac now old.agent path m r emitted new.agent × (code ≡ flag_code r) × (new.waiting ≡ old.waiting))))
+    × HandlesPacket mac now old.agent path m r emitted new.agent × (code ≡ flag_code r) × KeepsRest old new)))
 
 -- `is_ice_handle_packet`
 abbrev pub HandlesDatagram : Mac → ℕ → Option Path → List ℕ → HomeRecord → ℤ → HomeRecord → Type 0
@@ -72,12 +72,12 @@ TimesOutBy mac now random old code new =
     MatchBool (nat_lt (length random) 12)
     (Rejects TOO_FEW_RANDOM_BYTES old code new)
     ((r : Result (Unit {0}) IceError) × ((emitted : Emitted) × ((left : Stream)
-    × TimesOut mac now old.agent (stream_of given_steps random) r emitted new.agent left × (code ≡ done_code r) × (new.waiting ≡ old.waiting))))
+    × TimesOut mac now old.agent (stream_of given_steps random) r emitted new.agent left × (code ≡ done_code r) × KeepsRest old new)))
 
 -- `is_ice_poll_timeout`
 abbrev pub ReturnsTimeout : ℕ → ℕ → HomeRecord → ℤ → HomeRecord → Type 0
 ReturnsTimeout before after old code new =
-    (deadline : Option ℕ) × PollsTimeout old.agent deadline new.agent × (new.waiting ≡ old.waiting)
+    (deadline : Option ℕ) × PollsTimeout old.agent deadline new.agent × KeepsRest old new
     × MatchOption deadline ((code ≡ NOTHING) × (after ≡ before)) (λ at. (code ≡ OK) × (after ≡ at))
 
 -- ---- packets to send
@@ -109,12 +109,12 @@ abbrev pub GivesOf : Option packets.Packet → List packets.Packet → List ℕ 
 GivesOf None rest before after known reported code new = (code ≡ NOTHING) × (after ≡ before) × (reported ≡ known) × (new ≡ rest)
 GivesOf (Some p) rest before after known reported code new = IsReported p reported × GivesFirst before after p rest code new
 
--- `is_ice_poll_transmit`: nothing of the agent changes except the packets to send
+-- `is_ice_poll_transmit`: nothing changes except the packets to send
 abbrev pub Gives : List ℕ → List ℕ → Packet → Packet → HomeRecord → ℤ → HomeRecord → Type 0
 Gives before after known reported old code new =
     ((first : Option packets.Packet) × ((rest : List packets.Packet) × IsPolled (queue_of old) first rest
     × GivesOf first rest before after known reported code (queue_of new)))
-    × (new.agent ≡ record old.agent { packets = new.agent.packets })
+    × (new.agent ≡ record old.agent { packets = new.agent.packets }) × (new.max_candidates ≡ old.max_candidates)
 
 -- ---- ICE restarts
 
@@ -123,7 +123,8 @@ unless_done (Ok _) kept = None
 unless_done (Err e) kept = kept
 
 abbrev pub Restarted : Bool → IceCreds → HomeRecord → Result (Unit {0}) IceError → HomeRecord → Type 0
-Restarted keep creds old r new = Restarts old.agent creds keep r new.agent × (new.waiting ≡ unless_done r old.waiting)
+Restarted keep creds old r new =
+    Restarts old.agent creds keep r new.agent × (new.waiting ≡ unless_done r old.waiting) × (new.max_candidates ≡ old.max_candidates)
 
 -- `is_ice_restart`: a packet of the old session that waits for a longer buffer is removed too
 abbrev pub RestartsWith : Bool → List ℕ → List ℕ → HomeRecord → ℤ → HomeRecord → Type 0

@@ -15,13 +15,14 @@ use Rattle.is_c.specs.Held.{Held, HomeRecord}
 use Rattle.is_c.specs.Texts.{Puts, PutsNone}
 
 -- `is_ice_status`
-abbrev pub IsStatus : Held → Status → Type 0
-IsStatus a s =
-    (s.state ≡ state_number a.state) × (s.controlling ≡ a.controlling) × (s.lite ≡ a.lite)
-    × (s.mtu ≡ a.mtu) × (s.mtu_warn ≡ a.mtu_warn) × (s.ice_timeout ≡ ice_timeout a)
+abbrev pub IsStatus : HomeRecord → Status → Type 0
+IsStatus h s =
+    (s.state ≡ state_number h.agent.state) × (s.controlling ≡ h.agent.controlling) × (s.lite ≡ h.agent.lite)
+    × (s.mtu ≡ h.agent.mtu) × (s.mtu_warn ≡ h.agent.mtu_warn) × (s.ice_timeout ≡ ice_timeout h.agent)
+    × (s.max_candidates ≡ h.max_candidates)
 
 abbrev pub ReturnsStatus : Status → HomeRecord → ℤ → HomeRecord → Type 0
-ReturnsStatus status old code new = (code ≡ OK) × IsStatus old.agent status × (new ≡ old)
+ReturnsStatus status old code new = (code ≡ OK) × IsStatus old status × (new ≡ old)
 
 -- `is_ice_stats`
 abbrev pub stats_of : Stats → IceAgentStats

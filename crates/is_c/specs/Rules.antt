@@ -1,6 +1,7 @@
 -- The rules of an agent, as C sets and reads them.
-use Rattle.std.specs.Prelude.{◌≡◌, ℕ, ℤ, ◌==◌, Option, Some, None, unwrap_or, if◌then◌else◌}
+use Rattle.std.specs.Prelude.{◌≡◌, ℕ, ℤ, ◌==◌, Bool, false, Option, Some, None, unwrap_or, if◌then◌else◌}
 use Rattle.std.specs.Option.{option_map_or}
+use Rattle.is_stun.specs.declared.timing.Consent.{Consent}
 use Rattle.is_stun.specs.declared.timing.EarlyRto.{EarlyRto}
 use Rattle.is_rules.specs.declared.rules.Rules.{Rules}
 use Rattle.is_c.specs.declared.rules.AgentRules.{AgentRules}
@@ -15,6 +16,9 @@ triggered_of n = if n == 0 then None else Some n
 abbrev pub early_of : ℕ → ℕ → Option EarlyRto
 early_of n interval = if n == 0 then None else Some (record { retransmits = n; interval = record { 0 = interval } })
 
+abbrev pub consent_of : ℕ → Bool → Option Consent
+consent_of timeout strict = if timeout == 0 then None else Some (record { timeout = record { 0 = timeout }; strict = strict })
+
 -- the rules that a struct of C means
 abbrev pub rules_of : AgentRules → Rules
 rules_of r = record {
@@ -22,6 +26,9 @@ rules_of r = record {
   triggered_checks = triggered_of r.triggered_checks;
   early_rto = early_of r.early_retransmits r.early_interval;
   selects_at_once = r.selects_at_once;
+  consent = consent_of r.consent_timeout r.strict_consent;
+  selected_first = r.selected_first;
+  timeout_after_requests = r.timeout_after_requests;
 }
 
 -- the struct of C that is written for rules
@@ -30,13 +37,20 @@ reported_rules rules = record {
   triggered_checks = unwrap_or rules.triggered_checks 0;
   early_retransmits = option_map_or (λ e. e.retransmits) rules.early_rto 0;
   early_interval = option_map_or (λ e. e.interval.0) rules.early_rto 0;
+  consent_timeout = option_map_or (λ c. c.timeout.0) rules.consent 0;
   kinds_in_turn = rules.kinds_in_turn;
   selects_at_once = rules.selects_at_once;
+  strict_consent = option_map_or (λ c. c.strict) rules.consent false;
+  selected_first = rules.selected_first;
+  timeout_after_requests = rules.timeout_after_requests;
 }
 
--- what C reads after it set this struct: without early retransmissions the interval is 0
+-- what C reads after it set this struct: without early retransmissions the interval is 0, and without a timeout consent is not strict
 abbrev pub as_read : AgentRules → AgentRules
-as_read r = if r.early_retransmits == 0 then record r { early_interval = 0 } else r
+as_read r = record r {
+  early_interval = if r.early_retransmits == 0 then 0 else r.early_interval;
+  strict_consent = if r.consent_timeout == 0 then false else r.strict_consent;
+}
 
 -- `is_ice_rules`
 abbrev pub ReturnsRules : AgentRules → HomeRecord → ℤ → HomeRecord → Type 0

@@ -1,19 +1,56 @@
 //! Candidates: added and removed.
 
 ghost use Rattle.std.specs.Prelude.{◌≡◌, None};
+ghost use Rattle.is_agent.specs.View.{record_of};
 ghost use Rattle.is_rules.specs.Discarding.{Invalidates};
-ghost use Rattle.is_c.specs.Adding.{addition_index, addition_code, PutsAddition, AddsGiven, AddsRead};
+ghost use Rattle.is_c.specs.Adding.{addition_index, addition_code, has_room, PutsAddition, AddsGiven, AddsRead};
 ghost use Rattle.is_c.specs.Codes.{found_code};
 ghost use Rattle.is_c.specs.Held.{held_by, At};
 ghost use Rattle.is_c.specs.Given.{CallsGiven, CallsRead};
 
 use crate::candidate::{LocalCandidate, line_candidate, local_candidate};
 use crate::codes;
+use crate::home::Home;
+use crate::questions::{local_at, remote_at};
 use crate::slot::Slot;
 use is_agent::Addition;
 use is_agent::added::{add_local_listed, add_remote_listed};
 use is_proto::IceError;
 use std::alloc::Global;
+
+// ---- the limit
+
+/// Whether fewer local candidates are listed than the limit: whether the last place that it allows is free.
+#[tactic(auto, using(crate::proofs::RoomLemmas::room, crate::proofs::RoomLemmas::no_room))]
+fn has_local_room(home: &Home) -> bool
+    ensures { result ≡ has_room home.now.max_candidates (record_of home.now.agent).local }
+{
+    let limit = home.max_candidates;
+    if limit == 0 {
+        return false;
+    }
+    match local_at(home, limit - 1) {
+        Some(_) => false,
+        None => true,
+    }
+}
+
+/// The same of remote ones.
+#[tactic(auto, using(crate::proofs::RoomLemmas::room, crate::proofs::RoomLemmas::no_room))]
+fn has_remote_room(home: &Home) -> bool
+    ensures { result ≡ has_room home.now.max_candidates (record_of home.now.agent).remote }
+{
+    let limit = home.max_candidates;
+    if limit == 0 {
+        return false;
+    }
+    match remote_at(home, limit - 1) {
+        Some(_) => false,
+        None => true,
+    }
+}
+
+// ---- what became of a candidate
 
 /// The index of no candidate.
 pub const NO_INDEX: usize = usize::MAX;
@@ -53,7 +90,7 @@ fn put_addition(outcome: Result<Addition, IceError>, index: &mut usize) -> i32
 }
 
 /// Adds a local candidate, and writes the index at which it is listed: of one that is not added, that of the candidate that
-/// equals it, or `NO_INDEX`.
+/// equals it, or `NO_INDEX`. Fails with `TOO_MANY_CANDIDATES` if as many local candidates are listed as the limit allows.
 #[unsafe(no_mangle)]
 pub extern "C" fn is_ice_add_local(
     alloc: Global,
@@ -67,6 +104,9 @@ pub extern "C" fn is_ice_add_local(
     let Some(home) = slot.home() else {
         return codes::NO_AGENT;
     };
+    if !has_local_room(home) {
+        return codes::TOO_MANY_CANDIDATES;
+    }
     match local_candidate(alloc, candidate) {
         Some(Ok(candidate)) => put_addition(add_local_listed(&mut home.agent, candidate), index),
         Some(Err(error)) => codes::code_of(&error),
@@ -75,7 +115,7 @@ pub extern "C" fn is_ice_add_local(
 }
 
 /// Adds a remote candidate, by its candidate attribute, and writes the index at which it is listed, in the same way. Its code says why
-/// one is ignored.
+/// one is ignored. Fails with `TOO_MANY_CANDIDATES` in the same way.
 #[unsafe(no_mangle)]
 pub extern "C" fn is_ice_add_remote(
     alloc: Global,
@@ -89,6 +129,9 @@ pub extern "C" fn is_ice_add_remote(
     let Some(home) = slot.home() else {
         return codes::NO_AGENT;
     };
+    if !has_remote_room(home) {
+        return codes::TOO_MANY_CANDIDATES;
+    }
     match line_candidate(alloc, line) {
         Some(Ok(candidate)) => put_addition(add_remote_listed(&mut home.agent, candidate), index),
         Some(Err(error)) => codes::code_of(&error),

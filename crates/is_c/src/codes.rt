@@ -45,6 +45,8 @@ pub const TOO_FEW_RANDOM_BYTES: i32 = -14;
 pub const BAD_MESSAGE: i32 = -15;
 
 pub const MESSAGE_TOO_LONG: i32 = -16;
+/// As many candidates of the side are listed as its limit allows.
+pub const TOO_MANY_CANDIDATES: i32 = -17;
 
 pub(crate) fn code_of(error: &IceError) -> i32
     ensures { result ≡ code.code_of error.now }

@@ -1,14 +1,16 @@
 //! Candidates as the JSON in which browsers signal them: the W3C's RTCIceCandidateInit.
-ghost use Rattle.is_c.specs.Infos.{ReadsInfoBytes, PutsInfo, ReturnsInfo, ReturnsLineOf, ReturnsOfInfo};
+ghost use Rattle.std.specs.Prelude.{◌≡◌, count_by};
+ghost use Rattle.is_candidate.specs.Infos.{ReadsInfoText};
+ghost use Rattle.is_c.specs.Infos.{is_bracket, ReadsFlat, ReadsInfoBytes, PutsInfo, ReturnsInfo, ReturnsLineOf, ReturnsOfInfo};
 
 use crate::candidate::line_candidate;
 use crate::codes;
-use crate::lines::{put_made, with_word};
+use crate::lines::{put_made, rejection, with_word};
 use crate::rejections::put_rejection;
 use crate::text::put;
 use is_candidate::{Candidate, JsonScratch};
 use is_proto::IceError;
-use std::alloc::Global;
+use std::alloc::{AllocError, Global};
 
 fn put_info(alloc: Global, candidate: &Candidate, buffer: &mut [u8], length: &mut usize) -> i32
     ensures { PutsInfo candidate.now buffer.old length.old result buffer.new length.new }
@@ -36,16 +38,58 @@ pub extern "C" fn is_ice_line_to_json(
     }
 }
 
-/// The candidate of a JSON text, if the bytes are UTF-8 and its username fragment, if it has one, is one word.
+// ---- reading takes little stack: a bounded depth, and working memory on the heap
+
+/// The most opening brackets of a JSON text, also within its strings. So its values nest no deeper. A browser's text has one.
+const MOST_BRACKETS: usize = 8;
+
+fn is_bracket(byte: u8) -> bool
+    ensures { result ≡ is_bracket byte }
+{
+    byte == b'[' || byte == b'{'
+}
+
+fn bracket_count(json: &[u8]) -> usize
+    ensures { result ≡ count_by is_bracket json.now }
+{
+    json.iter().filter(|byte| is_bracket(**byte)).count()
+}
+
+/// Working memory on the heap. It is not inlined: while it is made it takes 16 KiB of stack.
+#[inline(never)]
+fn boxed_scratch(alloc: Global) -> Result<Box<JsonScratch>, AllocError> {
+    match Box::new(alloc, JsonScratch::new(alloc)) {
+        Ok(scratch) => Ok(scratch),
+        Err(_) => Err(AllocError),
+    }
+}
+
+#[tactic(auto, using(crate::proofs::InfoLemmas::no_memory))]
+fn text_candidate(alloc: Global, text: &str) -> Result<Candidate, IceError>
+    ensures { ReadsInfoText text.now result }
+{
+    match boxed_scratch(alloc) {
+        Ok(mut scratch) => Candidate::from_json_str(alloc, text, &mut scratch),
+        Err(_) => Err(IceError::OutOfMemory),
+    }
+}
+
+/// The candidate of a JSON text, if the text has few brackets, and its username fragment, if it has one, is one word.
+fn flat_candidate(alloc: Global, text: &str) -> Result<Candidate, IceError>
+    ensures { ReadsFlat text.now result }
+{
+    if bracket_count(text.as_bytes()) > MOST_BRACKETS {
+        return Err(rejection(alloc, "candidate info has more than 8 opening brackets"));
+    }
+    with_word(alloc, text_candidate(alloc, text))
+}
+
+/// The same of bytes, if they are UTF-8.
 fn info_candidate(alloc: Global, json: &[u8]) -> Option<Result<Candidate, IceError>>
     ensures { ReadsInfoBytes json.now result }
 {
     match std::str::from_utf8(json) {
-        Ok(text) => {
-            let mut scratch = JsonScratch::new(alloc);
-            let read = Candidate::from_json_str(alloc, text, &mut scratch);
-            Some(with_word(alloc, read))
-        }
+        Ok(text) => Some(flat_candidate(alloc, text)),
         Err(_) => None,
     }
 }

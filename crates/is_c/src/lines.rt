@@ -1,5 +1,5 @@
 //! Candidates that no agent has: their text, their username fragment and their default local preference.
-ghost use Rattle.std.specs.Prelude.{◌≡◌, ◌↔◌, ℕ, List, Option, codes, IsTrue};
+ghost use Rattle.std.specs.Prelude.{◌≡◌, ◌↔◌, ℕ, List, Option, IsTrue};
 ghost use Rattle.is_candidate.specs.Candidates.{CandidateRecord};
 ghost use Rattle.is_candidate.specs.Infos.{with_ufrag};
 ghost use Rattle.is_candidate.specs.Lines.{IsLineOf};
@@ -58,11 +58,11 @@ fn is_word(text: &str) -> bool
     !text.is_empty() && !text.contains(char::is_whitespace)
 }
 
-/// The error for a username fragment that is not one word, or `OutOfMemory` if there is no memory for its message.
-fn no_word(alloc: Global) -> IceError
-    ensures { RejectsWith (codes "username fragment is not one word") result }
+/// The error with this message, or `OutOfMemory` if there is no memory for it.
+pub(crate) fn rejection(alloc: Global, message: &str) -> IceError
+    ensures { RejectsWith message.now result }
 {
-    match String::from_str(alloc, "username fragment is not one word") {
+    match String::from_str(alloc, message) {
         Ok(message) => IceError::BadCandidate(message),
         Err(_) => IceError::OutOfMemory,
     }
@@ -77,7 +77,9 @@ pub(crate) fn with_word(
 {
     let candidate = read?;
     match candidate.ufrag() {
-        Some(ufrag) if !is_word(ufrag) => Err(no_word(alloc)),
+        Some(ufrag) if !is_word(ufrag) => {
+            Err(rejection(alloc, "username fragment is not one word"))
+        }
         _ => Ok(candidate),
     }
 }

@@ -5,7 +5,7 @@ ghost use Rattle.is_rules.specs.Fitting.{are_too_long};
 ghost use Rattle.is_c.specs.Codes.{OUT_OF_MEMORY, CREDENTIALS_TOO_LONG};
 ghost use Rattle.is_c.specs.Making.{fresh_home, MakesAt};
 ghost use Rattle.is_c.specs.Held.{home_of, held_by};
-ghost use Rattle.is_c.specs.Limits.{DISCOVERED_LIMIT, MAX_RTO, RETRANSMITS};
+ghost use Rattle.is_c.specs.Limits.{CANDIDATE_LIMIT, DISCOVERED_LIMIT, MAX_RTO, RETRANSMITS};
 
 use crate::codes;
 use crate::credentials::creds_of;
@@ -21,6 +21,13 @@ fn discovered_limit() -> usize
     ensures { result ≡ DISCOVERED_LIMIT }
 {
     32
+}
+
+/// How many candidates of each side may be listed, until another limit is set.
+fn candidate_limit() -> usize
+    ensures { result ≡ CANDIDATE_LIMIT }
+{
+    100
 }
 
 /// The longest RTO of a new agent.
@@ -50,8 +57,12 @@ fn boxed_agent(alloc: Global, creds: IceCreds, tie_breaker: u64) -> Result<Box<H
     agent.set_max_stun_rto(max_rto());
     agent.set_max_stun_retransmits(retransmits());
     agent.set_rules(Rules::modern());
-    let waiting = None;
-    match Box::new(alloc, Home { agent, waiting }) {
+    let home = Home {
+        agent,
+        waiting: None,
+        max_candidates: candidate_limit(),
+    };
+    match Box::new(alloc, home) {
         Ok(home) => Ok(home),
         Err(_) => Err(codes::OUT_OF_MEMORY),
     }
@@ -95,7 +106,7 @@ pub extern "C" fn is_ice_agent_free(alloc: Global, slot: &mut Slot)
 /// The version of this interface. The header has the same number.
 #[unsafe(no_mangle)]
 pub extern "C" fn is_ice_version() -> u32
-    ensures { result ≡ 4 }
+    ensures { result ≡ 5 }
 {
-    4
+    5
 }

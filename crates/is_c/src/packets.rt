@@ -149,6 +149,7 @@ fn next_packet(home: &mut Home) -> Option<Transmit>
     ensures first { IsPolled (queue_of (home_of home.old)) (option_map packet_of result) (queue_of (home_of home.new)) }
     ensures agent { (home_of home.new).agent ≡ record (home_of home.old).agent { packets = (home_of home.new).agent.packets } }
     ensures nothing_waits { home.new.waiting ≡ None }
+    ensures limit { (home_of home.new).max_candidates ≡ (home_of home.old).max_candidates }
 {
     match home.waiting.take() {
         Some(waiting) => Some(waiting),
@@ -172,6 +173,7 @@ fn hand_over(home: &mut Home, next: Transmit, buffer: &mut [u8]) -> i32
     requires { home.old.waiting ≡ None }
     ensures given { GivesFirst buffer.old buffer.new (packet_of next) (queue_of (home_of home.old)) result (queue_of (home_of home.new)) }
     ensures agent { (home_of home.new).agent ≡ (home_of home.old).agent }
+    ensures limit { (home_of home.new).max_candidates ≡ (home_of home.old).max_candidates }
 {
     let length = next.contents.len();
     if length > buffer.len() {

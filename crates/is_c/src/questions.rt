@@ -6,7 +6,7 @@ ghost use Rattle.is_pair.specs.Pairs.{PairRecord};
 ghost use Rattle.is_rules.specs.Questions.{live, nominated_pair};
 ghost use Rattle.is_agent.specs.Added.{listed_index};
 ghost use Rattle.is_agent.specs.View.{record_of};
-ghost use Rattle.is_c.specs.Held.{held_by, At};
+ghost use Rattle.is_c.specs.Held.{home_of, held_by, At};
 ghost use Rattle.is_c.specs.Questions.{IsStatus, ReturnsStatus, stats_of, ReturnsStats, PutsLine, ReturnsLine};
 ghost use Rattle.is_c.specs.Questions.{ReturnsRemote, ReturnsViable};
 ghost use Rattle.is_c.specs.Selected.{candidate_of, IsNominated, IsNominatedIn, ReturnsNominated};
@@ -34,6 +34,8 @@ pub struct Status {
     pub mtu_warn: usize,
     /// How long a pair is checked without a response before it is removed, in nanoseconds.
     pub ice_timeout: u64,
+    /// How many candidates of each side may be listed: at the limit none is added.
+    pub max_candidates: usize,
 }
 
 /// Counters since the last ICE restart.
@@ -66,7 +68,7 @@ pub struct Nominated {
 }
 
 fn reported_status(home: &Home) -> Status
-    ensures { IsStatus (record_of home.now.agent) result }
+    ensures { IsStatus (home_of home.now) result }
 {
     let agent = &home.agent;
     Status {
@@ -76,6 +78,7 @@ fn reported_status(home: &Home) -> Status
         mtu: agent.mtu(),
         mtu_warn: agent.mtu_warn(),
         ice_timeout: agent.ice_timeout().0,
+        max_candidates: home.max_candidates,
     }
 }
 

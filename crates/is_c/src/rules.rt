@@ -4,13 +4,13 @@ ghost use Rattle.std.specs.Prelude.{◌≡◌, None};
 ghost use Rattle.is_rules.specs.Agent.{original_rules, modern_rules};
 ghost use Rattle.is_rules.specs.Settings.{with_rules};
 ghost use Rattle.is_c.specs.Held.{held_by, At, AgentBecomes};
-ghost use Rattle.is_c.specs.Rules.{triggered_of, early_of, rules_of, reported_rules, as_read, ReturnsRules, GivesRules};
+ghost use Rattle.is_c.specs.Rules.{triggered_of, early_of, consent_of, rules_of, reported_rules, as_read, ReturnsRules, GivesRules};
 
 use crate::codes;
 use crate::slot::Slot;
 use is_proto::Duration;
 use is_rules::rules::Rules;
-use is_stun::stun::EarlyRto;
+use is_stun::stun::{Consent, EarlyRto};
 use std::alloc::Global;
 
 /// The rules of an agent: `Rules` of the library. C has no options, so a count of 0 says that there is no such rule.
@@ -23,8 +23,14 @@ pub struct AgentRules {
     pub early_retransmits: usize,
     /// and the nanoseconds before each.
     pub early_interval: u64,
+    /// So many nanoseconds after its last answered check a pair is removed,
+    pub consent_timeout: u64,
     pub kinds_in_turn: bool,
     pub selects_at_once: bool,
+    /// and the peer's checks do not keep it.
+    pub strict_consent: bool,
+    pub selected_first: bool,
+    pub timeout_after_requests: bool,
 }
 
 /// How many requests trigger a check: 0 means that there are no triggered checks.
@@ -47,6 +53,19 @@ fn early_of(retransmits: usize, interval: u64) -> Option<EarlyRto>
     })
 }
 
+/// Consent: without a timeout it never ends.
+fn consent_of(timeout: u64, strict: bool) -> Option<Consent>
+    ensures { result ≡ consent_of timeout strict }
+{
+    if timeout == 0 {
+        return None;
+    }
+    Some(Consent {
+        timeout: Duration(timeout),
+        strict,
+    })
+}
+
 fn rules_of(rules: &AgentRules) -> Rules
     ensures meant { result ≡ rules_of rules.now }
     ensures read { reported_rules result ≡ as_read rules.now }
@@ -56,6 +75,9 @@ fn rules_of(rules: &AgentRules) -> Rules
         triggered_checks: triggered_of(rules.triggered_checks),
         early_rto: early_of(rules.early_retransmits, rules.early_interval),
         selects_at_once: rules.selects_at_once,
+        consent: consent_of(rules.consent_timeout, rules.strict_consent),
+        selected_first: rules.selected_first,
+        timeout_after_requests: rules.timeout_after_requests,
     }
 }
 
@@ -66,12 +88,20 @@ fn reported_rules(rules: Rules) -> AgentRules
         Some(early) => (early.retransmits, early.interval.0),
         None => (0, 0),
     };
+    let (consent_timeout, strict_consent) = match rules.consent {
+        Some(consent) => (consent.timeout.0, consent.strict),
+        None => (0, false),
+    };
     AgentRules {
         triggered_checks: rules.triggered_checks.unwrap_or(0),
         early_retransmits,
         early_interval,
+        consent_timeout,
         kinds_in_turn: rules.kinds_in_turn,
         selects_at_once: rules.selects_at_once,
+        strict_consent,
+        selected_first: rules.selected_first,
+        timeout_after_requests: rules.timeout_after_requests,
     }
 }
 
@@ -84,7 +114,7 @@ pub extern "C" fn is_ice_original_rules(rules: &mut AgentRules) -> i32
     codes::OK
 }
 
-/// Writes the rules that make agents connect sooner, with which a new agent begins.
+/// Writes the rules with which a new agent begins: they make agents connect sooner, and end consent in time.
 #[unsafe(no_mangle)]
 pub extern "C" fn is_ice_modern_rules(rules: &mut AgentRules) -> i32
     ensures { GivesRules modern_rules rules.new result }
@@ -94,7 +124,7 @@ pub extern "C" fn is_ice_modern_rules(rules: &mut AgentRules) -> i32
 }
 
 /// Sets what the agent does beyond the original's behaviour. What is set is what `is_ice_rules` returns; without early retransmissions it
-/// returns 0 as their interval.
+/// returns 0 as their interval, and without a timeout of consent false for strict consent.
 #[unsafe(no_mangle)]
 pub extern "C" fn is_ice_set_rules(alloc: Global, slot: &mut Slot, rules: &AgentRules) -> i32
     ensures set { At (AgentBecomes (with_rules (rules_of rules.now))) (held_by slot.old) result (held_by slot.new) }

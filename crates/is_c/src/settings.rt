@@ -2,6 +2,7 @@
 
 ghost use Rattle.std.specs.Prelude.{◌≡◌, ◌==◌, Some, MatchBool};
 ghost use Rattle.is_rules.specs.Settings.{SetsMtu, with_rtos, with_retransmits, with_lite_timeout, numbers_skipped};
+ghost use Rattle.is_c.specs.Adding.{SetsMaxCandidates};
 ghost use Rattle.is_c.specs.Codes.{BAD_LIMIT, done_code};
 ghost use Rattle.is_c.specs.Limits.{limit_of};
 ghost use Rattle.is_c.specs.Held.{held_by, At, AgentBecomes, Calls, Rejects};
@@ -93,6 +94,18 @@ pub extern "C" fn is_ice_set_max_discovered(alloc: Global, slot: &mut Slot, limi
         return codes::NO_AGENT;
     };
     home.agent.set_max_discovered(limit_of(limit));
+    codes::OK
+}
+
+/// Sets how many candidates of each side may be listed: at the limit none is added.
+#[unsafe(no_mangle)]
+pub extern "C" fn is_ice_set_max_candidates(alloc: Global, slot: &mut Slot, limit: usize) -> i32
+    ensures { At (SetsMaxCandidates limit) (held_by slot.old) result (held_by slot.new) }
+{
+    let Some(home) = slot.home() else {
+        return codes::NO_AGENT;
+    };
+    home.max_candidates = limit;
     codes::OK
 }
 

@@ -1,6 +1,7 @@
 //! The exports as C calls them, in stories that the library's own tests have too.
 
 mod fields;
+mod limits;
 mod rules;
 mod selected;
 mod stun;
@@ -253,6 +254,7 @@ fn settings_and_lines_are_reported(rt: HostRuntime) {
         mtu: 0,
         mtu_warn: 0,
         ice_timeout: 0,
+        max_candidates: 0,
     };
     let made = is_ice_agent_new(alloc, &mut slot, b"AAAA", b"PPPP", 1);
     assert!(rt; made == codes::OK);
@@ -264,6 +266,7 @@ fn settings_and_lines_are_reported(rt: HostRuntime) {
     assert!(rt; asked == codes::OK);
     assert!(rt; status.state == 0);
     assert!(rt; status.mtu == 1150);
+    assert!(rt; status.max_candidates == 100);
     let added = is_ice_add_local(alloc, &mut slot, &host(address(1, 1000)), &mut index);
     assert!(rt; added == codes::OK);
     let reported = is_ice_local_candidate(alloc, &mut slot, 0, &mut line, &mut length);

@@ -11,16 +11,24 @@ const OFF: AgentRules = AgentRules {
     triggered_checks: 0,
     early_retransmits: 0,
     early_interval: 0,
+    consent_timeout: 0,
     kinds_in_turn: false,
     selects_at_once: false,
+    strict_consent: false,
+    selected_first: false,
+    timeout_after_requests: false,
 };
 
 const ON: AgentRules = AgentRules {
     triggered_checks: 4,
     early_retransmits: 4,
     early_interval: 100_000_000,
+    consent_timeout: 29_600_000_000,
     kinds_in_turn: true,
     selects_at_once: true,
+    strict_consent: false,
+    selected_first: true,
+    timeout_after_requests: true,
 };
 
 fn are_same(one: &AgentRules, other: &AgentRules) -> bool {
@@ -29,6 +37,10 @@ fn are_same(one: &AgentRules, other: &AgentRules) -> bool {
         && one.early_interval == other.early_interval
         && one.kinds_in_turn == other.kinds_in_turn
         && one.selects_at_once == other.selects_at_once
+        && one.consent_timeout == other.consent_timeout
+        && one.strict_consent == other.strict_consent
+        && one.selected_first == other.selected_first
+        && one.timeout_after_requests == other.timeout_after_requests
 }
 
 #[test]
@@ -64,13 +76,14 @@ fn rules_are_set_and_read(rt: HostRuntime) {
 }
 
 #[test]
-fn without_early_retransmissions_the_interval_is_0(rt: HostRuntime) {
+fn what_belongs_to_no_rule_is_not_kept(rt: HostRuntime) {
     let alloc = rt.alloc();
     let mut slot = Slot::empty(alloc);
     let made = is_ice_agent_new(alloc, &mut slot, b"AAAA", b"PPPP", 1);
     assert!(rt; made == codes::OK);
     let mut rules = OFF;
     rules.early_interval = 7;
+    rules.strict_consent = true;
     let set = is_ice_set_rules(alloc, &mut slot, &rules);
     assert!(rt; set == codes::OK);
     let asked = is_ice_rules(alloc, &mut slot, &mut rules);

@@ -116,6 +116,7 @@ fn a_new_agent_keeps_consent_for_thirty_seconds(rt: HostRuntime) {
         mtu: 0,
         mtu_warn: 0,
         ice_timeout: 0,
+        max_candidates: 0,
     };
     let made = is_ice_agent_new(alloc, &mut slot, b"AAAA", b"PPPP", 1);
     assert!(rt; made == codes::OK);

@@ -1,6 +1,6 @@
 use Rattle.std.proofs.Common.{◌≡◌, ◌∙◌, true, false, Some, slice_get, sym}
 use Rattle.is_agent.specs.View.{record_of}
-use Rattle.is_rules.specs.Nominating.{is_named_by}
+use Rattle.is_pair.specs.Multiset.{is_named_by}
 use Rattle.is_c.proofs.SelectedLemmas.{found_here, found_later}
 use Rattle.is_c.proofs.questions.selected_pair.Goals as goal
 

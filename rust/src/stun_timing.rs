@@ -1,0 +1,76 @@
+//! The times of retransmissions, as a value.
+
+use crate::agent::nanoseconds;
+use crate::error::{CallError, found, or_panic};
+use crate::ffi;
+use std::time::Duration;
+
+/// After how many checks in a row without a response the original removes a pair. An agent here begins with 11.
+pub const DEFAULT_MAX_RETRANSMITS: usize = 9;
+
+/// The settings of an agent that say when a check is sent again. An agent takes them by its methods, for example
+/// [`IceAgent::set_initial_stun_rto`](crate::IceAgent::set_initial_stun_rto). The default is that of the original.
+///
+/// ```
+/// use std::time::Duration;
+///
+/// let timing = is::stun::StunTiming { max_retransmits: 11, ..Default::default() };
+/// let mut agent = is::IceAgent::new(is::IceCreds::new());
+/// agent.set_initial_stun_rto(timing.initial_rto);
+/// agent.set_max_stun_rto(timing.max_rto());
+/// agent.set_max_stun_retransmits(timing.max_retransmits());
+/// assert_eq!(agent.ice_timeout(), timing.timeout());
+/// ```
+#[derive(Debug)]
+pub struct StunTiming {
+    /// The time from a pair's first check until the second one is due.
+    pub initial_rto: Duration,
+    /// After how many checks in a row without a response a pair is removed.
+    pub max_retransmits: usize,
+    /// The longest time from one check until the next one is due.
+    pub max_rto: Duration,
+}
+
+impl Default for StunTiming {
+    fn default() -> StunTiming {
+        StunTiming { initial_rto: Duration::from_millis(250), max_retransmits: DEFAULT_MAX_RETRANSMITS, max_rto: Duration::from_secs(3) }
+    }
+}
+
+impl StunTiming {
+    /// How long a pair's checks go on without a response: what [`IceAgent::ice_timeout`](crate::IceAgent::ice_timeout) returns with
+    /// these settings.
+    ///
+    /// # Panics
+    ///
+    /// If the limit is 0, or if out of memory. `try_timeout` returns an error then.
+    #[track_caller]
+    pub fn timeout(&self) -> Duration {
+        or_panic(self.try_timeout())
+    }
+
+    /// As `timeout`.
+    ///
+    /// # Errors
+    ///
+    /// [`CallError::BadLimit`], [`CallError::OutOfMemory`].
+    pub fn try_timeout(&self) -> Result<Duration, CallError> {
+        let mut agent = ffi::Agent::new("", "", 0).map_err(CallError::of)?;
+        found(ffi::is_ice_set_initial_rto(&mut agent, nanoseconds(self.initial_rto)))?;
+        found(ffi::is_ice_set_max_rto(&mut agent, nanoseconds(self.max_rto)))?;
+        found(ffi::is_ice_set_max_retransmits(&mut agent, self.max_retransmits))?;
+        let mut status = ffi::Status::default();
+        found(ffi::is_ice_status(&mut agent, &mut status))?;
+        Ok(Duration::from_nanos(status.ice_timeout))
+    }
+
+    /// After how many checks in a row without a response a pair is removed.
+    pub fn max_retransmits(&self) -> usize {
+        self.max_retransmits
+    }
+
+    /// The longest time from one check until the next one is due.
+    pub fn max_rto(&self) -> Duration {
+        self.max_rto
+    }
+}
