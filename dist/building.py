@@ -7,15 +7,19 @@ import pathlib
 import re
 import shutil
 import subprocess
+import time
 import tomllib
 
-from packing import Link, ar, folders, tar_gz, zipped
+import debian
+import documents
+import manual
+from packing import Link, gzipped, tar_gz, zipped
+from versions import differing, version
 
 here = pathlib.Path(__file__).resolve().parent
 top = here.parent
 CC = os.environ.get("CC", "cc")
 LICENSES = ("LICENSE-APACHE", "LICENSE-MIT")
-MULTIARCH = "usr/lib/x86_64-linux-gnu"
 LEVEL = "x86-64-v2"
 # Instructions that a processor of this level need not have. Those of AVX and later begin with v. TZCNT is not among them: older
 # processors run it as BSF, and compilers use it as such.
@@ -63,14 +67,11 @@ def licenses():
 
 # ---- what the release is named after
 
-def version():
-    """The version, which the C, Rust and Python packages have to agree on."""
-    python = tomllib.loads((top / "python" / "pyproject.toml").read_text())["project"]["version"]
-    rust = tomllib.loads((top / "rust" / "Cargo.toml").read_text())["package"]["version"]
-    c = re.search(r'(?m)^VERSION = "(.+)"$', (top / "c" / "run").read_text())[1]
-    if not python == rust == c:
-        raise Failed(f"versions differ: python/pyproject.toml {python}, rust/Cargo.toml {rust}, c/run {c}")
-    return c
+def one_version():
+    """The version, of which each package has a copy."""
+    if others := differing():
+        raise Failed(f"VERSION is {version()}, but {others}: `dist/run version {version()}` writes the copies")
+    return version()
 
 
 def interface():
@@ -152,35 +153,42 @@ def lowest_glibc(library):
 
 # ---- the packages: each is a dictionary of files
 
-def for_c(libraries, soname, number, deb=False):
-    """Header, libraries, pkg-config and CMake files, examples and licenses, below usr/ in a Debian package."""
-    root, place = ("usr/", MULTIARCH) if deb else ("", "lib")
+def for_c(libraries, soname, number, when, deb=False):
+    """Headers, libraries, pkg-config and CMake files, a man page, documents, examples and licenses, below usr/ in a Debian package."""
+    root, place = ("usr/", debian.MULTIARCH) if deb else ("", "lib")
     docs = f"{root}share/doc/" + ("libis-ice-dev" if deb else "is_ice")
     major, minor = number.split(".")[:2]
     template = (top / "c" / "is_ice.pc.in").read_text().replace("@VERSION@", number)
     if deb:
-        template = template.replace("${prefix}/lib", "${prefix}/" + MULTIARCH.removeprefix("usr/"))
+        template = template.replace("${prefix}/lib", "${prefix}/" + debian.MULTIARCH.removeprefix("usr/"))
     package = template.replace("@PREFIX@", "/usr" if deb else "${pcfiledir}/../..").encode()
     headers = ("../" if deb else "") + "../include"
+    page = manual.is_ice(number, time.strftime("%Y-%m-%d", time.gmtime(when)))
+    places = {**documents.carried(docs), **documents.placed("c", docs, "README.md", "examples/*"),
+              **documents.placed("c", f"{root}include", "is_ice.h", "is_ice.hpp")}
+    if deb:
+        del places["CHANGELOG.md"]  # Debian's name of it is changelog.gz
     return {
-        f"{root}include/is_ice.h": (top / "c" / "is_ice.h").read_bytes(),
-        **below(place, libraries),
+        **documents.documents(places),
+        **documents.others(places),
+        **libraries,
         f"{place}/libis_ice.so": Link(soname),
         f"{place}/pkgconfig/is_ice.pc": package,
         f"{place}/cmake/is_ice/is_ice-config.cmake": filled("is_ice-config.cmake.in", INCLUDE=headers, SONAME=soname),
         f"{place}/cmake/is_ice/is_ice-config-version.cmake":
             filled("is_ice-config-version.cmake.in", VERSION=number, MAJOR=major, MINOR=minor),
-        **below(f"{docs}/examples", contents(top / "c" / "examples", "*.[ch]")),
-        **({f"{docs}/copyright": b"\n".join(licenses().values())} if deb else below(docs, licenses())),
-        **({} if deb else {f"{docs}/README.md": filled("unpacked.md")}),
+        **({f"{root}share/man/man3/is_ice.3.gz": gzipped(page)} if deb else {"share/man/man3/is_ice.3": page}),
+        **({} if deb else {"README.md": filled("unpacked.md", INTERFACE=interface()), **below(docs, licenses())}),
     }
 
 
 def wheel(library, number, tag):
-    """The module with the shared library, and the metadata of a wheel. RECORD, the last file, has the hash of each."""
+    """The module with the shared library, documents, and the metadata of a wheel. RECORD, the last file, has the hash of each."""
     project = tomllib.loads((top / "python" / "pyproject.toml").read_text())["project"]
-    info = f"is_ice-{number}.dist-info"
-    readme = (top / "python" / project["readme"]).read_text()
+    info, docs = f"is_ice-{number}.dist-info", f"is_ice-{number}.data/data/share/doc/is_ice"
+    places = {**documents.carried(docs), **documents.placed("python", docs, "README.md", "peer.py", "examples/**/*.*"),
+              **dict.fromkeys(documents.placed("python/is_ice", ".", "*.py"))}
+    readme = documents.document(project_readme := f"python/{project['readme']}", {**places, project_readme: None})
     extras = "".join(f"Provides-Extra: {name}\n" + "".join(f'Requires-Dist: {needed}; extra == "{name}"\n' for needed in packages)
                      for name, packages in project.get("optional-dependencies", {}).items())
     metadata = (f"Metadata-Version: 2.1\nName: {project['name']}\nVersion: {number}\nSummary: {project['description']}\n"
@@ -188,6 +196,7 @@ def wheel(library, number, tag):
                 f"Description-Content-Type: text/markdown\n\n{readme}")
     files = below("is_ice", contents(top / "python" / "is_ice", "*.py", "py.typed"))
     files["is_ice/libis_ice.so"] = library
+    files |= documents.documents(places) | documents.others(places)
     files |= below(f"{info}/licenses", licenses())
     files[f"{info}/METADATA"] = metadata.encode()
     files[f"{info}/WHEEL"] = f"Wheel-Version: 1.0\nGenerator: dist\nRoot-Is-Purelib: false\nTag: {tag}\n".encode()
@@ -199,24 +208,12 @@ def wheel(library, number, tag):
 
 
 def for_rust(archive):
-    """The crate with the static library in lib/. It is no workspace of its own, so that it may be a member of the user's."""
-    files = contents(top / "rust", "build.rs", "src/**/*.rs", "examples/*.rs", "README.md") | licenses()
+    """The crate with the static library in lib/, and documents. It is no workspace of its own, so that it may be a member of the user's."""
+    sources = ("README.md", "build.rs", "src/**/*.rs", "examples/*.rs", "tests/**/*.rs")
+    places = {**documents.carried("."), **documents.placed("rust", ".", *sources)}
     manifest = (top / "rust" / "Cargo.toml").read_text().replace("\n[workspace]\n", "")
+    files = {**documents.documents(places), **documents.others(places), **licenses()}
     return {**files, "Cargo.toml": manifest.encode(), "lib/libis_ice.a": archive}
-
-
-def deb(files, number, glibc, when):
-    """A Debian package: an ar archive of its format, its control files, and its files."""
-    size = sum(len(file) for file in files.values() if not isinstance(file, Link))
-    sums = (f"{hashlib.md5(file).hexdigest()}  {name}\n" for name, file in sorted(files.items()) if not isinstance(file, Link))
-    control = {
-        "./control": filled("control.in", VERSION=number, GLIBC=glibc, KIB=-(-size // 1024) + len({*files, *folders(files)})),
-        "./md5sums": "".join(sums).encode(),
-        "./shlibs": f"libis_ice {interface()} libis-ice-dev\n".encode(),
-        "./triggers": b"activate-noawait ldconfig\n",
-    }
-    packed = {"control.tar.gz": tar_gz(control, when), "data.tar.gz": tar_gz(below(".", files), when)}
-    return ar({"debian-binary": b"2.0\n", **packed}, when)
 
 
 # ---- all of them
@@ -240,7 +237,7 @@ def built(number, library, glibc, when, ci_line):
 
 def release(stage, ci_line=None):
     """Builds all release files in memory: a dictionary from their names to their bytes. The folder `stage` gets the libraries."""
-    number, when, library = version(), date(), proved()
+    number, when, library = one_version(), date(), proved()
     run(top / "c" / "run", "install", stage, env={**os.environ, "IS_ICE_LIB": str(library)})
     archive, soname = stage / "lib" / "libis_ice.a", f"libis_ice.so.{interface()}"
     dynamic = shared(archive, soname, stage / "lib" / soname)
@@ -249,13 +246,19 @@ def release(stage, ci_line=None):
     suits_level(dynamic)
     glibc = lowest_glibc(dynamic)
     tag = f"py3-none-manylinux_{glibc.replace('.', '_')}_x86_64"
-    libraries = {"libis_ice.a": archive.read_bytes(), soname: dynamic.read_bytes()}
+    static, dynamic = archive.read_bytes(), dynamic.read_bytes()
     name, crate = f"is_ice-{number}-linux-x86_64", f"is-{number}"
+    c = for_c({"lib/libis_ice.a": static, f"lib/{soname}": dynamic}, soname, number, when)
+    dev = for_c({f"{debian.MULTIARCH}/libis_ice.a": static}, soname, number, when, deb=True)
+    python, rust = wheel(dynamic, number, tag), for_rust(static)
+    for package in (c, dev, python, rust):
+        if wrong := documents.leading_out(package) + documents.not_there(package):
+            raise Failed(f"a package names files that it does not have: {wrong}")
     files = {
-        f"{name}.tar.gz": tar_gz(below(name, for_c(libraries, soname, number)), when),
-        f"is_ice-{number}-{tag}.whl": zipped(wheel(libraries[soname], number, tag), when),
-        f"{crate}-rust-linux-x86_64.tar.gz": tar_gz(below(crate, for_rust(libraries["libis_ice.a"])), when),
-        f"libis-ice-dev_{number}_amd64.deb": deb(for_c(libraries, soname, number, deb=True), number, glibc, when),
+        f"{name}.tar.gz": tar_gz(below(name, c), when),
+        f"is_ice-{number}-{tag}.whl": zipped(python, when),
+        f"{crate}-rust-linux-x86_64.tar.gz": tar_gz(below(crate, rust), when),
+        **debian.packages(dynamic, dev, soname, number, glibc, when),
         "BUILT": built(number, library, glibc, when, ci_line),
     }
     sums = "".join(f"{hashlib.sha256(file).hexdigest()}  {name}\n" for name, file in files.items())

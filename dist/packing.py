@@ -34,9 +34,14 @@ def tar_gz(files, date):
             else:
                 entry.size = len(contents)
             tar.addfile(entry, io.BytesIO(contents) if entry.isreg() else None)
+    return gzipped(archive.getvalue())
+
+
+def gzipped(contents):
+    """A gz of the contents, without a name or date."""
     packed = io.BytesIO()
     with gzip.GzipFile("", "wb", 9, packed, mtime=0) as stream:
-        stream.write(archive.getvalue())
+        stream.write(contents)
     return packed.getvalue()
 
 

@@ -11,9 +11,11 @@ import tempfile
 import time
 import zipfile
 
-from building import CC, MULTIARCH, Failed, run
+from building import CC, Failed, run
+from debian import MULTIARCH
 
 top = pathlib.Path(__file__).resolve().parent.parent
+CXX = os.environ.get("CXX", "c++")
 PATHS = ["10.0.0.1:5000 -> 10.0.0.2:5000", "10.0.0.2:5000 -> 10.0.0.1:5000"]
 # Variables that could lead to a library, module or flag from elsewhere.
 LEADING = re.compile(r"IS_ICE_|PYTHON|PIP_|PKG_CONFIG|LD_|C?CFLAGS|LDFLAGS|LIBRARY_PATH|CPATH|C_INCLUDE|CMAKE_|RUSTFLAGS"
@@ -36,13 +38,13 @@ done
 shift
 exec "$@"
 """
-# Installs the package, and compiles and runs two.c with the shared library.
+# Installs the packages, and compiles and runs two.c with the shared library.
 INSTALLED = """set -e
-dpkg -i "$1" >&2
+dpkg -i "$1" "$2" >&2
 dpkg --verify libis-ice-dev
-"$2" -o "$3" /usr/share/doc/libis-ice-dev/examples/two.c $(pkg-config --cflags --libs is_ice)
-readelf -d "$3" | grep -q libis_ice.so
-exec "$3"
+"$3" -o "$4" /usr/share/doc/libis-ice-dev/examples/two.c $(pkg-config --cflags --libs is_ice)
+readelf -d "$4" | grep -q libis_ice.so
+exec "$4"
 """
 
 
@@ -103,6 +105,11 @@ def compiled(place, example, headers, libraries, env):
     run(CC, *strict, "-o", place / "two_shared", example, *flags, env=bare())
     run(CC, *strict, "-o", place / "two_static", example, *(flag for flag in flags if flag[:2] == "-I"), archive, env=bare())
     both((place / "two_shared", place / "two_static"), libraries)
+    if shutil.which(CXX):
+        include = [flag for flag in flags if flag[:2] == "-I"]
+        run(CXX, "-std=c++17", "-Wall", "-Wextra", "-Werror", "-o", place / "two_cxx", example.with_suffix(".cpp"), *include, archive,
+            env=bare())
+        found_paths(run(place / "two_cxx", env=bare()))
     sizes = [(place / name).stat().st_size for name in ("two_shared", "two_static")]
     return f"two.c with the shared library: {sizes[0]} bytes; with the static one: {sizes[1]}"
 
@@ -171,10 +178,16 @@ def step_rust(place, out):
     return f"cargo run: {time.monotonic() - begun:.1f} s"
 
 
+def debs(out):
+    """The Debian packages: of the shared library, and for compilers."""
+    return the(out, "libis-ice[0-9]*.deb"), the(out, "libis-ice-dev_*.deb")
+
+
 def step_deb(place, out):
     require("dpkg-deb")
     root = place / "root"
-    run("dpkg-deb", "-x", the(out, "*.deb"), root)
+    for package in debs(out):
+        run("dpkg-deb", "-x", package, root)
     libraries = root / MULTIARCH
     env = bare(PKG_CONFIG_LIBDIR=str(libraries / "pkgconfig"), PKG_CONFIG_SYSROOT_DIR=str(root), PKG_CONFIG_ALLOW_SYSTEM_CFLAGS="1",
                PKG_CONFIG_ALLOW_SYSTEM_LIBS="1")
@@ -195,16 +208,24 @@ def step_dpkg(place, out):
         overlaid(memory, "true")
     except Failed:
         raise Skipped("a mount namespace with overlays needs root") from None
-    found_paths(overlaid(memory, "sh", "-c", INSTALLED, "sh", the(out, "*.deb"), CC, program))
+    found_paths(overlaid(memory, "sh", "-c", INSTALLED, "sh", *debs(out), CC, program))
     return "dpkg -i and dpkg --verify; the shared library was found without variables"
 
 
-STEPS = ("sums", "tarball", "cmake", "wheel", "rust", "deb", "dpkg")
+def step_lintian(_, out):
+    require("lintian")
+    run("lintian", "--allow-root", "--fail-on", "error,warning", "--no-cfg", *debs(out), env=bare(LC_ALL="C.UTF-8"))
+    return "no error and no warning"
+
+
+STEPS = ("sums", "tarball", "cmake", "wheel", "rust", "deb", "dpkg", "lintian")
 
 
 def taken(name, out):
     """Runs a step in an empty folder and prints its result. Returns 'passed', 'skipped' or 'failed'."""
     begun = time.monotonic()
+    if sys.stdout.isatty():
+        print(f"{name} ..", end="\r", flush=True)
     try:
         with tempfile.TemporaryDirectory() as folder:
             said = globals()[f"step_{name}"](pathlib.Path(folder).resolve(), out)

@@ -87,8 +87,7 @@ def archive():
 
 
 def our_version():
-    text = (top / "python" / "pyproject.toml").read_text()
-    return next(line.split('"')[1] for line in text.splitlines() if line.startswith("version"))
+    return (top / "VERSION").read_text().strip()
 
 
 def ours_in_c():
@@ -98,15 +97,13 @@ def ours_in_c():
 
 
 def ours_in_python():
-    library = os.environ.get("IS_ICE_LIBRARY")
-    if not library:
-        run(top / "python" / "build", archive())
-        library = top / "python" / "out" / "libis_ice.so"
+    run(top / "python" / "build", archive())
+    library = top / "python" / "out" / "libis_ice.so"
     try:  # aioice has the TURN client
         python = python_with("import aioice", "aioice")
     except Missing:
         python = sys.executable
-    environment = {"PYTHONPATH": str(top / "python"), "IS_ICE_LIBRARY": str(library), "PYTHONDONTWRITEBYTECODE": "1"}
+    environment = {"PYTHONPATH": str(top / "python"), "IS_ICE_LIB": str(library), "PYTHONDONTWRITEBYTECODE": "1"}
     return Stack("Connection", [python, str(here / "peers" / "connection_peer.py"), "is_ice.connection"], our_version(), environment)
 
 

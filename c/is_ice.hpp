@@ -1,0 +1,594 @@
+/* The calls of is_ice.h for C++17: an agent that frees itself, texts as std::string_view and std::string, events as a
+ * std::variant, and errors as exceptions. Each function makes the call whose name it has, with the prefix is_ice_,
+ * whose comment in is_ice.h says what it does. What may be absent is a std::optional: IS_ICE_NOTHING is std::nullopt or
+ * false.
+ *
+ * The structs are those of is_ice.h under shorter names: is_ice::candidate is is_ice_candidate.
+ *
+ *     is_ice::agent agent(local, tie_breaker);                                credentials, a random number
+ *     agent.handle_timeout(now(), random());                                  starts the session
+ *     for (;;) {
+ *         auto at = agent.poll_timeout();
+ *         while (auto packet = agent.poll_transmit())
+ *             send packet->contents from packet->source to packet->destination;
+ *         while (auto event = agent.poll_event())
+ *             if (auto path = std::get_if<is_ice::nominated_send>(&*event)) use the path;
+ *         wait for a datagram, or until *at;
+ *         a datagram arrived:  agent.handle_packet(now(), IS_ICE_UDP, from, to, data, length);
+ *         *at has passed:      agent.handle_timeout(now(), random());
+ *     }
+ *
+ * examples/two.cpp is a complete program. An error code is thrown as is_ice::error, and changed nothing. Times and
+ * durations are std::chrono::nanoseconds, and not negative. The rules on threads are those of is_ice.h. */
+#ifndef IS_ICE_HPP
+#define IS_ICE_HPP
+
+#include "is_ice.h"
+#include <array>
+#include <chrono>
+#include <cstring>
+#include <memory>
+#include <optional>
+#include <stdexcept>
+#include <string>
+#include <string_view>
+#include <utility>
+#include <variant>
+#include <vector>
+
+namespace is_ice {
+
+using address = is_ice_address;
+using candidate = is_ice_candidate;
+using fields = is_ice_fields;
+using pair = is_ice_pair;
+using rules = is_ice_agent_rules;
+using status = is_ice_agent_status;
+using counters = is_ice_agent_stats;
+using nominated_pair = is_ice_nominated_pair;
+using preference_table = is_ice_preference_table;
+using stun_transaction = is_ice_stun_transaction;
+using stun_result = is_ice_stun_result;
+using stun_message = is_ice_stun_message;
+using stun_texts = is_ice_stun_texts;
+
+/* Since an origin that the caller chooses, at least 60 s before the start; or a duration. */
+using nanoseconds = std::chrono::nanoseconds;
+using timeout_random = std::array<uint8_t, IS_ICE_TIMEOUT_RANDOM>;
+using credentials_random = std::array<uint8_t, IS_ICE_CREDENTIALS_RANDOM>;
+
+/* A code below 0 that a call returned. */
+class error : public std::runtime_error {
+public:
+    explicit error(int32_t code) : std::runtime_error(is_ice_code_text(code)), code_(code) {}
+    error(int32_t code, const std::string &text) : std::runtime_error(text), code_(code) {}
+    int32_t code() const noexcept { return code_; }
+
+private:
+    int32_t code_;
+};
+
+struct credentials {
+    std::string ufrag;
+    std::string pass;
+};
+
+enum class connection_state : int32_t {
+    created = IS_ICE_NEW,
+    checking = IS_ICE_CHECKING,
+    connected = IS_ICE_CONNECTED,
+    completed = IS_ICE_COMPLETED,
+    disconnected = IS_ICE_DISCONNECTED
+};
+
+/* The events: see the kinds of events in is_ice.h. */
+struct restarted {};
+struct state_changed {
+    connection_state state;
+};
+struct discovered_recv {
+    uint8_t protocol;
+    address source;
+};
+struct nominated_send {
+    uint8_t protocol;
+    address source;
+    address destination;
+};
+using event = std::variant<restarted, state_changed, discovered_recv, nominated_send>;
+
+/* A packet to send. */
+struct packet {
+    uint8_t protocol;
+    address source;
+    address destination;
+    std::vector<uint8_t> contents;
+};
+
+/* What became of a datagram, and of a remote candidate. */
+enum class handled : int32_t { accepted = IS_ICE_OK, other_agent = IS_ICE_NOTHING, unparsed = IS_ICE_UNPARSED };
+enum class added : int32_t {
+    yes = IS_ICE_OK,
+    known = IS_ICE_NOTHING,
+    other_component = IS_ICE_OTHER_COMPONENT,
+    other_ufrag = IS_ICE_OTHER_UFRAG
+};
+
+/* The text of a candidate with its fields. */
+struct line_and_fields {
+    std::string line;
+    is_ice::fields fields;
+};
+
+/* A USERNAME, and the length of its part before the first colon. */
+struct username {
+    std::string text;
+    size_t receiver;
+};
+
+namespace detail {
+
+inline int32_t checked(int32_t code)
+{
+    if (code < 0) throw error(code);
+    return code;
+}
+
+inline bool done(int32_t code) { return checked(code) == IS_ICE_OK; }
+
+/* A pointer of a call is never null, not even that of an empty text. */
+inline const uint8_t *at(const void *data) { return static_cast<const uint8_t *>(data ? data : ""); }
+inline const uint8_t *at(std::string_view text) { return at(static_cast<const void *>(text.data())); }
+
+inline uint64_t count(nanoseconds time)
+{
+    if (time.count() < 0) throw std::invalid_argument("a negative time");
+    return static_cast<uint64_t>(time.count());
+}
+
+inline nanoseconds duration(uint64_t count)
+{
+    constexpr auto most = static_cast<uint64_t>(nanoseconds::max().count());
+    return count < most ? nanoseconds(static_cast<int64_t>(count)) : nanoseconds::max();
+}
+
+/* What a call writes to a buffer, which grows until it is long enough. */
+template <class Bytes, class Call> std::optional<Bytes> written(Call call)
+{
+    Bytes bytes(256, 0);
+    for (size_t length = 0;;) {
+        int32_t code = call(reinterpret_cast<uint8_t *>(bytes.data()), bytes.size(), &length);
+        if (code != IS_ICE_BUFFER_TOO_SHORT && !done(code)) return std::nullopt;
+        bytes.resize(length);
+        if (code == IS_ICE_OK) return bytes;
+    }
+}
+
+template <class Call> std::optional<std::string> text(Call call) { return written<std::string>(call); }
+
+template <class Call> std::optional<line_and_fields> line_with_fields(Call call)
+{
+    is_ice::fields found{};
+    auto line = text([&](uint8_t *buffer, size_t size, size_t *length) { return call(buffer, size, length, &found); });
+    if (!line) return std::nullopt;
+    return line_and_fields{*std::move(line), found};
+}
+
+/* Throws the error, for a bad candidate with the explanation that another call returns. A short buffer is no error
+ * here. */
+template <class Refusal> int32_t explained(int32_t code, Refusal refusal)
+{
+    if (code == IS_ICE_BUFFER_TOO_SHORT) return code;
+    if (code == IS_ICE_BAD_CANDIDATE)
+        if (auto why = text(refusal)) throw error(code, *why);
+    return checked(code);
+}
+
+template <class Struct, class Call> std::optional<Struct> filled(Call call)
+{
+    Struct result{};
+    if (!done(call(&result))) return std::nullopt;
+    return result;
+}
+
+} // namespace detail
+
+inline address ipv4(std::array<uint8_t, 4> bytes, uint16_t port)
+{
+    address result{4, {}, port, 0, 0};
+    std::memcpy(result.bytes, bytes.data(), bytes.size());
+    return result;
+}
+
+inline address ipv6(std::array<uint8_t, 16> bytes, uint16_t port, uint32_t scope = 0)
+{
+    address result{6, {}, port, 0, scope};
+    std::memcpy(result.bytes, bytes.data(), bytes.size());
+    return result;
+}
+
+inline credentials make_credentials(const credentials_random &random)
+{
+    credentials made{std::string(IS_ICE_UFRAG_LENGTH, '\0'), std::string(IS_ICE_PASS_LENGTH, '\0')};
+    detail::checked(is_ice_make_credentials(
+        random.data(), random.size(), reinterpret_cast<uint8_t *>(made.ufrag.data()), made.ufrag.size(),
+        reinterpret_cast<uint8_t *>(made.pass.data()), made.pass.size()));
+    return made;
+}
+
+inline rules modern_rules() { return *detail::filled<rules>(is_ice_modern_rules); }
+inline rules original_rules() { return *detail::filled<rules>(is_ice_original_rules); }
+
+/* ---- candidates without an agent: their texts and their JSON */
+
+namespace detail {
+
+inline auto refusal_of(std::string_view line)
+{
+    return [line](uint8_t *buffer, size_t size, size_t *length) {
+        return is_ice_line_refusal(at(line), line.size(), buffer, size, length);
+    };
+}
+
+inline auto refusal_of(const candidate &from)
+{
+    return [&from](uint8_t *buffer, size_t size, size_t *length) {
+        return is_ice_candidate_refusal(&from, buffer, size, length);
+    };
+}
+
+inline auto json_refusal_of(std::string_view json)
+{
+    return [json](uint8_t *buffer, size_t size, size_t *length) {
+        return is_ice_json_refusal(at(json), json.size(), buffer, size, length);
+    };
+}
+
+} // namespace detail
+
+inline std::optional<std::string> line_refusal(std::string_view line) { return detail::text(detail::refusal_of(line)); }
+inline std::optional<std::string> candidate_refusal(const candidate &from)
+{
+    return detail::text(detail::refusal_of(from));
+}
+inline std::optional<std::string> json_refusal(std::string_view json)
+{
+    return detail::text(detail::json_refusal_of(json));
+}
+
+inline std::string candidate_line(const candidate &from)
+{
+    return *detail::text([&](uint8_t *buffer, size_t size, size_t *length) {
+        return detail::explained(
+            is_ice_candidate_line(&from, buffer, size, length), detail::refusal_of(from));
+    });
+}
+
+inline line_and_fields candidate_fields(const candidate &from)
+{
+    return *detail::line_with_fields([&](uint8_t *buffer, size_t size, size_t *length, fields *found) {
+        return detail::explained(
+            is_ice_candidate_fields(&from, buffer, size, length, found), detail::refusal_of(from));
+    });
+}
+
+inline line_and_fields line_fields(std::string_view line)
+{
+    return *detail::line_with_fields([&](uint8_t *buffer, size_t size, size_t *length, fields *found) {
+        return detail::explained(
+            is_ice_line_fields(detail::at(line), line.size(), buffer, size, length, found), detail::refusal_of(line));
+    });
+}
+
+inline std::optional<std::string> line_name(std::string_view line)
+{
+    return detail::text([&](uint8_t *buffer, size_t size, size_t *length) {
+        return is_ice_line_name(detail::at(line), line.size(), buffer, size, length);
+    });
+}
+
+inline std::string line_with_address(std::string_view line, const address &ip)
+{
+    return *detail::text([&](uint8_t *buffer, size_t size, size_t *length) {
+        return is_ice_line_with_address(detail::at(line), line.size(), &ip, buffer, size, length);
+    });
+}
+
+inline std::string line_with_ufrag(std::string_view line, std::string_view ufrag)
+{
+    return *detail::text([&](uint8_t *buffer, size_t size, size_t *length) {
+        return is_ice_line_with_ufrag(
+            detail::at(line), line.size(), detail::at(ufrag), ufrag.size(), buffer, size, length);
+    });
+}
+
+inline std::string line_to_json(std::string_view line)
+{
+    return *detail::text([&](uint8_t *buffer, size_t size, size_t *length) {
+        return detail::explained(
+            is_ice_line_to_json(detail::at(line), line.size(), buffer, size, length), detail::refusal_of(line));
+    });
+}
+
+inline std::string line_from_json(std::string_view json)
+{
+    return *detail::text([&](uint8_t *buffer, size_t size, size_t *length) {
+        return detail::explained(
+            is_ice_line_from_json(detail::at(json), json.size(), buffer, size, length), detail::json_refusal_of(json));
+    });
+}
+
+inline uint32_t candidate_preference(const candidate &from, size_t same_kind)
+{
+    uint32_t preference = 0;
+    detail::explained(is_ice_candidate_preference(&from, same_kind, &preference), detail::refusal_of(from));
+    return preference;
+}
+
+inline uint32_t line_preference(std::string_view line, size_t same_kind)
+{
+    uint32_t preference = 0;
+    detail::explained(
+        is_ice_line_preference(detail::at(line), line.size(), same_kind, &preference), detail::refusal_of(line));
+    return preference;
+}
+
+/* ---- an agent */
+
+/* An agent that is freed with this object. It may be moved, not copied; a call on one that was moved from throws
+ * IS_ICE_NO_AGENT. */
+class agent {
+public:
+    agent(std::string_view ufrag, std::string_view pass, uint64_t tie_breaker) : held_(new is_ice_agent{})
+    {
+        if (is_ice_version() != IS_ICE_VERSION) throw std::runtime_error("is_ice.h belongs to another library");
+        detail::checked(
+            is_ice_agent_new(at(), detail::at(ufrag), ufrag.size(), detail::at(pass), pass.size(), tie_breaker));
+    }
+    agent(const credentials &local, uint64_t tie_breaker) : agent(local.ufrag, local.pass, tie_breaker) {}
+
+    /* For calls of is_ice.h that are not here. */
+    is_ice_agent *get() const noexcept { return held_.get(); }
+
+    void set_controlling(bool controlling) { done(is_ice_set_controlling(at(), controlling)); }
+    void set_lite(bool lite) { done(is_ice_set_lite(at(), lite)); }
+    void set_renomination(bool enabled) { done(is_ice_set_renomination(at(), enabled)); }
+    void set_lite_timeout(nanoseconds time) { done(is_ice_set_lite_timeout(at(), detail::count(time))); }
+    void set_tie_breaker(uint64_t tie_breaker) { done(is_ice_set_tie_breaker(at(), tie_breaker)); }
+    void set_max_pairs(size_t limit) { done(is_ice_set_max_pairs(at(), limit)); }
+    void set_max_discovered(size_t limit) { done(is_ice_set_max_discovered(at(), limit)); }
+    void set_max_candidates(size_t limit) { done(is_ice_set_max_candidates(at(), limit)); }
+    void set_timing_advance(nanoseconds time) { done(is_ice_set_timing_advance(at(), detail::count(time))); }
+    void set_initial_rto(nanoseconds time) { done(is_ice_set_initial_rto(at(), detail::count(time))); }
+    void set_max_rto(nanoseconds time) { done(is_ice_set_max_rto(at(), detail::count(time))); }
+    void set_max_retransmits(size_t limit) { done(is_ice_set_max_retransmits(at(), limit)); }
+    void set_rules(const is_ice::rules &rules) { done(is_ice_set_rules(at(), &rules)); }
+    void set_mtu(size_t mtu, size_t warn) { done(is_ice_set_mtu(at(), mtu, warn)); }
+    void skip_pair_ids(uint64_t number) { done(is_ice_skip_pair_ids(at(), number)); }
+    void set_local_preference(uint16_t preference) { done(is_ice_set_local_preference(at(), preference)); }
+    void set_preference_table(const preference_table &table) { done(is_ice_set_preference_table(at(), &table)); }
+    void reset_local_preference() { done(is_ice_reset_local_preference(at())); }
+    void set_local_credentials(std::string_view ufrag, std::string_view pass)
+    {
+        done(is_ice_set_local_credentials(at(), detail::at(ufrag), ufrag.size(), detail::at(pass), pass.size()));
+    }
+    void set_remote_credentials(std::string_view ufrag, std::string_view pass)
+    {
+        done(is_ice_set_remote_credentials(at(), detail::at(ufrag), ufrag.size(), detail::at(pass), pass.size()));
+    }
+
+    /* The text of the candidate, for signaling; none if it is redundant. */
+    std::optional<std::string> add_local(const candidate &gathered)
+    {
+        size_t index = 0;
+        int32_t code = is_ice_add_local(at(), &gathered, &index);
+        if (detail::explained(code, detail::refusal_of(gathered)) != IS_ICE_OK) return std::nullopt;
+        return local_candidate(index);
+    }
+    added add_remote(std::string_view line)
+    {
+        size_t index = 0;
+        int32_t code = is_ice_add_remote(at(), detail::at(line), line.size(), &index);
+        return static_cast<added>(detail::explained(code, detail::refusal_of(line)));
+    }
+    bool invalidate(const candidate &gathered)
+    {
+        return detail::explained(is_ice_invalidate_local(at(), &gathered), detail::refusal_of(gathered)) == IS_ICE_OK;
+    }
+    bool invalidate(std::string_view line)
+    {
+        int32_t code = is_ice_invalidate(at(), detail::at(line), line.size());
+        return detail::explained(code, detail::refusal_of(line)) == IS_ICE_OK;
+    }
+    std::optional<std::string> local_candidate(size_t index) const { return text(is_ice_local_candidate, index); }
+    std::optional<std::string> remote_candidate(size_t index) const { return text(is_ice_remote_candidate, index); }
+    std::optional<line_and_fields> local_fields(size_t index) const { return with_fields(is_ice_local_fields, index); }
+    std::optional<line_and_fields> remote_fields(size_t index) const
+    {
+        return with_fields(is_ice_remote_fields, index);
+    }
+
+    void handle_timeout(nanoseconds now, const timeout_random &random)
+    {
+        done(is_ice_handle_timeout(at(), detail::count(now), random.data(), random.size()));
+    }
+    handled handle_packet(
+        nanoseconds now, uint8_t protocol, const address &source, const address &destination, const void *data,
+        size_t length)
+    {
+        return verdict(is_ice_handle_packet(
+            at(), detail::count(now), protocol, &source, &destination, detail::at(data), length));
+    }
+    handled accepts_packet(
+        uint8_t protocol, const address &source, const address &destination, const void *data, size_t length) const
+    {
+        return verdict(is_ice_accepts_packet(at(), protocol, &source, &destination, detail::at(data), length));
+    }
+    handled accepts_message(const void *data, size_t length) const
+    {
+        return verdict(is_ice_accepts_message(at(), detail::at(data), length));
+    }
+    std::optional<nanoseconds> poll_timeout()
+    {
+        uint64_t time = 0;
+        if (!done(is_ice_poll_timeout(at(), &time))) return std::nullopt;
+        return detail::duration(time);
+    }
+    std::optional<packet> poll_transmit()
+    {
+        is_ice_packet header{};
+        auto contents = detail::written<std::vector<uint8_t>>([&](uint8_t *buffer, size_t size, size_t *length) {
+            int32_t code = is_ice_poll_transmit(at(), buffer, size, &header);
+            *length = header.length;
+            return code;
+        });
+        if (!contents) return std::nullopt;
+        return packet{header.protocol, header.source, header.destination, *std::move(contents)};
+    }
+    std::optional<event> poll_event()
+    {
+        is_ice_event it{};
+        if (!done(is_ice_poll_event(at(), &it))) return std::nullopt;
+        switch (it.kind) {
+        case IS_ICE_RESTARTED: return restarted{};
+        case IS_ICE_STATE_CHANGED: return state_changed{static_cast<connection_state>(it.state)};
+        case IS_ICE_DISCOVERED_RECV: return discovered_recv{it.protocol, it.source};
+        case IS_ICE_NOMINATED_SEND: return nominated_send{it.protocol, it.source, it.destination};
+        default: throw std::logic_error("an event of an unknown kind");
+        }
+    }
+    void restart(std::string_view ufrag, std::string_view pass, bool keep_local_candidates)
+    {
+        done(is_ice_restart(
+            at(), detail::at(ufrag), ufrag.size(), detail::at(pass), pass.size(), keep_local_candidates));
+    }
+    void recreate_pairs() { done(is_ice_recreate_pairs(at())); }
+
+    is_ice::status status() const { return *filled<is_ice::status>(is_ice_status); }
+    is_ice::rules rules() const { return *filled<is_ice::rules>(is_ice_rules); }
+    counters stats() const { return *filled<counters>(is_ice_stats); }
+    std::optional<nominated_pair> nominated() const { return filled<nominated_pair>(is_ice_nominated); }
+    size_t pair_count() const { return *filled<size_t>(is_ice_pair_count); }
+    std::optional<pair> pair_at(size_t index) const
+    {
+        return detail::filled<pair>([&](pair *found) { return is_ice_pair_at(at(), index, found); });
+    }
+    std::optional<pair> find_pair(std::string_view line) const
+    {
+        return detail::filled<pair>([&](pair *found) {
+            return detail::explained(
+                is_ice_find_pair(at(), detail::at(line), line.size(), found), detail::refusal_of(line));
+        });
+    }
+    bool has_viable_remote(const address &remote) const { return done(is_ice_has_viable_remote(at(), &remote)); }
+    credentials local_credentials() const { return {*text(is_ice_local_ufrag), *text(is_ice_local_pass)}; }
+    std::optional<credentials> remote_credentials() const
+    {
+        auto ufrag = text(is_ice_remote_ufrag), pass = text(is_ice_remote_pass);
+        if (!ufrag || !pass) return std::nullopt;
+        return credentials{*std::move(ufrag), *std::move(pass)};
+    }
+
+private:
+    struct release {
+        void operator()(is_ice_agent *agent) const
+        {
+            is_ice_agent_free(agent);
+            delete agent;
+        }
+    };
+    std::unique_ptr<is_ice_agent, release> held_; /* the struct of C is never copied, so it has a place of its own */
+
+    is_ice_agent *at() const
+    {
+        if (!held_) throw error(IS_ICE_NO_AGENT);
+        return held_.get();
+    }
+    static bool done(int32_t code) { return detail::done(code); }
+    static handled verdict(int32_t code)
+    {
+        return static_cast<handled>(code == IS_ICE_UNPARSED ? code : detail::checked(code));
+    }
+    template <class Call, class... Arguments> std::optional<std::string> text(Call call, Arguments... arguments) const
+    {
+        return detail::text([&](uint8_t *buffer, size_t size, size_t *length) {
+            return call(at(), arguments..., buffer, size, length);
+        });
+    }
+    template <class Call> std::optional<line_and_fields> with_fields(Call call, size_t index) const
+    {
+        return detail::line_with_fields([&](uint8_t *buffer, size_t size, size_t *length, fields *found) {
+            return call(at(), index, buffer, size, length, found);
+        });
+    }
+    template <class Struct, class Call> std::optional<Struct> filled(Call call) const
+    {
+        return detail::filled<Struct>([&](Struct *result) { return call(at(), result); });
+    }
+};
+
+/* ---- STUN messages. A message that is not one throws IS_ICE_UNPARSED. */
+
+inline std::vector<uint8_t> stun_request(const stun_transaction &id)
+{
+    return *detail::written<std::vector<uint8_t>>([&](uint8_t *buffer, size_t size, size_t *length) {
+        return is_ice_stun_request(&id, buffer, size, length);
+    });
+}
+
+inline std::optional<stun_result> stun_response(const stun_transaction &id, const void *data, size_t length)
+{
+    return detail::filled<stun_result>(
+        [&](stun_result *result) { return is_ice_stun_response(&id, detail::at(data), length, result); });
+}
+
+inline std::optional<std::string> stun_text(uint16_t attribute, const void *data, size_t length)
+{
+    return detail::text([&](uint8_t *buffer, size_t size, size_t *written) {
+        return is_ice_stun_text(attribute, detail::at(data), length, buffer, size, written);
+    });
+}
+
+inline stun_message stun_read(const void *data, size_t length)
+{
+    return *detail::filled<stun_message>(
+        [&](stun_message *message) { return is_ice_stun_read(detail::at(data), length, message); });
+}
+
+inline stun_message stun_read_strict(const void *data, size_t length)
+{
+    return *detail::filled<stun_message>(
+        [&](stun_message *message) { return is_ice_stun_read_strict(detail::at(data), length, message); });
+}
+
+inline std::optional<username> stun_username(const void *data, size_t length)
+{
+    size_t receiver = 0;
+    auto text = detail::text([&](uint8_t *buffer, size_t size, size_t *written) {
+        return is_ice_stun_username(detail::at(data), length, buffer, size, written, &receiver);
+    });
+    if (!text) return std::nullopt;
+    return username{*std::move(text), receiver};
+}
+
+inline bool stun_verify(const void *data, size_t length, std::string_view key)
+{
+    return detail::done(is_ice_stun_verify(detail::at(data), length, detail::at(key), key.size()));
+}
+
+/* `texts` says where in `bytes` each text is. */
+inline std::vector<uint8_t> stun_write(
+    const stun_message &message, const stun_texts &texts, std::string_view bytes, std::string_view key)
+{
+    std::vector<uint8_t> buffer(IS_ICE_STUN_WRITE_LENGTH + bytes.size() + 8);
+    size_t length = 0;
+    detail::checked(is_ice_stun_write(
+        &message, &texts, detail::at(bytes), bytes.size(), detail::at(key), key.size(), buffer.data(), buffer.size(),
+        &length));
+    buffer.resize(length);
+    return buffer;
+}
+
+} // namespace is_ice
+
+#endif

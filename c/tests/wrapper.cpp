@@ -1,0 +1,157 @@
+// Tests is_ice.hpp: an agent that is moved and freed, errors as exceptions, what may be absent, events, texts and STUN messages.
+// The status is 0, or the program names the first value that is not as expected.
+#include "is_ice.hpp"
+#include <cstdio>
+#include <cstdlib>
+#include <type_traits>
+
+using namespace std::chrono_literals;
+
+static_assert(!std::is_copy_constructible_v<is_ice::agent> && std::is_nothrow_move_constructible_v<is_ice::agent>);
+
+#define HOLD(it) hold(it, #it)
+
+static void hold(bool holds, const char *what)
+{
+    if (holds) return;
+    std::fprintf(stderr, "%s does not hold\n", what);
+    std::exit(1);
+}
+
+template <class Call> static is_ice::error thrown(Call call)
+{
+    try {
+        call();
+    } catch (const is_ice::error &why) {
+        return why;
+    }
+    return is_ice::error(IS_ICE_OK);
+}
+
+static is_ice::candidate host(uint8_t last)
+{
+    is_ice::candidate made{};
+    made.address = is_ice::ipv4({10, 0, 0, last}, 5000);
+    return made;
+}
+
+static const is_ice::timeout_random NONE{};
+
+static void owns_an_agent()
+{
+    is_ice::agent first(is_ice::make_credentials({}), 1);
+    HOLD(first.local_credentials().ufrag.size() == IS_ICE_UFRAG_LENGTH);
+    HOLD(!first.remote_credentials());
+    is_ice::agent second = std::move(first);
+    HOLD(thrown([&] { first.pair_count(); }).code() == IS_ICE_NO_AGENT);
+    HOLD(second.pair_count() == 0);
+    first = is_ice::agent("ufrag", "pass", 2);
+    HOLD(first.local_credentials().pass == "pass");
+}
+
+static void reports_errors()
+{
+    is_ice::agent agent("ufrag", "pass", 1);
+    HOLD(thrown([] { is_ice::agent("\xff", "pass", 1); }).code() == IS_ICE_NOT_UTF8);
+    HOLD(thrown([&] { agent.set_max_retransmits(0); }).code() == IS_ICE_BAD_LIMIT);
+    auto why = thrown([&] { agent.add_remote("candidate:1 1 udp 1 nowhere 2000 typ host"); });
+    HOLD(why.code() == IS_ICE_BAD_CANDIDATE && std::string_view(why.what()) != is_ice_code_text(IS_ICE_BAD_CANDIDATE));
+    HOLD(is_ice::line_refusal("") && !is_ice::candidate_refusal(host(1)));
+    bool is_negative = false;
+    try {
+        agent.handle_timeout(-1ns, NONE);
+    } catch (const std::invalid_argument &) {
+        is_negative = true;
+    }
+    HOLD(is_negative);
+}
+
+static void reads_and_writes_texts()
+{
+    std::string line = is_ice::candidate_line(host(1));
+    HOLD(is_ice::line_fields(line).fields.priority == is_ice::candidate_fields(host(1)).fields.priority);
+    std::string with = is_ice::line_with_ufrag(line, "abcd");
+    HOLD(is_ice::line_from_json(is_ice::line_to_json(with)) == with);
+    HOLD(is_ice::json_refusal("{}") && !is_ice::line_name(line));
+    std::string hidden = "candidate:1 1 udp 1 3f2b8c1e.local 2000 typ host";
+    HOLD(is_ice::line_name(hidden) == "3f2b8c1e.local");
+    HOLD(is_ice::line_with_address(hidden, is_ice::ipv4({10, 0, 0, 9}, 0)).find(" 10.0.0.9 2000 ") != std::string::npos);
+    HOLD(is_ice::candidate_preference(host(1), 0) == is_ice::line_preference(line, 0));
+    std::string many(1000, 'f'); // longer than the first buffer
+    HOLD(is_ice::line_with_ufrag(line, many).size() > many.size());
+}
+
+static void settings_are_kept()
+{
+    is_ice::agent agent("ufrag", "pass", 1);
+    agent.set_controlling(true);
+    agent.set_mtu(1200, 1300);
+    HOLD(agent.status().controlling && agent.status().mtu == 1200 && !agent.status().lite);
+    is_ice::rules modern = is_ice::modern_rules(), original = is_ice::original_rules();
+    agent.set_rules(original);
+    HOLD(agent.rules().kinds_in_turn == original.kinds_in_turn && modern.kinds_in_turn != original.kinds_in_turn);
+    agent.set_preference_table({{1, 2, 3, 4}, {5, 6, 7, 8}});
+    agent.reset_local_preference();
+    agent.set_lite_timeout(30s);
+    agent.set_max_discovered(IS_ICE_NO_LIMIT);
+    agent.set_max_candidates(5);
+    HOLD(agent.status().max_candidates == 5);
+}
+
+static void has_a_session()
+{
+    is_ice::agent agent("ufrag", "pass", 1);
+    HOLD(!agent.poll_timeout() && !agent.poll_transmit() && !agent.poll_event());
+    agent.set_remote_credentials("peer", "password");
+    HOLD(agent.remote_credentials()->ufrag == "peer");
+    auto line = agent.add_local(host(1));
+    HOLD(line && !agent.add_local(host(1)) && agent.local_candidate(0) == line && !agent.local_candidate(1));
+    HOLD(agent.local_fields(0)->line == *line && !agent.remote_fields(0));
+    std::string remote = is_ice::candidate_line(host(2));
+    HOLD(agent.add_remote(remote) == is_ice::added::yes && agent.add_remote(remote) == is_ice::added::known);
+    HOLD(agent.add_remote("candidate:1 2 udp 1 10.0.0.3 1 typ host") == is_ice::added::other_component);
+    agent.handle_timeout(60s, NONE);
+    HOLD(agent.poll_timeout() > 60s);
+    HOLD(std::holds_alternative<is_ice::restarted>(*agent.poll_event()));
+    auto changed = agent.poll_event();
+    HOLD(std::get<is_ice::state_changed>(*changed).state == is_ice::connection_state::checking);
+    auto check = agent.poll_transmit();
+    HOLD(check && check->destination.bytes[3] == 2 && !agent.poll_transmit());
+    auto data = check->contents.data();
+    auto size = check->contents.size();
+    HOLD(is_ice::stun_username(data, size)->receiver == 4 && is_ice::stun_verify(data, size, "password"));
+    HOLD(is_ice::stun_read_strict(data, size).has_fingerprint);
+    HOLD(agent.accepts_message(data, size) == is_ice::handled::other_agent);
+    HOLD(agent.handle_packet(60s, IS_ICE_UDP, host(2).address, host(1).address, "media", 5) == is_ice::handled::unparsed);
+    HOLD(agent.accepts_packet(IS_ICE_UDP, host(2).address, host(1).address, nullptr, 0) == is_ice::handled::unparsed);
+    HOLD(agent.pair_count() == 1 && agent.pair_at(0)->checks_sent == 1 && !agent.pair_at(1) && agent.find_pair(remote));
+    HOLD(!agent.nominated() && !agent.has_viable_remote(host(2).address) && agent.stats().bind_request_sent == 1);
+    agent.recreate_pairs();
+    HOLD(agent.invalidate(host(1)) && agent.invalidate(remote) && !agent.invalidate(remote));
+    agent.restart("again", "pass", false);
+    HOLD(agent.local_credentials().ufrag == "again");
+}
+
+static void has_stun_messages()
+{
+    is_ice::stun_transaction id{{1, 2, 3}};
+    auto request = is_ice::stun_request(id);
+    HOLD(request.size() == IS_ICE_STUN_REQUEST_LENGTH && !is_ice::stun_response(id, request.data(), request.size()));
+    auto message = is_ice::stun_read(request.data(), request.size());
+    HOLD(message.method == IS_ICE_STUN_BINDING && !is_ice::stun_text(IS_ICE_STUN_SOFTWARE, request.data(), request.size()));
+    is_ice::stun_texts texts{};
+    texts.software = {0, 4, true};
+    auto written = is_ice::stun_write(message, texts, "peer", "");
+    HOLD(is_ice::stun_text(IS_ICE_STUN_SOFTWARE, written.data(), written.size()) == "peer");
+    HOLD(thrown([] { is_ice::stun_read("media", 5); }).code() == IS_ICE_UNPARSED);
+}
+
+int main()
+{
+    owns_an_agent();
+    reports_errors();
+    reads_and_writes_texts();
+    settings_are_kept();
+    has_a_session();
+    has_stun_messages();
+}
