@@ -1,4 +1,4 @@
-"""Plots quantiles as bars on a logarithmic axis, by matplotlib if that is installed, else as plain SVG."""
+"""Plots quantiles as dots on a logarithmic axis, by matplotlib if that is installed, else as plain SVG."""
 
 from __future__ import annotations
 
@@ -6,30 +6,30 @@ import math
 from collections.abc import Callable, Sequence
 from dataclasses import dataclass
 from pathlib import Path
-from xml.sax.saxutils import escape
 
 from .figures import quantile
+from .theme import WIDTH, picture, text as _text
 
-# The shares of sessions of the three parts of a bar, and their colors.
+# The shares of sessions of the three dots of a row.
 SHARES = (0.5, 0.95, 0.99)
 NAMES = ("median", "95 %", "99 %")
-COLORS = ("#08519c", "#6baed6", "#c6dbef")
-WIDTH, ROW, THICK, TOP, BOTTOM = 520, 24, 14, 64, 50
-# About the width of a letter.
-LETTER = 6.7
+COLOR = "#08519c"
+ROW, TOP, BOTTOM = 22, 64, 46
+# About the width of a letter, and of the figures beside a row.
+LETTER, FIGURES = 6.5, 160
 NONE = "never"
 
 
 @dataclass(frozen=True)
 class Bar:
-    """A row: the median, the 95th and the 99th percentile in seconds, or None if no session has such a time."""
+    """A row of dots: the median, the 95th and the 99th percentile in seconds, or None if no session has such a time."""
 
     label: str
     quantiles: Sequence[float] | None
 
 
 def quantiles(milliseconds: Sequence[float]) -> tuple[float, ...] | None:
-    """Returns the quantiles of a bar, in seconds, or None if there are no times."""
+    """Returns the quantiles of a row, in seconds, or None if there are no times."""
     values = [quantile(milliseconds, share) for share in SHARES]
     return tuple(value / 1000 for value in values if value is not None) or None
 
@@ -54,11 +54,11 @@ def _write_by_matplotlib(path: Path, title: str, x: str, bars: Sequence[Bar]) ->
     matplotlib.rcParams["svg.hashsalt"] = "lab"
     from matplotlib import pyplot
 
-    low, _ = limits(bars)
     figure, axes = pyplot.subplots(figsize=(10, 0.32 * len(bars) + 1.4))
-    for part in (2, 1, 0):
-        widths = [bar.quantiles[part] - low if bar.quantiles else 0.0 for bar in bars]
-        axes.barh(range(len(bars)), widths, left=low, color=COLORS[part], label=NAMES[part], height=0.6)
+    known = [(n, bar.quantiles) for n, bar in enumerate(bars) if bar.quantiles]
+    axes.hlines([n for n, _ in known], [q[0] for _, q in known], [q[-1] for _, q in known], color=COLOR, alpha=0.5)
+    for part, marker in enumerate("o|d"):
+        axes.scatter([q[part] for _, q in known], [n for n, _ in known], color=COLOR, marker=marker, label=NAMES[part])
     axes.set_yticks(range(len(bars)), [bar.label if bar.quantiles else f"{bar.label}: {NONE}" for bar in bars])
     axes.set(title=title, xlabel=x, xscale="log")
     axes.invert_yaxis()
@@ -92,48 +92,47 @@ def svg(title: str, x: str, bars: Sequence[Bar]) -> str:
     """Returns a plot whose rows have their figures at the right."""
     low, high = limits(bars)
     left = 20 + LETTER * max((len(bar.label) for bar in bars), default=1)
-    bottom = TOP + ROW * len(bars)
-    width, height = round(left + WIDTH + 200), bottom + BOTTOM
+    right, bottom = WIDTH - FIGURES, TOP + ROW * len(bars)
 
     def at(value: float) -> float:
-        return left + WIDTH * math.log(value / low) / math.log(high / low)
+        return left + (right - left) * math.log(value / low) / math.log(high / low)
 
-    lines = [f'<svg xmlns="http://www.w3.org/2000/svg" width="{width}" height="{height}" viewBox="0 0 {width} {height}" '
-             'font-family="sans-serif" font-size="12">', f'<rect width="{width}" height="{height}" fill="#ffffff"/>',
-             _text(width / 2, 22, title, "middle", 'font-size="15" font-weight="bold"')]
+    lines, free = [], 0.0
     for mark in (m for m in _marks(low, high) if low * 0.999 <= m <= high * 1.001):
         lines.append(f'<line x1="{at(mark):.1f}" y1="{TOP - 6}" x2="{at(mark):.1f}" y2="{bottom}" stroke="#e0e0e0"/>')
-        lines.append(_text(at(mark), bottom + 16, f"{mark:g}", "middle"))
-    lines.append(_text(left + WIDTH / 2, height - 10, x, "middle"))
-    lines += _legend(left)
-    lines.append(_text(left + WIDTH + 12, TOP - 12, " / ".join(NAMES), "start", 'font-size="11"'))
+        if at(mark) > free:
+            lines.append(_text(at(mark), bottom + 16, f"{mark:g}", "middle"))
+            free = at(mark) + LETTER * len(f"{mark:g}") + 6
+    lines.append(_text((left + right) / 2, bottom + 36, x, "middle"))
+    lines += _legend(20)
+    lines.append(_text(right + 12, TOP - 12, " / ".join(NAMES), "start"))
     for row, bar in enumerate(bars):
-        lines += _bar(bar, TOP + ROW * row, left, at)
-    return "\n".join([*lines, "</svg>", ""])
+        lines += _row(bar, TOP + ROW * (row + 0.5), left, right, at)
+    return picture(title, bottom + BOTTOM, lines)
 
 
-def _bar(bar: Bar, y: float, left: float, at: Callable[[float], float]) -> list[str]:
-    middle = y + THICK / 2 + 4
-    lines = [_text(left - 8, middle, bar.label, "end")]
+def _row(bar: Bar, y: float, left: float, right: float, at: Callable[[float], float]) -> list[str]:
+    lines = [_text(left - 8, y + 4, bar.label, "end")]
     if bar.quantiles is None:
-        return [*lines, _text(left + 8, middle, NONE, "start", 'font-style="italic"')]
-    begin = left
-    for value, color in zip(bar.quantiles, COLORS):
-        if (end := at(value)) > begin:
-            lines.append(f'<rect x="{begin:.1f}" y="{y}" width="{end - begin:.1f}" height="{THICK}" fill="{color}"/>')
-            begin = end
+        return [*lines, _text(left + 8, y + 4, NONE, "start", "#222222", 'font-style="italic"')]
+    places = [at(value) for value in bar.quantiles]
+    lines.append(f'<line x1="{places[0]:.1f}" y1="{y}" x2="{places[-1]:.1f}" y2="{y}" stroke="{COLOR}" stroke-opacity="0.5"/>')
+    lines += [line for number, place in reversed(list(enumerate(places))) for line in [_dot(number, place, y)]]
     figures = " / ".join(f"{value:.2f}" for value in bar.quantiles)
-    return [*lines, _text(left + WIDTH + 12, middle, f"{figures} s", "start")]
+    return [*lines, _text(right + 12, y + 4, f"{figures} s", "start")]
+
+
+def _dot(number: int, x: float, y: float) -> str:
+    """Draws a quantile: the median as a full dot, the next one as a stroke, the last one as a ring."""
+    if number == 1:
+        return f'<line x1="{x:.1f}" y1="{y - 6}" x2="{x:.1f}" y2="{y + 6}" stroke="{COLOR}" stroke-width="2.5"/>'
+    fill = COLOR if number == 0 else "#ffffff"
+    return f'<circle cx="{x:.1f}" cy="{y}" r="4.5" fill="{fill}" stroke="{COLOR}" stroke-width="1.5"/>'
 
 
 def _legend(left: float) -> list[str]:
     lines, x = [], left
-    for name, color in zip(("up to the median", "to the 95th percentile", "to the 99th percentile"), COLORS):
-        lines.append(f'<rect x="{x:.1f}" y="{TOP - 24}" width="12" height="10" fill="{color}"/>')
-        lines.append(_text(x + 17, TOP - 15, name, "start", 'font-size="11"'))
-        x += 36 + 6.4 * len(name)
+    for number, name in enumerate(("median", "95th percentile", "99th percentile")):
+        lines += [_dot(number, x + 6, TOP - 18), _text(x + 17, TOP - 14, name, "start")]
+        x += 36 + LETTER * len(name)
     return lines
-
-
-def _text(x: float, y: float, text: str, anchor: str, more: str = "") -> str:
-    return f'<text x="{x:.1f}" y="{y:.1f}" text-anchor="{anchor}" fill="#222222" {more}>{escape(text)}</text>'

@@ -1,14 +1,15 @@
-"""Compares settings: five sets of them, each with its plot and its table."""
+"""Compares settings: six sets of them, each with its plot and its table."""
 
 from __future__ import annotations
 
 from collections.abc import Callable, Sequence
 from dataclasses import dataclass, replace
 from pathlib import Path
+from typing import Any
 
 from . import bars, figures, plot, pool, scenario
 from .figures import Figures
-from .scenario import AgentSettings, Scenario
+from .scenario import AgentSettings, Scenario, ScenarioEvent
 
 
 @dataclass(frozen=True)
@@ -82,6 +83,31 @@ def _consent() -> list[Setting]:
     return settings
 
 
+# How many interfaces each side has if consent expires with many pairs: the pairs are as many squared.
+CONSENT_INTERFACES = (1, 7, 8, 9, 10)
+# When the only working interface fails: while the other pairs are still checked.
+CONSENT_CUT_S = 8
+
+
+def _consent_pairs() -> list[Setting]:
+    return [_silent(count, late, rule) for late in (0, 100) for count in CONSENT_INTERFACES for rule in (True, False)]
+
+
+def _silent(count: int, late: int, rule: bool) -> Setting:
+    made = scenario.load("many_interfaces")
+    pairs = "1 pair" if count == 1 else f"{count * count} pairs"
+    label = f"{pairs}, {late} ms late, {'with' if rule else 'without'} the rules"
+    changes: dict[str, Any] = {} if rule else {"consent_ms": 0, "selected_first": False}
+
+    def side(name: str) -> AgentSettings:
+        own = made.side(name)
+        return replace(own, interface=own.interface[-count:], max_rto_ms=2900, retransmits=11, late_ms=late, **changes)
+
+    cut = ScenarioEvent(CONSENT_CUT_S, "a", "silent", "eth9")
+    changed = replace(made, name=label, a=side("a"), b=side("b"), event=(cut,), seconds=120, settle_s=110, connects="sometimes")
+    return Setting(label, changed)
+
+
 # The initial RTO, the greatest RTO and the pacing interval Ta, in milliseconds; the defaults first.
 TAILS = ((250, 3000, 50), (250, 3000, 20), (250, 1000, 50), (250, 500, 50), (250, 500, 20), (100, 500, 20))
 
@@ -109,6 +135,9 @@ QUESTIONS = {
                       "sessions connected, %", _pairs, lambda f: f.first, has_bars=True),
     "consent": Question("How long consent takes to expire", "seconds after the last packet that arrived, logarithmic",
                         "sessions disconnected, %", _consent, lambda f: f.lost, 10000.0, has_bars=True),
+    "consent-pairs": Question("How long consent takes to expire with many pairs", "seconds after the last packet that arrived, logarithmic",
+                              "sessions that left the path, %", _consent_pairs, lambda f: f.left, 1000.0 * CONSENT_CUT_S, has_bars=True,
+                              has_slowest=True),
     "tails": Question("Time to connect in a LAN that loses 30 % of the packets", "seconds from the first signaling message, logarithmic",
                       "sessions connected, %", _tails, lambda f: f.first, has_bars=True, has_slowest=True),
     "tails-nat": Question("Time to connect through two NATs, with 30 % loss", "seconds from the first signaling message, logarithmic",

@@ -6,7 +6,7 @@ from dataclasses import replace
 from random import Random
 from typing import Protocol as Interface_, cast
 
-from is_ice import Candidate, EarlyRto, IceAgent, IceAgentEvent, IceCreds, Rules, SocketAddress, line_fields, new_creds
+from is_ice import Candidate, Consent, EarlyRto, IceAgent, IceAgentEvent, IceCreds, Rules, SocketAddress, line_fields, new_creds
 
 from .clock import Clock, nanoseconds
 from .log import Beginning, Log, LoggedAgent
@@ -30,7 +30,11 @@ def rules_by(s: AgentSettings) -> Rules:
     if s.early_retransmits is not None:
         early = EarlyRto(s.early_retransmits, nanoseconds(s.early_interval_ms))
         rules = replace(rules, early_rto=early if s.early_retransmits else None)
-    return rules if s.selects_at_once is None else replace(rules, selects_at_once=s.selects_at_once)
+    if s.consent_ms is not None:
+        consent = Consent(nanoseconds(s.consent_ms), s.strict_consent)
+        rules = replace(rules, consent=consent if s.consent_ms else None)
+    own = {name: getattr(s, name) for name in ("selects_at_once", "selected_first", "timeout_after_requests")}
+    return replace(rules, **{name: value for name, value in own.items() if value is not None})
 
 
 class Watch(Interface_):

@@ -26,6 +26,7 @@ class Figures:
     first: list[float] = field(default_factory=list)  # when both had selected a pair
     last: list[float] = field(default_factory=list)
     lost: list[float] = field(default_factory=list)  # when side A disconnected
+    left: list[float] = field(default_factory=list)  # when its state left Connected or Completed
     packets: dict[str, list[int]] = field(default_factory=lambda: {side: [] for side in SIDES})
     bytes: dict[str, list[int]] = field(default_factory=lambda: {side: [] for side in SIDES})
     kinds: Counter[str] = field(default_factory=Counter)
@@ -36,7 +37,8 @@ class Figures:
         self.connected += outcome.connected
         self.symmetric += outcome.symmetric
         self.role_changes += any(side.role_changes for side in outcome.sides.values())
-        for times, time in ((self.first, outcome.first), (self.last, outcome.last), (self.lost, outcome.sides["a"].lost_at)):
+        for times, time in ((self.first, outcome.first), (self.last, outcome.last), (self.lost, outcome.sides["a"].lost_at),
+                            (self.left, outcome.sides["a"].left_at)):
             if time is not None:
                 times.append(time / MILLISECOND)
         for name, side in outcome.sides.items():

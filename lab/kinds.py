@@ -10,7 +10,7 @@ from typing import Any
 from is_ice import SocketAddress
 
 from .clock import MILLISECOND
-from .pairs import EarlyRto, Pair, Place
+from .pairs import Consent, EarlyRto, Pair, Place
 
 # How many kinds of pairs there are.
 COUNT = 16
@@ -26,23 +26,29 @@ class Rules:
     triggered_checks: int | None = None
     early_rto: EarlyRto | None = None
     selects_at_once: bool = False
+    consent: Consent | None = None
+    selected_first: bool = False
+    timeout_after_requests: bool = False
 
     @property
     def goes_ahead(self) -> bool:
         """Whether checks may go ahead of pairs that are due earlier (`goes_ahead`)."""
-        return self.kinds_in_turn or self.triggered_checks is not None
+        return self.kinds_in_turn or self.triggered_checks is not None or self.selected_first
 
 
 ORIGINAL = Rules()
 # With these an agent that the library makes begins.
-MODERN = Rules(True, 4, EarlyRto(4, 100 * MILLISECOND), True)
+MODERN = Rules(True, 4, EarlyRto(4, 100 * MILLISECOND), True, Consent(29600 * MILLISECOND), True, True)
 
 
 def rules_of(given: Any) -> Rules:
     """Returns rules of the library as those of the model. There 0 is the same as None."""
     early = given.early_rto
     own = EarlyRto(early.retransmits, early.interval) if early is not None and early.retransmits else None
-    return Rules(given.kinds_in_turn, given.triggered_checks or None, own, given.selects_at_once)
+    consent = given.consent
+    kept = Consent(consent.timeout, consent.strict) if consent is not None and consent.timeout else None
+    return Rules(given.kinds_in_turn, given.triggered_checks or None, own, given.selects_at_once, kept, given.selected_first,
+                 given.timeout_after_requests)
 
 
 def reaches_out(local: Sequence[Place], base: SocketAddress) -> bool:

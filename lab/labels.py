@@ -7,11 +7,13 @@ from dataclasses import dataclass
 Point = tuple[float, float]
 
 # Half the height of a label, about the width of its letters, and the space beside a lane.
-HALF = 6.0
-LETTER = 5.9
+HALF = 6.5
+LETTER = 6.3
 ASIDE = 9.0
 # How much lower than the end of its arrow a text may be, or higher, the best first.
 ASIDES = (0.0, 7.0, -7.0, 11.0, -11.0, 16.0, -16.0, 22.0, -22.0)
+# How far over or under its arrow a label may be, if it is free nowhere on it.
+BESIDES = (-9.0, 9.0, -15.0, 15.0, -22.0, 22.0)
 # Where a label may be: as a share of the arrow, the best first.
 SHARES = (0.25, 0.30, 0.20, 0.36, 0.14, 0.42, 0.48, 0.55, 0.62, 0.70, 0.78, 0.86)
 
@@ -74,13 +76,20 @@ class Labels:
         """Returns the middle of the label of an arrow: the first free place, if possible one that no other arrow crosses."""
         places = {box_of(text, *place): place for place in (self._at(text, points, share) for share in SHARES)}
         chosen = self._best(list(places), points)
+        if self._is_taken(chosen):  # then over or under its arrow
+            places = {box_of(text, x, y + aside): (x, y + aside) for aside in BESIDES for x, y in places.values()}
+            chosen = next((box for box in places if not self._is_taken(box)), chosen)
+            places.setdefault(chosen, ((chosen.left + chosen.right) / 2, chosen.top + HALF))
         self.boxes.append(chosen)
         return places[chosen]
 
     def _best(self, boxes: list[Box], points: list[Point]) -> Box:
-        free = [box for box in boxes if not any(box.overlaps(other) for other in self.boxes)]
+        free = [box for box in boxes if not self._is_taken(box)]
         clear = [box for box in free if not self._is_crossed(box, points)]
         return (clear or free or boxes)[0]
+
+    def _is_taken(self, box: Box) -> bool:
+        return any(box.overlaps(other) for other in self.boxes)
 
     def _at(self, text: str, points: list[Point], share: float) -> Point:
         """Returns the place at this share of the arrow, but not over the lane of its sender."""

@@ -68,7 +68,7 @@ class Agent:
 
     def with_rules(self, rules: Rules) -> Agent:
         """Returns the agent with these rules. Due times that are fixed stay."""
-        return replace(self, rules=rules, timing=replace(self.timing, early=rules.early_rto))
+        return replace(self, rules=rules, timing=replace(self.timing, early=rules.early_rto, consent=rules.consent))
 
     def with_timing(self, timing: Timing) -> Agent:
         """Returns the agent with these settings. If an RTO changes, due times are computed again."""
@@ -134,14 +134,20 @@ class Agent:
         at = next((i for i, c in enumerate(places) if c.is_same_place(candidate) and c.is_same_origin(candidate)), None)
         return None if at is None or places[at].is_discarded else at
 
-    def has_urgent(self, now: int) -> bool:
-        """Whether an urgent pair is due, and urgent pairs go ahead."""
-        return self.rules.triggered_checks is not None and any(p.is_urgent and p.due_at(now, self.timing) <= now for p in self.pairs)
+    def goes_first(self, pair: Pair) -> bool:
+        """Whether it comes before all kinds, in turn: the selected pair, and urgent ones."""
+        is_selected = self.rules.selected_first and pair.number == self.selected
+        return is_selected or (self.rules.triggered_checks is not None and pair.is_urgent)
+
+    def has_first(self, now: int) -> bool:
+        """Whether such a pair is due."""
+        return any(self.goes_first(p) and p.due_at(now, self.timing) <= now for p in self.pairs)
 
     def is_ahead_turn(self, now: int) -> bool:
-        """Whether the next check goes ahead: every second one, to an urgent pair, or to the next kind until a path is selected."""
+        """Whether the next check goes ahead: every second one, to the selected pair, to an urgent pair, or to the next kind until a path is
+        selected."""
         are_kinds_in_turn = self.rules.kinds_in_turn and not self.state.is_connected()
-        return self.rules.goes_ahead and self.ahead_turn and (are_kinds_in_turn or self.has_urgent(now))
+        return self.rules.goes_ahead and self.ahead_turn and (are_kinds_in_turn or self.has_first(now))
 
     # ---- forming pairs
 
@@ -346,7 +352,8 @@ class Agent:
         """Takes a `handle_timeout`. `seen` is the path of the check that was sent, which decides between equal pairs."""
         begun = self._evaluated(now)
         if self.peer is not None and (queue := self._current(now)) != ():
-            return replace(begun, queue=queue[1:])._serve(queue[0])
+            last = now if self.rules.timeout_after_requests else self.last
+            return replace(begun, queue=queue[1:], last=last)._serve(queue[0])
         start = replace(begun, last=now, queue=self._current(now) if self.peer is not None else self.queue)
         new, first = start._nominate()
         kept = tuple(p for p in new.pairs if p.stays(now, new.timing, new.lite))
@@ -379,10 +386,13 @@ class Agent:
         return self._turn_of(pair) if is_ahead else 0, pair.due_at(now, self.timing), -pair.priority
 
     def _turn_of(self, pair: Pair) -> int:
-        """Returns the turn of a pair: urgent ones come before all kinds, and of these the ones that a request brought come last."""
+        """Returns the turn of a pair: the selected one comes before urgent ones, these come before all kinds, and of them the ones that a
+        request brought come last."""
+        if self.rules.selected_first and pair.number == self.selected:
+            return 0
         if self.rules.triggered_checks is not None and pair.is_urgent:
-            return 1 if is_brought(self.remote, pair) else 0
-        return 2 + turn_of(self.next_kind, kind_of(self.local, self.remote, pair))
+            return 2 if is_brought(self.remote, pair) else 1
+        return 3 + turn_of(self.next_kind, kind_of(self.local, self.remote, pair))
 
     def poll_timeout(self, is_waiting: bool) -> tuple[Agent, int | None]:
         """Returns when `handle_timeout` is due, and fixes due times. `is_waiting`: a packet waits to be polled."""
@@ -394,7 +404,7 @@ class Agent:
         if self.lite or not self.pairs:
             return self, self.last + 3 * SECOND
         new = replace(self, pairs=tuple(p.fixed(self.last, self.timing) for p in self.pairs))
-        return new, max(min(p.due_at(self.last, self.timing) for p in new.pairs), soon)
+        return new, max(min(p.wake_at(self.last, self.timing) for p in new.pairs), soon)
 
 
 def _put(places: tuple[Place, ...], at: int, place: Place) -> tuple[Place, ...]:

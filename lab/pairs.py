@@ -26,6 +26,15 @@ class EarlyRto:
 
 
 @dataclass(frozen=True)
+class Consent:
+    """How long the response to a check keeps a pair, in nanoseconds after the check was sent. Unless it is strict, the peer's checks keep
+    the pair too."""
+
+    timeout: int
+    strict: bool = False
+
+
+@dataclass(frozen=True)
 class Timing:
     """The settings of retransmission. Durations are nanoseconds."""
 
@@ -34,6 +43,7 @@ class Timing:
     retransmits: int = 9
     lite: int = 15 * SECOND
     early: EarlyRto | None = None
+    consent: Consent | None = None
 
     def delay(self, count: int) -> int:
         """Returns the delay after the last of `count` checks, in whole milliseconds: it doubles up to a bound."""
@@ -104,7 +114,7 @@ def unanswered(checks: tuple[Check, ...]) -> int:
 @dataclass(frozen=True)
 class Pair:
     """A pair. `nomination` is none, nominated, attempt or success; `state` is waiting, progress or succeeded. `sent`, `requests` and
-    `answers` count checks, checks of the peer, and responses."""
+    `answers` count checks, checks of the peer, and responses. `consented` is when the last check that got a response was sent."""
 
     number: int
     local: int
@@ -118,6 +128,7 @@ class Pair:
     sent: int = 0
     requests: int = 0
     answers: int = 0
+    consented: int | None = None
 
     @property
     def is_valid(self) -> bool:
@@ -179,14 +190,33 @@ class Pair:
         """Whether its consent has not expired; for a lite agent, whether the peer's checks go on."""
         if lite:
             return self.last_request is None or now - self.last_request < timing.lite
-        return self.is_possible(now, timing)
+        return self.has_consent(now, timing.consent) and self.is_possible(now, timing)
 
     def is_possible(self, now: int, timing: Timing) -> bool:
         """Whether the checks of a pair with this record may go on."""
         if self.has_early_checks(now, timing) or self.is_young(timing):
             return True
-        is_heard = self.last_request is not None and now - self.last_request < 15 * SECOND
-        return is_heard or now < self.checks[-1].sent + timing.delay(timing.retransmits)
+        return self.is_heard(now) or now < self.checks[-1].sent + timing.delay(timing.retransmits)
+
+    def is_heard(self, now: int) -> bool:
+        """Whether a check of the peer arrived less than 15 s ago."""
+        return self.last_request is not None and now - self.last_request < 15 * SECOND
+
+    def has_consent(self, now: int, consent: Consent | None) -> bool:
+        """Whether consent to send on it has not ended (RFC 7675): without a response it never does."""
+        return self.stays_answered(now, consent) or (consent is not None and not consent.strict and self.is_heard(now))
+
+    def stays_answered(self, now: int, consent: Consent | None) -> bool:
+        """Whether its last check that got a response was sent recently enough; without one, or without the rule, it counts as such."""
+        return consent is None or self.consented is None or now < self.consented + consent.timeout
+
+    def wake_at(self, now: int, timing: Timing) -> int:
+        """Returns when it needs a `handle_timeout`: when it is due, or when consent ends if nothing arrives."""
+        due = self.due_at(now, timing)
+        if timing.consent is None or self.consented is None:
+            return due
+        heard = 0 if timing.consent.strict or self.last_request is None else self.last_request + 15 * SECOND
+        return min(due, max(self.consented + timing.consent.timeout, heard))
 
     def has_early_checks(self, now: int, timing: Timing) -> bool:
         """Whether the path may still work since early retransmissions end no pair sooner: as long as no response arrived, they are not
@@ -217,6 +247,7 @@ class Pair:
         check = replace(self.checks[at], answered=now)
         done = check.nominated and self.nomination == "attempt"
         return replace(self, checks=(*self.checks[:at], check, *self.checks[at + 1:]), due=None, answers=self.answers + 1,
+                       consented=_later(check.sent, self.consented),
                        nomination="success" if done else self.nomination, state="succeeded" if self.state == "progress" else self.state)
 
     def asked(self, now: int) -> Pair:
@@ -230,8 +261,14 @@ class Pair:
     def taking_over(self, other: Pair, lite: bool) -> Pair:
         """Returns it with what it copies from the pair that it replaces."""
         nomination = {"none": self.nomination, "attempt": "nominated"}.get(other.nomination, other.nomination)
-        new = replace(self, nomination=nomination, state="succeeded" if other.is_valid else self.state)
+        state, consented = "succeeded" if other.is_valid else self.state, _later(other.consented, self.consented)
+        new = replace(self, nomination=nomination, state=state, consented=consented)
         return replace(new, requests=other.requests, last_request=other.last_request) if lite else new
+
+
+def _later(one: int | None, other: int | None) -> int | None:
+    """Returns the later of two times, if there is one."""
+    return max((time for time in (one, other) if time is not None), default=None)
 
 
 def pair_priority(controlling: int, controlled: int) -> int:

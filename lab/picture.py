@@ -2,6 +2,7 @@
 
 from __future__ import annotations
 
+import textwrap
 from dataclasses import dataclass, field
 
 from is_ice import DiscoveredRecv, IceAgentEvent, IceConnectionState, IceConnectionStateChange, IceRestart, NominatedSend
@@ -62,6 +63,12 @@ class Picture:
                 before[lane] = name
         states = [(begin, lane, name) for lane, name in before.items()] + [s for s in self.states if begin <= s[0] < end]
         return Picture(self.title, self.lanes, arrows, flags, states)
+
+
+def wrapped(flag: str) -> list[str]:
+    """Returns the rows of a flag, which are short enough for the margin of a picture."""
+    parts = flag.replace(" to ", "\nto ").split("\n")
+    return [row for part in parts for row in textwrap.wrap(part, 24, break_long_words=False, break_on_hyphens=False)]
 
 
 class Transactions:

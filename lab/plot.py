@@ -5,15 +5,15 @@ from __future__ import annotations
 from collections.abc import Sequence
 from dataclasses import dataclass
 from pathlib import Path
-from xml.sax.saxutils import escape
+
+from .theme import WIDTH, picture, text as _text
 
 COLORS = ("#1f77b4", "#d62728", "#2ca02c", "#9467bd", "#ff7f0e", "#17becf", "#8c564b", "#e377c2", "#7f7f7f", "#bcbd22",
           "#393b79", "#637939", "#843c39", "#7b4173")
-WIDTH, HEIGHT = 860, 440
-LEFT, TOP, BOTTOM = 62, 40, 52
+HEIGHT = 440
+LEFT, TOP, BOTTOM = 56, 40, 48
 # About the width of a letter of the legend.
-LETTER = 6.7
-PLOT = 570
+LETTER = 6.5
 
 
 @dataclass(frozen=True)
@@ -90,39 +90,35 @@ def svg(title: str, x: str, y: str, curves: Sequence[Curve]) -> str:
     """Returns a plot that starts at 0, with its legend at the right."""
     right = max((p[0] for c in curves for p in c.points), default=1.0) or 1.0
     top = max((p[1] for c in curves for p in c.points), default=1.0) or 1.0
-    wide, high = PLOT, max(HEIGHT - TOP - BOTTOM, 18 * len(curves) + 10)
-    width, height = LEFT + PLOT + 48 + round(LETTER * max((len(c.label) for c in curves), default=0)), TOP + high + BOTTOM
+    high = max(HEIGHT - TOP - BOTTOM, 18 * len(curves) + 10)
+    wide = WIDTH - LEFT - 46 - LETTER * max((len(c.label) for c in curves), default=0)
 
     def at(px: float, py: float) -> tuple[float, float]:
         return LEFT + wide * px / right, TOP + high * (1 - py / (top * 1.03))
 
-    lines = [f'<svg xmlns="http://www.w3.org/2000/svg" width="{width}" height="{height}" viewBox="0 0 {width} {height}" '
-             'font-family="sans-serif" font-size="12">',
-             f'<rect width="{width}" height="{height}" fill="#ffffff"/>',
-             _text(LEFT + wide / 2, 22, title, "middle", 'font-size="15" font-weight="bold"')]
+    lines = []
     for tick in ticks(right):
         px, _ = at(tick, 0)
-        lines.append(_line(px, TOP, px, TOP + high, "#e4e4e4"))
+        lines.append(_line(px, TOP, px, TOP + high, "#e0e0e0"))
         lines.append(_text(px, TOP + high + 18, f"{tick:g}", "middle"))
     for tick in ticks(top):
         _, py = at(0, tick)
-        lines.append(_line(LEFT, py, LEFT + wide, py, "#e4e4e4"))
+        lines.append(_line(LEFT, py, LEFT + wide, py, "#e0e0e0"))
         lines.append(_text(LEFT - 8, py + 4, f"{tick:g}", "end"))
-    lines.append(f'<rect x="{LEFT}" y="{TOP}" width="{wide}" height="{high}" fill="none" stroke="#555555"/>')
-    lines.append(_text(LEFT + wide / 2, height - 12, x, "middle"))
-    lines.append(_text(0, 0, y, "middle", f'transform="translate(16 {TOP + high / 2:g}) rotate(-90)"'))
+    lines.append(f'<rect x="{LEFT}" y="{TOP}" width="{wide:.1f}" height="{high}" fill="none" stroke="#555555"/>')
+    lines.append(_text(LEFT + wide / 2, TOP + high + 38, x, "middle"))
+    lines.append(_text(0, 0, y, "middle", "#222222", f'transform="translate(16 {TOP + high / 2:g}) rotate(-90)"'))
     for number, curve in enumerate(curves):
-        lines += _curve(curve, [at(*point) for point in curve.points], number)
-    return "\n".join([*lines, "</svg>", ""])
+        lines += _curve(curve, [at(*point) for point in curve.points], LEFT + wide + 12, number)
+    return picture(title, TOP + high + BOTTOM, lines)
 
 
-def _curve(curve: Curve, points: Sequence[tuple[float, float]], number: int) -> list[str]:
+def _curve(curve: Curve, points: Sequence[tuple[float, float]], px: float, number: int) -> list[str]:
     dash = ' stroke-dasharray="6 4"' if curve.dashed else ""
     path = " ".join(f"{px:.1f},{py:.1f}" for px, py in _thinned(points))
     py = TOP + 10 + 18 * number
-    px = LEFT + PLOT + 14
     return [f'<polyline points="{path}" fill="none" stroke="{curve.color}" stroke-width="1.8"{dash}/>',
-            f'<line x1="{px}" y1="{py}" x2="{px + 22}" y2="{py}" stroke="{curve.color}" stroke-width="2.4"{dash}/>',
+            f'<line x1="{px:.1f}" y1="{py}" x2="{px + 22:.1f}" y2="{py}" stroke="{curve.color}" stroke-width="2.4"{dash}/>',
             _text(px + 28, py + 4, curve.label, "start")]
 
 
@@ -137,7 +133,3 @@ def _thinned(points: Sequence[tuple[float, float]]) -> list[tuple[float, float]]
 
 def _line(x1: float, y1: float, x2: float, y2: float, color: str) -> str:
     return f'<line x1="{x1:.1f}" y1="{y1:.1f}" x2="{x2:.1f}" y2="{y2:.1f}" stroke="{color}"/>'
-
-
-def _text(x: float, y: float, text: str, anchor: str, more: str = "") -> str:
-    return f'<text x="{x:.1f}" y="{y:.1f}" text-anchor="{anchor}" fill="#222222" {more}>{escape(text)}</text>'

@@ -2,10 +2,10 @@
 
 from __future__ import annotations
 
-from .picture import Picture
+from .picture import Picture, wrapped
 
 # A row of text, and the space above the first time.
-ROW = 13
+ROW = 14
 HEAD = 14.0
 # Pixels for each millisecond; the longest wait that is drawn in full; the height of a longer one, which has a break mark.
 PER_MS = 1.0
@@ -52,10 +52,10 @@ class Scale:
 
 
 def _rows(picture: Picture) -> dict[tuple[int, str], int]:
-    """Returns how many rows of text a lane has at a time: its flags, or the time at which it sends a packet."""
+    """Returns how many rows of text a lane has at a time: the time itself, at which it sends a packet, and its flags."""
     rows: dict[tuple[int, str], int] = {}
-    for time, lane, _ in picture.flags:
-        rows[time, lane] = rows.get((time, lane), 0) + 1
+    for time, lane, text in picture.flags:
+        rows[time, lane] = rows.get((time, lane), 1) + len(wrapped(text))
     for arrow in picture.arrows:
         rows.setdefault(arrow.stops[0], 1)
     return rows

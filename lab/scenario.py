@@ -53,6 +53,10 @@ class AgentSettings:
     early_retransmits: int | None = None  # 0: off
     early_interval_ms: float = 100.0  # before each of these, if `early_retransmits` is set
     selects_at_once: bool | None = None
+    consent_ms: float | None = None  # 0: off
+    strict_consent: bool = False  # if `consent_ms` is set
+    selected_first: bool | None = None
+    timeout_after_requests: bool | None = None
     shuffled: bool = False  # gathers from its interfaces in random order
     stun: bool = True  # gathers server-reflexive candidates
     relay: bool = False  # gathers relayed candidates

@@ -32,6 +32,8 @@ class SideOutcome:
     controlling: bool = False
     role_changes: int = 0
     lost_at: int | None = None  # when it last disconnected
+    left_at: int | None = None  # when its state last left Connected or Completed
+    is_connected: bool = False
 
 
 @dataclass
@@ -155,8 +157,10 @@ class Session:
             self._calm = self.clock.now
             if self.outcome.first is not None and self.outcome.first_packets is None:
                 self.outcome.first_packets = sum(packets for packets, _ in self._sent.values())
-        elif isinstance(event, IceConnectionStateChange) and event.state is IceConnectionState.DISCONNECTED:
-            own.lost_at = since
+        elif isinstance(event, IceConnectionStateChange):
+            own.lost_at = since if event.state is IceConnectionState.DISCONNECTED else own.lost_at
+            own.left_at = since if own.is_connected and not event.state.is_connected() else own.left_at
+            own.is_connected = event.state.is_connected()
 
     def cleared(self, side: str) -> None:
         """Records a restart."""

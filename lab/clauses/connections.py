@@ -9,7 +9,7 @@ from typing import Protocol
 from ..pairs import Pair, Path
 from .execution import Execution, Lacks, Round, fewest, is_in_round, lacks
 from .accepted_nominations import ALL, Network
-from .progress import is_in_line, suffices
+from .progress import is_in_line, is_lasting, suffices
 from .selections import are_enough, are_kept, checks_in
 from .staying import may_end_in_rounds
 from .verdict import C, C_co
@@ -23,6 +23,7 @@ def has_rounds_for(x: Execution, side: str, pair: Pair, rounds: list[Round], las
     agent = x.state(first.moment, side)
     by = min(pair.due_at(first.now, agent.timing), first.now)
     return lacks(line=is_in_line(first.now, by, agent, pair), kept=are_kept(x, side, by, rounds),
+                 lasting=all(is_lasting(r.now, agent, pair) for r in rounds[1:]),
                  enough=are_enough(x, side, by, rounds, last))
 
 

@@ -42,7 +42,12 @@ def is_unanswered(agent: Agent, pair: Pair) -> Lacks:
 def is_in_line(at: int, by: int, agent: Agent, pair: Pair) -> Lacks:
     """The pair waits for its check, and nothing nominates it first (`IsInLine`)."""
     return lacks(checking=is_checking(agent), queue=not agent.queue, there=is_there(agent, pair), due=pair.due_at(at, agent.timing) <= by,
-                 settled=not pair.is_valid or pair.due is not None, young=pair.is_young(agent.timing))
+                 settled=not pair.is_valid or pair.due is not None, young=pair.is_young(agent.timing), lasting=is_lasting(at, agent, pair))
+
+
+def is_lasting(now: int, agent: Agent, pair: Pair) -> bool:
+    """Whether consent does not end before this time: if it is valid, its last answered check is recent enough (`IsLasting`)."""
+    return not pair.is_valid or pair.stays_answered(now, agent.timing.consent)
 
 
 # ---- how many rounds suffice

@@ -5,7 +5,7 @@ import tempfile
 import unittest
 from pathlib import Path
 
-from lab import bars, scenario, svg
+from lab import bars, scenario, svg, theme
 from lab.labels import Box, box_of
 from lab.picture import Arrow, Picture, of_session
 from lab.scale import CUT, ROW, Scale
@@ -14,7 +14,7 @@ from lab.session import Session, Trace
 
 MS = 10**6
 SCRIPT = Path(__file__).resolve().parents[2] / "crates" / "ice_run" / "scripts" / "connect"
-TEXT = re.compile(r'<text x="([\d.-]+)" y="([\d.-]+)" text-anchor="(\w+)" fill="[^"]*" font-size="(?:9|10)" paint-order[^>]*>([^<]*)<')
+TEXT = re.compile(r'<text x="([\d.-]+)" y="([\d.-]+)" text-anchor="(\w+)" fill="[^"]*" font-size="11" paint-order[^>]*>([^<]*)<')
 
 
 def check(number: int, start: int, end: int, lanes: str = "AB") -> Arrow:
@@ -23,7 +23,7 @@ def check(number: int, start: int, end: int, lanes: str = "AB") -> Arrow:
 
 def boxes(drawn: str) -> list[tuple[str, Box]]:
     """Returns the texts between the lanes of a drawn picture, with their places."""
-    return [(text, box_of(text, float(x), float(y) - 3.5, anchor)) for x, y, anchor, text in TEXT.findall(drawn)]
+    return [(text, box_of(text, float(x), float(y) - 4, anchor)) for x, y, anchor, text in TEXT.findall(drawn)]
 
 
 def traced(name: str, seed: int) -> Picture:
@@ -52,9 +52,10 @@ class Labels(unittest.TestCase):
         return [(a, b) for n, (a, one) in enumerate(texts) for b, two in texts[:n] if one.overlaps(two)]
 
     def test_a_label_is_at_a_quarter_of_its_arrow(self) -> None:
-        (_, box), = boxes(svg.draw(Picture("", ["A", "B"], [check(1, 0, 40 * MS)])))
-        left = float(re.findall(r'<polyline points="([\d.]+)', svg.draw(Picture("", ["A", "B"], [check(1, 0, 40 * MS)])))[0])
-        self.assertAlmostEqual((box.left + box.right) / 2, left + svg.WIDE / 4, places=1)
+        picture = Picture("", ["A", "B"], [check(1, 0, 40 * MS)])
+        (_, box), = boxes(svg.draw(picture))
+        left, right = svg.lanes_of(picture).values()
+        self.assertAlmostEqual((box.left + box.right) / 2, left + (right - left) / 4, places=1)
 
     def test_no_label_is_over_another(self) -> None:
         crossing = [check(n, n * 3 * MS, n * 3 * MS + 30 * MS, "AB" if n % 2 else "BA") for n in range(30)]
@@ -69,6 +70,31 @@ class Labels(unittest.TestCase):
     def test_an_arrow_has_one_time(self) -> None:
         drawn = svg.draw(Picture("", ["A", "R", "B"], [Arrow("check 1", "check", [(0, "A"), (9 * MS, "R"), (30 * MS, "B")])]))
         self.assertEqual(re.findall(r">([\d.]+ ms)<", drawn), ["0.0 ms"])
+
+
+class Courses(unittest.TestCase):
+    def bows(self, *arrows: Arrow) -> int:
+        return len(re.findall(r"<path d=\"M[^\"]* A5", svg.draw(Picture("", ["A", "wifi", "mobile", "B"], list(arrows)))))
+
+    def test_an_arrow_has_a_bow_over_what_it_does_not_pass(self) -> None:
+        by_mobile = Arrow("check 1", "check", [(0, "A"), (9 * MS, "mobile"), (30 * MS, "B")])
+        by_both = Arrow("check 2", "check", [(0, "B"), (9 * MS, "mobile"), (20 * MS, "wifi"), (30 * MS, "A")])
+        self.assertEqual((self.bows(by_mobile), self.bows(by_both)), (1, 0))
+
+
+class Themes(unittest.TestCase):
+    def test_pictures_are_as_wide_as_they_are_shown_and_have_a_title(self) -> None:
+        folder = Path(__file__).resolve().parents[2] / "docs" / "sessions"
+        for path in sorted(folder.glob("*.svg")):
+            with self.subTest(picture=path.name):
+                drawn = path.read_text(encoding="utf-8")
+                self.assertLessEqual(int(re.findall(r'<svg [^>]*width="(\d+)"', drawn)[0]), theme.WIDTH)
+                self.assertGreaterEqual(min(map(int, re.findall(r'font-size="(\d+)"', drawn))), theme.SIZE)
+                self.assertRegex(drawn, "<title>[^<]+</title>")
+
+    def test_each_color_of_a_text_has_another_one_in_dark_mode(self) -> None:
+        words = {*svg.WORDS.values(), *svg.COLORS.values(), svg.LOST, svg.PALE, svg.UNDELIVERED}
+        self.assertEqual(words - set(theme.DARK), set())
 
 
 class Words(unittest.TestCase):

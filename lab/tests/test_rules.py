@@ -128,10 +128,10 @@ class Ahead(unittest.TestCase):
     def test_a_pair_that_is_not_due_does_not_go_ahead(self) -> None:
         story = self.story()
         story.passes("a", 0, 50, 100, 110)
-        self.assertFalse(story.agents["a"].has_urgent(at(120)))
+        self.assertFalse(story.agents["a"].has_first(at(120)))
         self.asked(story, 120, (B, THIRD_A))
-        self.assertTrue(story.agents["a"].has_urgent(at(120)))
-        self.assertFalse(replace(story.agents["a"], rules=ORIGINAL).has_urgent(at(120)))
+        self.assertTrue(story.agents["a"].has_first(at(120)))
+        self.assertFalse(replace(story.agents["a"], rules=ORIGINAL).has_first(at(120)))
 
     def test_a_nomination_goes_ahead_also_once_a_path_is_selected(self) -> None:
         story = self.story()
