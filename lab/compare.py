@@ -90,18 +90,18 @@ CONSENT_CUT_S = 8
 
 
 def _consent_pairs() -> list[Setting]:
-    return [_silent(count, late, rule) for late in (0, 100) for count in CONSENT_INTERFACES for rule in (True, False)]
+    return [_silent(count, rule) for count in CONSENT_INTERFACES for rule in (True, False)]
 
 
-def _silent(count: int, late: int, rule: bool) -> Setting:
+def _silent(count: int, rule: bool) -> Setting:
     made = scenario.load("many_interfaces")
     pairs = "1 pair" if count == 1 else f"{count * count} pairs"
-    label = f"{pairs}, {late} ms late, {'with' if rule else 'without'} the rules"
+    label = f"{pairs}, {'with' if rule else 'without'} the rules"
     changes: dict[str, Any] = {} if rule else {"consent_ms": 0, "selected_first": False}
 
     def side(name: str) -> AgentSettings:
         own = made.side(name)
-        return replace(own, interface=own.interface[-count:], max_rto_ms=2900, retransmits=11, late_ms=late, **changes)
+        return replace(own, interface=own.interface[-count:], max_rto_ms=2900, retransmits=11, **changes)
 
     cut = ScenarioEvent(CONSENT_CUT_S, "a", "silent", "eth9")
     changed = replace(made, name=label, a=side("a"), b=side("b"), event=(cut,), seconds=120, settle_s=110, connects="sometimes")
