@@ -8,6 +8,7 @@ use rand_core::SeedableRng;
 use rand_pcg::Pcg32;
 use std::alloc::{AllocError, Global};
 use std::net::{Ipv4Addr, SocketAddr, SocketAddrV4};
+use std::ops::Range;
 use std::test::Fail;
 
 fn at(host: u8, port: u16) -> SocketAddr {
@@ -125,27 +126,40 @@ fn host(alloc: Global, address: SocketAddr) -> Result<Candidate, IceError> {
     Candidate::host(alloc, address, Protocol::Udp)
 }
 
-/// The calls for candidates, preference and credentials. The restart keeps the host candidate, which is invalidated
-/// after it.
+/// The call of this number. The restart keeps the host candidate, which is invalidated after it.
+fn call_of(alloc: Global, number: usize) -> Result<Call, IceError> {
+    Ok(match number {
+        0 => AgentCall::SetRemoteCredentials(creds(alloc, "farr", "farpass")?),
+        1 | 2 => AgentCall::AddLocalCandidate(host(alloc, at(1, 1000))?),
+        3 => AgentCall::AddRemoteCandidate(host(alloc, at(2, 2000))?),
+        4 => AgentCall::RecreateCandidatePairs,
+        5 => AgentCall::RestartIce {
+            creds: creds(alloc, "near", "nearpass")?,
+            keep: true,
+        },
+        6 => AgentCall::InvalidateCandidate(host(alloc, at(1, 1000))?),
+        _ => AgentCall::SetLocalCredentials(IceCreds::new(alloc, &mut Pcg32::seed_from_u64(1))?),
+    })
+}
+
+/// Adds the calls of these numbers. An array of calls costs more to prove: each call that fails drops those before it.
+fn add_calls(alloc: Global, numbers: Range<usize>, calls: &mut Vec<Call>) -> Result<(), IceError> {
+    for number in numbers {
+        calls.push(call_of(alloc, number)?)?;
+    }
+    Ok(())
+}
+
+/// The calls for candidates, preference and credentials.
 fn calls_with_memory(
     alloc: Global,
     preference: Box<dyn LocalPreference>,
 ) -> Result<Vec<Call>, IceError> {
-    let calls = [
-        AgentCall::SetRemoteCredentials(creds(alloc, "farr", "farpass")?),
-        AgentCall::AddLocalCandidate(host(alloc, at(1, 1000))?),
-        AgentCall::AddLocalCandidate(host(alloc, at(1, 1000))?),
-        AgentCall::AddRemoteCandidate(host(alloc, at(2, 2000))?),
-        AgentCall::RecreateCandidatePairs,
-        AgentCall::RestartIce {
-            creds: creds(alloc, "near", "nearpass")?,
-            keep: true,
-        },
-        AgentCall::InvalidateCandidate(host(alloc, at(1, 1000))?),
-        AgentCall::SetLocalPreference(preference),
-        AgentCall::SetLocalCredentials(IceCreds::new(alloc, &mut Pcg32::seed_from_u64(1))?),
-    ];
-    Ok(Vec::from_array(alloc, calls)?)
+    let mut calls = Vec::new(alloc);
+    add_calls(alloc, 0..7, &mut calls)?;
+    calls.push(AgentCall::SetLocalPreference(preference))?;
+    add_calls(alloc, 8..9, &mut calls)?;
+    Ok(calls)
 }
 
 /// The host is not added a second time: its priority would be lower, since it would be the second of its kind.

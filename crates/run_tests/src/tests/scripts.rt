@@ -55,68 +55,69 @@ fn ends(rt: &impl Abort, alloc: Global, script: &str, status: u8, output: &str, 
 fn prints(rt: &impl Abort, alloc: Global, script: &str, output: &str) {
     ends(rt, alloc, script, 0, output, "");
 }
+/// Lines that can't be played, and the fault of each.
+static FAULTS: [(&str, &str); 27] = [
+    ("[1]", "not a script line"),
+    ("\r", "not a script line"),
+    (" ", "not a script line"),
+    (r#"{"on":"A"}"#, "not a script line"),
+    (r#"{"call":"sleep","x":[{"y":1.5}]}"#, "not a script line"),
+    (
+        r#"{"call":"sleep","x":18446744073709551616}"#,
+        "not a script line",
+    ),
+    (r#"{"call":"sleep","x":-0}"#, "not a script line"),
+    (r#"{"call":"sleep","on":"C"}"#, "not a script line"),
+    (r#"{"call":"sleep"}"#, "unknown call"),
+    (r#"{"call":"timeout"}"#, "missing now"),
+    (r#"{"call":"timeout","now":null}"#, "bad now"),
+    (r#"{"call":"retransmits","number":0}"#, "bad number"),
+    (r#"{"call":"lite","flag":1}"#, "bad flag"),
+    (r#"{"call":"rules"}"#, "missing name"),
+    (r#"{"call":"rules","name":"Modern"}"#, "bad name"),
+    (r#"{"call":"litetimeout"}"#, "missing number"),
+    (r#"{"call":"srflx","addr":"10.0.0.1:1"}"#, "missing base"),
+    (r#"{"call":"deliver","packet":0,"now":-1}"#, "bad now"),
+    (r#"{"call":"deliver","packet":0,"now":1}"#, "no packet"),
+    (r#"{"call":"host","on":"B"}"#, "no agent"),
+    (r#"{"call":"host","addr":"x"}"#, "missing proto"),
+    (r#"{"call":"host","addr":"x","proto":1}"#, "bad addr"),
+    (
+        r#"{"call":"host","addr":"10.0.0.1:+1","proto":"udp"}"#,
+        "bad addr",
+    ),
+    (
+        r#"{"call":"host","addr":"10.0.0.1:1","proto":"sctp"}"#,
+        "bad proto",
+    ),
+    (
+        r#"{"call":"agent","ufrag":"A","pass":null,"tie":1}"#,
+        "bad pass",
+    ),
+    (
+        r#"{"call":"agent","ufrag":"A","pass":"P","tie":-1}"#,
+        "bad tie",
+    ),
+    (
+        r#"{"call":"packet","now":0,"proto":"udp","from":"10.0.0.2:1","to":"10.0.0.1:1","hex":"0"}"#,
+        "bad hex",
+    ),
+];
+
+/// A script whose third line is this one ends there, with this fault.
+fn ends_at_line(rt: &impl Abort, alloc: Global, line: &str, fault: &str) -> Result<(), Fail> {
+    let agent = r#"{"call":"agent","ufrag":"AAAA","pass":"PPPP","tie":1}"#;
+    let script = format!(in alloc; "{agent}\n\n{line}\n{agent}\n")?;
+    let reported = format!(in alloc; "line 3: {fault}\n")?;
+    let output = "A agent ok\nA wake none\n";
+    ends(rt, alloc, script.as_str(), 1, output, reported.as_str());
+    Ok(())
+}
 
 #[test]
 fn each_fault_of_a_line_ends_the_script(rt: HostRuntime) -> Result<(), Fail> {
-    let agent = r#"{"call":"agent","ufrag":"AAAA","pass":"PPPP","tie":1}"#;
-    let table = [
-        ("[1]", "not a script line"),
-        ("\r", "not a script line"),
-        (" ", "not a script line"),
-        (r#"{"on":"A"}"#, "not a script line"),
-        (r#"{"call":"sleep","x":[{"y":1.5}]}"#, "not a script line"),
-        (
-            r#"{"call":"sleep","x":18446744073709551616}"#,
-            "not a script line",
-        ),
-        (r#"{"call":"sleep","x":-0}"#, "not a script line"),
-        (r#"{"call":"sleep","on":"C"}"#, "not a script line"),
-        (r#"{"call":"sleep"}"#, "unknown call"),
-        (r#"{"call":"timeout"}"#, "missing now"),
-        (r#"{"call":"timeout","now":null}"#, "bad now"),
-        (r#"{"call":"retransmits","number":0}"#, "bad number"),
-        (r#"{"call":"lite","flag":1}"#, "bad flag"),
-        (r#"{"call":"rules"}"#, "missing name"),
-        (r#"{"call":"rules","name":"Modern"}"#, "bad name"),
-        (r#"{"call":"litetimeout"}"#, "missing number"),
-        (r#"{"call":"srflx","addr":"10.0.0.1:1"}"#, "missing base"),
-        (r#"{"call":"deliver","packet":0,"now":-1}"#, "bad now"),
-        (r#"{"call":"deliver","packet":0,"now":1}"#, "no packet"),
-        (r#"{"call":"host","on":"B"}"#, "no agent"),
-        (r#"{"call":"host","addr":"x"}"#, "missing proto"),
-        (r#"{"call":"host","addr":"x","proto":1}"#, "bad addr"),
-        (
-            r#"{"call":"host","addr":"10.0.0.1:+1","proto":"udp"}"#,
-            "bad addr",
-        ),
-        (
-            r#"{"call":"host","addr":"10.0.0.1:1","proto":"sctp"}"#,
-            "bad proto",
-        ),
-        (
-            r#"{"call":"agent","ufrag":"A","pass":null,"tie":1}"#,
-            "bad pass",
-        ),
-        (
-            r#"{"call":"agent","ufrag":"A","pass":"P","tie":-1}"#,
-            "bad tie",
-        ),
-        (
-            r#"{"call":"packet","now":0,"proto":"udp","from":"10.0.0.2:1","to":"10.0.0.1:1","hex":"0"}"#,
-            "bad hex",
-        ),
-    ];
-    for (line, fault) in table {
-        let script = format!(in rt.alloc(); "{agent}\n\n{line}\n{agent}\n")?;
-        let reported = format!(in rt.alloc(); "line 3: {fault}\n")?;
-        ends(
-            &rt,
-            rt.alloc(),
-            script.as_str(),
-            1,
-            "A agent ok\nA wake none\n",
-            reported.as_str(),
-        );
+    for (line, fault) in &FAULTS {
+        ends_at_line(&rt, rt.alloc(), line, fault)?;
     }
     Ok(())
 }

@@ -58,24 +58,25 @@ fn has_ufrag(alloc: Global, text: &str, ufrag: &str) -> bool {
         None => false,
     }
 }
+/// Texts, and the ufrag of each.
+static UFRAGS: [(&str, &str); 3] = [
+    (
+        "{\"candidate\": \"candidate:1 1 udp 1 10.0.0.1 1 typ host ufrag old\", \"usernameFragment\": \"new\", \"sdpMid\": 7}",
+        "new",
+    ),
+    (
+        "{\"candidate\": \"candidate:1 1 udp 1 10.0.0.1 1 typ host ufrag old\", \"usernameFragment\": null}",
+        "old",
+    ),
+    (
+        "{\"candidate\": \"candidate:1 1 udp 1 10.0.0.1 1 typ host ufrag old\"}",
+        "old",
+    ),
+];
 
 #[test]
 fn a_fragment_replaces_the_ufrag_of_the_line(rt: HostRuntime) {
-    let rows = [
-        (
-            "{\"candidate\": \"candidate:1 1 udp 1 10.0.0.1 1 typ host ufrag old\", \"usernameFragment\": \"new\", \"sdpMid\": 7}",
-            "new",
-        ),
-        (
-            "{\"candidate\": \"candidate:1 1 udp 1 10.0.0.1 1 typ host ufrag old\", \"usernameFragment\": null}",
-            "old",
-        ),
-        (
-            "{\"candidate\": \"candidate:1 1 udp 1 10.0.0.1 1 typ host ufrag old\"}",
-            "old",
-        ),
-    ];
-    for (text, ufrag) in rows.iter() {
+    for (text, ufrag) in UFRAGS.iter() {
         assert!(rt; has_ufrag(rt.alloc(), text, ufrag));
     }
 }
@@ -99,36 +100,37 @@ fn is_rejected(alloc: Global, text: &str, message: &str) -> bool {
             message,
         )
 }
+/// Texts that are rejected, and the message of each.
+static FAULTS: [(&str, &str); 9] = [
+    ("[]", "candidate info is not an object"),
+    ("{\"candidate\": 1.5}", "candidate info holds a fraction"),
+    (
+        "{\"sdpMLineIndex\": [{\"deep\": 1e2}]}",
+        "candidate info holds a fraction",
+    ),
+    (
+        "{\"candidate\": \"x\", \"sdpMLineIndex\": 18446744073709551616}",
+        "candidate info holds a fraction",
+    ),
+    ("{}", "candidate info lacks candidate"),
+    ("{\"candidate\": 1}", "candidate info lacks candidate"),
+    (
+        "{\"candidate\": \"x\", \"candidate\": null}",
+        "candidate info lacks candidate",
+    ),
+    (
+        "{\"candidate\": \"x\", \"usernameFragment\": 1}",
+        "x: missing 'candidate:' prefix",
+    ),
+    (
+        "{\"candidate\": \"candidate:1 1 udp 1 10.0.0.1 1 typ host\", \"usernameFragment\": 1}",
+        "bad usernameFragment",
+    ),
+];
 
 #[test]
 fn the_first_fault_of_a_value_is_reported(rt: HostRuntime) {
-    let rows = [
-        ("[]", "candidate info is not an object"),
-        ("{\"candidate\": 1.5}", "candidate info holds a fraction"),
-        (
-            "{\"sdpMLineIndex\": [{\"deep\": 1e2}]}",
-            "candidate info holds a fraction",
-        ),
-        (
-            "{\"candidate\": \"x\", \"sdpMLineIndex\": 18446744073709551616}",
-            "candidate info holds a fraction",
-        ),
-        ("{}", "candidate info lacks candidate"),
-        ("{\"candidate\": 1}", "candidate info lacks candidate"),
-        (
-            "{\"candidate\": \"x\", \"candidate\": null}",
-            "candidate info lacks candidate",
-        ),
-        (
-            "{\"candidate\": \"x\", \"usernameFragment\": 1}",
-            "x: missing 'candidate:' prefix",
-        ),
-        (
-            "{\"candidate\": \"candidate:1 1 udp 1 10.0.0.1 1 typ host\", \"usernameFragment\": 1}",
-            "bad usernameFragment",
-        ),
-    ];
-    for (text, message) in rows.iter() {
+    for (text, message) in FAULTS.iter() {
         assert!(rt; is_rejected(rt.alloc(), text, message));
     }
 }
@@ -155,21 +157,22 @@ fn order_spaces_escapes_and_other_members_change_nothing(rt: HostRuntime) -> Res
     }
     Ok(())
 }
+/// Texts that are not JSON.
+static NOT_JSON: [&str; 8] = [
+    "",
+    "{",
+    "{\"candidate\":\"candidate:1 1 udp 1 10.0.0.1 1 typ host\"",
+    "{\"candidate\":\"candidate:1 1 udp 1 10.0.0.1 1 typ host\",}",
+    "{\"candidate\":\"candidate:1 1 udp 1 10.0.0.1 1 typ host\"} {}",
+    "{\"candidate\":\"candidate:1 1 udp 1 10.0.0.1 1 typ host\",\"more\":01}",
+    "{\"candidate\":1e999}",
+    "candidate:1 1 udp 1 10.0.0.1 1 typ host",
+];
 
 #[test]
 fn a_text_that_is_not_json_is_reported(rt: HostRuntime) {
-    let rows = [
-        "",
-        "{",
-        "{\"candidate\":\"candidate:1 1 udp 1 10.0.0.1 1 typ host\"",
-        "{\"candidate\":\"candidate:1 1 udp 1 10.0.0.1 1 typ host\",}",
-        "{\"candidate\":\"candidate:1 1 udp 1 10.0.0.1 1 typ host\"} {}",
-        "{\"candidate\":\"candidate:1 1 udp 1 10.0.0.1 1 typ host\",\"more\":01}",
-        "{\"candidate\":1e999}",
-        "candidate:1 1 udp 1 10.0.0.1 1 typ host",
-    ];
     let mut scratch = JsonScratch::new(rt.alloc());
-    for text in rows.iter() {
+    for text in NOT_JSON.iter() {
         let read = Candidate::from_json_str(rt.alloc(), text, &mut scratch);
         assert!(rt; says(read, "candidate info is not JSON"));
     }

@@ -29,20 +29,21 @@ fn is_rejected(alloc: Global, line: &str, fault: &str) -> bool {
         None => false,
     }
 }
+/// Lines of browsers, and what is printed after they were read.
+static FROM_BROWSERS: [(&str, &str); 2] = [
+    (
+        "candidate:842163049 1 udp 1677729535 203.0.113.5 46154 typ srflx raddr 0.0.0.0 rport 0 generation 0 ufrag EsAw network-id 1 network-cost 10",
+        "candidate:842163049 1 udp 1677729535 203.0.113.5 46154 typ srflx raddr 0.0.0.0 rport 0 ufrag EsAw",
+    ),
+    (
+        "candidate:0 1 UDP 2122252543 192.168.1.10 54321 typ host",
+        "candidate:0 1 udp 2122252543 192.168.1.10 54321 typ host",
+    ),
+];
 
 #[test]
 fn lines_of_browsers_print_what_is_known_of_them(rt: HostRuntime) {
-    let rows = [
-        (
-            "candidate:842163049 1 udp 1677729535 203.0.113.5 46154 typ srflx raddr 0.0.0.0 rport 0 generation 0 ufrag EsAw network-id 1 network-cost 10",
-            "candidate:842163049 1 udp 1677729535 203.0.113.5 46154 typ srflx raddr 0.0.0.0 rport 0 ufrag EsAw",
-        ),
-        (
-            "candidate:0 1 UDP 2122252543 192.168.1.10 54321 typ host",
-            "candidate:0 1 udp 2122252543 192.168.1.10 54321 typ host",
-        ),
-    ];
-    for (line, text) in rows.iter() {
+    for (line, text) in FROM_BROWSERS.iter() {
         assert!(rt; prints(rt.alloc(), line, text));
     }
 }
@@ -115,62 +116,63 @@ fn unicode_white_space_splits_words(rt: HostRuntime) {
     let line = "candidate:1\u{1c}1 udp 1 10.0.0.1 1 typ host";
     assert!(rt; is_rejected(rt.alloc(), line, "bad component-id"));
 }
+/// Lines that are rejected, and the fault of each.
+static FAULTS: [(&str, &str); 23] = [
+    ("", "missing 'candidate:' prefix"),
+    (
+        "a=candidate:1 1 udp 1 10.0.0.1 1 typ host",
+        "missing 'candidate:' prefix",
+    ),
+    ("candidate: ", "missing foundation"),
+    ("candidate:12344", "missing component-id"),
+    ("candidate:12344 bad value", "bad component-id"),
+    ("candidate:1 65536 udp", "bad component-id"),
+    ("candidate:1 1", "missing protocol"),
+    ("candidate:1 1 sctp", "invalid protocol: sctp"),
+    ("candidate:1 1 udp", "missing priority"),
+    ("candidate:1 1 udp 4294967296", "bad priority"),
+    ("candidate:1 1 udp 1", "missing address"),
+    (
+        "candidate:1 1 udp 2113937151 4f5a.local 51000 typ host",
+        "bad address",
+    ),
+    ("candidate:1 1 udp 1 10.0.0.1", "missing port"),
+    ("candidate:1 1 udp 1 10.0.0.1 -1", "bad port"),
+    ("candidate:1 1 udp 1 10.0.0.1 1", "expected 'typ'"),
+    ("candidate:1 1 udp 1 10.0.0.1 1 type host", "expected 'typ'"),
+    (
+        "candidate:1 1 udp 1 10.0.0.1 1 typ",
+        "missing candidate type",
+    ),
+    (
+        "candidate:1 1 udp 1 10.0.0.1 1 typ HOST",
+        "unknown candidate type: HOST",
+    ),
+    (
+        "candidate:1 1 udp 1 10.0.0.1 1 typ host raddr",
+        "missing raddr value",
+    ),
+    (
+        "candidate:1 1 udp 1 10.0.0.1 1 typ host raddr x raddr 10.0.0.2",
+        "bad raddr",
+    ),
+    (
+        "candidate:1 1 udp 1 10.0.0.1 1 typ host rport 70000",
+        "bad rport",
+    ),
+    (
+        "candidate:1 1 udp 1 10.0.0.1 1 typ host tcptype both",
+        "bad tcptype",
+    ),
+    (
+        "candidate:1 1 udp 1 10.0.0.1 1 typ host ufrag",
+        "missing ufrag value",
+    ),
+];
 
 #[test]
 fn each_fault_has_its_message(rt: HostRuntime) {
-    let rows = [
-        ("", "missing 'candidate:' prefix"),
-        (
-            "a=candidate:1 1 udp 1 10.0.0.1 1 typ host",
-            "missing 'candidate:' prefix",
-        ),
-        ("candidate: ", "missing foundation"),
-        ("candidate:12344", "missing component-id"),
-        ("candidate:12344 bad value", "bad component-id"),
-        ("candidate:1 65536 udp", "bad component-id"),
-        ("candidate:1 1", "missing protocol"),
-        ("candidate:1 1 sctp", "invalid protocol: sctp"),
-        ("candidate:1 1 udp", "missing priority"),
-        ("candidate:1 1 udp 4294967296", "bad priority"),
-        ("candidate:1 1 udp 1", "missing address"),
-        (
-            "candidate:1 1 udp 2113937151 4f5a.local 51000 typ host",
-            "bad address",
-        ),
-        ("candidate:1 1 udp 1 10.0.0.1", "missing port"),
-        ("candidate:1 1 udp 1 10.0.0.1 -1", "bad port"),
-        ("candidate:1 1 udp 1 10.0.0.1 1", "expected 'typ'"),
-        ("candidate:1 1 udp 1 10.0.0.1 1 type host", "expected 'typ'"),
-        (
-            "candidate:1 1 udp 1 10.0.0.1 1 typ",
-            "missing candidate type",
-        ),
-        (
-            "candidate:1 1 udp 1 10.0.0.1 1 typ HOST",
-            "unknown candidate type: HOST",
-        ),
-        (
-            "candidate:1 1 udp 1 10.0.0.1 1 typ host raddr",
-            "missing raddr value",
-        ),
-        (
-            "candidate:1 1 udp 1 10.0.0.1 1 typ host raddr x raddr 10.0.0.2",
-            "bad raddr",
-        ),
-        (
-            "candidate:1 1 udp 1 10.0.0.1 1 typ host rport 70000",
-            "bad rport",
-        ),
-        (
-            "candidate:1 1 udp 1 10.0.0.1 1 typ host tcptype both",
-            "bad tcptype",
-        ),
-        (
-            "candidate:1 1 udp 1 10.0.0.1 1 typ host ufrag",
-            "missing ufrag value",
-        ),
-    ];
-    for (line, fault) in rows.iter() {
+    for (line, fault) in FAULTS.iter() {
         assert!(rt; is_rejected(rt.alloc(), line, fault));
     }
 }
