@@ -118,7 +118,7 @@ abbrev pub has_consent : Option Consent → ℕ → PairRecord → Bool
 has_consent None now p = true
 has_consent (Some c) now p = is_answered_lately c now p || (not c.strict && is_heard now p)
 
--- The same as long as consent ends by a clock, whatever the peer's checks keep.
+-- Whether it was answered lately, where consent has a timeout: whatever checks the peer sends.
 abbrev pub stays_answered : Option Consent → ℕ → PairRecord → Bool
 stays_answered None now p = true
 stays_answered (Some c) now p = is_answered_lately c now p

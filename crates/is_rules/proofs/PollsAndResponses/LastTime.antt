@@ -19,7 +19,7 @@ use Rattle.is_rules.specs.Checking.{all_asked, ChecksTop, MayCheck}
 use Rattle.is_rules.specs.Forming.{formed, with_pair}
 use Rattle.is_rules.specs.Nominating.{nominated_emitted, with_selection, Nominates, NominatesWhere}
 use Rattle.is_rules.specs.Places.{local_place}
-use Rattle.is_rules.specs.Queue.{first_taken, request_at}
+use Rattle.is_rules.specs.Queue.{request_at}
 use Rattle.is_rules.specs.Request.{RequestRecord}
 use Rattle.is_rules.specs.Roles.{conflict_of, switched}
 use Rattle.is_rules.specs.Serving.{is_misled, names_another, pair_served, request_counted, selects_at_requests, with_sender, with_sender_at, Drops}
