@@ -254,6 +254,7 @@ static void end(struct story *s)
 {
     is_ice_agent_stats stats;
     is_ice_nominated_pair nominated;
+    is_ice_media_path path;
     is_ice_agent_status status;
     is_ice_agent_rules rules;
     is_ice_pair pair;
@@ -272,6 +273,7 @@ static void end(struct story *s)
     QUIET(IS_ICE_VERSION, (int32_t)is_ice_version());
     QUIET(IS_ICE_OK, is_ice_stats(&s->a, &stats));
     QUIET(IS_ICE_OK, is_ice_nominated(&s->a, &nominated));
+    QUIET(IS_ICE_OK, is_ice_valid_path(&s->a, &path));
     QUIET(IS_ICE_OK, is_ice_has_viable_remote(&s->a, &host_b.address));
     add(s, &stats, sizeof stats);
     add(s, &nominated.responses, sizeof nominated.responses);

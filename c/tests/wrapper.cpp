@@ -125,7 +125,7 @@ static void has_a_session()
     HOLD(agent.handle_packet(60s, IS_ICE_UDP, host(2).address, host(1).address, "media", 5) == is_ice::handled::unparsed);
     HOLD(agent.accepts_packet(IS_ICE_UDP, host(2).address, host(1).address, nullptr, 0) == is_ice::handled::unparsed);
     HOLD(agent.pair_count() == 1 && agent.pair_at(0)->checks_sent == 1 && !agent.pair_at(1) && agent.find_pair(remote));
-    HOLD(!agent.nominated() && !agent.has_viable_remote(host(2).address) && agent.stats().bind_request_sent == 1);
+    HOLD(!agent.nominated() && !agent.valid_path() && !agent.has_viable_remote(host(2).address) && agent.stats().bind_request_sent == 1);
     agent.recreate_pairs();
     HOLD(agent.invalidate(host(1)) && agent.invalidate(remote) && !agent.invalidate(remote));
     agent.restart("again", "pass", false);

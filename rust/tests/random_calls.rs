@@ -309,7 +309,7 @@ impl Session {
         ));
         black_box((agent.state().is_connected(), agent.state().is_disconnected(), agent.rules()));
         black_box((agent.nominated_pair_rtt(), agent.nominated_pair_total_rtt(), agent.nominated_pair_responses_received()));
-        black_box((agent.selected_path(), agent.has_viable_remote_candidate(address), agent.pairs().count()));
+        black_box((agent.selected_path(), agent.valid_path(), agent.has_viable_remote_candidate(address), agent.pairs().count()));
         for pair in agent.pairs().take(2) {
             black_box((pair.local_idx(), pair.remote_idx(), pair.is_nominated(), pair.remote_binding_request_time()));
             black_box((pair.last_successful_rtt(), pair.total_round_trip_time()));
