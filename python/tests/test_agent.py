@@ -463,6 +463,15 @@ class Errors(unittest.TestCase):
         with self.assertRaises(BadCandidate):
             self.agent.add_local_candidate(Candidate.host(SocketAddress("0.0.0.0", 1)))
 
+    def test_settings_begin_as_documented(self) -> None:
+        """The defaults of docs/API.md, as c/tests/layout.c and rust/tests/calls.rs have them."""
+        agent, rules = is_ice.IceAgent(), Rules.modern()
+        self.assertEqual((agent.mtu, agent.mtu_warn, agent.ice_timeout, agent.max_candidates), (1150, 1280, 26_700_000_000, 100))
+        self.assertEqual((agent.controlling, agent.ice_lite, agent.rules), (False, False, rules))
+        self.assertEqual((rules.triggered_checks, rules.early_rto), (4, EarlyRto(4, 100_000_000)))
+        self.assertEqual(rules.consent, Consent(29_600_000_000, strict=False))
+        self.assertTrue(rules.kinds_in_turn and rules.selects_at_once and rules.selected_first and rules.timeout_after_requests)
+
     def test_settings(self) -> None:
         self.assertRaises(MtuTooSmall, self.agent.set_mtu, 587, 1280)
         self.assertRaises(BadLimit, self.agent.set_max_stun_retransmits, 0)
