@@ -6,7 +6,8 @@
  *
  * mac: makes the calls by `batch`, for callgrind to count the instructions of each batch; a last batch is there to end the one before.
  * mac N: makes N calls for each number of right bytes, in random order, and prints the ticks of the processor's clock that they took,
- * beside a control: once more messages without a right byte. t above 5 would be no chance. */
+ * beside a control: once more messages without a right byte. On a quiet machine t above 5 would be no chance. A comparison that ends at
+ * the first wrong byte makes the ticks rise with the right bytes. */
 #define _GNU_SOURCE
 #include "measuring.h"
 #include <x86intrin.h>
@@ -24,14 +25,15 @@ static const char *const password = "password of the agent";
 struct world {
     is_ice_agent agent;
     struct message requests[KINDS];
+    struct message given; /* one of them: all are passed from one place, since a call takes longer for another one */
     uint64_t random;
 };
 
 static const char *const names[] = {"is_ice_stun_verify", "is_ice_accepts_message"};
 
-static int32_t ask(struct world *w, bool is_agent, size_t kind)
+static int32_t ask(struct world *w, bool is_agent)
 {
-    const struct message *m = &w->requests[kind];
+    const struct message *m = &w->given;
     return is_agent ? is_ice_accepts_message(&w->agent, m->bytes, m->length)
                     : is_ice_stun_verify(m->bytes, m->length, TEXT(password));
 }
@@ -60,8 +62,9 @@ static void begin(struct world *w)
 __attribute__((noinline)) static void batch(struct world *w, bool is_agent, size_t kind)
 {
     int32_t wanted = kind == MAC ? IS_ICE_OK : IS_ICE_NOTHING;
+    w->given = w->requests[kind];
     for (int i = 0; i < CALLS; i++)
-        if (ask(w, is_agent, kind) != wanted) fail(names[is_agent], "another result");
+        if (ask(w, is_agent) != wanted) fail(names[is_agent], "another result");
 }
 
 static void make_batches(struct world *w)
@@ -82,10 +85,11 @@ static int compare_ticks(const void *a, const void *b)
 static uint32_t ticks_of(struct world *w, bool is_agent, size_t kind)
 {
     unsigned processor;
+    w->given = w->requests[kind];
     _mm_lfence();
     uint64_t begun = __rdtsc();
     _mm_lfence();
-    volatile int32_t code = ask(w, is_agent, kind);
+    volatile int32_t code = ask(w, is_agent);
     _mm_lfence();
     uint64_t took = __rdtscp(&processor) - begun;
     _mm_lfence();

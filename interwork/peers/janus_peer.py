@@ -14,7 +14,7 @@ import socket
 import tempfile
 from pathlib import Path
 
-from lines import Signal, commands, end_server, joined, report, start_server
+from lines import Signal, end_server, joined, play, report, start_server
 
 SECRET = "secret"
 FINGERPRINT = ":".join(["AB"] * 32)  # of no certificate: DTLS does not get that far
@@ -239,12 +239,4 @@ class Peer:
             report("janus_peer: unknown command", line)
 
 
-async def main():
-    peer = Peer(arguments())
-    await peer.begin()
-    async for line in commands():
-        await peer.take(line)
-    await peer.end()
-
-
-asyncio.run(main())
+asyncio.run(play(Peer(arguments())))

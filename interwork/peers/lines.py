@@ -63,6 +63,14 @@ async def commands():
         yield line.rstrip("\r\n")
 
 
+async def play(peer):
+    """Runs a peer: its beginning, its `take` for each line, and its end."""
+    await peer.begin()
+    async for line in commands():
+        await peer.take(line)
+    await peer.end()
+
+
 def die_with_parent():
     ctypes.CDLL(None).prctl(PR_SET_PDEATHSIG, signal.SIGKILL, 0, 0, 0)
 

@@ -12,7 +12,7 @@ import json
 import re
 import socket
 
-from lines import Signal, commands, end_server, joined, report, report_heard, start_server
+from lines import Signal, end_server, joined, play, report, report_heard, start_server
 
 FIRST_PORT, LAST_PORT, PORTS = 20000, 60000, 40
 CALL = "session"
@@ -213,12 +213,4 @@ class Peer:
             self.plain.transport.sendto(line.encode(), self.target)
 
 
-async def main():
-    peer = Peer(arguments())
-    await peer.begin()
-    async for line in commands():
-        await peer.take(line)
-    await peer.end()
-
-
-asyncio.run(main())
+asyncio.run(play(Peer(arguments())))

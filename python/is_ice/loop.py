@@ -21,8 +21,6 @@ from .events import IceAgentEvent
 
 _log = logging.getLogger(__name__)
 
-# Time starts at 60 s: the agent gives a newly nominated pair a due time 60 s in the past.
-_BEGINNING = 60_000_000_000
 # The least pacing interval (RFC 8445, section 14.2): how soon after a timeout a packet of the peer may cause the next one.
 _LEAST_PACING = 5_000_000
 _WITHOUT_TIMEOUT = 50_000_000
@@ -78,7 +76,7 @@ class IceLoop(Unique):
 
     def now(self) -> int:
         """The current time for the agent, in nanoseconds."""
-        return time.monotonic_ns() - self._start + _BEGINNING
+        return time.monotonic_ns() - self._start
 
     async def open(self, ip: str, port: int = 0) -> SocketAddress:
         """Binds a socket at a local address and returns that address, with the port. No candidate is added."""
