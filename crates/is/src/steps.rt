@@ -153,7 +153,6 @@ fn take_setting<H: Sha1HmacProvider + Drop, P: LocalPreference>(
         AgentCall::SetMaxStunRto(rto) => agent.set_max_stun_rto(rto),
         AgentCall::SetLiteTimeout(timeout) => agent.set_lite_timeout(timeout),
         AgentCall::SetLocalPreference(object) => agent.set_local_preference(object),
-        AgentCall::SetControlling(controlling) => agent.set_controlling(controlling),
         AgentCall::SkipPairIds(least) => agent.skip_pair_ids(least),
         _ => unreachable!(),
     }
@@ -171,6 +170,7 @@ fn take_quiet<H: Sha1HmacProvider + Drop, P: LocalPreference>(
 {
     match call {
         AgentCall::SetMtu(mtu) => done_or_rejected(agent.set_mtu(mtu)),
+        AgentCall::SetControlling(role) => done_or_rejected(agent.set_controlling(role)),
         AgentCall::SetMaxStunRetransmits(limit) => take_limit(agent, limit),
         AgentCall::SetLocalCredentials(own) => done_or_rejected(agent.set_local_credentials(own)),
         AgentCall::SetRemoteCredentials(far) => done_or_rejected(agent.set_remote_credentials(far)),

@@ -3,7 +3,7 @@
 ghost use Rattle.std.specs.Prelude.{◌≡◌, ◌<◌, Some};
 ghost use Rattle.std.specs.Range.{range_inclusive_start, range_inclusive_end};
 ghost use Rattle.is_agent.specs.View.{record_of};
-ghost use Rattle.is_rules.specs.Settings.{SetsMtu, with_rtos, with_rules, with_retransmits, with_lite_timeout, numbers_skipped};
+ghost use Rattle.is_rules.specs.Settings.{SetsControlling, SetsMtu, with_rtos, with_rules, with_retransmits, with_lite_timeout, numbers_skipped};
 ghost use Rattle.is_rules.specs.Questions.{ice_timeout};
 
 use crate::agent::Agent;
@@ -201,10 +201,16 @@ impl<H: Sha1HmacProvider + Drop, P: LocalPreference> Agent<H, P> {
     }
 
     /// Gives the agent the controlling or the controlled role. Existing pairs keep their priorities.
-    pub fn set_controlling(&mut self, controlling: bool)
-        ensures { record_of self.new ≡ record (record_of self.old) { controlling = controlling } }
+    ///
+    /// Fails with `LiteStaysControlled` if a lite agent is to be controlling, and its rules have `lite_keeps_role`.
+    pub fn set_controlling(&mut self, controlling: bool) -> Result<(), IceError>
+        ensures { SetsControlling (record_of self.old) controlling result (record_of self.new) }
     {
+        if controlling && self.keeps_role() {
+            return Err(IceError::LiteStaysControlled);
+        }
         self.controlling = controlling;
+        Ok(())
     }
 
     /// Makes the number of the next pair at least this one.

@@ -21,6 +21,7 @@ fn outcome(error: &IceError) -> Outcome {
         IceError::MtuTooSmall => Outcome::MtuTooSmall,
         IceError::CredentialsTooLong => Outcome::CredentialsTooLong,
         IceError::PriorityTooHigh => Outcome::PriorityTooHigh,
+        IceError::LiteStaysControlled => Outcome::LiteStaysControlled,
         _ => Outcome::Other,
     }
 }
@@ -52,6 +53,7 @@ impl Player {
             Call::Peers(count) => add_remotes(&mut self.agent, alloc, count),
             Call::Invalidate(line) => invalidate(&mut self.agent, parsed(alloc, line)),
             Call::Recreate => outcome_of(self.agent.recreate_candidate_pairs()),
+            Call::Control(role) => outcome_of(self.agent.set_controlling(role)),
             Call::SetMtu(mtu, mtu_warn) => outcome_of(self.agent.set_mtu(mtu..=mtu_warn)),
             _ => self.passes(call),
         }

@@ -109,6 +109,7 @@ pub(super) enum Outcome {
     MtuTooSmall,
     CredentialsTooLong,
     PriorityTooHigh,
+    LiteStaysControlled,
     /// Memory ran out, or a candidate attribute was wrong.
     Other,
 }
@@ -149,6 +150,8 @@ pub(super) enum Call {
     Invalidate(&'static str),
     /// Forms the pairs again.
     Recreate,
+    /// Sets the role.
+    Control(bool),
     /// Sets how long packets may be, and from which length on they cause a warning.
     SetMtu(usize, usize),
     /// Calls `handle_timeout`.

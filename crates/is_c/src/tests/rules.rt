@@ -17,6 +17,7 @@ const OFF: AgentRules = AgentRules {
     strict_consent: false,
     selected_first: false,
     timeout_after_requests: false,
+    lite_keeps_role: false,
 };
 
 const ON: AgentRules = AgentRules {
@@ -29,6 +30,7 @@ const ON: AgentRules = AgentRules {
     strict_consent: false,
     selected_first: true,
     timeout_after_requests: true,
+    lite_keeps_role: true,
 };
 
 fn are_same(one: &AgentRules, other: &AgentRules) -> bool {
@@ -41,6 +43,7 @@ fn are_same(one: &AgentRules, other: &AgentRules) -> bool {
         && one.strict_consent == other.strict_consent
         && one.selected_first == other.selected_first
         && one.timeout_after_requests == other.timeout_after_requests
+        && one.lite_keeps_role == other.lite_keeps_role
 }
 
 #[test]
