@@ -203,7 +203,9 @@ impl<H: Sha1HmacProvider + Drop, P: LocalPreference> Agent<H, P> {
         ensures removes_expired { LeavesRole (record_of self.old) path.now (message_view message.now) nothing_emitted (record_of self.new) }
         ensures news { UsesNews 0 self.old self.new }
     {
-        if self.is_of_present_role(number, message.trans_id()) && !self.keeps_role() {
+        let present = self.is_of_present_role(number, message.trans_id());
+        let keeps = self.keeps_role();
+        if present && !keeps {
             self.switch_role();
         }
     }

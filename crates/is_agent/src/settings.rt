@@ -13,15 +13,18 @@ use is_rules::credentials::USERNAME_LIMIT;
 use is_rules::rules::Rules;
 use std::ops::RangeInclusive;
 
-/// The length of the longest check in bytes: the header, the attributes with the longest USERNAME, MESSAGE-INTEGRITY and
-/// FINGERPRINT.
-pub(crate) const MTU_FLOOR: usize = 20 + (4 + USERNAME_LIMIT) + 12 + 8 + 4 + 24 + 8;
+/// The length of the longest check without NOMINATION in bytes: the header, the attributes with the longest USERNAME, MESSAGE-INTEGRITY
+/// and FINGERPRINT.
+const MTU_FLOOR: usize = 20 + (4 + USERNAME_LIMIT) + 12 + 8 + 4 + 24 + 8;
+
+/// The same with NOMINATION.
+pub(crate) const CHECK_ROOM: usize = MTU_FLOOR + 8;
 
 impl<H: Sha1HmacProvider + Drop, P: LocalPreference> Agent<H, P> {
     /// Sets how long packets may be, in bytes. The start of the range is the target, which `mtu` returns. Its end is the
     /// length from which packets cause a warning, which `mtu_warn` returns. A packet is as long as its message.
     ///
-    /// Fails with `MtuTooSmall` if the target is below 588 bytes, the length of the longest check.
+    /// Fails with `MtuTooSmall` if the target is below 588 bytes, the length of the longest check. With NOMINATION it is 8 bytes longer.
     pub fn set_mtu(&mut self, mtu: RangeInclusive<usize>) -> Result<(), IceError>
         ensures { SetsMtu (record_of self.old) (range_inclusive_start mtu) (range_inclusive_end mtu) result (record_of self.new) }
     {
@@ -105,6 +108,8 @@ impl<H: Sha1HmacProvider + Drop, P: LocalPreference> Agent<H, P> {
     /// the pair on which it received the last request with USE-CANDIDATE, once a check of its own was answered on it. Until
     /// then it keeps the pair that it selected last. With a controlling peer that nominates several pairs and repeats
     /// USE-CANDIDATE on each, a controlled agent would change its path at each of these checks.
+    ///
+    /// With the rule `numbered_nominations` each nomination has a number besides, and a controlled agent goes by the greatest one.
     pub fn set_renomination(&mut self, renominates: bool)
         ensures { record_of self.new ≡ record (record_of self.old) { renominates = renominates } }
     {

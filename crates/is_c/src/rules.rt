@@ -32,6 +32,7 @@ pub struct AgentRules {
     pub selected_first: bool,
     pub timeout_after_requests: bool,
     pub lite_keeps_role: bool,
+    pub numbered_nominations: bool,
 }
 
 /// How many requests trigger a check: 0 means that there are no triggered checks.
@@ -80,6 +81,7 @@ fn rules_of(rules: &AgentRules) -> Rules
         selected_first: rules.selected_first,
         timeout_after_requests: rules.timeout_after_requests,
         lite_keeps_role: rules.lite_keeps_role,
+        numbered_nominations: rules.numbered_nominations,
     }
 }
 
@@ -105,6 +107,7 @@ fn reported_rules(rules: Rules) -> AgentRules
         selected_first: rules.selected_first,
         timeout_after_requests: rules.timeout_after_requests,
         lite_keeps_role: rules.lite_keeps_role,
+        numbered_nominations: rules.numbered_nominations,
     }
 }
 

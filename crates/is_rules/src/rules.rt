@@ -40,6 +40,10 @@ pub struct Rules {
     /// 487 that it receives has no effect (RFC 8445, sections 6.1.1 and 7.3.1.1: only full agents repair roles). It can't be made
     /// controlling.
     pub lite_keeps_role: bool,
+    /// With renomination, nominations are numbered by the attribute NOMINATION (draft-thatcher-ice-renomination), which browsers agree on as
+    /// `renomination`. A controlling agent numbers the paths that it selects, and nominates each at once. A controlled agent selects the
+    /// valid pair with the greatest number, whatever is lost, late or replayed.
+    pub numbered_nominations: bool,
 }
 
 /// How often, and how far apart.
@@ -68,11 +72,12 @@ impl Rules {
             selected_first: false,
             timeout_after_requests: false,
             lite_keeps_role: false,
+            numbered_nominations: false,
         }
     }
 
     /// All rules: agents connect sooner, consent ends in time, `poll_timeout` returns a time after each successful `handle_timeout`, and
-    /// lite agents keep their role.
+    /// lite agents keep their role. With renomination, nominations are numbered.
     pub fn modern() -> Rules
         ensures { result ≡ modern_rules }
     {
@@ -85,6 +90,7 @@ impl Rules {
             selected_first: true,
             timeout_after_requests: true,
             lite_keeps_role: true,
+            numbered_nominations: true,
         }
     }
 }

@@ -294,6 +294,7 @@ const BEFORE: Rules = Rules {
     selected_first: false,
     timeout_after_requests: false,
     lite_keeps_role: false,
+    numbered_nominations: false,
     ..MODERN
 };
 

@@ -18,6 +18,7 @@ const OFF: AgentRules = AgentRules {
     selected_first: false,
     timeout_after_requests: false,
     lite_keeps_role: false,
+    numbered_nominations: false,
 };
 
 const ON: AgentRules = AgentRules {
@@ -31,6 +32,7 @@ const ON: AgentRules = AgentRules {
     selected_first: true,
     timeout_after_requests: true,
     lite_keeps_role: true,
+    numbered_nominations: true,
 };
 
 fn are_same(one: &AgentRules, other: &AgentRules) -> bool {
@@ -44,6 +46,7 @@ fn are_same(one: &AgentRules, other: &AgentRules) -> bool {
         && one.selected_first == other.selected_first
         && one.timeout_after_requests == other.timeout_after_requests
         && one.lite_keeps_role == other.lite_keeps_role
+        && one.numbered_nominations == other.numbered_nominations
 }
 
 #[test]

@@ -113,10 +113,7 @@ const CALL_ERRORS: [(IceError, &str); 6] = [
     (IceError::MtuTooSmall, "MTU target too small"),
     (IceError::CredentialsTooLong, "ICE credentials too long"),
     (IceError::PriorityTooHigh, "candidate priority too high"),
-    (
-        IceError::LiteStaysControlled,
-        "lite agent stays controlled",
-    ),
+    (IceError::LiteStaysControlled, "lite agent stays controlled"),
 ];
 
 /// Whether each of the errors has its text.
