@@ -33,6 +33,7 @@ pub mod Waiting
 pub mod Limited
 pub mod Renominating
 pub mod RenominatingCourses
+pub mod Numbered
 pub mod Pacing
 pub mod InTime
 pub mod Consent
