@@ -211,7 +211,7 @@ impl<H: Sha1HmacProvider + Drop, P: LocalPreference> Agent<H, P> {
     pub fn set_controlling(&mut self, controlling: bool) -> Result<(), IceError>
         ensures { SetsControlling (record_of self.old) controlling result (record_of self.new) }
     {
-        if controlling && self.keeps_role() {
+        if self.keeps_role() && controlling {
             return Err(IceError::LiteStaysControlled);
         }
         self.controlling = controlling;

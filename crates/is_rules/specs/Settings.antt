@@ -17,8 +17,8 @@ module _ {H P : Type 0} where
 
   -- `set_controlling`: existing pairs keep their priorities. A lite agent that keeps its role can't be made controlling.
   abbrev pub SetsControlling : AgentRecord H P → Bool → Result (Unit {0}) IceError → AgentRecord H P → Type 0
-  SetsControlling old controlling (Ok _) new = ((controlling && keeps_role old) ≡ false) × (new ≡ record old { controlling = controlling })
-  SetsControlling old controlling (Err LiteStaysControlled) new = ((controlling && keeps_role old) ≡ true) × (new ≡ old)
+  SetsControlling old controlling (Ok _) new = ((keeps_role old && controlling) ≡ false) × (new ≡ record old { controlling = controlling })
+  SetsControlling old controlling (Err LiteStaysControlled) new = ((keeps_role old && controlling) ≡ true) × (new ≡ old)
   SetsControlling old controlling (Err _) new = ⊥
 
   -- `set_initial_stun_rto` and `set_max_stun_rto`: if one of the two changes, the due time of each pair is computed again.

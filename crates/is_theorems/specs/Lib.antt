@@ -4,6 +4,7 @@ pub mod Runs
 pub mod Bounds
 pub mod RoleState
 pub mod RoleView
+pub mod KeptRole
 pub mod Progress
 pub mod Rounds
 pub mod Delivery

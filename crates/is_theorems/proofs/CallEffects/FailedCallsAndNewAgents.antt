@@ -162,7 +162,7 @@ module _ {H P : Type 0} where
     kept (SetMaxStunRetransmits n) h r = retransmits (n == 0) n h r
     kept (SetLiteTimeout by) h r = silent Done h.0 refl r
     kept (SetLocalPreference object) h r = silent Done h.0 refl r
-    kept (SetControlling controlling) h r = silent Done h.0 refl r
+    kept (SetControlling controlling) h r = does (SetsControlling old controlling) (controlling_kept old new controlling) h r
     kept (SetLocalCredentials creds) h r = does (SetsLocal old creds) (local_kept old new creds) h r
     kept (SetRemoteCredentials creds) h r = does (SetsRemote old creds) (remote_kept old new creds) h r
     kept (SkipPairIds n) h r = silent Done h.0 refl r
