@@ -24,6 +24,7 @@ use Rattle.is_rules.specs.Answers.{is_role_conflict}
 use Rattle.is_rules.specs.Steps.{Call, SetControlTieBreaker, SetIceLite, SetLocalCredentials, SetRemoteCredentials, RestartIce}
 use Rattle.is_rules.specs.Steps.{RecreateCandidatePairs, ReceivePacket, Step}
 use Rattle.is_rules.specs.Sound.{IsSound, GivesBased}
+use Rattle.is_rules.specs.Serving.{nominates}
 use Rattle.is_rules.specs.Brought.{role_once, Brings, IsBrought, IsKept, IsValidOn, IsNominatedOn, Continues, IsServing, IsNominatedByPeer}
 use Rattle.is_rules.specs.Brought.{IsServedPastTests, IsAnswered, SwitchesRoleFor, IsRejectedBy, IsRoleSet}
 use Rattle.is_rules.specs.Owed.{Owes}
@@ -101,11 +102,11 @@ module _ {H P : Type 0} where
       -- While the agent is controlled, each nominated path was nominated before, or the peer nominates it now.
       pub nominated : old.lite ≡ false → old.controlling ≡ false → new.controlling ≡ false
           → (path : Path) → IsNominatedOn new path → IsNominatedOn old path ⊎ IsNominatedByPeer old call e path
-      -- A success response replies to the request that is served. If that has USE-CANDIDATE and the agent is controlled, the path
-      -- is nominated.
+      -- A success response replies to the request that is served. If that nominates and the agent is controlled, the path is
+      -- nominated.
       pub replied : (issued : Issued) → e.emitted.issued ≡ Some issued → issued.class ≡ class.Success
           → (q : RequestRecord) × IsServing old call e q × (issued ≡ issued_as (reversed q.path) class.Success q.id)
-          × (q.use_candidate ≡ true → new.controlling ≡ false → IsNominatedOn new (reversed q.path))
+          × (nominates old q ≡ true → new.controlling ≡ false → IsNominatedOn new (reversed q.path))
       -- Each selected path was valid before, or its success response is received now. While the agent is controlled, it was
       -- nominated before, or the peer nominates it now.
       pub selected_paths : old.lite ≡ false → (path : Path) → Has e.emitted.selected_paths (Some path)

@@ -103,6 +103,10 @@ module _ {H P : Type 0} where
   abbrev pub names_another : AgentRecord H P → RequestRecord → Bool
   names_another s q = option_map_or (λ (peer : IceCreds). not (bytes_eq q.ufrag peer.ufrag)) s.remote_creds true
 
+  -- The request nominates its pair, if the agent is controlled: by USE-CANDIDATE, or by NOMINATION if nominations have numbers.
+  abbrev pub nominates : AgentRecord H P → RequestRecord → Bool
+  nominates s q = (as_taken (numbers s) q).use_candidate
+
   abbrev pub request_counted : AgentRecord H P → AgentRecord H P
   request_counted s = record s { stats = record s.stats { bind_request_recv = counted s.stats.bind_request_recv } }
 
