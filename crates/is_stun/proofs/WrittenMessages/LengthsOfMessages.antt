@@ -137,17 +137,22 @@ with_number name code tie prio n =
       attribute_length NOMINATION (to_be_bytes w32 n),
     )
 
+numbered_value_fits : (id name : List ℕ) (controlling : Bool) (tie prio : ℕ) (nominates : Bool) (n : ℕ) → length name ≤ WRITTEN_USERNAME_LIMIT
+    → value_rejection (with_nomination (Some n) (binding_request name id controlling tie prio nominates)) ≡ None
+unfolding value_rejection
+numbered_value_fits id name controlling tie prio nominates n short = rw (le-ltb WRITTEN_USERNAME_LIMIT (length name) short) refl
+
 numbered_takes : (key id name : List ℕ) (controlling : Bool) (tie prio : ℕ) (nominates : Bool) (n : ℕ) → length name ≤ WRITTEN_USERNAME_LIMIT
     → TakesBytes key (check_len name nominates + 8) (with_nomination (Some n) (binding_request name id controlling tie prio nominates))
 unfolding rows_text
 numbered_takes key id name true tie prio true n short =
-    as_takes (36 + padded_len (length name)) (omega arith) (takes_by key _ (36 + padded_len (length name)) (value_fits id name true tie prio true short) (with_flag_and_number name ICE_CONTROLLING tie prio n) (omega (arith, short)))
+    as_takes (36 + padded_len (length name)) (omega arith) (takes_by key _ (36 + padded_len (length name)) (numbered_value_fits id name true tie prio true n short) (with_flag_and_number name ICE_CONTROLLING tie prio n) (omega (arith, short)))
 numbered_takes key id name true tie prio false n short =
-    as_takes (32 + padded_len (length name)) (omega arith) (takes_by key _ (32 + padded_len (length name)) (value_fits id name true tie prio false short) (with_number name ICE_CONTROLLING tie prio n) (omega (arith, short)))
+    as_takes (32 + padded_len (length name)) (omega arith) (takes_by key _ (32 + padded_len (length name)) (numbered_value_fits id name true tie prio false n short) (with_number name ICE_CONTROLLING tie prio n) (omega (arith, short)))
 numbered_takes key id name false tie prio true n short =
-    as_takes (36 + padded_len (length name)) (omega arith) (takes_by key _ (36 + padded_len (length name)) (value_fits id name false tie prio true short) (with_flag_and_number name ICE_CONTROLLED tie prio n) (omega (arith, short)))
+    as_takes (36 + padded_len (length name)) (omega arith) (takes_by key _ (36 + padded_len (length name)) (numbered_value_fits id name false tie prio true n short) (with_flag_and_number name ICE_CONTROLLED tie prio n) (omega (arith, short)))
 numbered_takes key id name false tie prio false n short =
-    as_takes (32 + padded_len (length name)) (omega arith) (takes_by key _ (32 + padded_len (length name)) (value_fits id name false tie prio false short) (with_number name ICE_CONTROLLED tie prio n) (omega (arith, short)))
+    as_takes (32 + padded_len (length name)) (omega arith) (takes_by key _ (32 + padded_len (length name)) (numbered_value_fits id name false tie prio false n short) (with_number name ICE_CONTROLLED tie prio n) (omega (arith, short)))
 
 pub numbered_fits : (key id name : List ℕ) (controlling : Bool) (tie prio : ℕ) (nominates : Bool) (number : Option ℕ) → length name ≤ WRITTEN_USERNAME_LIMIT
     → FitsInto key LONGEST_NUMBERED_CHECK (with_nomination number (binding_request name id controlling tie prio nominates))
