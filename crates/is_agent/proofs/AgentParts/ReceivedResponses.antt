@@ -42,6 +42,17 @@ role-expired old new path m number p present keeps found kept w is becomes =
       dropped true h = (refl, h)
       dropped false h = (refl, h)
 
+-- whether the role is switched, by both conditions
+pub role-switches : {A : Type 0} (old new next : A) (present keeps : Bool) → present ≡ true → keeps ≡ false → new ≡ next → MatchBool (present && not keeps) (new ≡ next) (new ≡ old)
+role-switches old new next present keeps p k is = rw (p, k) is
+
+pub role-kept : {A : Type 0} (old next : A) (present keeps : Bool) → keeps ≡ true → MatchBool (present && not keeps) (old ≡ next) (old ≡ old)
+role-kept old next true keeps k = rw k refl
+role-kept old next false keeps k = refl
+
+pub role-stays : {A : Type 0} (old next : A) (present keeps : Bool) → present ≡ false → MatchBool (present && not keeps) (old ≡ next) (old ≡ old)
+role-stays old next present keeps p = rw p refl
+
 same-pair : (number : ℕ) (ps : List PairRecord) (p q : PairRecord) → pair_numbered number ps ≡ Some p → pair_numbered number ps ≡ Some q → q ≡ p
 same-pair number ps p q one other = ap (λ o. unwrap_or o p) (sym other ∙ one)
 
