@@ -1,6 +1,6 @@
 -- Serving a Binding request (RFC 8445, section 7.3). There is one definition for each rule, in the order in which they act; each
 -- ends in the next one. `s` is the state before the rule. `emitted` and `new` are what serving emits, and the state after it.
-use Rattle.std.specs.Prelude.{◌≡◌, ℕ, ◌==◌, ◌&&◌, Bool, true, false, not, List, [], ◌∷◌, ◌++◌, length, slice_set, bytes_eq, max, unwrap_or, Option, Some, None}
+use Rattle.std.specs.Prelude.{◌≡◌, ℕ, ◌==◌, ◌&&◌, ◌||◌, Bool, true, false, not, List, [], ◌∷◌, ◌++◌, length, slice_set, bytes_eq, max, unwrap_or, Option, Some, None}
 use Rattle.std.specs.Prelude.{is_some, MatchBool, MatchOption, if◌then◌else◌}
 use Rattle.std.specs.Option.{option_map_or}
 use Rattle.is_proto.specs.Times.{MAX, counted}

@@ -33,7 +33,7 @@ use Rattle.is_rules.specs.Discarding.{local_discarded, remote_discarded}
 use Rattle.is_rules.specs.Local.{AddsLocal, appended, enabled_again}
 use Rattle.is_rules.specs.Remote.{AddsRemote, as_remote, with_remote}
 use Rattle.is_rules.specs.Restarting.{Restarts, Recreates, restarted, emptied}
-use Rattle.is_rules.specs.Serving.{Serves}
+use Rattle.is_rules.specs.Serving.{Drops, Serves}
 use Rattle.is_rules.specs.Queue.{queue_left, next_request, first_taken, request_at, queued, is_outdated}
 use Rattle.is_rules.specs.Answers.{TakesFailure, LeavesRole, is_role_conflict}
 use Rattle.is_rules.specs.Accepting.{Takes, discovered_emitted}
