@@ -1,4 +1,4 @@
-use Rattle.std.proofs.Common.{refl, ap, ◌∙◌}
+use Rattle.std.proofs.Common.{refl, ◌∙◌}
 use Rattle.is_pair.specs.Checklists.{multiset_of}
 use Rattle.is_pair.specs.Pairs.{renominated}
 use Rattle.is_rules.proofs.PairLists.PairsInLists.{changed-has, placed-changed}

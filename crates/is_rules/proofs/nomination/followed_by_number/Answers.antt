@@ -1,5 +1,5 @@
-use Rattle.std.proofs.Common.{◌≡◌, List, None, Option, ap, subst, sym, ◌∙◌}
-use Rattle.std.proofs.lemmas.Map.Iter.{rest_all, rest_more}
+use Rattle.std.proofs.Common.{◌≡◌, List, None, Option, ap, sym, ◌∙◌}
+use Rattle.std.proofs.lemmas.Map.Iter.{rest_more}
 use Rattle.std.specs.Option.{option_copied}
 use Rattle.std.specs.Map.Iter.{deref}
 use Rattle.is_pair.specs.Pairs.{PairRecord}
