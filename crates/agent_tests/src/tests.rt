@@ -5,6 +5,7 @@ mod calls;
 mod candidates;
 mod consent;
 mod credentials;
+mod discovered;
 mod driver;
 mod limits;
 mod making;

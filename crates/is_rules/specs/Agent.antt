@@ -74,6 +74,7 @@ original_rules = record {
   consent = None;
   selected_first = false;
   timeout_after_requests = false;
+  discovered_if_served = false;
 }
 
 -- what connects fastest, and ends consent in time: within the 30 s of RFC 7675, section 5.1
@@ -86,6 +87,7 @@ modern_rules = record {
   consent = Some (record { timeout = record { 0 = 29600 * MILLISECOND }; strict = false });
   selected_first = true;
   timeout_after_requests = true;
+  discovered_if_served = true;
 }
 
 abbrev pub no_stats : IceAgentStats

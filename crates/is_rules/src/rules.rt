@@ -36,6 +36,8 @@ pub struct Rules {
     pub selected_first: bool,
     /// `poll_timeout` returns a time after each successful `handle_timeout` call, also after one that serves an early request.
     pub timeout_after_requests: bool,
+    /// `DiscoveredRecv` is not emitted for a request that is dropped: one that gets no response, although the peer is known.
+    pub discovered_if_served: bool,
 }
 
 /// How often, and how far apart.
@@ -63,10 +65,12 @@ impl Rules {
             consent: None,
             selected_first: false,
             timeout_after_requests: false,
+            discovered_if_served: false,
         }
     }
 
-    /// All rules: agents connect sooner, consent ends in time, and `poll_timeout` returns a time after each successful `handle_timeout`.
+    /// All rules: agents connect sooner, consent ends in time, `poll_timeout` returns a time after each successful `handle_timeout`, and a
+    /// request that is dropped reports no source.
     pub fn modern() -> Rules
         ensures { result ≡ modern_rules }
     {
@@ -78,6 +82,7 @@ impl Rules {
             consent: Some(MODERN_CONSENT),
             selected_first: true,
             timeout_after_requests: true,
+            discovered_if_served: true,
         }
     }
 }

@@ -28,6 +28,7 @@ pub(super) const ORIGINAL: Rules = Rules {
     consent: None,
     selected_first: false,
     timeout_after_requests: false,
+    discovered_if_served: false,
 };
 
 /// What connects fastest, keeps consent, and has a next timeout after each call.
@@ -45,6 +46,7 @@ pub(super) const MODERN: Rules = Rules {
     }),
     selected_first: true,
     timeout_after_requests: true,
+    discovered_if_served: true,
 };
 
 const STORIES: [Story; 5] = [

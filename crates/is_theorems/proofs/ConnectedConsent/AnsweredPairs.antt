@@ -280,7 +280,7 @@ module _ {H P : Type 0} where
     handled : (now : ℕ) (old new : AgentRecord H P) (via : Path) (m : Message) (r : Result Bool IceError) (emitted : Emitted) → HandlesPacket mac now old via m r emitted new → Keeps old new
     handled now old new via m (Ok false) emitted (rejected, is, made) f = made-firm old new made f
     handled now old new via m (Ok true) emitted (accepted, (mid, takes_it, made)) f =
-        made-firm (discovered_emitted via mid) new made (by-class m.class now old mid via m emitted takes_it f)
+        made-firm (discovered_emitted m.class emitted via mid) new made (by-class m.class now old mid via m emitted takes_it f)
     handled now old new via m (Err error) emitted (may, is, made) f = made-firm old new made f
 
     pub received-firm : (answers : P → CandidateRecord → ℕ → ℕ → Type 0) (now : ℕ) (old new : AgentRecord H P) (via : Path) (bytes : List ℕ) (e : Entry)

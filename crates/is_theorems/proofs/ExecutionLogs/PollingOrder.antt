@@ -234,13 +234,13 @@ module _ {H P : Type 0} where
     by true = inl refl
     by false = inr refl
 
-  source_grows : (via : Path) (a : AgentRecord H P) → Grows a (discovered_emitted via a)
-  source_grows via a = one_more (is_passed_over via a) a.events _
+  source_grows : (c : Class) (emitted : Emitted) (via : Path) (a : AgentRecord H P) → Grows a (discovered_emitted c emitted via a)
+  source_grows c emitted via a = one_more (is_passed_over c emitted via a) a.events _
 
   handles_grows : (mac : H → List ℕ → List ℕ → List ℕ) (now : ℕ) (old new : AgentRecord H P) (via : Path) (m : Message) (r : Result Bool IceError) (emitted : Emitted)
       → HandlesPacket mac now old via m r emitted new → Grows old new
   handles_grows mac now old new via m (Ok true) emitted (accepted, (mid, takes, made)) =
-      both old mid new (taken_grows mac m.class now old mid via m emitted takes) (grown mid (discovered_emitted via mid) new made (source_grows via mid))
+      both old mid new (taken_grows mac m.class now old mid via m emitted takes) (grown mid (discovered_emitted m.class emitted via mid) new made (source_grows m.class emitted via mid))
   handles_grows mac now old new via m (Ok false) emitted (unaccepted, is, made) = stays old new made
   handles_grows mac now old new via m (Err error) emitted (may, is, made) = stays old new made
 

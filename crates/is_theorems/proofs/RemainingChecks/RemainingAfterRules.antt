@@ -237,7 +237,7 @@ module _ {H P : Type 0} where
           → Receives mac answers now old via bytes e new → Spends 0 old new
       receives-spends answers now old new via bytes e (inl (fault, has_fault, is, made)) = spends-none old new made
       receives-spends answers now old new via bytes e (inr (message, reads, (Ok true, emitted, is, (accepted, (mid, takes_it, made))))) =
-          spends-to 0 old (discovered_emitted via mid) new (let k = by-class message.class now old mid via message emitted takes_it in (k.0, k.1, k.2)) made
+          spends-to 0 old (discovered_emitted message.class emitted via mid) new (let k = by-class message.class now old mid via message emitted takes_it in (k.0, k.1, k.2)) made
       receives-spends answers now old new via bytes e (inr (message, reads, (Ok false, emitted, is, (no_one, nothing, made)))) = spends-none old new made
       receives-spends answers now old new via bytes e (inr (message, reads, (Err error, emitted, is, (may, nothing, made)))) = spends-none old new made
 

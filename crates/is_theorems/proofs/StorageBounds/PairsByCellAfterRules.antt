@@ -310,7 +310,7 @@ module _ {H P : Type 0} where
     handled : (now : ℕ) (old new : AgentRecord H P) (via : Path) (m : Message) (r : Result Bool IceError) (emitted : Emitted) → ((q : PairRecord) → Has old.pairs q → q.local < length old.local) → HandlesPacket mac now old via m r emitted new → Fewer old new
     handled now old new via m (Ok false) emitted inside (rejected, is, made) = unchanged old new made
     handled now old new via m (Ok true) emitted inside (accepted, (mid, takes_it, made)) =
-        made-as old (discovered_emitted via mid) new made (by_class m.class now old mid via m emitted inside takes_it)
+        made-as old (discovered_emitted m.class emitted via mid) new made (by_class m.class now old mid via m emitted inside takes_it)
     handled now old new via m (Err error) emitted inside (may, is, made) = unchanged old new made
 
     pub received : (answers : P → CandidateRecord → ℕ → ℕ → Type 0) (now : ℕ) (old new : AgentRecord H P) (via : Path) (bytes : List ℕ) (e : Entry)

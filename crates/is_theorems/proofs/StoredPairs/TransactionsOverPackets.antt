@@ -316,7 +316,7 @@ module _ {H P : Type 0} where
     handled now old new via m (Ok false) emitted (rejected, is, made) = stays_same old new made
     handled now old new via m (Ok true) emitted (accepted, (mid, takes, made)) =
         stays_on old mid new (by_class m.class now old mid via m emitted takes)
-        (subst (λ (a : AgentRecord H P). Stays mid a) (sym made) (stays_by mid (discovered_emitted via mid) (inl refl) (inl refl) (same_pairs mid.pairs)))
+        (subst (λ (a : AgentRecord H P). Stays mid a) (sym made) (stays_by mid (discovered_emitted m.class emitted via mid) (inl refl) (inl refl) (same_pairs mid.pairs)))
     handled now old new via m (Err error) emitted (may, is, made) = stays_same old new made
 
     -- ---- polls
