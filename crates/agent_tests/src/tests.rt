@@ -24,6 +24,7 @@ mod rules;
 mod seen;
 mod sent;
 mod settings;
+mod settled;
 mod step;
 mod story;
 mod times;

@@ -24,6 +24,7 @@ pub mod restarting;
 pub mod roles;
 pub mod serving;
 mod settings;
+mod settling;
 pub mod states;
 pub mod timeout;
 mod timeout_start;

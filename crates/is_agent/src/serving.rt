@@ -250,7 +250,7 @@ impl<H: Sha1HmacProvider + Drop, P: LocalPreference> Agent<H, P> {
     }
 
     /// The pair records the request, nomination is evaluated if the pair is valid, and the response is sent. A controlled agent
-    /// evaluates it only if its rules say so.
+    /// evaluates it only if its rules say so. If a path is selected, the state is evaluated by the rule.
     fn record_and_respond(
         &mut self,
         request: &Request<'_>,
@@ -262,15 +262,17 @@ impl<H: Sha1HmacProvider + Drop, P: LocalPreference> Agent<H, P> {
         requires local { l < length self.old.local.items }
         requires remote { r < length self.old.remote.items }
         requires packets { HasPacketRoom self.old }
-        requires events { HasEventRoom 1 self.old }
+        requires events { HasEventRoom 2 self.old }
         requires reply { length reply.items ≡ LONGEST_REPLY }
         ensures served { RecordsAndResponds H.mac (request_view request.now) l r number (record_of self.old) result (record_of self.new) }
-        ensures news { UsesNews 1 self.old self.new }
+        ensures news { UsesNews 2 self.old self.new }
     {
         let path = self.path_between(l, r);
         let evaluates = self.evaluates_at(number);
+        let now = self.trigger(request).at;
         self.serve_pair(request, number);
         let selected_paths = self.nominate_where(evaluates);
+        self.settle_state(selected_paths.is_some(), now);
         self.reply(request, path, reply);
         let issued = Issued::new(path, Class::Success, request.id);
         Emitted::by(Some(issued), selected_paths, None)
@@ -314,11 +316,11 @@ impl<H: Sha1HmacProvider + Drop, P: LocalPreference> Agent<H, P> {
         requires remote { r < length self.old.remote.items }
         requires pairs { HasRoom 1 self.old.pairs }
         requires packets { HasPacketRoom self.old }
-        requires events { HasEventRoom 1 self.old }
+        requires events { HasEventRoom 2 self.old }
         requires reply { length reply.items ≡ LONGEST_REPLY }
         requires number { self.old.next_number < MAX }
         ensures served { AddsPairAndResponds H.mac (request_view request.now) l r (record_of self.old) result (record_of self.new) }
-        ensures news { UsesNews 1 self.old self.new }
+        ensures news { UsesNews 2 self.old self.new }
     {
         let number = self.next_number;
         self.add_pair(l, r);
@@ -339,11 +341,11 @@ impl<H: Sha1HmacProvider + Drop, P: LocalPreference> Agent<H, P> {
         requires remote { r < length self.old.remote.items }
         requires pairs { HasRoom 1 self.old.pairs }
         requires packets { HasPacketRoom self.old }
-        requires events { HasEventRoom 1 self.old }
+        requires events { HasEventRoom 2 self.old }
         requires reply { length reply.items ≡ LONGEST_REPLY }
         requires number { pair ≡ None → (candidate_at self.old.local.items l).discarded ≡ false → self.old.next_number < MAX }
         ensures served { FindsOrAddsPair H.mac (request_view request.now) l r pair (record_of self.old) result (record_of self.new) }
-        ensures news { UsesNews 1 self.old self.new }
+        ensures news { UsesNews 2 self.old self.new }
     {
         match pair {
             Some(number) => self.record_and_respond(request, l, r, number, reply),
@@ -368,7 +370,7 @@ impl<H: Sha1HmacProvider + Drop, P: LocalPreference> Agent<H, P> {
         requires { IsReady (needs_pair_at at.remote at.pair (candidate_at self.old.local.items at.local).discarded) self.old
             (request_view request.now) at supplies }
         ensures served { AddsUnknownSender H.mac (request_view request.now) at.local at.remote (record_of self.old) result (record_of self.new) }
-        ensures news { UsesNews 1 self.old self.new }
+        ensures news { UsesNews 2 self.old self.new }
     {
         let Supplies { reply, sender } = supplies;
         match (at.remote, sender) {
@@ -394,7 +396,7 @@ impl<H: Sha1HmacProvider + Drop, P: LocalPreference> Agent<H, P> {
         requires { IsReady (not (is_misled self.old.controlling (request_view request.now)) && needs_pair_at at.remote at.pair
             (candidate_at self.old.local.items at.local).discarded) self.old (request_view request.now) at supplies }
         ensures served { CountsAndServes H.mac (request_view request.now) at.local (record_of self.old) result (record_of self.new) }
-        ensures news { UsesNews 1 self.old self.new }
+        ensures news { UsesNews 2 self.old self.new }
     {
         if is_misled(self.controlling, request) {
             return Emitted::nothing();
@@ -428,7 +430,7 @@ impl<H: Sha1HmacProvider + Drop, P: LocalPreference> Agent<H, P> {
         requires { IsReady (not (is_misled (not self.old.controlling) (request_view request.now)) && needs_pair_at at.remote at.pair
             (candidate_at self.old.local.items at.local).discarded) self.old (request_view request.now) at supplies }
         ensures served { CountsAndServes H.mac (request_view request.now) at.local (switched (record_of self.old)) result (record_of self.new) }
-        ensures news { UsesNews 1 self.old self.new }
+        ensures news { UsesNews 2 self.old self.new }
     {
         self.switch_role();
         self.count_and_serve(request, at, supplies)
@@ -443,7 +445,7 @@ impl<H: Sha1HmacProvider + Drop, P: LocalPreference> Agent<H, P> {
     ) -> Emitted
         requires { IsReady (needs_pair (record_of self.old) (request_view request.now) at) self.old (request_view request.now) at supplies }
         ensures served { ResolvesRoleConflict H.mac (request_view request.now) at.local (record_of self.old) result (record_of self.new) }
-        ensures news { UsesNews 1 self.old self.new }
+        ensures news { UsesNews 2 self.old self.new }
     {
         match self.conflict(request) {
             Conflict::Absent => self.count_and_serve(request, at, supplies),
@@ -465,7 +467,7 @@ impl<H: Sha1HmacProvider + Drop, P: LocalPreference> Agent<H, P> {
             self.take_source_room()?;
             return Ok(Emitted::nothing());
         };
-        self.take_serving_room(2)?;
+        self.take_serving_room(3)?;
         Ok(self.resolve_role_conflict(request, at, supplies))
     }
 }

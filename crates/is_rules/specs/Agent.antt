@@ -75,6 +75,7 @@ original_rules = record {
   selected_first = false;
   timeout_after_requests = false;
   discovered_if_served = false;
+  state_after_nomination = false;
 }
 
 -- what connects fastest, and ends consent in time: within the 30 s of RFC 7675, section 5.1
@@ -88,6 +89,7 @@ modern_rules = record {
   selected_first = true;
   timeout_after_requests = true;
   discovered_if_served = true;
+  state_after_nomination = true;
 }
 
 abbrev pub no_stats : IceAgentStats

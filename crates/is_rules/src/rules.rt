@@ -38,6 +38,9 @@ pub struct Rules {
     pub timeout_after_requests: bool,
     /// `DiscoveredRecv` is not emitted for a request that is dropped: one that gets no response, although the peer is known.
     pub discovered_if_served: bool,
+    /// The state is evaluated after nomination in each call, and not before it. So the agent is Connected or Completed if and only if the
+    /// path of the last `NominatedSend` is that of a pair that can be used.
+    pub state_after_nomination: bool,
 }
 
 /// How often, and how far apart.
@@ -66,11 +69,12 @@ impl Rules {
             selected_first: false,
             timeout_after_requests: false,
             discovered_if_served: false,
+            state_after_nomination: false,
         }
     }
 
-    /// All rules: agents connect sooner, consent ends in time, `poll_timeout` returns a time after each successful `handle_timeout`, and a
-    /// request that is dropped reports no source.
+    /// All rules: agents connect sooner, consent ends in time, `poll_timeout` returns a time after each successful `handle_timeout`, a
+    /// request that is dropped reports no source, and the state says whether a path is selected.
     pub fn modern() -> Rules
         ensures { result ≡ modern_rules }
     {
@@ -83,6 +87,7 @@ impl Rules {
             selected_first: true,
             timeout_after_requests: true,
             discovered_if_served: true,
+            state_after_nomination: true,
         }
     }
 }

@@ -29,6 +29,7 @@ pub(super) const ORIGINAL: Rules = Rules {
     selected_first: false,
     timeout_after_requests: false,
     discovered_if_served: false,
+    state_after_nomination: false,
 };
 
 /// What connects fastest, keeps consent, and has a next timeout after each call.
@@ -47,6 +48,7 @@ pub(super) const MODERN: Rules = Rules {
     selected_first: true,
     timeout_after_requests: true,
     discovered_if_served: true,
+    state_after_nomination: true,
 };
 
 const STORIES: [Story; 5] = [
