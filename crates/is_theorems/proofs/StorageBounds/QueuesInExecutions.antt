@@ -84,7 +84,7 @@ module _ {H P : Type 0} where
     -- ---- packets
 
     class_adds : (c : Class) (now : ℕ) (old mid : AgentRecord H P) (via : Path) (m : Message) (emitted : Emitted) → Takes mac c now old via m emitted mid → Adds 1 2 old mid
-    class_adds class.Request now old mid via m emitted h = most 1 1 1 2 old mid (omega arith) (omega arith) (requested_adds mac (request_in now via m) old.remote_creds old mid emitted h)
+    class_adds class.Request now old mid via m emitted h = most 1 2 1 2 old mid (omega arith) (omega arith) (requested_adds mac (request_in now via m) old.remote_creds old mid emitted h)
     class_adds class.Success now old mid via m emitted h = most 0 2 1 2 old mid (omega arith) (omega arith) (success_adds now old mid via m emitted h)
     class_adds class.Failure now old mid via m emitted h = most 0 0 1 2 old mid (omega arith) (omega arith) (failure_adds old mid via m emitted h)
     class_adds class.Indication now old mid via m emitted h = absurd h
@@ -235,8 +235,8 @@ module _ {H P : Type 0} where
             by : (q : Option RequestRecord) → MatchOption q (MaintainsPairs mac now (timeout_begun now old) s emitted new t) (λ q. Serves mac q (first_taken (at_request now (timeout_begun now old))) emitted new × (t ≡ s)) → Adds 1 5 old new
             by None k = more 0 2 1 3 old (timeout_begun now old) new (begun_adds now old) (maintains_adds mac now (timeout_begun now old) new s t emitted k)
             by (Some q) (k, drawn) =
-                most 1 3 1 5 old new (omega arith) (omega arith)
-                (more 0 2 1 1 old (timeout_begun now old) new (begun_adds now old) (serves_adds mac q (first_taken (at_request now (timeout_begun now old))) new emitted k))
+                most 1 4 1 5 old new (omega arith) (omega arith)
+                (more 0 2 1 2 old (timeout_begun now old) new (begun_adds now old) (serves_adds mac q (first_taken (at_request now (timeout_begun now old))) new emitted k))
 
       polls_packet : (given : Option Packet) → e ≡ quiet (Polled given) → IsPolled old.packets given new.packets → new ≡ record old { packets = new.packets } → Moves PollTransmit
       polls_packet None is polled made =
