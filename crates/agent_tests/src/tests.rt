@@ -15,6 +15,7 @@ mod pairs;
 mod polled;
 mod progress;
 mod queue;
+mod removed;
 mod renomination;
 mod requests;
 mod responses;

@@ -207,12 +207,23 @@ impl<H: Sha1HmacProvider + Drop, P: LocalPreference> Agent<H, P> {
         }
     }
 
-    /// An error response with code 487 may switch the role. Any other one does nothing.
+    /// The pair with this number got this error response.
+    fn note_error(&mut self, number: u64, message: &StunMessage<'_>)
+        ensures record { record_of self.new ≡ record_of self.old }
+        ensures news { UsesNews 0 self.old self.new }
+    {
+        if let Some((code, _)) = message.error_code() {
+            self.pairs.note_error(number, code);
+        }
+    }
+
+    /// An error response with code 487 may switch the role. Any other one only leaves its code at the pair.
     pub(crate) fn take_failure(&mut self, number: u64, path: &Path, message: &StunMessage<'_>)
         requires kept { KeepsCheckOn (record_of self.old) path.now (message_view message.now).id number }
         ensures taken { TakesFailure (record_of self.old) path.now (message_view message.now) nothing_emitted (record_of self.new) }
         ensures news { UsesNews 0 self.old self.new }
     {
+        self.note_error(number, message);
         if is_role_conflict(message) {
             self.leave_role(number, path, message);
         }

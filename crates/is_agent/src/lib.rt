@@ -20,6 +20,7 @@ mod polls;
 pub mod questions;
 mod queue;
 pub mod remote;
+pub mod removed;
 pub mod restarting;
 pub mod roles;
 pub mod serving;

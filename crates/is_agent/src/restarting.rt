@@ -64,6 +64,7 @@ impl<H: Sha1HmacProvider + Drop, P: LocalPreference> Agent<H, P> {
         self.local = local;
         self.remote.clear();
         self.pairs.clear();
+        self.pairs.forget_all_removed();
         self.packets.clear();
         self.discovered_sources.clear();
         self.stats = IceAgentStats::default();

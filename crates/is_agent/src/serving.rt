@@ -384,6 +384,7 @@ impl<H: Sha1HmacProvider + Drop, P: LocalPreference> Agent<H, P> {
             }
             (RemotePlace::Vacant(r), Some(sender)) => {
                 self.remote[r] = sender;
+                self.pairs.forget_removed(r);
                 self.find_or_add_pair(request, at.local, r, at.pair, reply)
             }
             _ => Emitted::nothing(),

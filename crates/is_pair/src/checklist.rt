@@ -16,6 +16,7 @@ mod pair_change;
 mod pair_test;
 mod ranks;
 mod reading;
+mod removed;
 mod rule;
 
 use crate::pair::{BindingAttempt, CandidatePair};
@@ -25,6 +26,7 @@ use indexmap::IndexMap;
 pub use mapped::goes_before;
 pub use pair_change::PairChange;
 pub use pair_test::PairTest;
+pub use removed::{PairRemoval, Removal, RemovedPair};
 pub use rule::PairPriority;
 use std::alloc::{AllocError, Global};
 use std::collections::VecDeque;
@@ -40,6 +42,8 @@ pub struct Checklist {
     ranks: Vec<Rank>,
     /// Receives the checks of a pair whose queue is full.
     spare: VecDeque<BindingAttempt>,
+    /// The pairs that were removed last, the oldest first.
+    removed: VecDeque<RemovedPair>,
     ghost keyed: { are_keyed pairs.entries ≡ true },
     ghost rising: { rises (pairs_of pairs.entries) ≡ true },
     ghost by_id: { ids_rise index.items ≡ true },
@@ -63,6 +67,7 @@ impl Checklist {
             index: Vec::new(alloc),
             ranks: Vec::new(alloc),
             spare: VecDeque::new(alloc),
+            removed: VecDeque::new(alloc),
         }
     }
 
@@ -126,24 +131,26 @@ impl Checklist {
     }
 
     /// Removes the pairs that pass the test.
-    pub fn remove_where<T: PairTest>(&mut self, test: &T)
+    pub fn remove_where<T: PairRemoval>(&mut self, test: &T)
         ensures left { multiset_of self.new ≡ without (T.passes test.now) (multiset_of self.old) }
         ensures room { (n : ℕ) → HasRoom n self.old → HasRoom n self.new }
         ensures check_room { HasCheckRoom self.old → HasCheckRoom self.new }
         ensures below { (n : ℕ) → are_below n (multiset_of self.old) ≡ true → are_below n (multiset_of self.new) ≡ true }
     {
+        removed::keep_passing(&mut self.removed, &self.pairs, test);
         mapped::drop_passing(&mut self.pairs, test);
         index::keep_known(&mut self.index, &self.pairs);
         ranks::keep_known(&mut self.ranks, &self.pairs);
     }
 
-    /// Removes the pair with the number, if there is one.
-    pub fn remove(&mut self, number: u64)
+    /// Removes the pair with the number, if there is one, for this reason.
+    pub fn remove(&mut self, number: u64, why: Removal)
         ensures left { multiset_of self.new ≡ without (is_numbered number) (multiset_of self.old) }
         ensures room { (n : ℕ) → HasRoom n self.old → HasRoom n self.new }
         ensures check_room { HasCheckRoom self.old → HasCheckRoom self.new }
         ensures below { (n : ℕ) → are_below n (multiset_of self.old) ≡ true → are_below n (multiset_of self.new) ≡ true }
     {
+        removed::keep_numbered(&mut self.removed, &self.pairs, number, why);
         mapped::take_out(&mut self.pairs, number);
         index::drop_number(&mut self.index, number);
         ranks::drop_number(&mut self.ranks, number);

@@ -16,7 +16,7 @@ ghost use Rattle.is_rules.specs.Cuts.{KindsStay};
 use crate::kinds::kind_of;
 use crate::sides::Sides;
 use is_candidate::Candidate;
-use is_pair::checklist::Checklist;
+use is_pair::checklist::{Checklist, Removal};
 use is_pair::pair::CandidatePair;
 
 /// How many pairs each kind has.
@@ -107,7 +107,7 @@ fn evict_of_most(pairs: &mut Checklist, limit: usize, local: &[Candidate], remot
             None => return,
             Some(least) => {
                 let number = least.id().0;
-                pairs.remove(number);
+                pairs.remove(number, Removal::Evicted);
             }
         }
     }
