@@ -16,7 +16,8 @@ use is::Rules;
 #[test]
 fn the_state_follows_nomination(rt: HostRuntime) -> Result<(), Fail> {
     play(rt.alloc(), &TIMEOUTS)?;
-    play(rt.alloc(), &REQUESTS)
+    play(rt.alloc(), &REQUESTS)?;
+    play(rt.alloc(), &CANDIDATES)
 }
 
 const THERE: At = At(2, 2000);
@@ -148,6 +149,108 @@ const REQUESTS: [Story; 6] = [
             Shows(State(IceConnectionState::Checking)),
             Does(Timeout(50)),
             Emits(Events("NC")),
+        ],
+    ),
+];
+
+// ---- candidates are added or invalidated
+
+/// The path to 10.0.0.2:2000 is selected, and the one to 10.0.0.3:2000 is valid too.
+const BOTH: [Step; 8] = [
+    Does(Peer(PEER)),
+    Does(Peer(OTHER)),
+    Does(CheckTo(0, THERE, false)),
+    Takes(Answer(10, THERE)),
+    Does(CheckTo(50, SECOND, false)),
+    Takes(Answer(60, SECOND)),
+    Emits(Events("RcNkDD")),
+    Shows(State(IceConnectionState::Connected)),
+];
+
+const CANDIDATES: [Story; 12] = [
+    Story(
+        "without_the_rule",
+        &[Begin(Unpaired), Set(Setting::Rules(ORIGINAL))],
+    ),
+    Story("two_paths_are_valid", &BOTH),
+    Story(
+        "an_invalidated_path_stays_selected",
+        &[
+            Does(Invalidate(PEER)),
+            Emits(Events("")),
+            Shows(State(IceConnectionState::Connected)),
+        ],
+    ),
+    Story(
+        "by_the_rule",
+        &[Begin(Unpaired), Set(Setting::Rules(AFTER))],
+    ),
+    Story("two_paths_are_valid_again", &BOTH),
+    Story(
+        "the_other_path_is_selected_when_one_is_invalidated",
+        &[
+            Does(Invalidate(PEER)),
+            Emits(Selects(At(1, 1000), SECOND)),
+            Emits(Events("C")),
+            // another candidate of no pair changes nothing
+            Fails(Invalidate(PEER)),
+            Emits(Nothing),
+            // without any path the agent is Disconnected
+            Does(Invalidate(OTHER)),
+            Emits(Events("x")),
+            Shows(State(IceConnectionState::Disconnected)),
+        ],
+    ),
+    Story(
+        "by_the_rule_a_better_candidate",
+        &[Begin(Paired), Set(Setting::Rules(AFTER))],
+    ),
+    Story(
+        "of_the_same_address_loses_the_path",
+        &[
+            Does(Check(0)),
+            Takes(Answer(10, THERE)),
+            Emits(Events("RcNCD")),
+            Does(Own("candidate:1 1 udp 2130706431 10.0.0.1 1000 typ host")),
+            Emits(Events("c")),
+            Shows(State(IceConnectionState::Checking)),
+            Does(Check(50)),
+            Takes(Answer(60, THERE)),
+            Emits(Events("NC")),
+        ],
+    ),
+    Story(
+        "by_the_rule_at_the_limit_of_pairs",
+        &[
+            Begin(Unpaired),
+            Set(Setting::Rules(AFTER)),
+            Set(Setting::MaxPairs(1)),
+        ],
+    ),
+    Story(
+        "a_better_pair_loses_the_path",
+        &[
+            Does(Peer(OTHER)),
+            Does(Check(0)),
+            Takes(Answer(10, SECOND)),
+            Emits(Events("RcNCD")),
+            Does(Peer(PEER)),
+            Emits(Events("c")),
+            Does(CheckTo(50, THERE, false)),
+            Takes(Answer(60, THERE)),
+            Emits(Events("NCD")),
+        ],
+    ),
+    Story(
+        "by_the_rule_a_call",
+        &[Begin(Paired), Set(Setting::Rules(AFTER))],
+    ),
+    Story(
+        "before_the_first_timeout_changes_no_state",
+        &[
+            Does(Invalidate(PEER)),
+            Emits(Nothing),
+            Shows(State(IceConnectionState::New)),
         ],
     ),
 ];
