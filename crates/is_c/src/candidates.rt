@@ -2,11 +2,10 @@
 
 ghost use Rattle.std.specs.Prelude.{◌≡◌, None};
 ghost use Rattle.is_agent.specs.View.{record_of};
-ghost use Rattle.is_rules.specs.Discarding.{Invalidates};
 ghost use Rattle.is_c.specs.Adding.{addition_index, addition_code, has_room, PutsAddition, AddsGiven, AddsRead};
-ghost use Rattle.is_c.specs.Codes.{found_code};
+ghost use Rattle.is_c.specs.Codes.{flag_code};
 ghost use Rattle.is_c.specs.Held.{held_by, At};
-ghost use Rattle.is_c.specs.Given.{CallsGiven, CallsRead};
+ghost use Rattle.is_c.specs.Given.{CallsGiven, CallsRead, Discards};
 
 use crate::candidate::{LocalCandidate, line_candidate, local_candidate};
 use crate::codes;
@@ -146,13 +145,13 @@ pub extern "C" fn is_ice_invalidate_local(
     slot: &mut Slot,
     candidate: &LocalCandidate,
 ) -> i32
-    ensures { At (CallsGiven Invalidates found_code candidate.now) (held_by slot.old) result (held_by slot.new) }
+    ensures { At (CallsGiven Discards flag_code candidate.now) (held_by slot.old) result (held_by slot.new) }
 {
     let Some(home) = slot.home() else {
         return codes::NO_AGENT;
     };
     match local_candidate(alloc, candidate) {
-        Some(Ok(candidate)) => codes::found_code(home.agent.invalidate_candidate(&candidate)),
+        Some(Ok(candidate)) => codes::flag_code(home.agent.invalidate_candidate(&candidate)),
         Some(Err(error)) => codes::code_of(&error),
         None => codes::BAD_ADDRESS,
     }
@@ -161,13 +160,13 @@ pub extern "C" fn is_ice_invalidate_local(
 /// Discards a candidate that equals the one of the candidate attribute.
 #[unsafe(no_mangle)]
 pub extern "C" fn is_ice_invalidate(alloc: Global, slot: &mut Slot, line: &[u8]) -> i32
-    ensures { At (CallsRead Invalidates found_code line.now) (held_by slot.old) result (held_by slot.new) }
+    ensures { At (CallsRead Discards flag_code line.now) (held_by slot.old) result (held_by slot.new) }
 {
     let Some(home) = slot.home() else {
         return codes::NO_AGENT;
     };
     match line_candidate(alloc, line) {
-        Some(Ok(candidate)) => codes::found_code(home.agent.invalidate_candidate(&candidate)),
+        Some(Ok(candidate)) => codes::flag_code(home.agent.invalidate_candidate(&candidate)),
         Some(Err(error)) => codes::code_of(&error),
         None => codes::NOT_UTF8,
     }
