@@ -34,8 +34,7 @@
  * length to *length.
  *
  * Times and durations are whole nanoseconds. Times count from an origin that the caller chooses, as CLOCK_MONOTONIC
- * does. Start at 60 s or later: the agent gives a newly nominated pair a due time 60 s in the past, to check it before
- * the others, and no time is below 0.
+ * does, and may begin at 0.
  *
  * Memory comes from the program's malloc, realloc and free, through three functions that are linked with the library.
  * The comment of a call says if it does not allocate.
@@ -130,7 +129,8 @@ static inline const char *is_ice_code_text(int32_t code)
 }
 
 /* is_ice_version - returns the version of the library's interface. It equals IS_ICE_VERSION if this header belongs to
- * the library. It increases with each change of a name, an argument, a struct or a code. Does not allocate. */
+ * the library. It increases when a name, an argument, a struct or a code changes or goes. A call that is added leaves it,
+ * since programs that were built before still run. Does not allocate. */
 #define IS_ICE_VERSION 5
 uint32_t is_ice_version(void);
 
@@ -258,6 +258,13 @@ typedef struct is_ice_nominated_pair {
     bool has_rtt;
 } is_ice_nominated_pair;
 
+/* A path for media. */
+typedef struct is_ice_media_path {
+    is_ice_address source;      /* send media from here: the base of a local candidate, or a relayed address */
+    is_ice_address destination; /* to here: the address of a remote candidate */
+    uint8_t protocol;           /* and over this protocol */
+} is_ice_media_path;
+
 /* States of a pair's checks (RFC 8445, section 6.1.2.6). No pair is frozen, and one that fails is removed. */
 enum {
     IS_ICE_PAIR_WAITING = 0,     /* no check was sent */
@@ -278,7 +285,7 @@ typedef struct is_ice_pair {
     uint64_t total_rtt;     /* the sum of the round-trip times of its checks */
     uint64_t rtt;           /* the last round-trip time, if has_rtt */
     uint64_t last_request;  /* when the last check of the other agent on it arrived, if has_request */
-    uint64_t due;           /* when its next check is due, if has_due: once the session has started */
+    uint64_t due;           /* when its next check is due, if has_due: once the session has started; at least 0 */
     int32_t state;
     bool nominated;
     bool selected;          /* it is the pair of the last IS_ICE_NOMINATED_SEND */
@@ -668,13 +675,14 @@ IS_ICE_CALL int32_t is_ice_line_to_json(
     const uint8_t *line, size_t line_length, uint8_t *buffer, size_t size, size_t *length);
 
 /* is_ice_line_from_json - returns the text of the candidate in such JSON, for is_ice_add_remote. A usernameFragment that
- * is a string replaces that of the candidate, and has to be one word, as in is_ice_line_with_ufrag. Other members are
- * not read: with several media sections, compare sdpMid or sdpMLineIndex yourself. The end of candidates, which has an
- * empty `candidate`, is IS_ICE_BAD_CANDIDATE.
+ * is a string replaces that of the candidate, and has to be one word, as in is_ice_line_with_ufrag. The values of other
+ * members are not used: with several media sections, compare sdpMid or sdpMLineIndex yourself. The end of candidates,
+ * which has an empty `candidate`, is IS_ICE_BAD_CANDIDATE.
  *
  * IS_ICE_OK. IS_ICE_NOT_UTF8. IS_ICE_BAD_CANDIDATE: not JSON, no object, without a candidate, with one that is not one,
- * a username fragment that is not one word, or more than 8 opening brackets, '[' and '{', also within strings
- * (is_ice_json_refusal says which). IS_ICE_BUFFER_TOO_SHORT. IS_ICE_OUT_OF_MEMORY. */
+ * or a usernameFragment that is neither null nor one word. So is a number that is not a whole one of 64 bits, and more
+ * than 8 opening brackets, '[' and '{', wherever they are (is_ice_json_refusal says which). IS_ICE_BUFFER_TOO_SHORT.
+ * IS_ICE_OUT_OF_MEMORY. */
 IS_ICE_CALL int32_t is_ice_line_from_json(
     const uint8_t *json, size_t json_length, uint8_t *buffer, size_t size, size_t *length);
 
@@ -795,6 +803,12 @@ IS_ICE_CALL int32_t is_ice_stats(is_ice_agent *agent, is_ice_agent_stats *stats)
  *
  * IS_ICE_OK. IS_ICE_NOTHING: no pair was selected, or it was removed; *nominated is unchanged. */
 IS_ICE_CALL int32_t is_ice_nominated(is_ice_agent *agent, is_ice_nominated_pair *nominated);
+
+/* is_ice_valid_path - returns the path of a valid pair: of one of the greatest priority. Media may go there before a path
+ * is selected (RFC 8445, section 12.1). It may change with each response. Once a path is selected, send media there.
+ *
+ * IS_ICE_OK. IS_ICE_NOTHING: no pair is valid; *path is unchanged. */
+IS_ICE_CALL int32_t is_ice_valid_path(is_ice_agent *agent, is_ice_media_path *path);
 
 /* is_ice_pair_count - returns the number of candidate pairs. IS_ICE_OK. */
 IS_ICE_CALL int32_t is_ice_pair_count(is_ice_agent *agent, size_t *count);
@@ -1018,6 +1032,7 @@ IS_ICE_SIZE(is_ice_event, 68);
 IS_ICE_SIZE(is_ice_agent_status, 40);
 IS_ICE_SIZE(is_ice_agent_stats, 40);
 IS_ICE_SIZE(is_ice_nominated_pair, 88);
+IS_ICE_SIZE(is_ice_media_path, 60);
 IS_ICE_SIZE(is_ice_pair, 96);
 IS_ICE_SIZE(is_ice_kind_preferences, 8);
 IS_ICE_SIZE(is_ice_preference_table, 16);

@@ -46,13 +46,14 @@ using rules = is_ice_agent_rules;
 using status = is_ice_agent_status;
 using counters = is_ice_agent_stats;
 using nominated_pair = is_ice_nominated_pair;
+using media_path = is_ice_media_path;
 using preference_table = is_ice_preference_table;
 using stun_transaction = is_ice_stun_transaction;
 using stun_result = is_ice_stun_result;
 using stun_message = is_ice_stun_message;
 using stun_texts = is_ice_stun_texts;
 
-/* Since an origin that the caller chooses, at least 60 s before the start; or a duration. */
+/* Since an origin that the caller chooses; or a duration. */
 using nanoseconds = std::chrono::nanoseconds;
 using timeout_random = std::array<uint8_t, IS_ICE_TIMEOUT_RANDOM>;
 using credentials_random = std::array<uint8_t, IS_ICE_CREDENTIALS_RANDOM>;
@@ -468,6 +469,7 @@ public:
     is_ice::rules rules() const { return *filled<is_ice::rules>(is_ice_rules); }
     counters stats() const { return *filled<counters>(is_ice_stats); }
     std::optional<nominated_pair> nominated() const { return filled<nominated_pair>(is_ice_nominated); }
+    std::optional<media_path> valid_path() const { return filled<media_path>(is_ice_valid_path); }
     size_t pair_count() const { return *filled<size_t>(is_ice_pair_count); }
     std::optional<pair> pair_at(size_t index) const
     {

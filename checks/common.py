@@ -1,9 +1,17 @@
-"""What the scripts of this folder share: the crates that a crate uses, copies of them with what checks stored, and messages."""
+"""What the scripts of this folder share: their help, the crates that a crate uses, copies of them with what checks stored, and messages."""
 import pathlib
 import re
 import shutil
+import sys
 
 top = pathlib.Path(__file__).resolve().parent.parent
+
+
+def help_if_asked(text):
+    """Prints the description of a script and ends it, if the user asked for help."""
+    if {"-h", "--help"} & set(sys.argv[1:]):
+        print(text)
+        sys.exit()
 
 
 def closure(crate):

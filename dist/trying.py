@@ -13,6 +13,7 @@ import zipfile
 
 from building import CC, Failed, run
 from debian import MULTIARCH
+from progress import shown
 
 top = pathlib.Path(__file__).resolve().parent.parent
 CXX = os.environ.get("CXX", "c++")
@@ -175,7 +176,9 @@ def step_rust(place, out):
     shutil.copy(top / "rust" / "examples" / "two.rs", package / "src" / "main.rs")
     begun = time.monotonic()
     found_paths(run("cargo", "run", "--quiet", "--offline", "--jobs", "1", cwd=package, env=env))
-    return f"cargo run: {time.monotonic() - begun:.1f} s"
+    took = time.monotonic() - begun
+    run("cargo", "test", "--quiet", "--offline", "--jobs", "1", "--tests", cwd=crate / "drop_in", env=env)
+    return f"cargo run: {took:.1f} s; the tests of drop_in passed"
 
 
 def debs(out):
@@ -218,17 +221,18 @@ def step_lintian(_, out):
     return "no error and no warning"
 
 
-STEPS = ("sums", "tarball", "cmake", "wheel", "rust", "deb", "dpkg", "lintian")
+STEPS = {"sums": step_sums, "tarball": step_tarball, "cmake": step_cmake, "wheel": step_wheel, "rust": step_rust, "deb": step_deb,
+         "dpkg": step_dpkg, "lintian": step_lintian}
 
 
-def taken(name, out):
+def taken(name, step, out):
     """Runs a step in an empty folder and prints its result. Returns 'passed', 'skipped' or 'failed'."""
     begun = time.monotonic()
     if sys.stdout.isatty():
         print(f"{name} ..", end="\r", flush=True)
     try:
-        with tempfile.TemporaryDirectory() as folder:
-            said = globals()[f"step_{name}"](pathlib.Path(folder).resolve(), out)
+        with shown(name), tempfile.TemporaryDirectory() as folder:
+            said = step(pathlib.Path(folder).resolve(), out)
     except Skipped as why:
         print(f"{name}: skipped, {why}", flush=True)
         return "skipped"
@@ -239,8 +243,8 @@ def taken(name, out):
     return "passed"
 
 
-def all_of(names, out):
-    """Runs the steps and returns the status of the program."""
-    results = [taken(name, out) for name in names]
+def all_of(steps, out):
+    """Runs the steps, by their names, and returns the status of the program."""
+    results = [taken(name, step, out) for name, step in steps.items()]
     print(f"{results.count('passed')} passed, {results.count('skipped')} skipped, {results.count('failed')} failed")
     return 1 if "failed" in results else 0

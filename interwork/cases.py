@@ -2,6 +2,7 @@
 from dataclasses import dataclass, replace
 
 import networks
+import servers
 
 ING, ED = "controlling", "controlled"
 ONE, ONE_IPV6 = ("-a", "127.0.0.1"), ("-a", "fd00::1")
@@ -19,6 +20,7 @@ class Case:
     words: tuple = ((), ())  # the options of both programs
     roles: tuple | None = None  # of both; None: they alternate
     restarts: str | None = None  # "a" or "b": who restarts
+    trickles: str | None = None  # "a" or "b": whose candidates are passed on one by one after its signal
     relay: tuple = (False, False)  # who uses the TURN server
     sessions: int = 4
     quick: int = 1  # sessions in a quick run; 0: left out
@@ -38,12 +40,17 @@ class Case:
 
     def relay_options(self):
         """The options for the TURN server, of both."""
-        server = ("-u", f"{networks.SERVER}:{networks.PORT}", "-U", networks.USER)
+        server = ("-u", f"{servers.ADDRESS}:{servers.PORT}", "-U", servers.USER)
         return [server if uses else () for uses in self.relay]
 
     def network_name(self):
         """The network for people."""
-        return {"loopback": "loopback", "wire": "lossy wire"}.get(self.network[0]) or f"{self.network[1]} - {self.network[2]}"
+        names = {"loopback": "loopback", "hosts": "two hosts", "wire": "lossy wire"}
+        return names.get(self.network[0]) or f"{self.network[1]} - {self.network[2]}"
+
+    def server(self):
+        """The STUN server of a network with NATs."""
+        return self.network[3] if len(self.network) > 3 else "coturn"
 
     def is_for_everybody(self):
         """Whether the case needs neither root nor namespaces."""
@@ -51,11 +58,13 @@ class Case:
 
 
 LOOPBACK = ("loopback",)
-LOSSY = ("wire", 0.3, 0.2, 0.1)
+HOSTS = ("hosts",)
+LOSSY, FAR = ("wire", 0.3, 0.2, 0.1), ("wire", 0.1, 0.0, 0.0, 0.1)
+SERVERS = ("rtpengine", "janus")
 
 
-def nat(a, b):
-    return ("nat", a, b)
+def nat(a, b, *server):
+    return ("nat", a, b, *server)
 
 
 # ---- loopback
@@ -116,6 +125,54 @@ def over_loopback():
         yield from restarts("peer", other)
 
 
+# ---- servers, over a cable: Janus takes no loopback address
+
+def on_hosts(*indices):
+    """The options for the addresses of both hosts: 0 is the IPv4 address, and 1 the IPv6 address."""
+    return [tuple(word for index in indices for word in ("-a", addresses[index])) for addresses in networks.HOST_ADDRESSES]
+
+
+IPV4, IPV6, BOTH = on_hosts(0), on_hosts(1), on_hosts(0, 1)
+ROLES = (("ours controls", (ING, ED)), ("theirs controls", (ED, ING)))
+
+
+def with_server(name, title, roles, addresses=IPV4, ours=(), theirs=(), by="peer", **more):
+    """A case with a server, with these options of both in addition to the addresses."""
+    a, b = addresses
+    return Case(HOSTS, (by, name), title, ((*a, *ours), (*b, *theirs)), roles, **more)
+
+
+def over_hosts(name):
+    """All cases of a server over a cable. It makes the offer if it begins as controlling."""
+    for who, roles in ROLES:
+        for title, addresses in (("IPv4", IPV4), ("IPv6", IPV6), ("both IP versions", BOTH)):
+            yield with_server(name, f"{title}, {who}", roles, addresses, quick=int(addresses is BOTH))
+        yield with_server(name, f"ours trickles, {who}", roles, BOTH, theirs=("-t",), trickles="a", quick=0)
+        if name == "janus":
+            yield with_server(name, f"theirs trickles, {who}", roles, BOTH, theirs=("-T",), quick=0)
+    for role in (ING, ED):
+        yield with_server(name, f"role conflict, both {role}", (role, role))
+    yield with_server(name, "ours restarts", (ING, ED), BOTH, restarts="a", quick=0)
+    yield with_server(name, "theirs restarts", (ED, ING), BOTH, restarts="b", quick=0)
+    yield from lite_with_server(name)
+
+
+def lite_with_server(name):
+    """Lite sessions. A server that answers begins as controlled, also with a lite peer, so nobody controls until a 487 arrives.
+
+    A lite agent of ours that gets a check of a controlled peer of greater tie-breaker takes the controlling role, as a full one would. It
+    sends no checks, so it nominates nothing. It should keep its role (RFC 8445, section 6.1.1: the full agent controls).
+    """
+    yield with_server(name, "ours is lite, theirs controls", (ED, ING), ours=("-L",), theirs=("-l",))
+    for word, number in (("greatest", GREATEST), ("least", "0")):
+        none = word == "least"
+        yield with_server(name, f"both begin controlled, ours lite, our tie-breaker {word}", (ED, ED), ours=("-L", "-t", number),
+                          theirs=("-l",), by="Connection", none=none, seconds=10 if none else 20,
+                          why="a fault of ours: a lite agent may become controlling" if none else "")
+    yield with_server(name, "theirs is lite, ours controls", (ING, ED), theirs=("-L",))
+    yield with_server(name, "both begin controlled, theirs lite", (ED, ED), ours=("-l",), theirs=("-L",), by="Connection")
+
+
 # ---- NATs
 
 KEEP_PORTS = ("none", "cone", "port")
@@ -143,6 +200,22 @@ def over_nats():
                 yield from with_relay((a, b))
 
 
+def over_servers():
+    """STUN servers with both of our clients. Between these NATs a session needs what the server says, on both sides."""
+    for server in servers.PACKAGES:
+        for ours in ("peer", "Connection"):
+            yield Case(nat("port", "port", server), (ours, ours), f"STUN by {server}", quick=int(server == "stund"))
+
+
+def over_browsers():
+    """Browsers, each side with its own NAT. Nobody there resolves the mDNS names, so the sessions must not wait for them."""
+    for name in ("chromium", "firefox"):
+        for who, roles in ROLES:
+            for ours in ("Connection", "peer"):
+                for title, words, quick in (("addresses", (), 0), ("mDNS names", ("-M",), int(ours == "Connection"))):
+                    yield Case(nat("port", "port"), (ours, name), f"{title}, {who}", ((), words), roles, quick=quick, seconds=60)
+
+
 def with_relay(kinds):
     """One side uses the TURN server, or both do."""
     quick = int(kinds in QUICK_NATS)
@@ -162,6 +235,9 @@ def over_the_wire():
     yield Case(LOSSY, ("peer", "aioice"), "30 % loss, reordering", sessions=10, quick=0, at_least=0.8, seconds=40,
                why="aioice gives up early")
     yield Case(LOSSY, ("Connection", "Connection"), "30 % loss, reordering", sessions=10, quick=0, at_least=0.9, seconds=40)
+    for other in ("peer", "pion", "libnice", *SERVERS):
+        for who, roles in ROLES:
+            yield Case(FAR, ("peer", other), f"10 % loss, 100 ms, {who}", roles=roles, sessions=10, quick=0, at_least=0.9, seconds=40)
 
 
 def foreign():
@@ -171,11 +247,19 @@ def foreign():
     yield Case(nat("port", "port"), ("pion", "aioice"), "STUN")
     yield Case(nat("symmetric", "symmetric"), ("pion", "libnice"), "TURN for both", relay=(True, True))
     yield Case(LOSSY, ("pion", "pion"), "30 % loss, reordering", sessions=10, quick=0, at_least=0.9, seconds=40)
+    for name in ("chromium", "firefox"):
+        yield Case(nat("port", "port"), ("aioice", name), "mDNS names, theirs controls", ((), ("-M",)), (ED, ING), seconds=60)
+    for name in SERVERS:
+        for who, roles in ROLES:
+            yield with_server(name, f"both IP versions, {who}", roles, BOTH, by="libnice")
+            yield Case(FAR, ("libnice", name), f"10 % loss, 100 ms, {who}", roles=roles, sessions=10, quick=0, at_least=0.9, seconds=40)
 
 
 def table(quick=False, is_foreign=False):
     """The cases in order, those of a network after each other."""
-    cases = list(foreign()) if is_foreign else [*over_loopback(), *over_nats(), *over_the_wire()]
+    ours = (*over_loopback(), *over_hosts("rtpengine"), *over_hosts("janus"), *over_nats(), *over_servers(), *over_browsers(),
+            *over_the_wire())
+    cases = list(foreign()) if is_foreign else list(ours)
     if quick:
         cases = [replace(case, sessions=case.quick) for case in cases if case.quick]
     order = list(dict.fromkeys(case.network for case in cases))

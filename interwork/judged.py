@@ -1,7 +1,9 @@
 """Rows that are as expected or not, and the last lines of a program that prints them."""
+import contextlib
 import ctypes
 import os
 import signal
+import time
 
 import namespaces
 
@@ -36,8 +38,17 @@ class Counts:
         return 1 if self.counts["not"] else 0
 
 
-def left_over():
-    """Processes and namespaces that this run started and that are still there."""
+def children():
+    """The processes that this run started, and their orphans."""
     with open(f"/proc/self/task/{os.getpid()}/children") as file:
-        processes = [f"process {pid}" for pid in file.read().split()]
-    return processes + [f"namespace {name}" for name in namespaces.left_over()]
+        return file.read().split()
+
+
+def left_over():
+    """Processes and namespaces that this run started and that are still there. Those that were killed get two seconds to end."""
+    end = time.monotonic() + 2
+    while children() and time.monotonic() < end:
+        with contextlib.suppress(ChildProcessError):
+            os.waitpid(-1, os.WNOHANG)
+        time.sleep(0.01)
+    return [f"process {pid}" for pid in children()] + [f"namespace {name}" for name in namespaces.left_over()]

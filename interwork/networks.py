@@ -1,19 +1,19 @@
-"""The networks: loopback, two hosts with NATs between them, and a lossy wire between two hosts.
+"""The networks: loopback, two hosts with a cable, with a lossy wire, or with NATs between them.
 
 A network has for each side a namespace, or None for the machine's own, and the options that its programs need there.
 """
-import shutil
+import os
 import subprocess
 import sys
 import tempfile
-import time
 from pathlib import Path
 
-from namespaces import Namespaces
+import servers
+from namespaces import Namespaces, run
 
 here = Path(__file__).resolve().parent
-SERVER, PORT, USER = "203.0.113.1", 3478, "user:password"
 LOOPBACK_ADDRESSES = ("10.9.0.1/32", "10.9.0.2/32", "10.9.0.3/32", "fd00::1/128", "fd00::2/128")
+HOST_ADDRESSES = (("10.7.0.1", "fd07::1"), ("10.7.0.2", "fd07::2"))
 KINDS = ("none", "cone", "port", "symmetric")
 
 
@@ -54,14 +54,25 @@ class Loopback(Network):
         self.namespaces, self.options = [namespace, namespace], [[], []]
 
 
+class Hosts(Network):
+    """Two hosts with a cable between them, and with an IPv4 and an IPv6 address each."""
+
+    def build(self):
+        self.namespaces, self.options = [self.spaces.add(), self.spaces.add()], [[], []]
+        (a, b), (own, other) = self.namespaces, HOST_ADDRESSES
+        self.spaces.cable(a, "e0", f"{own[0]}/24", b, "e0", f"{other[0]}/24")
+        for namespace, addresses in zip(self.namespaces, HOST_ADDRESSES):
+            self.spaces.address(namespace, f"{addresses[1]}/64", "e0")
+
+
 class Wire(Network):
     """Two hosts with a wire between them that loses, delays, reorders and duplicates packets: wire.py passes them on."""
 
     addresses = ("10.8.0.1", "10.8.0.2")
 
-    def __init__(self, loss, delay, duplicates):
+    def __init__(self, loss, delay, duplicates, least=0.0):
         super().__init__()
-        self.settings, self.process = (f"loss={loss}", f"delay={delay}", f"dup={duplicates}"), None
+        self.settings, self.process = (f"loss={loss}", f"delay={delay}", f"dup={duplicates}", f"least={least}"), None
 
     def build(self):
         self.namespaces = [self.spaces.add(), self.spaces.add()]
@@ -91,7 +102,7 @@ class Wire(Network):
 
 
 class Nats(Network):
-    """Two hosts, each with its own NAT to a public network that has a STUN and TURN server (coturn).
+    """Two hosts, each with its own NAT to a public network that has a STUN server, by default coturn, which is a TURN server too.
 
     none        the host has a public address
     cone        full cone: the source port is kept, and packets from anywhere to it are let in
@@ -101,19 +112,20 @@ class Nats(Network):
 
     same_path = False  # each side sees its own addresses, and the other's NAT
 
-    def __init__(self, *kinds):
+    def __init__(self, a, b, server="coturn"):
         super().__init__()
-        self.kinds, self.server = kinds, None
+        self.kinds, self.server_name, self.server = (a, b), server, None
 
     def build(self):
         self.public = self.spaces.add()
-        self.spaces.address(self.public, SERVER + "/32", "lo")
+        for address in (servers.ADDRESS, servers.SECOND_ADDRESS):
+            self.spaces.address(self.public, address + "/32", "lo")
         self.spaces.on(self.public, "sysctl -qw net.ipv4.ip_forward=1")
         self.add_sink()
         for index, kind in enumerate(self.kinds):
             namespace, address = self.add_host(index, kind)
             self.namespaces.append(namespace)
-            self.options.append(["-a", address, "-s", f"{SERVER}:{PORT}"])
+            self.options.append(["-a", address, "-s", f"{servers.ADDRESS}:{servers.PORT}"])
         self.start_server()
 
     def add_sink(self):
@@ -141,23 +153,19 @@ class Nats(Network):
         return host, own
 
     def start_server(self):
-        """Starts coturn, and waits until it listens."""
-        self.folder = folder = tempfile.mkdtemp(prefix="interwork")
-        options = f"-n -L {SERVER} -E {SERVER} --lt-cred-mech -u {USER} -r realm --no-tls --no-dtls --no-cli --log-file /dev/null" \
-                  f" --simple-log --pidfile {folder}/pid --db {folder}/db --allow-loopback-peers"
-        command = ["ip", "netns", "exec", self.public, "turnserver", *options.split()]
-        self.server = subprocess.Popen(command, stdout=subprocess.DEVNULL, stderr=subprocess.DEVNULL)
-        end = time.monotonic() + 10
-        while f":{PORT:04X} " not in self.spaces.on(self.public, "cat /proc/net/udp"):
-            if time.monotonic() > end or self.server.poll() is not None:
-                raise RuntimeError("coturn did not start")
-            time.sleep(0.1)
+        """Starts the STUN server in a process namespace, so that nothing outlives it, and waits until it responds."""
+        self.folder = tempfile.TemporaryDirectory(prefix="interwork")
+        command, environment = servers.command(self.server_name, Path(self.folder.name))
+        apart, quiet = ["unshare", "--pid", "--fork", "--kill-child"], subprocess.DEVNULL
+        self.server = subprocess.Popen(["ip", "netns", "exec", self.public, *apart, *command], stdin=quiet, stdout=quiet, stderr=quiet,
+                                       env={**os.environ, **environment})
+        run("ip", "netns", "exec", self.public, sys.executable, str(here / "servers.py"))
 
     def close(self):
         if self.server:
-            self.server.terminate()
+            self.server.kill()
             self.server.wait()
-            shutil.rmtree(self.folder, ignore_errors=True)
+            self.folder.cleanup()
         super().close()
 
 

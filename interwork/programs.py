@@ -9,6 +9,7 @@ import os
 import time
 
 CONNECTED = ("connected", "completed", "ready")
+TRICKLE = 0.05  # seconds from the signal to its first candidate, and from each candidate to the next one
 PIPE = asyncio.subprocess.PIPE
 
 
@@ -21,6 +22,7 @@ class Program:
         self.events, self.heard, self.paths = [], {}, []  # (time, line); text: time; the selected paths
         self.state, self.path, self.connected_at, self.signal_at = None, None, None, None
         self.other, self.tasks, self.changed = None, [], asyncio.Event()
+        self.trickles = False  # whether its candidates are passed on one by one after its signal
 
     async def start(self):
         """Starts the process. Its signaling waits until `introduce`."""
@@ -34,7 +36,18 @@ class Program:
             self.events.append((time.monotonic(), "> " + line))
             if line.startswith("signal"):
                 self.signal_at = time.monotonic()
-            self.other.tell(line)
+            if self.trickles and line.startswith("signal"):
+                self.tasks.append(asyncio.ensure_future(self.trickle(line)))
+            else:
+                self.other.tell(line)
+
+    async def trickle(self, line):
+        """Passes a signal without its candidates to the other program, and the candidates later."""
+        words = line.split(" ", 3)
+        self.other.tell(" ".join(words[:3]))
+        for candidate in filter(None, "".join(words[3:]).split(",")):
+            await asyncio.sleep(TRICKLE)
+            self.other.tell(candidate)
 
     async def read_reports(self):
         """Reads standard error."""
@@ -79,11 +92,11 @@ class Program:
         return resident, (int(words[11]) + int(words[12])) / os.sysconf("SC_CLK_TCK")
 
     async def end(self):
-        """Ends the process: by /quit, and after 3 s by a signal."""
+        """Ends the process: by /quit, and after 10 s by a signal."""
         if self.is_running():
             self.tell("/quit")
             try:
-                await asyncio.wait_for(self.process.wait(), 3)
+                await asyncio.wait_for(self.process.wait(), 10)
             except asyncio.TimeoutError:
                 with contextlib.suppress(ProcessLookupError):  # it ended meanwhile
                     self.process.kill()
@@ -139,7 +152,12 @@ async def settle(a, b, quiet=0.5, seconds=12):
 
 
 async def talk(a, b, word, seconds=8, every=0.2):
-    """Each sends a text until the other one receives it. Returns whether that of a arrived, and that of b."""
+    """Each sends a text until the other one receives it. Returns whether that of a arrived, and that of b.
+
+    From a stack without chat anything has to arrive; what it receives cannot be seen.
+    """
+    if not (a.stack.has_chat and b.stack.has_chat):
+        return [other.stack.has_chat or await until(lambda: p.heard, (p,), seconds) for p, other in ((b, a), (a, b))]
     texts = {a: f"{word}-from-a", b: f"{word}-from-b"}
 
     def heard():

@@ -20,6 +20,7 @@ async def play(case, network, stacks, roles):
     words = [[*own, *of_network, *relay, role] for own, of_network, relay, role
              in zip(case.words, network.options, case.relay_options(), roles)]
     a, b = (Program(stacks[name], each, namespace) for name, each, namespace in zip(case.stacks, words, network.namespaces))
+    a.trickles, b.trickles = case.trickles == "a", case.trickles == "b"
     try:
         await introduce(a, b)
         fault, seconds = await connect(a, b, case, network)

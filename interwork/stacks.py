@@ -10,6 +10,8 @@ import sys
 from dataclasses import dataclass, field
 from pathlib import Path
 
+import servers
+
 here = Path(__file__).resolve().parent
 top = here.parent
 out = here / "out"
@@ -22,13 +24,17 @@ class Missing(Exception):
 
 @dataclass
 class Stack:
-    """A stack, and the command that starts its program. `missing` says what it lacks, or is None."""
+    """A stack, and the command that starts its program. `missing` says what it lacks, or is None.
+
+    A stack without chat begins with DTLS on its path, so the other side receives something.
+    """
 
     name: str
     command: list = field(default_factory=list)
     version: str = ""
     environment: dict = field(default_factory=dict)
     missing: str | None = None
+    has_chat: bool = True
 
 
 def run(*words, what=None, **options):
@@ -131,7 +137,40 @@ def libnice():
     return Stack("libnice", [python, str(here / "peers" / "libnice_peer.py")], package("libnice10"))
 
 
-MAKERS = {"peer": ours_in_c, "Connection": ours_in_python, "pion": pion, "aioice": aioice, "libnice": libnice}
+def server(name, program, package_name, has_chat):
+    """A server that its peer in `peers` starts."""
+    if shutil.which(program) is None:
+        raise Missing(f"{package_name} is not installed")
+    return Stack(name, [sys.executable, str(here / "peers" / f"{name}_peer.py")], package(package_name), has_chat=has_chat)
+
+
+def rtpengine():
+    return server("rtpengine", "rtpengine", "rtpengine-daemon", True)
+
+
+def janus():
+    return server("janus", "janus", "janus", False)
+
+
+def browser(name, program):
+    """A browser that its peer in `peers` starts, in a process namespace: no process of the browser outlives the peer."""
+    if shutil.which(program) is None:
+        raise Missing(f"{program} is not installed")
+    python = python_with("import aiohttp", "aiohttp: install python3-aiohttp")
+    apart = ["unshare", "--pid", "--fork", "--mount-proc", "--kill-child"]
+    return Stack(name, [*apart, python, str(here / "peers" / "browser_peer.py"), name], package(program), has_chat=False)
+
+
+def chromium():
+    return browser("chromium", "chromium")
+
+
+def firefox():
+    return browser("firefox", "firefox-esr")
+
+
+MAKERS = {"peer": ours_in_c, "Connection": ours_in_python, "pion": pion, "aioice": aioice, "libnice": libnice, "rtpengine": rtpengine,
+          "janus": janus, "chromium": chromium, "firefox": firefox}
 
 
 def find(names):
@@ -156,5 +195,5 @@ def sender():
 
 def tools():
     """Versions of the other tools that the networks need, by name; None if one is not installed."""
-    return {"coturn": package("coturn") if shutil.which("turnserver") else None,
-            "nftables": package("nftables") if shutil.which("nft") else None}
+    found = {name: package(names[0]) if servers.is_installed(name) else None for name, names in servers.PACKAGES.items()}
+    return {**found, "nftables": package("nftables") if shutil.which("nft") else None}

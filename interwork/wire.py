@@ -1,9 +1,9 @@
 """A lossy wire between two network namespaces: each has a TUN device, and this program passes packets from one to the other.
 
-usage: wire.py NAMESPACE ADDRESS NAMESPACE ADDRESS [loss=0.3] [dup=0.1] [delay=0.2]
+usage: wire.py NAMESPACE ADDRESS NAMESPACE ADDRESS [loss=0.3] [dup=0.1] [least=0.1] [delay=0.2]
 
-loss and dup are probabilities in each direction. Each packet waits up to `delay` seconds, evenly distributed, so packets overtake
-each other. It reads lines: 'loss 0.05', 'delay 0', 'dup 0', 'cut', 'mend', and 'counts', which prints what passed so far.
+loss and dup are probabilities in each direction. Each packet waits for `least` seconds and up to `delay` more, evenly distributed, so
+packets overtake each other. It reads lines: 'loss 0.05', 'delay 0', 'dup 0', 'cut', 'mend', and 'counts', which prints what passed so far.
 """
 import ctypes
 import fcntl
@@ -58,7 +58,7 @@ class Wire:
         self.counts["duplicated"] += copies - 1
         for _ in range(copies):
             self.serial += 1
-            due = time.monotonic() + random.random() * self.settings["delay"]
+            due = time.monotonic() + self.settings["least"] + random.random() * self.settings["delay"]
             heapq.heappush(self.waiting, (due, self.serial, self.other[fd], packet))
 
     def deliver(self):
@@ -86,7 +86,7 @@ class Wire:
 
 def main():
     a, own_a, b, own_b = sys.argv[1:5]
-    settings = {"loss": 0.0, "dup": 0.0, "delay": 0.0}
+    settings = {"loss": 0.0, "dup": 0.0, "least": 0.0, "delay": 0.0}
     settings.update((key, float(value)) for key, value in (word.split("=") for word in sys.argv[5:]))
     fds = [open_device(a, own_a, own_b), open_device(b, own_b, own_a)]
     wire = Wire(*fds, settings)

@@ -9,7 +9,7 @@ from typing import Any
 SECOND = 1_000_000_000
 MILLISECOND = 1_000_000
 
-# Time starts at 60 s, as the agent requires.
+# Time starts at 60 s, so that a nominated pair is due at a time above 0: 60 s before.
 BEGINNING = 60 * SECOND
 
 

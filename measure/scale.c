@@ -17,7 +17,7 @@
 #include <time.h>
 
 #define MS UINT64_C(1000000)
-enum { CONNECT = 8000, LONGEST = 1500, CREDENTIALS = 32 };
+enum { CONNECT = 8000, LONGEST = 1500, CREDENTIALS = 32, CACHED = 262144 /* bytes that malloc counts, and keeps for later calls */ };
 
 static is_ice_agent *agents;
 static size_t agent_count;
@@ -175,8 +175,9 @@ int main(int count, char **words)
     uint64_t before = packets;
     run_until(now + seconds * 1000 * MS);
     times[2] = cpu(), bytes[3] = heap_bytes() - begun;
+    for (size_t i = 0; i < agent_count; i++) is_ice_agent_free(&agents[i]);
+    if (heap_bytes() > begun + CACHED) return fprintf(stderr, "scale: the agents are not freed\n"), 1;
     printf("%.1f %.3f %.2f %.0f %.0f %.0f %.0f\n", (times[1] - times[0]) / n, (times[2] - times[1]) / n / (double)seconds,
         (double)(packets - before) / n / (double)seconds, bytes[0] / n, bytes[1] / n, bytes[2] / n, bytes[3] / n);
-    for (size_t i = 0; i < agent_count; i++) is_ice_agent_free(&agents[i]);
     return 0;
 }

@@ -1,6 +1,7 @@
-"""Measures what each of many agents costs: scale.c over the C library, scale.rs over the crate in rust/, and the original."""
+"""Measures what each of many agents costs: scale.c over the C library, scale.rs over the crate in rust/ and over the original."""
 import os
 import pathlib
+import re
 import subprocess
 import sys
 
@@ -8,6 +9,7 @@ TOP = pathlib.Path(__file__).resolve().parent.parent
 OUT = TOP / "measure" / "out"
 COUNTS = (1000, 10000, 100000)
 RUNS = 3
+COUNTED = 20  # seconds of which instructions are counted
 HEAD = "## Many agents\n"
 
 PACKAGE = """[package]
@@ -33,17 +35,36 @@ def run(*command, **more):
     return ran.stdout
 
 
-def build():
-    """The programs over the C library and over the crate."""
-    prefix, package = OUT / "prefix", OUT / "rust"
-    (package / "src").mkdir(parents=True, exist_ok=True)
+def build_in_c(library):
+    program = OUT / "scale"
+    include = library.parent.parent / "include"
+    run(os.environ.get("CC", "cc"), "-std=c11", "-O2", f"-I{include}", "-o", program, TOP / "measure" / "scale.c", library)
+    return program
+
+
+def build_in_rust(name, package, **environment):
+    """The program over the crate in this folder. Its dependencies are found as cargo finds them there."""
+    folder = OUT / name
+    (folder / "src").mkdir(parents=True, exist_ok=True)
+    (folder / "Cargo.toml").write_text(PACKAGE.format(rust=package))
+    (folder / "src" / "main.rs").write_text((TOP / "measure" / "scale.rs").read_text())
+    found = [above / ".cargo" / "config.toml" for above in package.parents if (above / ".cargo" / "config.toml").exists()]
+    configured = ["--config", found[0]] if found else []
+    run("cargo", "build", "--offline", "--quiet", "--release", *configured, cwd=folder, env={**os.environ, **environment})
+    return folder / "target" / "release" / "scale"
+
+
+def build(original):
+    """The programs over the C library, over the crate, and over the original, if there is one."""
+    prefix = OUT / "prefix"
     run(TOP / "c" / "run", "install", prefix)
     library = prefix / "lib" / "libis_ice.a"
-    run(os.environ.get("CC", "cc"), "-std=c11", "-O2", f"-I{prefix}/include", "-o", OUT / "scale", TOP / "measure" / "scale.c", library)
-    (package / "Cargo.toml").write_text(PACKAGE.format(rust=TOP / "rust"))
-    (package / "src" / "main.rs").write_text((TOP / "measure" / "scale.rs").read_text())
-    run("cargo", "build", "--offline", "--quiet", "--release", cwd=package, env={**os.environ, "IS_ICE_LIB": str(library)})
-    return {"C": OUT / "scale", "Rust": package / "target" / "release" / "scale"}
+    programs = {"C": build_in_c(library), "Rust": build_in_rust("rust", TOP / "rust", IS_ICE_LIB=str(library))}
+    if original:
+        if not os.path.isdir(original):
+            stop(f"{original} is not the folder of a crate")
+        programs["original"] = build_in_rust("original", pathlib.Path(original).resolve())
+    return programs
 
 
 def figures(program, count):
@@ -69,10 +90,29 @@ def write(rows):
     path.write_text(before + head + "\n".join(by_first.get(old.split(" | ")[0], old) for old in part.split("\n")) + then + after)
 
 
-def measure(counts, original, is_written):
-    programs = build()
-    if original:
-        programs["original"] = original
+def instructions(program, count, seconds):
+    command = ["valgrind", "--tool=callgrind", "--callgrind-out-file=/dev/null", program, count, seconds]
+    ran = subprocess.run([str(word) for word in command], capture_output=True, text=True)
+    if ran.returncode != 0:
+        stop(f"{program} failed under valgrind\n{ran.stderr}")
+    return int(re.search(r"Collected\s*:\s*(\d+)", ran.stderr).group(1))
+
+
+def print_instructions(programs, count):
+    """The instructions of an agent until it is connected, and in each second from then on."""
+    for name, program in programs.items():
+        connected = instructions(program, count, 0)
+        more = instructions(program, count, COUNTED) - connected
+        each = f"{connected / count:,.0f} instructions until connected, {more / count / COUNTED:,.0f} a second"
+        print(f"{name}, {count:,} agents: {each}", flush=True)
+
+
+def measure(counts, original, is_written, are_counted):
+    programs = build(original)
+    if are_counted:
+        for count in counts or COUNTS[:1]:
+            print_instructions(programs, count)
+        return
     print("| agents | µs to connect: C | Rust | original | µs a second: C | Rust | original | bytes: C | Rust | original |", flush=True)
     rows = []
     for count in counts or COUNTS:

@@ -20,7 +20,7 @@ IMPL = re.compile(r"\s*impl\b(?:<[^{]*?>)?\s+(?:.*\sfor\s+)?(\w+)")
 # The words of an unproved goal: as a note at the code, in a function's line, in an error of its stored proof.
 NOTED = "it is not proved that "
 UNPROVED = "did not prove `"
-UNFOUND = "no proof of `"
+UNFOUND = ("no proof of `", "found no proof")
 
 Change = collections.namedtuple("Change", "start end new line")
 # lines: those of the function that it changes. owner: the type of its impl.
@@ -114,7 +114,7 @@ def judged(edit, crate, told, answers):
         return None, "nothing was reported of it"
     line = told[found[0]][0]
     own = answers.get(found[0][len(crate) + 2 :], [])
-    open_answers = [error for error in own if UNFOUND in error]
+    open_answers = [error for error in own if any(words in error for words in UNFOUND)]
     if UNPROVED in line or open_answers:
         return "killed", open_answers[0] if open_answers else line
     if own:

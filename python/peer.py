@@ -150,6 +150,7 @@ class Peer:
             await asyncio.wait_for(self.ended.wait(), patience)
             return 0
         except asyncio.TimeoutError:
+            tell(f"peer: out of time; {self.loop.tried()}")
             return 1
         finally:
             for task in tasks:

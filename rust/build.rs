@@ -1,12 +1,14 @@
 //! Links the library: the archive next to this file in lib/, which a release has, else that of IS_ICE_LIB, else that of
-//! `pkg-config is_ice`.
+//! `pkg-config is_ice`. The package in serde/ has this script too.
 
 use std::path::{Path, PathBuf};
 use std::process::{Command, exit};
 
 /// The archive of a release of this crate.
 fn released() -> Option<PathBuf> {
-    let archive = Path::new(&std::env::var_os("CARGO_MANIFEST_DIR")?).join("lib").join("libis_ice.a");
+    let package = PathBuf::from(std::env::var_os("CARGO_MANIFEST_DIR")?);
+    let folder = if package.ends_with("serde") { "../lib" } else { "lib" };
+    let archive = package.join(folder).join("libis_ice.a");
     archive.exists().then_some(archive)
 }
 

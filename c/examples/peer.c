@@ -37,7 +37,7 @@ struct session {
     struct net net;
     struct stun stun;
     const char *message;
-    uint64_t end, next_message, not_before;
+    uint64_t end, next_message, timeout, not_before;
     int32_t state;
     bool has_path, has_heard, is_over, is_late;
     is_ice_address path_from, path_to;
@@ -67,20 +67,27 @@ static void stop_option(char option, const char *value, const char *why)
 
 /* ---- timeouts, packets and events of the agent */
 
+static uint64_t least(uint64_t a, uint64_t b)
+{
+    return a < b ? a : b;
+}
+
 /* Passes the current time to the agent. If the call fails, it is repeated a little later. */
 static void handle_timeout(struct session *s, uint64_t now)
 {
     uint8_t random[IS_ICE_TIMEOUT_RANDOM];
     if (!net_random(random, sizeof random)) stop("no random bytes", strerror(errno));
+    s->timeout = UINT64_MAX;
     if (warn("timeout", is_ice_handle_timeout(&s->agent, now, random, sizeof random)) < 0) s->not_before = now + 50 * MILLISECOND;
 }
 
-/* When to call handle_timeout next. */
+/* When to call handle_timeout next: the earliest time that is_ice_poll_timeout returned since the last such call. Once packets were
+ * polled it returns a later one, as when chat arrives in between. */
 static uint64_t next_timeout(struct session *s)
 {
     uint64_t at;
-    if (warn("next timeout", is_ice_poll_timeout(&s->agent, &at)) != IS_ICE_OK) at = UINT64_MAX;
-    return at > s->not_before ? at : s->not_before;
+    if (warn("next timeout", is_ice_poll_timeout(&s->agent, &at)) == IS_ICE_OK) s->timeout = least(s->timeout, at);
+    return s->timeout > s->not_before ? s->timeout : s->not_before;
 }
 
 static void send_all(struct session *s)
@@ -297,11 +304,6 @@ static void say_message(struct session *s, uint64_t now)
     say(s, s->message);
     s->next_message = now + SECOND / 5;
     if (s->has_heard && s->state != IS_ICE_CHECKING && s->end > now + SECOND) s->end = now + SECOND;
-}
-
-static uint64_t least(uint64_t a, uint64_t b)
-{
-    return a < b ? a : b;
 }
 
 static struct pollfd readable(int descriptor)

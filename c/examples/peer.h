@@ -39,7 +39,7 @@ struct net {
     struct pcap pcap; /* what was sent and received, if it is captured */
 };
 
-/* The current time, of a monotonic clock that starts at 60 s. */
+/* The current time, of the system's monotonic clock. */
 uint64_t net_now(void);
 
 /* Writes random bytes of the system, at most 256. False if the system has none. */

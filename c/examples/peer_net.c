@@ -18,8 +18,8 @@
 uint64_t net_now(void)
 {
     struct timespec t = {0};
-    if (clock_gettime(CLOCK_MONOTONIC, &t) != 0) return 60 * SECOND;
-    return (uint64_t)t.tv_sec * SECOND + (uint64_t)t.tv_nsec + 60 * SECOND;
+    if (clock_gettime(CLOCK_MONOTONIC, &t) != 0) return 0;
+    return (uint64_t)t.tv_sec * SECOND + (uint64_t)t.tv_nsec;
 }
 
 bool net_random(void *bytes, size_t length)

@@ -45,7 +45,7 @@ int main(void)
         must(is_ice_local_candidate(&agents[i], index, line, sizeof line, &length));
         must(is_ice_add_remote(&agents[!i], line, length, &index));
     }
-    for (uint64_t now = 60000 * MS; !found[0] || !found[1]; now += 50 * MS) /* start the clock at 60 s or later */
+    for (uint64_t now = 0; !found[0] || !found[1]; now += 50 * MS)
         for (int i = 0; i < 2; i++) {
             randomize(random, IS_ICE_TIMEOUT_RANDOM);
             must(is_ice_handle_timeout(&agents[i], now, random, IS_ICE_TIMEOUT_RANDOM));

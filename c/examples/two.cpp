@@ -39,7 +39,7 @@ static void connect()
         host.address = is_ice::ipv4({10, 0, 0, static_cast<uint8_t>(i + 1)}, 5000);
         if (auto line = agents[i].add_local(host)) agents[1 - i].add_remote(*line);
     }
-    for (is_ice::nanoseconds now = 60s; !found[0] || !found[1]; now += 50ms) // start the clock at 60 s or later
+    for (is_ice::nanoseconds now = 0s; !found[0] || !found[1]; now += 50ms)
         for (size_t i = 0; i < 2; i++) {
             agents[i].handle_timeout(now, randomized<is_ice::timeout_random>());
             while (auto packet = agents[i].poll_transmit())

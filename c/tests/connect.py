@@ -317,16 +317,22 @@ def errors():
 
 
 def long_candidate():
-    """A candidate whose text is longer than the buffer of /pairs is printed by its length."""
+    """A candidate whose text is longer than the buffer of /pairs is printed by its length, and nothing of the datagrams before it."""
     a = Peer("-t", "30", "-a", "127.0.0.1", "controlled")
+    port = int(re.search(r" 127\.0\.0\.1 (\d+) typ host", a.says("signal "))[1])
     candidate = f"candidate:{'a' * 12000} 1 udp 2130706431 127.0.0.1 9 typ host"
     a.hears(f"signal abcdefgh abcdefghijklmnopqrstuv {candidate}")
+    with socket.socket(socket.AF_INET, socket.SOCK_DGRAM) as other:
+        for _ in range(100):
+            other.sendto(b"A" * 2048, ("127.0.0.1", port))
     a.hears("/pairs")
     said = a.says("pair 0 from 127.0.0.1 ")
     if not re.search(r" to a candidate of 12\d\d\d bytes ", said) or len(said) > 200:
         raise Failed(said)
     a.hears("/quit")
-    a.ends()
+    rest = a.ends()
+    if "AAAA" in said + rest:
+        raise Failed(rest)
 
 
 def late():

@@ -184,8 +184,8 @@ static size_t by_tables(struct world *w, const struct message *m, size_t i)
     return found < w->count || code == IS_ICE_UNPARSED ? found : agent_at(w, &w->by_transaction, m->bytes + ID, ID_SIZE);
 }
 
-/* Finds the agents of so many messages, spread over all agents, and prints what one takes. */
-static void measure(
+/* Finds the agents of so many messages, spread over all agents, and prints what one takes, in nanoseconds. */
+static double measure(
     struct world *w, const char *name, size_t (*find)(struct world *, const struct message *, size_t), bool is_response, size_t many)
 {
     double begun = processor_time();
@@ -195,6 +195,7 @@ static void measure(
     }
     double took = (processor_time() - begun) / (double)many;
     printf("%zu agents, a %s by %s: %.0f ns\n", w->count, is_response ? "response" : "request", name, took);
+    return took;
 }
 
 /* A message that is nobody's is found by no way. */
@@ -216,9 +217,10 @@ int main(int argc, char **words)
     if (count == 0 || count > 1000000) fail("demux", "from 1 to 1,000,000 agents");
     begin(&w, count);
     for (int is_response = 0; is_response < 2; is_response++) {
-        measure(&w, "is_ice_accepts_packet of each agent", by_asking, is_response, ASKED);
+        double asking = measure(&w, "is_ice_accepts_packet of each agent", by_asking, is_response, ASKED);
         measure(&w, "is_ice_accepts_message of each agent", by_asking_for_message, is_response, ASKED);
-        measure(&w, is_response ? "its transaction ID" : "is_ice_stun_username", by_tables, is_response, FOUND);
+        double table = measure(&w, is_response ? "its transaction ID" : "is_ice_stun_username", by_tables, is_response, FOUND);
+        if (count >= 100 && table * 5 > asking) fail("demux", "a table takes a fifth as long as asking, or longer");
     }
     find_nobody(&w);
     end(&w);

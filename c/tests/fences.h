@@ -16,7 +16,7 @@
 enum {
     PAGE = 4096,
     CLASSES = 512, /* a block has at most as many pages */
-    WAITING = 64,  /* freed blocks of a size that wait before one is used again */
+    WAITING = 64,  /* pages of freed blocks of a size that wait before one is used again */
     FRESH = 0xaa,  /* what a block is filled with when it is new, after its end, and when it was freed */
     SLACK = 0xfd,
     FREED = 0xdd
@@ -76,7 +76,7 @@ static inline void all_are(const uint8_t *bytes, size_t length, uint8_t wanted, 
 static inline struct fence *block_of(size_t pages, size_t size)
 {
     struct fence *fence = first[pages];
-    if (waiting[pages] <= WAITING) return (struct fence *)(void *)(fenced_pages(pages) + pages * PAGE - rounded(size)) - 1;
+    if (waiting[pages] * pages <= WAITING) return (struct fence *)(void *)(fenced_pages(pages) + pages * PAGE - rounded(size)) - 1;
     first[pages] = fence->next;
     waiting[pages]--;
     if (fence->mark != is_freed) stop("the library wrote before a block that it freed");

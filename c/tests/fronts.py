@@ -1,4 +1,5 @@
-"""Compares what Rust and Python declare with is_ice.h: the arguments and the result of each call, and the fields of each struct.
+"""Compares what Rust and Python declare with is_ice.h: the arguments and the result of each call, and the fields of each struct. Also finds
+what reads the words of a text in a front end: the library does that.
 
 usage: c/tests/fronts.py      prints what differs; status 1 if something does"""
 import importlib.util
@@ -15,6 +16,10 @@ NAMES = {"agent_status": "Status", "agent_stats": "Stats", "nominated_pair": "No
 # What ctypes calls a type on 64-bit Linux: u64 and usize are one there.
 CTYPES = {"c_ulong": "u64", "c_uint": "u32", "c_int": "i32", "c_ushort": "u16", "c_ubyte": "u8", "c_bool": "bool", "c_void_p": "ptr",
           "c_char_p": "ptr"}
+
+# What reads the words of a text; and where it is none of a peer: the zone of an address that the system returns, the grammar of a token.
+READERS = re.compile(r"split\w*\(|partition\(|strtok|sscanf|istringstream|getline\(|\bre\.\w+\(")
+NO_READERS = ("split_username(", "split_at(", 'socket.ip.split("%")', 're.compile("[A-Za-z0-9+/]*")')
 
 
 def struct_name(word):
@@ -109,8 +114,17 @@ def differences():
         yield "too few declarations were found"
 
 
+def readers():
+    for path in [file for pattern in ("rust/src/*.rs", "python/is_ice/*.py", "c/is_ice.hpp") for file in sorted(TOP.glob(pattern))]:
+        for number, line in enumerate(path.read_text().splitlines(), 1):
+            for known in NO_READERS:
+                line = line.replace(known, "")
+            if READERS.search(line):
+                yield f"{path.relative_to(TOP)}:{number} reads the words of a text: {line.strip()}"
+
+
 def main():
-    found = list(differences())
+    found = [*differences(), *readers()]
     print("\n".join(found) or f"{len(header()[0])} calls and {len(header()[1])} structs")
     sys.exit(1 if found else 0)
 

@@ -492,9 +492,9 @@ static void play(void)
 static void queries(void)
 {
     const unsigned quiet = QUIET | QUERY;
-    uint8_t kind = take() % 7;
+    uint8_t kind = take() % 8;
     static const size_t sizes[] = {sizeof(is_ice_agent_status), sizeof(is_ice_agent_stats), sizeof(is_ice_nominated_pair), sizeof(size_t),
-        sizeof(is_ice_pair), sizeof(size_t), sizeof(is_ice_agent_rules)};
+        sizeof(is_ice_pair), sizeof(size_t), sizeof(is_ice_agent_rules), sizeof(is_ice_media_path)};
     void *result = argument(sizes[kind]);
     size_t index = one_in(8) ? (size_t)number() : below(16);
     const is_ice_address *remote = address_argument();
@@ -506,6 +506,7 @@ static void queries(void)
     if (kind == 4) code = CALL(OK | NOTHING | quiet, is_ice_pair_at(agents[on], index, result));
     if (kind == 5) CALL(OK | NOTHING | BAD_ADDRESS | quiet, is_ice_has_viable_remote(agents[on], remote));
     if (kind == 6) code = CALL(OK | quiet, is_ice_rules(agents[on], result));
+    if (kind == 7) code = CALL(OK | NOTHING | quiet, is_ice_valid_path(agents[on], result));
     filled(code, result, sizes[kind]);
 }
 

@@ -2,6 +2,7 @@
 #ifndef FUZZ_ARGUMENTS_H
 #define FUZZ_ARGUMENTS_H
 
+#include "candidate_words.h"
 #include "fuzz_calls.h"
 
 /* ---- arguments */
@@ -89,22 +90,13 @@ static void add_line(char *text, size_t *length)
 {
     static const char *const spaces[] = {" ", " ", " ", " ", "  ", "\t", "\r\n", "\xc2\xa0", "\xe2\x80\xa8", "\xe3\x80\x80", "\x1c", "\x1f",
         "\x0b", ""};
-    static const char *const words[][8] = {
-        {"candidate:1", "candidate:tmp_prflx", "candidate:", "a=candidate:7", "candidate:\xc3\xa9", "candidate:1", "candidate:2", "1"},
-        {"1", "1", "1", "2", "0", "256", "65536", "one"},
-        {"udp", "UDP", "tcp", "TCP", "ssltcp", "tls", "sctp", "udp"},
-        {"2130706431", "1694498815", "1", "0", "4294967295", "4294967296", "-1", "2130706175"},
-        {"10.0.0.1", "10.0.0.2", "10.0.0.3", "2001:db8::1", "::", "3f2b8c1e.local", "010.0.0.1", "fe80::1%1"},
-        {"5000", "5001", "9", "0", "65535", "65536", "x", "5000"},
-        {"typ", "typ", "typ", "typ", "typ", "typ", "type", ""},
-        {"host", "srflx", "prflx", "relay", "hosts", "host", "srflx", "relay"}};
     static const char *const extensions[] = {" raddr 10.0.0.1 rport 5000", " raddr 2001:db8::1 rport 5000", " raddr x rport 1",
         " tcptype active", " tcptype passive", " tcptype so", " tcptype x", " ufrag left", " ufrag rght", " ufrag a:b", " ufrag",
         " ufrag \xc2\xa0", " generation 0", " network-cost 10 network-id 1"};
     uint8_t odd = take();
-    for (size_t i = 0; i < COUNT(words); i++) {
+    for (size_t i = 0; i < COUNT(candidate_words); i++) {
         if (i > 0) add(text, length, odd & 1 ? spaces[below(COUNT(spaces))] : " ");
-        add(text, length, words[i][odd & 2 || i == 4 ? below(8) : 0]);
+        add(text, length, candidate_words[i][odd & 2 || i == 4 ? below(8) : 0]);
     }
     for (size_t many = odd >> 2 & 3; many > 0; many--) add(text, length, extensions[below(COUNT(extensions))]);
 }

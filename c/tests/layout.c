@@ -40,6 +40,7 @@ static void offsets(void)
     AT(is_ice_nominated_pair, source, 0), AT(is_ice_nominated_pair, destination, 28);
     AT(is_ice_nominated_pair, total_rtt, 56), AT(is_ice_nominated_pair, responses, 64), AT(is_ice_nominated_pair, rtt, 72);
     AT(is_ice_nominated_pair, protocol, 80), AT(is_ice_nominated_pair, has_rtt, 81);
+    AT(is_ice_media_path, source, 0), AT(is_ice_media_path, destination, 28), AT(is_ice_media_path, protocol, 56);
     AT(is_ice_pair, local, 0), AT(is_ice_pair, remote, 8), AT(is_ice_pair, priority, 16), AT(is_ice_pair, checks_sent, 24);
     AT(is_ice_pair, requests_received, 32), AT(is_ice_pair, responses, 40);
     AT(is_ice_pair, total_rtt, 48), AT(is_ice_pair, rtt, 56), AT(is_ice_pair, last_request, 64), AT(is_ice_pair, due, 72);
@@ -255,6 +256,28 @@ static void flow_and_scope(void)
     is_ice_agent_free(&b);
 }
 
+/* is_ice_media_path: the pair of the controlled agent is valid before the other one nominates it. The clock starts at 0. */
+static void valid_path(void)
+{
+    const is_ice_address at_a = v6, at_b = seen6;
+    is_ice_agent a = side("aaaa", "bbbb", true, &at_a, &at_b), b = side("bbbb", "aaaa", false, &at_b, &at_a);
+    is_ice_nominated_pair nominated;
+    is_ice_media_path path, unchanged;
+    is_ice_pair pair;
+    memset(&path, 0xaa, sizeof path), memset(&unchanged, 0xaa, sizeof unchanged);
+    HOLD(is_ice_valid_path(&b, &path) == IS_ICE_NOTHING && memcmp(&path, &unchanged, sizeof path) == 0);
+    HOLD(is_ice_handle_timeout(&b, 0, TEXT("twelve bytes")) == IS_ICE_OK);
+    carry(&b, &a, &at_b, &at_a, 88, 10000000);
+    HOLD(is_ice_valid_path(&a, &path) == IS_ICE_NOTHING && is_ice_valid_path(&b, &path) == IS_ICE_NOTHING);
+    HOLD(is_ice_pair_at(&a, 0, &pair) == IS_ICE_OK && pair.has_request && pair.last_request == 10000000);
+    carry(&a, &b, &at_a, &at_b, 76, 30000000);
+    HOLD(is_ice_valid_path(&b, &path) == IS_ICE_OK && is_ice_nominated(&b, &nominated) == IS_ICE_NOTHING);
+    HOLD(same(&path.source, &at_b) && same(&path.destination, &at_a) && path.protocol == IS_ICE_UDP);
+    is_ice_agent_free(&a);
+    is_ice_agent_free(&b);
+    HOLD(is_ice_valid_path(&b, &path) == IS_ICE_NO_AGENT && same(&path.source, &at_b));
+}
+
 int main(void)
 {
     offsets();
@@ -263,5 +286,6 @@ int main(void)
     candidates();
     session();
     flow_and_scope();
+    valid_path();
     return 0;
 }

@@ -166,6 +166,37 @@ static void write_texts(struct story *s)
     add(s, &preference, sizeof preference);
 }
 
+/* Texts with the fields of their candidates, and with a name in place of an address. */
+static void read_texts(struct story *s)
+{
+    static const uint8_t named[] = "candidate:1 1 udp 7 3f2b8c1e.local 9 typ host";
+    const size_t size = sizeof named - 1;
+    is_ice_fields fields;
+    uint8_t text[256], again[256];
+    size_t length, again_length;
+    QUIET(IS_ICE_OK, is_ice_line_name(named, size, text, sizeof text, &length));
+    add(s, text, length);
+    CALL(s, IS_ICE_OK, is_ice_line_with_address(named, size, &host_b.address, text, sizeof text, &length));
+    add(s, text, length);
+    CALL(s, IS_ICE_OK, is_ice_line_fields(text, length, again, sizeof again, &again_length, &fields));
+    add(s, &fields.priority, sizeof fields.priority);
+    CALL(s, IS_ICE_OK, is_ice_candidate_fields(&host_a, text, sizeof text, &length, &fields));
+    add(s, &fields.priority, sizeof fields.priority);
+}
+
+static void list_candidates(struct story *s)
+{
+    is_ice_fields fields;
+    uint8_t text[256];
+    size_t length;
+    CALL(s, IS_ICE_OK, is_ice_remote_candidate(&s->a, 0, text, sizeof text, &length));
+    add(s, text, length);
+    CALL(s, IS_ICE_OK, is_ice_local_fields(&s->a, 0, text, sizeof text, &length, &fields));
+    add(s, text, length);
+    CALL(s, IS_ICE_OK, is_ice_remote_fields(&s->a, 0, text, sizeof text, &length, &fields));
+    add(s, text, length);
+}
+
 /* Messages: none of these calls allocates. */
 static void write_messages(void)
 {
@@ -254,6 +285,7 @@ static void end(struct story *s)
 {
     is_ice_agent_stats stats;
     is_ice_nominated_pair nominated;
+    is_ice_media_path path;
     is_ice_agent_status status;
     is_ice_agent_rules rules;
     is_ice_pair pair;
@@ -272,6 +304,7 @@ static void end(struct story *s)
     QUIET(IS_ICE_VERSION, (int32_t)is_ice_version());
     QUIET(IS_ICE_OK, is_ice_stats(&s->a, &stats));
     QUIET(IS_ICE_OK, is_ice_nominated(&s->a, &nominated));
+    QUIET(IS_ICE_OK, is_ice_valid_path(&s->a, &path));
     QUIET(IS_ICE_OK, is_ice_has_viable_remote(&s->a, &host_b.address));
     add(s, &stats, sizeof stats);
     add(s, &nominated.responses, sizeof nominated.responses);
@@ -292,8 +325,10 @@ static struct story played(long refused)
     make(&s);
     introduce(&s);
     write_texts(&s);
+    read_texts(&s);
     write_messages();
     connect(&s);
+    list_candidates(&s);
     end(&s);
     left = -1;
     return s;

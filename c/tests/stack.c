@@ -193,7 +193,8 @@ static void ask(struct story *s)
     is_ice_agent_status status;
     is_ice_agent_rules rules;
     is_ice_agent_stats stats;
-    is_ice_nominated_pair path;
+    is_ice_nominated_pair selected;
+    is_ice_media_path path;
     is_ice_pair pair;
     is_ice_fields fields;
     is_ice_candidate of_b = host(2, 1, IS_ICE_UDP);
@@ -202,7 +203,8 @@ static void ask(struct story *s)
     CALL(IS_ICE_OK, is_ice_status(&s->a, &status));
     CALL(IS_ICE_OK, is_ice_rules(&s->a, &rules));
     CALL(IS_ICE_OK, is_ice_stats(&s->a, &stats));
-    CALL(IS_ICE_OK, is_ice_nominated(&s->a, &path));
+    CALL(IS_ICE_OK, is_ice_nominated(&s->a, &selected));
+    CALL(IS_ICE_OK, is_ice_valid_path(&s->a, &path));
     CALL(IS_ICE_OK, is_ice_pair_count(&s->a, &count));
     for (size_t i = 0; i < count; i++) CALL(IS_ICE_OK, is_ice_pair_at(&s->a, i, &pair));
     CALL(ANY, is_ice_find_pair(&s->a, TEXT(line), &pair));

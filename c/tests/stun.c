@@ -313,6 +313,23 @@ static void reads_strictly(void)
     HOLD(is_ice_stun_read_strict(bytes, 7, &m) == IS_ICE_UNPARSED);
 }
 
+/* The two top bits of a message are 0 (RFC 8489, section 5). The calls do not look at them: a program tells STUN by its first byte. */
+static void reads_whatever_the_top_bits(void)
+{
+    uint8_t bytes[128];
+    is_ice_stun_message m;
+    size_t size = unhex(request_hex, bytes);
+    for (unsigned top = 0; top < 4; top++) {
+        bytes[0] = (uint8_t)(top << 6);
+        memset(&m, 0xaa, sizeof m);
+        HOLD(is_ice_stun_read(bytes, size, &m) == IS_ICE_OK && m.method == IS_ICE_STUN_BINDING && m.cls == IS_ICE_STUN_REQUEST);
+        HOLD(is_ice_stun_read_strict(bytes, size, &m) == IS_ICE_OK && m.method == IS_ICE_STUN_BINDING && m.cls == IS_ICE_STUN_REQUEST);
+        /* the MAC is of these bits too */
+        int32_t wanted = top == 0 ? IS_ICE_OK : IS_ICE_NOTHING;
+        HOLD(is_ice_stun_verify(bytes, size, (const uint8_t *)password, sizeof password - 1) == wanted);
+    }
+}
+
 /* "evtj:h6vY": evtj is the receiver of the request of RFC 5769, h6vY its sender. */
 static void names_receiver_and_sender(void)
 {
@@ -343,6 +360,7 @@ int main(void)
     reads_responses();
     reads_any_message();
     reads_strictly();
+    reads_whatever_the_top_bits();
     names_receiver_and_sender();
     return 0;
 }

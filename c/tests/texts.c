@@ -20,6 +20,8 @@ static const char spaced[] =
 static const char without[] =
     "{\"candidate\":\"candidate:4234997325 1 udp 2043278322 192.0.2.172 44323 typ host\",\"sdpMLineIndex\":0,\"sdpMid\":null,"
     "\"usernameFragment\":null}";
+static const char fraction[] = "{\"candidate\":\"candidate:1 1 udp 7 10.0.0.9 9 typ host\",\"x\":[1.5]}";
+static const char numbered[] = "{\"candidate\":\"candidate:1 1 udp 7 10.0.0.9 9 typ host\",\"usernameFragment\":7}";
 /* The end of candidates: an empty candidate. */
 static const char ended[] = "{\"candidate\":\"\",\"sdpMid\":\"0\",\"sdpMLineIndex\":0,\"usernameFragment\":\"EsAw\"}";
 
@@ -59,6 +61,10 @@ static void refusals(void)
     HOLD(is_ice_json_refusal(TEXT(ended), buffer, sizeof buffer, &length) == IS_ICE_OK);
     HOLD(is_ice_json_refusal(TEXT("[]"), buffer, sizeof buffer, &length) == IS_ICE_OK);
     HOLD(holds_text("candidate info is not an object"));
+    HOLD(is_ice_json_refusal(TEXT(fraction), buffer, sizeof buffer, &length) == IS_ICE_OK);
+    HOLD(holds_text("candidate info holds a fraction"));
+    HOLD(is_ice_json_refusal(TEXT(numbered), buffer, sizeof buffer, &length) == IS_ICE_OK);
+    HOLD(holds_text("bad usernameFragment"));
     HOLD(is_ice_json_refusal(TEXT("{"), buffer, 3, &length) == IS_ICE_BUFFER_TOO_SHORT && length == 26);
     HOLD(is_ice_json_refusal(TEXT(compact), buffer, sizeof buffer, &length) == IS_ICE_NOTHING);
     HOLD(is_ice_json_refusal(TEXT("\xff"), buffer, sizeof buffer, &length) == IS_ICE_NOT_UTF8);
@@ -163,6 +169,26 @@ static void limits(void)
     is_ice_agent_free(&agent);
 }
 
+/* A username fragment that is empty or has white space: the other agent does not take the text of a candidate. */
+static void fragments(void)
+{
+    static const char *const all[] = {"", " ", "a b", "a b c", "a\xc2\xa0z"};
+    const is_ice_candidate host = {{4, {10, 0, 0, 1}, 1000, 0, 0}, {0, {0}, 0, 0, 0}, IS_ICE_HOST, IS_ICE_UDP, 0};
+    for (size_t i = 0; i < sizeof all / sizeof *all; i++) {
+        is_ice_agent near = {false, NULL}, far = {false, NULL};
+        size_t index;
+        HOLD(is_ice_agent_new(&near, TEXT(all[i]), TEXT("pass"), 1) == IS_ICE_OK);
+        HOLD(is_ice_agent_new(&far, TEXT("ufrag"), TEXT("pass"), 2) == IS_ICE_OK);
+        HOLD(is_ice_set_remote_credentials(&far, TEXT(all[i]), TEXT("pass")) == IS_ICE_OK);
+        HOLD(is_ice_add_local(&near, &host, &index) == IS_ICE_OK);
+        HOLD(is_ice_local_candidate(&near, 0, buffer, sizeof buffer, &length) == IS_ICE_OK);
+        HOLD(is_ice_add_remote(&far, buffer, length, &index) != IS_ICE_OK);
+        HOLD(is_ice_remote_candidate(&far, 0, buffer, sizeof buffer, &length) == IS_ICE_NOTHING);
+        is_ice_agent_free(&near);
+        is_ice_agent_free(&far);
+    }
+}
+
 int main(void)
 {
     json();
@@ -172,5 +198,6 @@ int main(void)
     preferences();
     pairs();
     limits();
+    fragments();
     return 0;
 }

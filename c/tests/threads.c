@@ -1,5 +1,5 @@
 /* Agents that threads pass on: created in one thread, used in others under a lock, and freed in another one. Each pair of
- * agents finds a path. */
+ * agents finds a path. All threads make calls without an agent at any time. */
 #include "is_ice.h"
 
 #include <pthread.h>
@@ -107,10 +107,30 @@ static void turn(pair *p)
     p->now += 50 * MS;
 }
 
+/* Calls without an agent, which no lock orders. */
+static void ask(void)
+{
+    static const uint8_t line[] = "candidate:1 1 udp 7 10.0.0.9 9 typ host";
+    static const is_ice_stun_transaction id = {{1, 2, 3}};
+    is_ice_agent_rules rules;
+    is_ice_stun_message message;
+    is_ice_fields fields;
+    uint8_t text[256], json[256];
+    size_t length, json_length;
+    must(is_ice_line_fields(line, sizeof line - 1, text, sizeof text, &length, &fields));
+    must(is_ice_line_to_json(line, sizeof line - 1, json, sizeof json, &json_length));
+    must(is_ice_line_from_json(json, json_length, text, sizeof text, &length));
+    must(is_ice_stun_request(&id, text, sizeof text, &length));
+    must(is_ice_stun_read(text, length, &message));
+    must(is_ice_modern_rules(&rules));
+    HOLD(fields.priority == 7 && message.method == IS_ICE_STUN_BINDING && rules.kinds_in_turn);
+}
+
 static void *work(void *unused)
 {
     for (int turns = 0; turns < MOST_TURNS; turns++) {
         pair *p = &pairs[turns % PAIRS];
+        ask();
         pthread_mutex_lock(&p->lock);
         turn(p);
         pthread_mutex_unlock(&p->lock);

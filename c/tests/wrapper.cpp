@@ -81,6 +81,30 @@ static void reads_and_writes_texts()
     HOLD(is_ice::line_with_ufrag(line, many).size() > many.size());
 }
 
+/* What an odd text says is what is_ice.h says of it: white space of Unicode and of others, line ends, repeated keys, a zero byte, no UTF-8. */
+static void reads_what_the_library_reads()
+{
+    static const std::string_view texts[] = {
+        "candidate:1\xc2\xa0" "1\xc2\xa0udp\xc2\xa0" "1\xc2\xa0" "10.0.0.1\xc2\xa0" "80\xc2\xa0typ\xc2\xa0host 1 udp 1 9.9.9.9 5 typ host x",
+        "candidate:a\x1c" "1\x1cudp\x1c" "1\x1c" "9.9.9.9\x1c" "5\x1ctyp\x1chost 1 udp 1 10.0.0.1 80 typ host",
+        "candidate:1 1 udp 1 10.0.0.1 80 typ host\r\na=candidate:2 1 udp 1 9.9.9.9 5 typ host\r\n",
+        "candidate:1 1 udp 1 10.0.0.1 80 typ srflx raddr 0.0.0.0 rport 1 rport 2 ufrag gone ufrag farr",
+        {"candidate:\0 1 udp 1 10.0.0.1 80 typ host", 40}, "candidate:\xed\xa0\x80 1 udp 1 10.0.0.1 80 typ host", "candidate:", ""};
+    for (std::string_view text : texts) {
+        uint8_t buffer[256];
+        size_t length = 0;
+        is_ice::fields wanted{};
+        int32_t code = is_ice_line_fields(is_ice::detail::at(text), text.size(), buffer, sizeof buffer, &length, &wanted);
+        is_ice::line_and_fields read{};
+        HOLD(thrown([&] { read = is_ice::line_fields(text); }).code() == code);
+        HOLD(read.line == std::string_view(reinterpret_cast<char *>(buffer), length) && read.fields.priority == wanted.priority);
+        HOLD(std::memcmp(&read.fields.address, &wanted.address, sizeof wanted.address) == 0);
+        is_ice::agent agent("ufrag", "pass", 1);
+        HOLD(thrown([&] { agent.add_remote(text); }).code() == code);
+        HOLD(code != IS_ICE_OK || agent.remote_fields(0)->fields.address.port == wanted.address.port);
+    }
+}
+
 static void settings_are_kept()
 {
     is_ice::agent agent("ufrag", "pass", 1);
@@ -125,7 +149,7 @@ static void has_a_session()
     HOLD(agent.handle_packet(60s, IS_ICE_UDP, host(2).address, host(1).address, "media", 5) == is_ice::handled::unparsed);
     HOLD(agent.accepts_packet(IS_ICE_UDP, host(2).address, host(1).address, nullptr, 0) == is_ice::handled::unparsed);
     HOLD(agent.pair_count() == 1 && agent.pair_at(0)->checks_sent == 1 && !agent.pair_at(1) && agent.find_pair(remote));
-    HOLD(!agent.nominated() && !agent.has_viable_remote(host(2).address) && agent.stats().bind_request_sent == 1);
+    HOLD(!agent.nominated() && !agent.valid_path() && !agent.has_viable_remote(host(2).address) && agent.stats().bind_request_sent == 1);
     agent.recreate_pairs();
     HOLD(agent.invalidate(host(1)) && agent.invalidate(remote) && !agent.invalidate(remote));
     agent.restart("again", "pass", false);
@@ -151,6 +175,7 @@ int main()
     owns_an_agent();
     reports_errors();
     reads_and_writes_texts();
+    reads_what_the_library_reads();
     settings_are_kept();
     has_a_session();
     has_stun_messages();

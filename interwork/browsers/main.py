@@ -1,7 +1,8 @@
 """Runs the cases of the agent with browsers and with aiortc, and compares how they come out with what is expected.
 
-Each browser runs by itself, and its sessions one after another, except for those that mostly wait. The last line is
-"N as expected, M not, K skipped"; the status is 0 if M is 0.
+Each browser runs by itself, and its sessions one after another, except for those that mostly wait. A case is too slow if the median of its
+sessions, of at least four, is more than three times that in RESULTS.md. The last line is "N as expected, M not, K skipped"; the status is 0
+if M is 0.
 """
 
 from __future__ import annotations
@@ -11,6 +12,7 @@ import asyncio
 import collections
 import importlib.metadata
 import importlib.util
+import re
 import statistics
 import sys
 from dataclasses import dataclass, field
@@ -22,6 +24,9 @@ sys.path[:0] = [str(HERE), str(HERE.parent.parent / "python")]
 
 BROWSERS = ("chromium", "firefox")
 _AIORTC = "aiortc"
+_SLOW = 3  # times the median of RESULTS.md
+_NOISE = 150.0  # ms: no limit is less
+_FEW = 4  # sessions: the median of fewer is not judged
 
 
 @dataclass
@@ -35,6 +40,13 @@ class Row:
     words: collections.Counter[str] = field(default_factory=collections.Counter)
     ms: dict[str, list[float]] = field(default_factory=lambda: collections.defaultdict(list))
     skipped: str = ""
+    limits: dict[str, float] = field(default_factory=dict)  # the greatest median of each side, in ms
+
+    @property
+    def slow(self) -> list[str]:
+        """The sides whose median is greater than their limit."""
+        medians = {who: statistics.median(all_) for who, all_ in self.ms.items() if len(all_) >= _FEW}
+        return [f"{who} more than {self.limits[who]:.0f} ms" for who, ms in medians.items() if ms > self.limits.get(who, ms)]
 
     @property
     def good(self) -> int:
@@ -46,7 +58,9 @@ class Row:
         """As expected, not, or skipped."""
         if self.skipped:
             return f"skipped: {self.skipped}"
-        return "as expected" if self.good == self.sessions else "NOT as expected"
+        if self.good == self.sessions and not self.slow:
+            return "as expected"
+        return ", ".join(["NOT as expected", *self.slow])
 
     def cells(self) -> list[str]:
         """The row of a table."""
@@ -59,6 +73,14 @@ class Row:
 HEAD = ["with", "case", "expected", "sessions", "came out", "median ms", "verdict"]
 
 
+def read_limits(text: str) -> dict[tuple[str, str], dict[str, float]]:
+    """Returns the limits that follow from such a table, by the first word of the subject and the case."""
+    rows = [[cell.strip() for cell in line.strip("|").split("|")] for line in text.splitlines() if line.startswith("| ")]
+    medians = {(cells[0].split(" ")[0], cells[1]): re.findall(r"([a-z][a-z ]*) (\d+)", cells[5])
+               for cells in rows if len(cells) == len(HEAD)}
+    return {case: {who: max(_SLOW * float(ms), _NOISE) for who, ms in found} for case, found in medians.items()}
+
+
 def _has(module: str) -> bool:
     return importlib.util.find_spec(module) is not None
 
@@ -69,6 +91,7 @@ class Run:
     def __init__(self, options: argparse.Namespace) -> None:
         self.options = options
         self.rows: list[Row] = []
+        self.limits = {} if options.busy else read_limits((HERE / "RESULTS.md").read_text())
 
     def _is_chosen(self, case: Any) -> bool:
         patterns = self.options.case
@@ -79,7 +102,8 @@ class Run:
         return min(self.options.sessions or most, most)
 
     def _row(self, subject: str, case: Any, skipped: str = "") -> Row:
-        row = Row(subject, case.name, " or ".join(case.expected), self._count(case), skipped=skipped)
+        limits = self.limits.get((subject.split(" ")[0], case.name), {})
+        row = Row(subject, case.name, " or ".join(case.expected), self._count(case), skipped=skipped, limits=limits)
         self.rows.append(row)
         return row
 
@@ -174,6 +198,7 @@ class Run:
 def _options() -> argparse.Namespace:
     parser = argparse.ArgumentParser(prog="run", description=__doc__)
     parser.add_argument("--quick", action="store_true", help="two sessions a case, and none that takes long")
+    parser.add_argument("--busy", action="store_true", help="times are not judged: the machine does other work")
     parser.add_argument("-w", "--with", dest="subjects", action="append", choices=[*BROWSERS, _AIORTC], help="only with this one")
     parser.add_argument("-n", "--sessions", type=int, help="at most so many sessions a case")
     parser.add_argument("--table", metavar="FILE", help="write a Markdown table too")

@@ -1,9 +1,9 @@
 """A Connection of aioice, or the one of is_ice, which reads and prints the lines of c/examples/peer.c.
 
-usage: connection_peer.py MODULE [-a ADDRESS].. [-s HOST:PORT] [-u HOST:PORT -U USER:PASSWORD] [-L] [-t NUMBER] controlling|controlled
+usage: connection_peer.py MODULE [-a ADDRESS].. [-s HOST:PORT] [-u HOST:PORT -U USER:PASSWORD] [-L] [-l] [-t NUMBER] controlling|controlled
 
-MODULE is aioice, or is_ice.connection, which has the same calls. -s names a STUN server, -u a TURN server. -L and -t are only for
-is_ice: it is lite, and its tie-breaker is NUMBER. There is no restart.
+MODULE is aioice, or is_ice.connection, which has the same calls. -s names a STUN server, -u a TURN server. -l: the other peer is lite.
+-L and -t are only for is_ice: it is lite, and its tie-breaker is NUMBER. There is no restart.
 """
 import argparse
 import asyncio
@@ -25,6 +25,7 @@ def arguments():
     parser.add_argument("-u")
     parser.add_argument("-U", default=":")
     parser.add_argument("-L", action="store_true")
+    parser.add_argument("-l", action="store_true")
     parser.add_argument("-t", type=int)
     parser.add_argument("role", choices=("controlling", "controlled"))
     return parser.parse_args()
@@ -85,6 +86,7 @@ class Peer:
             username, password = options.U.split(":", 1)
             servers.update(turn_server=address(options.u), turn_username=username, turn_password=password)
         self.connection = self.stack.make(ice_controlling=options.role == "controlling", **servers)
+        self.connection.remote_is_lite = options.l
         if options.L:
             self.connection.agent.set_ice_lite(True)
         self.session, self.last_path = None, []

@@ -105,6 +105,12 @@ class Nominated(ctypes.Structure):
     ]
 
 
+class MediaPath(ctypes.Structure):
+    """is_ice_media_path."""
+
+    _fields_ = [("source", Address), ("destination", Address), ("protocol", c_uint8)]
+
+
 class Pair(ctypes.Structure):
     """is_ice_pair."""
 
@@ -211,8 +217,8 @@ class StunTexts(ctypes.Structure):
 
 
 # The sizes of the structs that c/is_ice.h asserts.
-SIZES = {Agent: 16, Address: 28, Candidate: 60, Fields: 120, Packet: 72, Event: 68, Status: 40, Stats: 40, Nominated: 88, Pair: 96,
-         KindPreferences: 8, PreferenceTable: 16, AgentRules: 40, StunTransaction: 12, StunResult: 32, StunNumber: 16,
+SIZES = {Agent: 16, Address: 28, Candidate: 60, Fields: 120, Packet: 72, Event: 68, Status: 40, Stats: 40, Nominated: 88, MediaPath: 60,
+         Pair: 96, KindPreferences: 8, PreferenceTable: 16, AgentRules: 40, StunTransaction: 12, StunResult: 32, StunNumber: 16,
          StunMessage: 232, StunSpan: 24, StunTexts: 144}
 
 _AGENT = POINTER(Agent)
@@ -280,6 +286,7 @@ PROTOTYPES: dict[str, list[object]] = {
     "is_ice_rules": [_AGENT, POINTER(AgentRules)],
     "is_ice_stats": [_AGENT, POINTER(Stats)],
     "is_ice_nominated": [_AGENT, POINTER(Nominated)],
+    "is_ice_valid_path": [_AGENT, POINTER(MediaPath)],
     "is_ice_pair_count": [_AGENT, POINTER(c_size_t)],
     "is_ice_pair_at": [_AGENT, c_size_t, POINTER(Pair)],
     "is_ice_find_pair": [_AGENT, *_BYTES, POINTER(Pair)],

@@ -27,6 +27,7 @@ from .events import (
     IceConnectionStateChange,
     IceCreds,
     IceRestart,
+    MediaPath,
     NominatedPair,
     NominatedSend,
     Transmit,
@@ -406,6 +407,17 @@ class IceAgent(Unique):
             return None
         return NominatedPair(pair.total_rtt, pair.responses, pair.rtt if pair.has_rtt else None, socket_of(pair.source),
                              socket_of(pair.destination), PROTOCOLS[pair.protocol])
+
+    @property
+    def valid_path(self) -> MediaPath | None:
+        """The path of a valid pair, one of the greatest priority, or None if no pair is valid.
+
+        Media may go there before a path is selected (RFC 8445, section 12.1). It may change with each response.
+        """
+        path = _abi.MediaPath()
+        if not done(self._c.is_ice_valid_path(self._at, byref(path))):
+            return None
+        return MediaPath(socket_of(path.source), socket_of(path.destination), PROTOCOLS[path.protocol])
 
     @property
     def pairs(self) -> list[CandidatePair]:

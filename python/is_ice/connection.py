@@ -20,30 +20,30 @@ import asyncio
 import enum
 import logging
 from collections.abc import Callable, Coroutine, Sequence
-from typing import Any, Protocol, Union
+from typing import Any
 
-from ._grammar import checked, is_foundation
+from ._grammar import checked
 from ._inbox import Inbox
+from ._local import LocalCandidates, Sources
+from ._remote import RemoteCandidate, RemoteCandidates
+from ._session_log import SessionLog
 from ._unique import Unique
 from .address import SocketAddress
 from .agent import IceAgent
 from .attribute import CandidateAttribute
-from .candidate import Candidate, CandidateFields, CandidateKind
-from .errors import HasAgent, IceError, NoAgent, TooManyCandidates
+from .candidate import CandidateKind
+from .errors import HasAgent, IceError, NoAgent
 from .events import IceAgentEvent, IceConnectionState, IceConnectionStateChange, IceCreds, NominatedSend
-from .gather import Allocation, MdnsResolver, ServerAddress, TurnServer, all_of, allocate, server_reflexive_candidates, turn_client
+from .gather import ServerAddress, TurnServer, all_of, turn_client
 from .interfaces import host_addresses
-from .lines import line_fields, line_name, line_with_address
 from .loop import EventHandler, IceLoop
-from .stun_client import StunClient
+from .mdns import Mdns, mdns_client
 
 _log = logging.getLogger(__name__)
 
 _PATIENCE = 30.0  # seconds until `connect` fails
 _MOST_BYTES = 1 << 20  # of datagrams that wait for `recv`; then the oldest ones are lost
 _MOST_DATAGRAMS = 4096
-_MOST_CHARACTERS = 4096  # of a candidate's text
-_LOGGED = 200  # characters of what a peer signaled
 
 
 class TransportPolicy(enum.Enum):
@@ -61,19 +61,15 @@ class ConnectionClosed(ConnectionEvent):
     """The connection was closed, or consent was lost: the peer no longer responds."""
 
 
-class _WithSdp(Protocol):
-    def to_sdp(self) -> str:
-        """The candidate attribute without "candidate:" before it."""
-
-
-RemoteCandidate = Union[str, _WithSdp]
-
-
 class Connection(Unique):
     """An ICE connection with one component. It cannot be copied or pickled.
 
     `max_candidates` limits the candidates of each side: see `IceAgent.set_max_candidates`. What is beyond it is left out, and no more
-    mDNS names are resolved at a time.
+    mDNS names are resolved at a time. `hide_addresses`, until candidates are gathered: host candidates are signaled with mDNS names,
+    for which the connection responds until it is closed, other candidates without a related address, and all with numbers as
+    foundations, since the agent computes its own from the addresses.
+
+    The logger `is_ice` has a line for each candidate, state and selected path, and for the first packet of each kind that is discarded.
     """
 
     closed_event: Callable[[], Any] = ConnectionClosed
@@ -81,11 +77,12 @@ class Connection(Unique):
     def __init__(self, ice_controlling: bool, components: int = 1, stun_server: ServerAddress | None = None,
                  turn_server: ServerAddress | None = None, turn_username: str | None = None, turn_password: str | None = None,
                  turn_ssl: bool = False, turn_transport: str = "udp", use_ipv4: bool = True, use_ipv6: bool = True,
-                 transport_policy: Any = TransportPolicy.ALL, addresses: Sequence[str] | None = None) -> None:
+                 transport_policy: Any = TransportPolicy.ALL, addresses: Sequence[str] | None = None,
+                 hide_addresses: bool = False) -> None:
         """`addresses`: the local IP addresses for host candidates, by default those of all interfaces.
 
-        ImportError if there is a TURN server and aioice is not installed. ValueError for more than one component. HasAgent if it is
-        called again.
+        ImportError if there is a TURN server or addresses are hidden, and aioice is not installed. ValueError for more than one
+        component. HasAgent if it is called again.
         """
         if hasattr(self, "agent"):
             raise HasAgent
@@ -96,6 +93,9 @@ class Connection(Unique):
             raise ValueError("the RELAY policy needs a STUN or TURN server")
         if turn_server:
             turn_client()
+        if hide_addresses:
+            mdns_client()
+        self.hide_addresses = hide_addresses
         self.stun_server, self.turn_server = stun_server, turn_server
         self.turn_username, self.turn_password = turn_username, turn_password
         self.turn_ssl, self.turn_transport = turn_ssl, turn_transport
@@ -108,18 +108,16 @@ class Connection(Unique):
         self._controlling, self._creds = ice_controlling, self.agent.local_credentials
         self.on_event: EventHandler | None = None  # called with each event of the agent
         self._loop = IceLoop(self.agent, self._on_event, self._on_media, self._on_stun)
-        self._stun = StunClient(self._loop.send)
-        self._mdns = MdnsResolver()
+        self._log, self._mdns = SessionLog(_log, self.agent), Mdns()
+        self._local = LocalCandidates(self.agent, self._loop, self._mdns, self._log)
+        self._remote = RemoteCandidates(self._loop, self._mdns, self._log, self._fail_if_nothing_is_left)
         self._start_state()
 
     def _start_state(self) -> None:
-        self._allocations: list[Allocation] = []
         self._gathering: asyncio.Task[None] | None = None
-        self._remote_end = self._connected = self._closed = False
-        self._names: set[asyncio.Task[None]] = set()  # mDNS names that are being resolved
-        self._unknown_hosts = 0  # mDNS names that are not resolved: checks of these hosts may come all the same
+        self._connected = self._closed = False
         self._path: tuple[SocketAddress, SocketAddress] | None = None
-        self._found: asyncio.Future[bool] | None = None
+        self._found: asyncio.Future[str | None] | None = None  # None: a path was found. Else why not
         self._event: asyncio.Future[Any] | None = None
         self._closing: asyncio.Task[None] | None = None  # after consent was lost
         self._ending: asyncio.Task[None] | None = None
@@ -171,10 +169,7 @@ class Connection(Unique):
     @property
     def local_candidates(self) -> list[CandidateAttribute]:
         """The candidates that were gathered, for signaling. None after `close`."""
-        if self._closed:
-            return []
-        listed = self.agent.local_fields()
-        return [CandidateAttribute.from_fields(fields) for fields in listed if fields.kind is not CandidateKind.PEER_REFLEXIVE]
+        return [] if self._closed else self._local.signaled()
 
     @property
     def remote_candidates(self) -> list[CandidateAttribute]:
@@ -205,16 +200,10 @@ class Connection(Unique):
             self._gathering.result()
 
     async def _gather(self) -> None:
-        bases = []
-        for ip in self._host_addresses():
-            try:
-                bases.append(await self._loop.open(ip))
-            except OSError as error:
-                _log.warning("no host candidate at %s: %s", ip, error)
-        if not self._relay_only:  # otherwise the sockets only serve the STUN server
-            for base in bases:
-                self._add_local(Candidate.host(base))
-        await all_of(self._gather_reflexive(bases), self._gather_relayed())
+        turn = None
+        if self.turn_server:
+            turn = TurnServer(self.turn_server, self.turn_username, self.turn_password, self.turn_ssl, self.turn_transport)
+        await self._local.gather(Sources(self._host_addresses(), self.stun_server, turn, self._relay_only, self.hide_addresses))
 
     def _host_addresses(self) -> Sequence[str]:
         found = host_addresses(self._use_ipv4, self._use_ipv6) if self._addresses is None else self._addresses
@@ -222,46 +211,8 @@ class Connection(Unique):
             return found
         room = max(0, self.max_candidates - (self.turn_server is not None))
         if len(found) > room:
-            _log.warning("host candidates at %d of %d addresses", room, len(found))
+            self._log.warning("host candidates at %d of %d addresses", room, len(found))
         return found[:room]
-
-    async def _gather_reflexive(self, bases: list[SocketAddress]) -> None:
-        if self.stun_server:
-            for candidate in await server_reflexive_candidates(self._stun, bases, self.stun_server):
-                self._add_local(candidate)
-
-    async def _gather_relayed(self) -> None:
-        if not self.turn_server:
-            return
-        server = TurnServer(self.turn_server, self.turn_username, self.turn_password, self.turn_ssl, self.turn_transport)
-        try:
-            allocation = await allocate(self._loop, server)
-        except OSError as error:
-            _log.warning("no relayed candidate: %s", error)
-            return
-        self._allocations.append(allocation)
-        candidate = Candidate.relayed(allocation.local, allocation.base)
-        self._add_local(candidate)
-        allocation.freed.add_done_callback(lambda _: self._remove_local(candidate))
-
-    def _remove_local(self, candidate: Candidate) -> None:
-        if not self._closed:
-            self.agent.invalidate_candidate(candidate)
-            self._loop.wake()
-
-    def _add_local(self, candidate: Candidate) -> None:
-        if self._closed or self._takes_the_last_place(candidate):
-            return
-        try:
-            self.agent.add_local_candidate(candidate)
-        except IceError as error:
-            _log.warning("no candidate at %s: %s", candidate.address, error)
-
-    def _takes_the_last_place(self, candidate: Candidate) -> bool:
-        """Whether the candidate would take the place that is left for the relayed one."""
-        if self.max_candidates is None or self.turn_server is None or candidate.kind is CandidateKind.RELAYED:
-            return False
-        return len(self.agent.local_candidates()) >= self.max_candidates - 1
 
     # ---- signaling
 
@@ -272,62 +223,26 @@ class Connection(Unique):
         meanwhile, if aioice is installed: `connect` does not wait for it, and fails for lack of candidates only after it. If nobody
         responds for the name, the agent discovers the address from the peer's checks.
         """
-        if self._remote_end:
+        if self._remote.ended:
             raise ValueError("a candidate after end-of-candidates")
         if remote_candidate is None:
-            self._remote_end = True
+            self._remote.ended = True
             self._fail_if_nothing_is_left()
         elif not self._closed:
-            sdp = remote_candidate if isinstance(remote_candidate, str) else remote_candidate.to_sdp()
-            self._take_candidate("candidate:" + sdp.removeprefix("candidate:"))
-
-    def _take_candidate(self, line: str) -> None:
-        if len(line) > _MOST_CHARACTERS:
-            _log.info("left out a candidate of %d characters", len(line))
-            return
-        try:
-            if (name := line_name(line)) is None:
-                self._add_remote(line)
-            else:
-                _checked_fields(line_with_address(line, "0.0.0.0"))
-                self._resolve(line, name)
-        except (IceError, ValueError) as error:
-            _leave_out(error)
-
-    def _add_remote(self, line: str) -> None:
-        _checked_fields(line)
-        self.agent.add_remote_candidate(line)
-        self._loop.wake()
-
-    def _resolve(self, line: str, name: str) -> None:
-        if self.max_candidates is not None and len(self._names) >= self.max_candidates:
-            raise TooManyCandidates
-        self._unknown_hosts += 1
-        task = asyncio.ensure_future(self._add_named(line, name))
-        self._names.add(task)
-        task.add_done_callback(self._names.discard)
-
-    async def _add_named(self, line: str, name: str) -> None:
-        ip = await self._mdns.resolve(name)
-        if ip is None:
-            return  # a check of the host may come all the same
-        self._unknown_hosts -= 1
-        try:
-            self._add_remote(line_with_address(line, ip))
-        except (IceError, ValueError) as error:
-            _leave_out(error)
-        self._fail_if_nothing_is_left()
+            self._remote.take(remote_candidate)
 
     # ---- the session
 
     async def connect(self) -> None:
-        """Connects. ConnectionError if something is missing, if all checks fail, or after 30 s."""
+        """Connects. ConnectionError if something is missing, if all checks fail, or after 30 s. It says what was tried."""
         if self._gathering is None or not self._gathering.done():
             raise ConnectionError("candidates were not gathered")
         if self.remote_username is None or self.remote_password is None:
             raise ConnectionError("the remote username or password is missing")
-        if self._closed or self._may_not_connect():
-            raise ConnectionError("ICE negotiation failed")
+        if self._closed:
+            raise ConnectionError(self._failure("the connection was closed"))
+        if self._may_not_connect():
+            raise ConnectionError(self._failure("the peer has no candidates"))
         if self._connected:
             return
         try:
@@ -340,44 +255,59 @@ class Connection(Unique):
             self._found = asyncio.get_running_loop().create_future()
         self._loop.begin()
         try:
-            found = await asyncio.wait_for(asyncio.shield(self._found), _PATIENCE)
+            failure = await asyncio.wait_for(asyncio.shield(self._found), _PATIENCE)
         except asyncio.TimeoutError:
-            found = False
-        if not found:
-            raise ConnectionError("ICE negotiation failed")
+            failure = self._failure(f"there is no path after {_PATIENCE:g} s")
+        if failure:
+            self._log.info("%s", failure)
+            raise ConnectionError(failure)
+
+    def _failure(self, why: str) -> str:
+        """Says why there is no connection, and what was tried."""
+        failure = f"ICE negotiation failed: {why}"
+        try:
+            failure += "; " + self._loop.tried()
+        except NoAgent:
+            return failure
+        if self._remote.unknown_hosts:
+            failure += f"; mDNS names of the peer without an address: {self._remote.unknown_hosts}"
+        return failure if self._remote.ended else failure + "; the peer did not signal the end of its candidates"
 
     def _may_not_connect(self) -> bool:
         """Whether nothing is left to try: no candidate comes any more, and there is none."""
-        return self._remote_end and not self._unknown_hosts and not self.agent.remote_candidates()
+        return self._remote.are_all_known and not self.agent.remote_candidates()
 
     def _fail_if_nothing_is_left(self) -> None:
-        if self._found and not self._found.done() and self._remote_end and not self._unknown_hosts:
-            if self._may_not_connect() or self.agent.state.is_disconnected():
-                self._finish(False)
+        if self._found and not self._found.done() and self._remote.are_all_known:
+            if self._may_not_connect():
+                self._fail("the peer has no candidates")
+            elif self.agent.state.is_disconnected():
+                self._fail("all checks failed")
 
     def _on_event(self, event: IceAgentEvent) -> None:
         if isinstance(event, NominatedSend):
             self._path, self._connected = (event.source, event.destination), True
-            self._finish(True)
+            if self._found and not self._found.done():
+                self._found.set_result(None)
         elif isinstance(event, IceConnectionStateChange) and event.state is IceConnectionState.CHECKING:
             self._path = None  # consent for it was lost, and there may be another one
         elif isinstance(event, IceConnectionStateChange) and event.state.is_disconnected():
             if self._connected:
                 self._closing = asyncio.ensure_future(self._close())  # after this event was reported
-            elif self._remote_end and not self._unknown_hosts:
-                self._finish(False)
+            elif self._remote.are_all_known:
+                self._fail("all checks failed")
         if self.on_event:
             self.on_event(event)
 
-    def _on_stun(self, source: SocketAddress, local: SocketAddress, data: bytes) -> None:
-        self._stun.receive(source, local, data)
+    def _on_stun(self, source: SocketAddress, local: SocketAddress, data: bytes) -> bool:
+        return self._local.take_response(source, local, data)
 
     def _on_media(self, source: SocketAddress, local: SocketAddress, data: bytes) -> None:
         self._inbox.put(data)
 
-    def _finish(self, found: bool) -> None:
+    def _fail(self, why: str) -> None:
         if self._found and not self._found.done():
-            self._found.set_result(found)
+            self._found.set_result(self._failure(why))
 
     def close(self) -> Coroutine[Any, Any, None]:
         """Closes the connection. `connect`, `recv` and gathering of other tasks end, and `get_event` returns ConnectionClosed.
@@ -407,20 +337,21 @@ class Connection(Unique):
             self._controlling = self.agent.controlling
         except NoAgent:
             pass
+        self._fail("the connection was closed")
         self._closed, self._connected, self._path = True, False, None
+        self._local.close()
         self._loop.close()
         self.agent.close()
-        self._finish(False)
         self._inbox.end()
         if self._event and not self._event.done():
             self._event.set_result(self.closed_event())
 
     async def _end(self) -> None:
-        tasks = [*self._names, *([self._gathering] if self._gathering else [])]
+        tasks = [*self._remote.names, *([self._gathering] if self._gathering else [])]
         for task in tasks:
             task.cancel()
         await asyncio.gather(*tasks, return_exceptions=True)
-        await all_of(self._mdns.close(), *(allocation.close() for allocation in self._allocations))
+        await all_of(self._mdns.close(), *(allocation.close() for allocation in self._local.allocations))
         await asyncio.sleep(0)  # asyncio closes the sockets
 
     async def get_event(self) -> Any:
@@ -473,26 +404,9 @@ class Connection(Unique):
 
     def set_selected_pair(self, component: int, local_foundation: str, remote_foundation: str) -> None:
         """Uses a path without checks, for a peer without ICE. ValueError if there is no candidate with such a foundation."""
-        local = _with_foundation(self.agent.local_fields(), local_foundation)
-        remote = _with_foundation(self.agent.remote_fields(), remote_foundation)
+        local = self._local.with_foundation(local_foundation)
+        remote = next((fields for fields in self.agent.remote_fields() if fields.foundation == remote_foundation), None)
+        if remote is None:
+            raise ValueError(f"no remote candidate has the foundation {remote_foundation}")
         source = local.address if local.kind is CandidateKind.RELAYED else local.local
         self._path, self._connected = (source, remote.address), True
-
-
-def _with_foundation(candidates: list[CandidateFields], foundation: str) -> CandidateFields:
-    for candidate in candidates:
-        if candidate.foundation == foundation:
-            return candidate
-    raise ValueError(f"no candidate has the foundation {foundation}")
-
-
-def _checked_fields(line: str) -> CandidateFields:
-    """Returns the fields of a candidate. ValueError if it is not one, or if its foundation is not in the grammar of RFC 8839."""
-    fields = line_fields(line)
-    if not is_foundation(fields.foundation):
-        raise ValueError(f"the foundation {fields.foundation!r} does not have 1 to 32 letters, digits, '+' and '/'")
-    return fields
-
-
-def _leave_out(error: Exception) -> None:
-    _log.info("left out a candidate: %r", str(error)[:_LOGGED])

@@ -134,6 +134,15 @@ class CandidatePair:
 
 
 @dataclass(frozen=True)
+class MediaPath:
+    """A path for media, from `source` to `destination`."""
+
+    source: SocketAddress
+    destination: SocketAddress
+    protocol: Protocol
+
+
+@dataclass(frozen=True)
 class NominatedPair:
     """The selected pair. Times are nanoseconds. `rtt` is the last round-trip time, or None if there is none.
 

@@ -1,20 +1,17 @@
-"""Gathers candidates for a connection: server-reflexive ones from a STUN server, relayed ones by aioice's TURN client.
-
-Also resolves mDNS names by aioice. aioice is optional: without it there are no relayed candidates, and names are left out.
-"""
+"""Candidates from servers: server-reflexive ones from a STUN server, relayed ones by aioice's TURN client, which is optional."""
 
 from __future__ import annotations
 
 import asyncio
 import logging
 import socket
-import sys
 import types
 from collections import Counter
 from collections.abc import Callable, Coroutine, Generator
 from dataclasses import dataclass, field
 from typing import Any, TypeVar
 
+from ._aioice import aioice_part, needed_part
 from .address import SocketAddress
 from .candidate import Candidate
 from .demux import is_stun
@@ -25,7 +22,7 @@ from .stun_client import StunClient
 
 _log = logging.getLogger(__name__)
 
-_CLOSING = 1.0  # seconds for a TURN server to free an allocation, and for the socket of mDNS to be opened or closed
+_CLOSING = 1.0  # seconds for a TURN server to free an allocation
 _SENDING = 1024  # datagrams that wait until a TURN server has bound the channel of a peer; later ones are lost
 
 ServerAddress = tuple[str, int]
@@ -57,19 +54,9 @@ class TurnServer:
     transport: str = "udp"
 
 
-def _aioice_part(name: str) -> Any:
-    """Returns a module of aioice, or None if aioice is not installed."""
-    try:
-        return __import__(f"aioice.{name}", fromlist=[name])
-    except ImportError:
-        return None
-
-
 def turn_client() -> Any:
     """Returns aioice's TURN client. ImportError says what to install."""
-    if client := _aioice_part("turn"):
-        return client
-    raise ImportError("a TURN server needs aioice: pip install 'is_ice[turn]', or apt install python3-aioice")
+    return needed_part("turn", "a TURN server")
 
 
 async def server_reflexive_candidates(client: StunClient, bases: list[SocketAddress], server: ServerAddress) -> list[Candidate]:
@@ -218,7 +205,7 @@ async def allocate(loop: IceLoop, server: TurnServer) -> Allocation:
 
 
 async def _allocate(loop: IceLoop, server: TurnServer) -> Allocation:
-    client, stun = turn_client(), _aioice_part("stun")
+    client, stun = turn_client(), aioice_part("stun")
     try:
         _, allocation = await _ended_by_an_exception(client.create_turn_endpoint(
             lambda: Allocation(loop), server_addr=server.address, username=server.username, password=server.password,
@@ -229,36 +216,3 @@ async def _allocate(loop: IceLoop, server: TurnServer) -> Allocation:
         raise OSError(f"the TURN server {server.address} allocates no address: {error!r}") from error
     assert isinstance(allocation, Allocation)
     return allocation
-
-
-class MdnsResolver:
-    """Resolves mDNS names by aioice, with one socket for the whole connection."""
-
-    def __init__(self) -> None:
-        self._opened: asyncio.Future[Any] | None = None
-
-    async def resolve(self, name: str) -> str | None:
-        """Returns the IP address of a name, or None if nobody responds, if mDNS cannot be used, or if aioice is not installed."""
-        if "aioice.mdns" in sys.modules:
-            mdns = _aioice_part("mdns")
-        else:  # to import it takes as long as a session takes to connect
-            mdns = await asyncio.to_thread(_aioice_part, "mdns")
-        if mdns is None:
-            return None
-        if self._opened is None:
-            self._opened = asyncio.ensure_future(mdns.create_mdns_protocol())
-        try:
-            address = await (await asyncio.shield(self._opened)).resolve(name)
-        except Exception as error:  # no socket, or a name that DNS cannot have, for which dnspython has its own exceptions
-            _log.info("mDNS: %r", error)
-            return None
-        return None if address is None else str(address)
-
-    async def close(self) -> None:
-        """Closes the socket, within two seconds."""
-        if self._opened:
-            opened, self._opened = self._opened, None
-            try:
-                await asyncio.wait_for((await asyncio.wait_for(opened, _CLOSING)).close(), _CLOSING)
-            except Exception as error:
-                _log.info("mDNS: %r", error)

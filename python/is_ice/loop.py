@@ -3,11 +3,14 @@
 from __future__ import annotations
 
 import asyncio
+import logging
 import socket
 import time
 from collections import deque
 from collections.abc import Callable
 
+from ._report import tried
+from ._session_log import SessionLog
 from ._unique import Unique
 from .address import SocketAddress
 from .agent import IceAgent
@@ -16,8 +19,8 @@ from .demux import is_stun, is_stun_request
 from .errors import HasAgent, IceError, NoAgent, Unparsed
 from .events import IceAgentEvent
 
-# Time starts at 60 s: the agent gives a newly nominated pair a due time 60 s in the past.
-_BEGINNING = 60_000_000_000
+_log = logging.getLogger(__name__)
+
 # The least pacing interval (RFC 8445, section 14.2): how soon after a timeout a packet of the peer may cause the next one.
 _LEAST_PACING = 5_000_000
 _WITHOUT_TIMEOUT = 50_000_000
@@ -26,6 +29,7 @@ _RECEIVE_BUFFER = 256 * 1024
 
 EventHandler = Callable[[IceAgentEvent], None]
 DatagramHandler = Callable[[SocketAddress, SocketAddress, bytes], None]
+StunHandler = Callable[[SocketAddress, SocketAddress, bytes], object]
 Send = Callable[[SocketAddress, bytes], None]
 
 
@@ -48,16 +52,19 @@ class IceLoop(Unique):
     """An agent, its sockets and its timer. It cannot be copied or pickled.
 
     Calls `on_event` with events, `on_media` with datagrams that are not STUN messages, and `on_stun` with STUN messages that are not
-    for the agent, such as responses of STUN and TURN servers. The last two get the source, the local address and the bytes. If a
-    handler raises, the event loop's exception handler gets the exception, and the session goes on. A handler may close the loop
-    and the agent.
+    for the agent, such as responses of STUN and TURN servers. The last two get the source, the local address and the bytes; `on_stun`
+    returns True if it took the message. If a handler raises, the event loop's exception handler gets the exception, and the session
+    goes on. A handler may close the loop and the agent.
+
+    The logger `is_ice.loop` has a line for each event, and for the first STUN message of each kind that nobody took.
     """
 
     def __init__(self, agent: IceAgent, on_event: EventHandler, on_media: DatagramHandler,
-                 on_stun: DatagramHandler | None = None) -> None:
+                 on_stun: StunHandler | None = None) -> None:
         if hasattr(self, "agent"):
             raise HasAgent
         self.agent = agent
+        self.log = SessionLog(_log, agent)
         self._on_event, self._on_media, self._on_stun = on_event, on_media, on_stun
         self._start = time.monotonic_ns()
         self._sends: dict[SocketAddress, Send] = {}
@@ -69,7 +76,7 @@ class IceLoop(Unique):
 
     def now(self) -> int:
         """The current time for the agent, in nanoseconds."""
-        return time.monotonic_ns() - self._start + _BEGINNING
+        return time.monotonic_ns() - self._start
 
     async def open(self, ip: str, port: int = 0) -> SocketAddress:
         """Binds a socket at a local address and returns that address, with the port. No candidate is added."""
@@ -129,7 +136,14 @@ class IceLoop(Unique):
         elif is_stun_request(data):
             self._early.append((source, local, data))
         else:
-            self._report(self._on_stun, source, local, data)
+            self._pass_on(source, local, data)
+
+    def tried(self) -> str:
+        """Says what the session tried and what came back: candidates, pairs with their checks, counters, STUN messages that nobody took.
+
+        A pair that was removed is in the counters only. NoAgent if the agent was closed.
+        """
+        return tried(self.agent, self.log.discarded)
 
     def close(self) -> None:
         """Closes the sockets and stops the timer."""
@@ -163,7 +177,11 @@ class IceLoop(Unique):
         if accepted:
             self._turn(soon=True)
         else:
-            self._report(self._on_stun, source, local, data)
+            self._pass_on(source, local, data)
+
+    def _pass_on(self, source: SocketAddress, local: SocketAddress, data: bytes) -> None:
+        if not self._report(self._on_stun, source, local, data):
+            self.log.message_discarded(source, local, data)
 
     def _turn(self, soon: bool) -> None:
         """`soon`: something changed, so the next timeout need not wait for the pacing interval that the agent has."""
@@ -174,6 +192,7 @@ class IceLoop(Unique):
             while self._began and (packet := self.agent.poll_transmit()):
                 self.send(packet.source, packet.destination, packet.contents)
             while self._began and (event := self.agent.poll_event()):
+                self.log.event(event)
                 self._report(self._on_event, event)
         except NoAgent:
             self.close()
@@ -187,9 +206,10 @@ class IceLoop(Unique):
             self._timer.cancel()
         self._timer = asyncio.get_running_loop().call_later(max(0, due - now) / 1e9, self._timed_out)
 
-    def _report(self, handler: Callable[..., None] | None, *told: object) -> None:
+    def _report(self, handler: Callable[..., object] | None, *told: object) -> object:
+        """Calls a handler, and returns what it returns."""
         try:
-            if handler:
-                handler(*told)
+            return handler(*told) if handler else None
         except Exception as error:
             asyncio.get_running_loop().call_exception_handler({"message": "a handler of IceLoop raised", "exception": error})
+            return None

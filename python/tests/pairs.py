@@ -8,6 +8,7 @@ import unittest
 from typing import Any
 
 from is_ice.connection import Connection
+from is_ice.mdns import Mdns
 
 try:
     import aioice as aioice  # for tests, too
@@ -15,6 +16,8 @@ except ImportError:
     aioice = None
 
 LOOPBACK = ["127.0.0.1"]
+NOBODY = "candidate:1 1 udp 2130706431 127.0.0.1 9 typ host"
+HIDDEN = "candidate:1 1 udp 2130706431 3f2b8c1e-5c1e-4b0a-9f5e-1f2e3d4c5b6a.local {port} typ host"
 
 
 def agent(controlling: bool, **more: Any) -> Connection:
@@ -55,6 +58,16 @@ async def talk(a: Any, b: Any) -> None:
 
 async def close(*connections: Any) -> None:
     await asyncio.gather(*(connection.close() for connection in connections))
+
+
+async def nobody(resolver: Mdns, name: str) -> None:
+    """Takes as long as mDNS when nobody responds."""
+    await asyncio.sleep(1)
+
+
+def other_tasks() -> set[asyncio.Task[Any]]:
+    """The tasks of the loop but this one."""
+    return asyncio.all_tasks() - {asyncio.current_task()}
 
 
 def check_soon(test: unittest.TestCase, took: list[float], limit: float = 0.04) -> None:

@@ -37,6 +37,7 @@ from is_ice import (
     IceCreds,
     IceRestart,
     KindPreferences,
+    MediaPath,
     MtuTooSmall,
     NoAgent,
     NominatedSend,
@@ -242,6 +243,26 @@ def turn_without_responses(a: IceAgent, b: IceAgent, now: int) -> None:
                 other.handle_packet(now, packet.source, packet.destination, packet.contents)
 
 
+def checks_from(beginning: int) -> list[tuple[int, SocketAddress, int]]:
+    """The checks of the controlling one of two agents whose clock starts then, each with its turn of 50 ms; with the original's rules."""
+    a, b = two_agents()
+    for port in range(1, 5):
+        a.add_remote_candidate(f"candidate:1 1 udp 1 10.0.0.9 {port} typ host")
+    sent = []
+    for agent in (a, b):
+        agent.set_rules(Rules.original())
+    for turn in range(40):
+        now = beginning + turn * SECOND // 20
+        for agent, other in ((a, b), (b, a)):
+            agent.handle_timeout(now)
+            while packet := agent.poll_transmit():
+                if agent is a and is_request(packet.contents):
+                    sent.append((turn, packet.destination, len(packet.contents)))
+                if packet.destination in (HERE, THERE):
+                    other.handle_packet(now, packet.source, packet.destination, packet.contents)
+    return sent
+
+
 def is_request(contents: bytes) -> bool:
     """Whether a STUN message is a Binding request: its type (RFC 8489, section 5)."""
     return contents[:2] == b"\x00\x01"
@@ -312,6 +333,32 @@ class Sessions(unittest.TestCase):
         self.assertEqual(events[0], IceRestart(a.local_credentials))
         self.assertIn(THERE, [event.destination for event in events if isinstance(event, NominatedSend)])
         self.assertEqual(a.nominated_pair, pair)
+
+    def test_a_clock_may_start_at_0(self) -> None:
+        """The nominating check goes first, as by a later clock. With USE-CANDIDATE it is 4 bytes longer (RFC 8445, section 16.1)."""
+        checks = checks_from(0)
+        self.assertEqual([length - checks[0][2] for _, destination, length in checks if destination == THERE][:2], [0, 4])
+        self.assertEqual(checks, checks_from(3600 * SECOND))
+
+    def test_times_are_those_of_the_program(self) -> None:
+        a, b = two_agents()
+        b.handle_timeout(0)
+        self.assertGreater(b.poll_timeout() or 0, 0)
+        packet = b.poll_transmit()
+        assert packet is not None
+        a.handle_packet(SECOND, packet.source, packet.destination, packet.contents)
+        self.assertEqual(a.pairs[0].last_request, SECOND)
+
+    def test_a_path_is_valid_before_it_is_selected(self) -> None:
+        a, b = two_agents()
+        self.assertIsNone(b.valid_path)
+        b.handle_timeout(BEGINNING)
+        for agent, other in ((b, a), (a, b)):
+            packet = agent.poll_transmit()
+            assert packet is not None
+            self.assertTrue(other.handle_packet(BEGINNING, packet.source, packet.destination, packet.contents))
+        self.assertIsNone(b.nominated_pair)
+        self.assertEqual(b.valid_path, MediaPath(THERE, HERE, Protocol.UDP))
 
     def test_a_query_of_the_selected_pair_polls_no_events(self) -> None:
         """Once as many events wait as `set_max_discovered` allows, by default 32, no further source is reported."""
@@ -415,6 +462,15 @@ class Errors(unittest.TestCase):
     def test_candidates_say_why(self) -> None:
         with self.assertRaises(BadCandidate):
             self.agent.add_local_candidate(Candidate.host(SocketAddress("0.0.0.0", 1)))
+
+    def test_settings_begin_as_documented(self) -> None:
+        """The defaults of docs/API.md, as c/tests/layout.c and rust/tests/calls.rs have them."""
+        agent, rules = is_ice.IceAgent(), Rules.modern()
+        self.assertEqual((agent.mtu, agent.mtu_warn, agent.ice_timeout, agent.max_candidates), (1150, 1280, 26_700_000_000, 100))
+        self.assertEqual((agent.controlling, agent.ice_lite, agent.rules), (False, False, rules))
+        self.assertEqual((rules.triggered_checks, rules.early_rto), (4, EarlyRto(4, 100_000_000)))
+        self.assertEqual(rules.consent, Consent(29_600_000_000, strict=False))
+        self.assertTrue(rules.kinds_in_turn and rules.selects_at_once and rules.selected_first and rules.timeout_after_requests)
 
     def test_settings(self) -> None:
         self.assertRaises(MtuTooSmall, self.agent.set_mtu, 587, 1280)

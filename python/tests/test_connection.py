@@ -1,52 +1,23 @@
-"""The awaitable connection: two of them over loopback, what each call raises, consent, servers, mDNS names."""
+"""The awaitable connection: two of them over loopback, what each call raises, consent, limits."""
 
 from __future__ import annotations
 
 import asyncio
-import copy
-import gc
-import os
-import pickle
 import socket
 import time
 import unittest
 from collections.abc import Awaitable, Callable
-from typing import Any
 from unittest import mock
 
 import is_ice.connection
-from is_ice import BadCandidate, HasAgent, IceConnectionState, IceConnectionStateChange, NominatedSend, Protocol, SocketAddress
+from is_ice import BadCandidate, IceConnectionState, IceConnectionStateChange, NominatedSend, Protocol
 from is_ice._inbox import Inbox
 from is_ice.attribute import CandidateAttribute
 from is_ice.connection import Connection, ConnectionClosed, TransportPolicy
-from is_ice.gather import Allocation, MdnsResolver, data_of
-from is_ice.interfaces import host_addresses
+from is_ice.mdns import Mdns
 
-from pairs import add_candidates, agent, aioice, check_soon, close, gather, join, talk
-from test_stun_client import SEEN, StunServer
-
-NOBODY = "candidate:1 1 udp 2130706431 127.0.0.1 9 typ host"
-HIDDEN = "candidate:1 1 udp 2130706431 3f2b8c1e-5c1e-4b0a-9f5e-1f2e3d4c5b6a.local {port} typ host"
-
-
-async def nobody(resolver: MdnsResolver, name: str) -> None:
-    """Takes as long as mDNS when nobody responds."""
-    await asyncio.sleep(1)
-
-
-def other_tasks() -> set[asyncio.Task[Any]]:
-    """The tasks of the loop but this one."""
-    return asyncio.all_tasks() - {asyncio.current_task()}
-
-
-async def ended_by_cancelling(call: Awaitable[object], steps: int) -> bool:
-    """Cancels a call after some steps of the loop. Returns whether it was not yet done."""
-    task = asyncio.ensure_future(call)
-    for _ in range(steps):
-        await asyncio.sleep(0)
-    task.cancel()
-    await asyncio.wait({task})
-    return task.cancelled()
+from pairs import HIDDEN, NOBODY, add_candidates, agent, aioice, check_soon, close, gather, join, nobody, talk
+from test_stun_client import StunServer
 
 
 class Sessions(unittest.IsolatedAsyncioTestCase):
@@ -114,58 +85,6 @@ class Sessions(unittest.IsolatedAsyncioTestCase):
         self.assertEqual((a.ice_controlling, b.ice_controlling), (True, False))
         await talk(a, b)
         await close(a, b)
-
-    async def test_names_that_are_being_resolved_keep_the_session_open(self) -> None:
-        a, b = agent(True), agent(False)
-        await gather(a, b)
-        resolved = asyncio.get_running_loop().create_future()
-        with mock.patch.object(MdnsResolver, "resolve", lambda _, name: resolved):
-            await a.add_remote_candidate(HIDDEN.format(port=b.local_candidates[0].port))
-            await a.add_remote_candidate(None)
-            both = asyncio.gather(a.connect(), b.connect())
-            await asyncio.sleep(0.01)
-            resolved.set_result("127.0.0.1")
-        await asyncio.wait_for(both, 2)
-        await talk(a, b)
-        await close(a, b)
-
-    async def test_names_that_nobody_resolves_delay_nothing(self) -> None:
-        """Ten names of a second each before the candidate with an address, on both sides: at most 0.3 s in all."""
-        with mock.patch.object(MdnsResolver, "resolve", nobody):
-            took = [9.0]
-            while min(took) > 0.3 and len(took) < 10:  # the machine may be busy
-                a, b = agent(True), agent(False)
-                await gather(a, b)
-                start = time.monotonic()
-                for one in (a, b):
-                    for port in range(9000, 9010):
-                        await one.add_remote_candidate(HIDDEN.format(port=port))
-                await add_candidates(a, b)
-                await asyncio.gather(a.connect(), b.connect())
-                took.append(time.monotonic() - start)
-                await talk(a, b)
-                await close(a, b)
-                self.assertEqual(other_tasks(), set())
-            self.assertLess(min(took), 0.3)
-
-    async def test_the_end_of_candidates_waits_for_names(self) -> None:
-        for found, outcome in (("not an address", False), ("127.0.0.1", True)):
-            a, b = agent(True), agent(False)
-            await gather(a, b)
-            resolved = asyncio.get_running_loop().create_future()
-            with mock.patch.object(MdnsResolver, "resolve", lambda _, name: resolved):
-                await a.add_remote_candidate(HIDDEN.format(port=b.local_candidates[0].port))
-                await a.add_remote_candidate(None)
-                connecting = asyncio.ensure_future(a.connect())
-                await asyncio.sleep(0.2)
-                self.assertFalse(connecting.done())
-                resolved.set_result(found)
-                other = asyncio.ensure_future(b.connect())
-                await asyncio.wait({connecting}, timeout=2)
-            self.assertEqual(connecting.done() and connecting.exception() is None, outcome)
-            await close(a, b)
-            await asyncio.wait({other})
-            other.exception()
 
     async def test_a_pair_without_checks(self) -> None:
         a, b = agent(True), agent(False)
@@ -292,276 +211,6 @@ class Failures(unittest.IsolatedAsyncioTestCase):
         await b.close()
 
 
-class Gathering(unittest.IsolatedAsyncioTestCase):
-    async def test_a_stun_server(self) -> None:
-        server = StunServer()
-        at = await server.start()
-        for policy, kinds in ((TransportPolicy.ALL, ["host", "srflx"]), (TransportPolicy.RELAY, ["srflx"])):
-            a = agent(True, stun_server=at[:2], transport_policy=policy)
-            await a.gather_candidates()
-            self.assertEqual([c.type for c in a.local_candidates], kinds)
-            self.assertEqual((a.local_candidates[-1].host, a.local_candidates[-1].port), SEEN[:2])
-            await a.close()
-        server.close()
-
-    async def test_a_stun_server_that_does_not_respond(self) -> None:
-        with mock.patch("is_ice.stun_client.StunClient.binding.__defaults__", (0.1,)):
-            for server in (("127.0.0.1", 9), ("no.such.host.invalid", 3478)):
-                a = agent(True, stun_server=server)
-                await a.gather_candidates()
-                self.assertEqual([c.type for c in a.local_candidates], ["host"])
-                await a.close()
-
-    @unittest.skipIf(aioice is None, "aioice is not installed (Debian's python3-aioice)")
-    async def test_relayed_candidates(self) -> None:
-        from turn_server import TurnServer
-        server = TurnServer()
-        more = {"turn_server": await server.start(), "transport_policy": TransportPolicy.RELAY}
-        a, b = agent(True, **more), agent(False, **more)
-        await asyncio.wait_for(join(a, b), 5)
-        self.assertEqual([c.type for c in a.local_candidates], ["relay"])
-        await talk(a, b)
-        await close(a, b)
-        self.assertEqual(server.freed, 2)
-
-        c = agent(True, **more)
-        await c.gather_candidates()
-        c._allocations[0].connection_lost(None)
-        await asyncio.sleep(0)
-        self.assertEqual(c.agent.local_candidates(), [])
-        await c.close()
-        server.close()
-
-    @unittest.skipIf(aioice is None, "aioice is not installed (Debian's python3-aioice)")
-    async def test_a_peer_behind_a_symmetric_nat_reaches_a_relayed_candidate(self) -> None:
-        from turn_server import TurnServer
-        server = TurnServer()
-        a = agent(True, turn_server=await server.start(), transport_policy=TransportPolicy.RELAY)
-        b = agent(False)
-        await gather(a, b)
-        port = b.local_candidates[0].port
-        await a.add_remote_candidate(f"candidate:1 1 udp 2130706175 127.0.0.1 {port ^ 1} typ host")  # not the port that b sends from
-        await b.add_remote_candidate(a.local_candidates[0])
-        for one in (a, b):
-            await one.add_remote_candidate(None)
-        await asyncio.wait_for(asyncio.gather(a.connect(), b.connect()), 5)
-        await talk(a, b)
-        await close(a, b)
-        self.assertGreater(server.indications, 0)
-        server.close()
-
-    def test_data_indications(self) -> None:
-        peer, data = bytes.fromhex("00120008 00012112 e112a443"), bytes.fromhex("00130005") + b"hello\0\0\0"
-        message = bytes.fromhex("00170018 2112a442") + bytes(12) + peer + data
-        self.assertEqual(data_of(message), (b"hello", ("192.0.0.1", 0)))
-        for other in (b"", message[:20], message[:-1], b"\1" + message[1:], message[:3] + b"\x0c" + message[4:32]):
-            self.assertIsNone(data_of(other))
-
-    async def test_a_turn_server_without_aioice(self) -> None:
-        with mock.patch("is_ice.gather._aioice_part", return_value=None):
-            with self.assertRaisesRegex(ImportError, "pip install"):
-                Connection(True, turn_server=("127.0.0.1", 9))
-
-    async def test_names_of_mdns(self) -> None:
-        for found in ("127.0.0.1", None):  # without an address the checks of b bring it
-            with self.subTest(found=found), mock.patch.object(MdnsResolver, "resolve", mock.AsyncMock(return_value=found)):
-                a, b = agent(True), agent(False)
-                await gather(a, b)
-                await a.add_remote_candidate(HIDDEN.format(port=b.local_candidates[0].port))
-                await b.add_remote_candidate(a.local_candidates[0])
-                for one in (a, b):
-                    await one.add_remote_candidate(None)
-                await asyncio.wait(a._names)
-                self.assertEqual(len(a.remote_candidates), 1 if found else 0)
-                await asyncio.wait_for(asyncio.gather(a.connect(), b.connect()), 2)
-                await talk(a, b)
-                await close(a, b)
-
-    async def test_mdns_without_aioice(self) -> None:
-        with mock.patch("is_ice.gather._aioice_part", return_value=None):
-            self.assertIsNone(await MdnsResolver().resolve("x.local"))
-
-    def test_addresses_of_interfaces(self) -> None:
-        for address in host_addresses():
-            self.assertNotIn(address, ("127.0.0.1", "::1"))
-            self.assertFalse(address.startswith("fe80"))
-        self.assertFalse([a for a in host_addresses(use_ipv4=False) if SocketAddress(a, 1).version == 4])
-        self.assertFalse([a for a in host_addresses(use_ipv6=False) if SocketAddress(a, 1).version == 6])
-
-
-class Closing(unittest.IsolatedAsyncioTestCase):
-    async def test_a_close_that_is_cancelled(self) -> None:
-        """While a TURN server frees an allocation, and while the socket of mDNS is opened: neither ever happens here."""
-        for what in ("allocation", "mdns"):
-            with self.subTest(what=what):
-                a = agent(True)
-                await a.gather_candidates()
-                if what == "allocation":
-                    a._allocations.append(Allocation(a._loop))
-                else:
-                    a._mdns._opened = asyncio.get_running_loop().create_future()
-                event = asyncio.ensure_future(a.get_event())
-                await asyncio.sleep(0)
-                with self.assertRaises(asyncio.TimeoutError):
-                    await asyncio.wait_for(a.close(), 0.1)
-                self.assertIsInstance(await asyncio.wait_for(event, 1), ConnectionClosed)
-                await asyncio.wait_for(a.close(), 2)
-                self.assertIsNone(await a.get_event())
-                self.assertEqual(other_tasks(), set())
-
-    async def test_calls_that_are_cancelled_at_each_step(self) -> None:
-        open_files = len(os.listdir("/proc/self/fd"))
-        cancelled = 0
-        for steps in range(16):
-            a, b = agent(True), agent(False)
-            cancelled += await ended_by_cancelling(a.gather_candidates(), steps)
-            await join(a, b)
-            received = asyncio.ensure_future(b.recv())
-            await asyncio.sleep(0)
-            received.cancel()
-            await a.send(b"x")
-            self.assertEqual(await asyncio.wait_for(b.recv(), 1), b"x")
-            event = asyncio.ensure_future(a.get_event())
-            await asyncio.sleep(0)
-            cancelled += await ended_by_cancelling(a.close(), steps)
-            self.assertIsInstance(await asyncio.wait_for(event, 1), ConnectionClosed)
-            await close(a, b)
-        for steps in range(16):
-            a, b = agent(True), agent(False)
-            await gather(a, b)
-            await add_candidates(a, b)
-            other = asyncio.ensure_future(b.connect())
-            cancelled += await ended_by_cancelling(a.connect(), steps)
-            await asyncio.wait_for(asyncio.gather(a.connect(), other), 5)
-            await close(a, b)
-            c = agent(True)
-            cancelled += await ended_by_cancelling(c.gather_candidates(), steps)
-            await c.close()
-        self.assertGreater(cancelled, 16)
-        await asyncio.sleep(0.05)
-        gc.collect()
-        self.assertEqual(other_tasks(), set())
-        self.assertLessEqual(len(os.listdir("/proc/self/fd")), open_files + 1)
-
-    async def test_tasks_of_gathering_end(self) -> None:
-        with socket.socket(socket.AF_INET, socket.SOCK_DGRAM) as silent:
-            silent.bind(("127.0.0.1", 0))
-            at = silent.getsockname()
-            for server in ({"stun_server": at}, {"turn_server": at}, {"stun_server": at, "turn_server": at}):
-                if aioice is None and "turn_server" in server:
-                    continue
-                with self.subTest(server=server):
-                    open_files = len(os.listdir("/proc/self/fd"))
-                    a = agent(True, **server)
-                    gathering = asyncio.ensure_future(a.gather_candidates())
-                    await asyncio.sleep(0.1)
-                    self.assertGreater(len(other_tasks()), 1)
-                    await a.close()
-                    await asyncio.wait_for(gathering, 1)  # it returns, since nobody cancelled it
-                    self.assertEqual((other_tasks(), a.local_candidates), (set(), []))
-                    await asyncio.sleep(0.05)
-                    self.assertLessEqual(len(os.listdir("/proc/self/fd")), open_files)
-                    await a.gather_candidates()
-                    self.assertEqual(other_tasks(), set())
-
-    @unittest.skipIf(aioice is None, "aioice is not installed (Debian's python3-aioice)")
-    async def test_an_allocation_is_freed(self) -> None:
-        from turn_server import TurnServer
-        for begun in (False, True):  # closed while the server makes it, and after
-            server = TurnServer()
-            a = agent(True, turn_server=await server.start())
-            gathering = asyncio.ensure_future(a.gather_candidates())
-            if begun:
-                await gathering
-            else:
-                while not a.local_candidates:
-                    await asyncio.sleep(0)
-            await asyncio.wait_for(a.close(), 2)
-            await asyncio.wait_for(gathering, 1)
-            self.assertGreaterEqual(server.freed, 1)
-            self.assertEqual(other_tasks(), set())
-            server.close()
-
-    async def test_an_allocation_that_nobody_frees(self) -> None:
-        if aioice is None:
-            self.skipTest("aioice is not installed (Debian's python3-aioice)")
-        from turn_server import TurnServer
-        server = TurnServer()
-        a = agent(True, turn_server=await server.start())
-        await a.gather_candidates()
-        with mock.patch("is_ice.gather._SENDING", 64):
-            for _ in range(100):  # no channel is bound
-                a._loop.send(a._allocations[0].local, SocketAddress("127.0.0.1", 9), b"x")
-        self.assertEqual(len(a._allocations[0]._tasks), 64)
-        server.close()
-        start = time.monotonic()
-        await a.close()
-        self.assertLess(time.monotonic() - start, 2)
-        await asyncio.sleep(0.05)
-        self.assertEqual(other_tasks(), set())
-
-    async def test_a_close_in_a_handler_and_while_sending(self) -> None:
-        a, b = agent(True), agent(False)
-        await gather(a, b)
-        await add_candidates(a, b)
-        closing: list[asyncio.Future[None]] = []
-        a.on_event = lambda event: closing.append(asyncio.ensure_future(a.close())) if isinstance(event, NominatedSend) else None
-        other = asyncio.ensure_future(b.connect())
-        await asyncio.gather(a.connect(), return_exceptions=True)
-        await asyncio.gather(*closing)
-        await close(a, b)
-        await asyncio.gather(other, return_exceptions=True)
-        self.assertEqual(other_tasks(), set())
-        a, b = agent(True), agent(False)
-        await join(a, b)
-
-        async def pump() -> int:
-            count = 0
-            try:
-                while True:
-                    await a.send(b"z" * 1000)
-                    count += 1
-                    await asyncio.sleep(0)
-            except ConnectionError:
-                return count
-
-        pumps = [asyncio.ensure_future(pump()) for _ in range(3)]
-        await asyncio.sleep(0.05)
-        await a.close()
-        self.assertGreater(min(await asyncio.wait_for(asyncio.gather(*pumps), 1)), 0)
-        await b.close()
-        self.assertEqual(other_tasks(), set())
-
-    def test_a_close_before_the_loop_runs(self) -> None:
-        loop = asyncio.new_event_loop()
-        a = agent(True)
-        loop.run_until_complete(a.gather_candidates())
-        closing = a.close()
-        self.assertEqual(len(a.local_candidates), 1)
-        loop.run_until_complete(closing)
-        self.assertEqual(a.local_candidates, [])
-        loop.close()
-
-    async def test_an_agent_that_the_program_closed(self) -> None:
-        a = agent(True)
-        await a.gather_candidates()
-        a.agent.close()
-        await a.close()
-        self.assertEqual((a.ice_controlling, a.local_candidates, a.remote_candidates), (True, [], []))
-
-    async def test_a_connection_is_neither_copied_nor_begun_again(self) -> None:
-        a = agent(True)
-        await a.gather_candidates()
-        makes: tuple[Callable[[Any], object], ...] = (copy.copy, copy.deepcopy, pickle.dumps)
-        for value in (a, a._loop):
-            for make in makes:
-                self.assertRaisesRegex(TypeError, "cannot be copied", make, value)
-        self.assertRaises(HasAgent, a.__init__, False)  # type: ignore[misc]
-        self.assertRaises(HasAgent, a._loop.__init__, a.agent, print, print)  # type: ignore[misc]
-        self.assertEqual(len(a.local_candidates), 1)
-        await a.close()
-
-
 class Limits(unittest.IsolatedAsyncioTestCase):
     async def test_what_nobody_reads_is_at_most_a_mebibyte(self) -> None:
         """Before the connection, from anybody, as when a peer sends early media."""
@@ -610,7 +259,7 @@ class Limits(unittest.IsolatedAsyncioTestCase):
 
     async def test_candidates_of_the_peer(self) -> None:
         for names in (False, True):
-            with self.subTest(names=names), mock.patch.object(MdnsResolver, "resolve", nobody):
+            with self.subTest(names=names), mock.patch.object(Mdns, "resolve", nobody):
                 a = agent(True)
                 await a.gather_candidates()
                 text = HIDDEN if names else NOBODY.replace(" 9 ", " {port} ")
@@ -618,7 +267,7 @@ class Limits(unittest.IsolatedAsyncioTestCase):
                 for port in range(1, 8001):
                     await a.add_remote_candidate(text.format(port=port))
                 self.assertLess(time.process_time() - start, 2)
-                self.assertEqual((len(a._names), len(a.remote_candidates)), (100, 0) if names else (0, 100))
+                self.assertEqual((len(a._remote.names), len(a.remote_candidates)), (100, 0) if names else (0, 100))
                 await a.close()
 
     async def test_the_text_of_a_candidate(self) -> None:

@@ -9,6 +9,7 @@ import unittest
 from pathlib import Path
 
 EXAMPLES = Path(__file__).resolve().parent.parent / "examples"
+PLAYS_CHATS = EXAMPLES.parent.parent / "c" / "tests" / "chat.py"
 
 
 def output(name: str, *arguments: str) -> str:
@@ -26,6 +27,11 @@ class Examples(unittest.TestCase):
         self.assertGreater(after, 200)
         self.assertEqual(len(modern), 2)
         self.assertLess(max(modern), 100)
+
+    def test_chats_restart_lose_their_peer_and_move(self) -> None:
+        program = [sys.executable, str(EXAMPLES / "chat.py")]
+        ran = subprocess.run([sys.executable, PLAYS_CHATS, *program], capture_output=True, text=True, timeout=120)
+        self.assertEqual(ran.returncode, 0, ran.stdout + ran.stderr)
 
     def test_calls_are_measured(self) -> None:
         self.assertEqual(len(re.findall(r": \d+ ns$", output("calls.py", "1"), re.M)), 6)

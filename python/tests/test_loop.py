@@ -3,8 +3,10 @@
 from __future__ import annotations
 
 import asyncio
+import os
 import socket
 import time
+import tracemalloc
 import unittest
 from pathlib import Path
 from unittest import mock
@@ -12,6 +14,7 @@ from unittest import mock
 from is_ice import Candidate, IceAgent, IceCreds, NominatedSend, SocketAddress
 from is_ice.demux import PacketKind, is_stun, packet_kind
 from is_ice.loop import IceLoop
+from is_ice.stun import StunClass, StunMethod, write_message
 
 from pairs import check_soon
 
@@ -204,6 +207,53 @@ class Datagrams(unittest.IsolatedAsyncioTestCase):
         await asyncio.sleep(0.3)
         self.assertEqual(len(side.media), 150)
         side.loop.close()
+
+
+def receive_from(side: Side, local: SocketAddress, first: int, forged: bytes) -> float:
+    """Passes on datagrams of 1,000 addresses. Returns the seconds of the processor that they took."""
+    start = time.process_time()
+    for number in range(first, first + 1000):
+        source = SocketAddress(f"20.0.{number >> 8}.{number & 255}", 1024 + number)
+        side.loop.receive(source, local, forged if number % 2 else BINDING_REQUEST)
+    return time.process_time() - start
+
+
+class Many(unittest.IsolatedAsyncioTestCase):
+    async def test_requests_of_strangers_cost_no_memory_and_no_more_time(self) -> None:
+        """From 22,000 addresses: some have no MESSAGE-INTEGRITY, the others one under a wrong password."""
+        side = Side(False)
+        side.loop = IceLoop(side.agent, side.note, nothing, nothing)
+        local = await side.loop.open("127.0.0.1")
+        side.agent.add_local_candidate(Candidate.host(local))
+        side.agent.set_remote_credentials(IceCreds("abcd", "p" * 22))
+        forged = write_message(StunMethod.BINDING, StunClass.REQUEST, bytes(12), username=f"{side.agent.local_credentials.ufrag}:abcd",
+                               priority=1, ice_controlling=1, key=b"a wrong password")
+        side.loop.begin()
+        tracemalloc.start()
+        self.addCleanup(tracemalloc.stop)
+        took = [receive_from(side, local, first, forged) for first in range(0, 17000, 1000)]
+        most = tracemalloc.get_traced_memory()[1]  # the module keeps at most 16,384 addresses
+        took += [receive_from(side, local, first, forged) for first in range(17000, 22000, 1000)]
+        self.assertLess(tracemalloc.get_traced_memory()[1] - most, 1 << 18)
+        self.assertLess(min(took[-5:]), 3 * min(took[:5]))
+        self.assertEqual((side.agent.remote_candidates(), side.agent.pairs, side.agent.stats.bind_request_recv), ([], [], 0))
+        side.loop.close()
+
+    async def test_many_sessions_in_one_loop(self) -> None:
+        open_files = len(os.listdir("/proc/self/fd"))
+        pairs = [await two_sides() for _ in range(50)]
+        sides = [side for pair in pairs for side in pair]
+        for side in sides:
+            side.loop.begin()
+        paths = await asyncio.wait_for(asyncio.gather(*(side.path for side in sides)), 10)
+        for a, b in zip(paths[::2], paths[1::2]):
+            self.assertEqual((a.source, a.destination), (b.destination, b.source))
+        for side in sides:
+            side.loop.close()
+            side.agent.close()
+        await asyncio.sleep(0.05)  # asyncio closes the sockets
+        self.assertEqual(asyncio.all_tasks() - {asyncio.current_task()}, set())
+        self.assertLessEqual(len(os.listdir("/proc/self/fd")), open_files)
 
 
 class Demultiplexing(unittest.TestCase):

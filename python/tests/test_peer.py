@@ -4,12 +4,18 @@ import asyncio
 import os
 import socket
 import sys
+import time
 import unittest
 from pathlib import Path
+from typing import Any
+
+from is_ice import Candidate, IceAgent, IceCreds, SocketAddress, line_fields
+from is_ice.demux import is_stun
 
 PEER = Path(__file__).resolve().parent.parent / "peer.py"
 # The program of c/examples, if it was built.
 C_PEER = Path(os.environ.get("IS_ICE_C_PEER") or Path(__file__).resolve().parents[2] / "c" / "out" / "peer")
+LONGEST = 0.15  # seconds: three pacing intervals
 ROLES = [("controlling", "controlled"), ("controlled", "controlling"), ("controlling", "controlling"), ("controlled", "controlled")]
 
 try:
@@ -18,11 +24,10 @@ except ImportError:
     aioice = None
 
 
-async def start(role: str, *program: str) -> asyncio.subprocess.Process:
+async def start(role: str, *program: str, seconds: int = 15) -> asyncio.subprocess.Process:
     pipe = asyncio.subprocess.PIPE
-    program = program or (sys.executable, str(PEER))
-    return await asyncio.create_subprocess_exec(*program, "-a", "127.0.0.1", "-m", "hello", "-t", "15", role, stdin=pipe, stdout=pipe,
-                                                stderr=pipe)
+    words = *(program or (sys.executable, str(PEER))), "-a", "127.0.0.1", "-m", "hello", "-t", str(seconds), role
+    return await asyncio.create_subprocess_exec(*words, stdin=pipe, stdout=pipe, stderr=pipe)
 
 
 async def end(peer: asyncio.subprocess.Process) -> tuple[int, str]:
@@ -58,6 +63,63 @@ async def with_aioice(role: str, their_control: bool) -> tuple[int, bytes]:
     status, _ = await end(peer)
     await theirs.close()
     return status, heard
+
+
+async def completes(peer: asyncio.subprocess.Process) -> None:
+    """Waits until a peer reports that its session is complete."""
+    assert peer.stderr is not None
+    while b"state Completed" not in await peer.stderr.readline():
+        pass
+
+
+class Nominating(asyncio.DatagramProtocol):
+    """A controlling agent that nominates at once when the first check of the other side arrives: its clock runs ahead."""
+
+    def __init__(self) -> None:
+        self.agent = IceAgent()
+        self.agent.set_controlling(True)
+        self.begun: float | None = None  # when that check arrived
+        self._now = 60_000_000_000
+
+    def connection_made(self, transport: Any) -> None:
+        self._transport = transport
+        self._local = SocketAddress(*transport.get_extra_info("sockname"))
+        self.line = self.agent.add_local_candidate(Candidate.host(self._local))
+
+    def datagram_received(self, data: bytes, addr: tuple[str, int]) -> None:
+        if not is_stun(data):
+            return
+        self.begun = self.begun or time.monotonic()
+        self.agent.handle_packet(self._now, SocketAddress(*addr), self._local, data)
+        self._now += 50_000_000
+        self.agent.handle_timeout(self._now)
+        while packet := self.agent.poll_transmit():
+            self._transport.sendto(packet.contents, packet.destination[:2])
+
+
+async def time_among_media(*program: str) -> float:
+    """How long a controlled peer takes from its first check until its session is complete, in seconds.
+
+    It is nominated in the first millisecond. Media of a stranger arrives all the time.
+    """
+    peer = await start("controlled", *program)
+    assert peer.stdout is not None and peer.stdin is not None
+    _, ufrag, password, line = (await peer.stdout.readline()).decode().rstrip().split(" ", 3)
+    transport, other = await asyncio.get_running_loop().create_datagram_endpoint(Nominating, local_addr=("127.0.0.1", 0))
+    other.agent.set_remote_credentials(IceCreds(ufrag, password))
+    other.agent.add_remote_candidate(line)
+    creds = other.agent.local_credentials
+    peer.stdin.write(f"signal {creds.ufrag} {creds.pass_} {other.line}\n".encode())
+    done = asyncio.ensure_future(completes(peer))
+    with socket.socket(socket.AF_INET, socket.SOCK_DGRAM) as stranger:
+        while not done.done():
+            stranger.sendto(b"\x80 media", line_fields(line).address[:2])
+            await asyncio.sleep(0.002)
+    took = time.monotonic() - (other.begun or 0)
+    peer.stdin.write(b"/quit\n")
+    await end(peer)
+    transport.close()
+    return took
 
 
 class Peers(unittest.TestCase):
@@ -97,6 +159,28 @@ class Peers(unittest.TestCase):
         self.assertEqual(status, 0, told)
         self.assertIn("CandidatePair(", told)
         self.assertNotIn("AAAA", told)
+
+    def test_out_of_time(self) -> None:
+        async def play() -> tuple[int, str]:
+            peer = await start("controlling", seconds=1)
+            assert peer.stdin is not None
+            peer.stdin.write(b"signal abcdefgh abcdefghijklmnopqrstuv candidate:1 1 udp 2130706431 127.0.0.1 9 typ host\n")
+            return await end(peer)
+
+        status, told = asyncio.run(play())
+        self.assertEqual(status, 1)
+        self.assertRegex(told, "peer: out of time; state Checking; .* -> 127.0.0.1:9 in progress, [1-9] checks sent, 0 answered, ")
+
+    def test_media_delays_no_state(self) -> None:
+        """Whatever arrives, a peer calls `handle_timeout` one pacing interval later, when its state follows, and not at its next check."""
+        for program in ((), (str(C_PEER),)):
+            if program and not C_PEER.exists():
+                continue
+            with self.subTest(program=program):
+                took = [9.0]
+                while min(took) > LONGEST and len(took) < 8:  # the machine may be busy
+                    took.append(asyncio.run(time_among_media(*program)))
+                self.assertLess(min(took), LONGEST)
 
     @unittest.skipUnless(C_PEER.exists(), "c/examples/peer.c is not built; IS_ICE_C_PEER names the program")
     def test_with_the_program_in_c(self) -> None:

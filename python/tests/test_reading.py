@@ -7,6 +7,7 @@ from __future__ import annotations
 
 import asyncio
 import ipaddress
+import json
 import random
 import time
 import unittest
@@ -63,7 +64,8 @@ def an_agent() -> IceAgent:
 
 class Reading(unittest.TestCase):
     def check(self, line: str) -> CandidateFields | None:
-        """Compares the readings of a text: `line_fields`, CandidateAttribute, and what an agent lists and sends a check to."""
+        """Compares the readings of a text: `line_fields`, CandidateAttribute, JSON, and what an agent lists and sends a check to."""
+        init = json.dumps({"candidate": line})
         with an_agent() as agent:
             try:
                 fields = line_fields(line)
@@ -72,11 +74,13 @@ class Reading(unittest.TestCase):
                     agent.add_remote_candidate(line)
                 self.assertEqual(str(refused.exception), str(error))
                 self.assertEqual(str(error), f"bad candidate: {line_refusal(line)}")
+                self.assertRaises(BadCandidate, line_from_json, init)
                 if line.startswith("candidate:") and line_name(line) is None:
                     self.assertRaises(ValueError, CandidateAttribute.from_sdp, line)
                 return None
             self.assertIsNone(line_refusal(line))
             self.assertEqual(line_fields(fields.text), fields)
+            self.assertEqual((line_from_json(init), line_from_json(line_to_json(line))), (fields.text, fields.text))
             attribute = CandidateAttribute.from_sdp(line)
             self.assertEqual(attribute, CandidateAttribute.from_fields(fields))
             self.assertEqual((attribute.foundation, attribute.component, attribute.host, attribute.port),

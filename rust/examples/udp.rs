@@ -40,9 +40,8 @@ impl Side {
     }
 
     /// One iteration of the loop. Returns media that arrived.
-    fn turn(&mut self) -> Result<Option<Vec<u8>>, Box<dyn Error>> {
+    fn turn(&mut self, now: Instant) -> Result<Option<Vec<u8>>, Box<dyn Error>> {
         let (mut buffer, mut media, mut called) = ([0; 1500], None, false);
-        let now = Instant::now();
         // 1. A datagram arrived. If not, the error is "would block", or that of an earlier datagram.
         if let Ok((length, source)) = self.socket.recv_from(&mut buffer) {
             if let Ok(message) = StunMessage::parse(&buffer[..length]) {
@@ -77,16 +76,22 @@ impl Side {
     }
 }
 
-fn main() -> Result<(), Box<dyn Error>> {
+/// Two sides that know each other's credentials and candidates, which signaling carries.
+fn introduced() -> Result<(Side, Side), Box<dyn Error>> {
     let (a_creds, b_creds) = (IceCreds::new(), IceCreds::new());
     let mut a = Side::new(true, a_creds.clone(), b_creds.clone())?;
     let mut b = Side::new(false, b_creds, a_creds)?;
-    b.agent.add_remote_candidate(Candidate::from_sdp_string(&a.gather()?)?); // signaling
+    b.agent.add_remote_candidate(Candidate::from_sdp_string(&a.gather()?)?);
     a.agent.add_remote_candidate(Candidate::from_sdp_string(&b.gather()?)?);
+    Ok((a, b))
+}
+
+fn main() -> Result<(), Box<dyn Error>> {
+    let (mut a, mut b) = introduced()?;
     let begun = Instant::now();
     while begun.elapsed() < Duration::from_secs(10) {
-        a.turn()?;
-        if let Some(media) = b.turn()? {
+        a.turn(Instant::now())?;
+        if let Some(media) = b.turn(Instant::now())? {
             println!("heard {}", String::from_utf8_lossy(&media));
             return Ok(());
         }
@@ -101,15 +106,12 @@ fn main() -> Result<(), Box<dyn Error>> {
 #[cfg(test)]
 mod tests {
     use super::*;
+    use is::Rules;
 
     /// A check of the peer is replayed from port 0, to which no socket sends: the loop goes on, and both sides connect.
     #[test]
     fn a_check_from_port_0() -> Result<(), Box<dyn Error>> {
-        let (a_creds, b_creds) = (IceCreds::new(), IceCreds::new());
-        let mut a = Side::new(true, a_creds.clone(), b_creds.clone())?;
-        let mut b = Side::new(false, b_creds, a_creds)?;
-        b.agent.add_remote_candidate(Candidate::from_sdp_string(&a.gather()?)?);
-        a.agent.add_remote_candidate(Candidate::from_sdp_string(&b.gather()?)?);
+        let (mut a, mut b) = introduced()?;
         let begun = Instant::now();
         a.agent.handle_timeout(begun);
         let check = a.agent.poll_transmit().ok_or("no check")?;
@@ -118,10 +120,45 @@ mod tests {
         assert!(b.agent.handle_packet(begun, StunPacket { proto: Protocol::Udp, source, destination: b.local, message }));
         while a.peer.is_none() || b.peer.is_none() {
             assert!(begun.elapsed() < Duration::from_secs(10));
-            a.turn()?;
-            b.turn()?;
+            a.turn(Instant::now())?;
+            b.turn(Instant::now())?;
             std::thread::sleep(Duration::from_millis(1));
         }
+        Ok(())
+    }
+
+    /// How long the controlled side takes from its first check until it selects its path by the original's rules. It is nominated in
+    /// the first milliseconds, since the clock of the other side runs ahead. Media of a stranger arrives all the time.
+    fn time_among_media() -> Result<Duration, Box<dyn Error>> {
+        let (mut a, mut b) = introduced()?;
+        let stranger = UdpSocket::bind("127.0.0.1:0")?;
+        b.agent.set_rules(Rules::original());
+        let begun = Instant::now();
+        let mut ahead = begun;
+        while b.peer.is_none() {
+            assert!(begun.elapsed() < Duration::from_secs(10));
+            stranger.send_to(b"media", b.local)?;
+            for _ in 0..3 {
+                assert_eq!(b.turn(Instant::now())?, None);
+            }
+            if a.peer.is_none() {
+                a.turn(ahead)?;
+                ahead += Duration::from_millis(50);
+            }
+            std::thread::sleep(Duration::from_millis(1));
+        }
+        Ok(begun.elapsed())
+    }
+
+    /// By the original's rules a controlled side selects its path in the next `handle_timeout`: one pacing interval after its check,
+    /// and not when the next one is due.
+    #[test]
+    fn media_delays_no_timeout() -> Result<(), Box<dyn Error>> {
+        let mut took = Duration::MAX;
+        for _ in 0..8 {
+            took = took.min(time_among_media()?); // the machine may be busy
+        }
+        assert!(took < Duration::from_millis(150), "{took:?}");
         Ok(())
     }
 }

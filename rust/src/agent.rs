@@ -3,7 +3,7 @@
 use crate::candidate::Candidate;
 use crate::creds::IceCreds;
 use crate::error::{CallError, found, or_panic};
-use crate::event::{IceAgentEvent, IceAgentStats, IceConnectionState, SelectedPath, Transmit};
+use crate::event::{IceAgentEvent, IceAgentStats, IceConnectionState, MediaPath, Transmit};
 use crate::ffi;
 use crate::hmac::Sha1HmacProvider;
 use crate::pair::CandidatePair;
@@ -15,7 +15,7 @@ use std::net::SocketAddr;
 use std::sync::{Arc, Mutex, PoisonError};
 use std::time::{Duration, Instant};
 
-/// The first instant on the agent's clock: late enough for what the agent subtracts.
+/// The first instant that is passed, on the agent's clock: late enough for earlier ones that are passed later.
 const BEGINNING: Duration = Duration::from_secs(60);
 
 /// One side of a connection: a state machine without sockets, threads or clocks.
@@ -490,8 +490,16 @@ impl IceAgent {
 
     /// The path of the last [`IceAgentEvent::NominatedSend`]: where to send media from, and where to. `None` if no pair was selected, or
     /// if the selected one was removed.
-    pub fn selected_path(&self) -> Option<SelectedPath> {
-        self.nominated().map(|nominated| SelectedPath::of(&nominated))
+    pub fn selected_path(&self) -> Option<MediaPath> {
+        self.nominated().map(|pair| MediaPath::of(pair.protocol, &pair.source, &pair.destination))
+    }
+
+    /// The path of a valid pair, one of the greatest priority. Media may go there before a path is selected (RFC 8445, section 12.1). It
+    /// may change with each response. `None` if no pair is valid.
+    pub fn valid_path(&self) -> Option<MediaPath> {
+        let mut path = ffi::MediaPath::default();
+        let is_some = self.ask(|agent| ffi::is_ice_valid_path(agent, &mut path)) == ffi::OK;
+        is_some.then(|| MediaPath::of(path.protocol, &path.source, &path.destination))
     }
 
     /// The last round-trip time on the selected pair.

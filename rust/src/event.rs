@@ -108,9 +108,9 @@ impl IceAgentEvent {
     }
 }
 
-/// A path that was selected: that of the last [`IceAgentEvent::NominatedSend`].
+/// A path for media: of the selected pair, or of a valid one.
 #[derive(Clone, Copy, Debug, PartialEq, Eq)]
-pub struct SelectedPath {
+pub struct MediaPath {
     /// The transport protocol.
     pub proto: Protocol,
     /// The local address to send from.
@@ -119,13 +119,9 @@ pub struct SelectedPath {
     pub destination: SocketAddr,
 }
 
-impl SelectedPath {
-    pub(crate) fn of(nominated: &ffi::Nominated) -> SelectedPath {
-        SelectedPath {
-            proto: Protocol::of(nominated.protocol),
-            source: socket_of(&nominated.source),
-            destination: socket_of(&nominated.destination),
-        }
+impl MediaPath {
+    pub(crate) fn of(protocol: u8, source: &ffi::Address, destination: &ffi::Address) -> MediaPath {
+        MediaPath { proto: Protocol::of(protocol), source: socket_of(source), destination: socket_of(destination) }
     }
 }
 

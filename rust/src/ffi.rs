@@ -155,6 +155,14 @@ pub(crate) struct Nominated {
 
 #[repr(C)]
 #[derive(Clone, Copy, Default)]
+pub(crate) struct MediaPath {
+    pub(crate) source: Address,
+    pub(crate) destination: Address,
+    pub(crate) protocol: u8,
+}
+
+#[repr(C)]
+#[derive(Clone, Copy, Default)]
 pub(crate) struct Pair {
     pub(crate) local: usize,
     pub(crate) remote: usize,
@@ -317,6 +325,7 @@ unsafe extern "C" {
     pub(crate) safe fn is_ice_rules(agent: &mut Agent, rules: &mut AgentRules) -> i32;
     pub(crate) safe fn is_ice_stats(agent: &mut Agent, stats: &mut Stats) -> i32;
     pub(crate) safe fn is_ice_nominated(agent: &mut Agent, nominated: &mut Nominated) -> i32;
+    pub(crate) safe fn is_ice_valid_path(agent: &mut Agent, path: &mut MediaPath) -> i32;
     pub(crate) safe fn is_ice_pair_count(agent: &mut Agent, count: &mut usize) -> i32;
     pub(crate) safe fn is_ice_pair_at(agent: &mut Agent, index: usize, pair: &mut Pair) -> i32;
     pub(crate) safe fn is_ice_has_viable_remote(agent: &mut Agent, address: &Address) -> i32;

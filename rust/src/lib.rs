@@ -46,7 +46,7 @@ pub use builder::CandidateBuilder;
 pub use candidate::{Candidate, CandidateKind};
 pub use creds::IceCreds;
 pub use error::{CallError, IceError, StunError};
-pub use event::{IceAgentEvent, IceAgentStats, IceConnectionState, SelectedPath, Transmit};
+pub use event::{IceAgentEvent, IceAgentStats, IceConnectionState, MediaPath, Transmit};
 pub use hmac::{DefaultSha1HmacProvider, Sha1HmacProvider};
 pub use pair::{CandidatePair, CheckState};
 pub use preference::{KindPreferences, LocalPreference, PreferenceTable, default_local_preference, try_default_local_preference};

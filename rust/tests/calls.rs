@@ -143,7 +143,7 @@ fn settings_begin_as_documented() {
     let agent = IceAgent::new(creds("near"));
     assert_eq!((agent.mtu(), agent.mtu_warn()), (1150, 1280));
     assert!(!agent.controlling() && !agent.ice_lite());
-    assert_eq!(agent.ice_timeout(), ms(26700));
+    assert_eq!((agent.ice_timeout(), agent.max_candidates()), (ms(26700), Some(100)));
     assert_eq!((agent.local_credentials(), agent.remote_credentials()), (&creds("near"), None));
 }
 

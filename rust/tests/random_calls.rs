@@ -6,21 +6,16 @@
 mod random;
 
 use is::stun::{BindingResponse, StunMessage, StunMessageBuilder, StunPacket, StunTiming, TransId};
-use is::{
-    Candidate, CandidateKind, DefaultSha1HmacProvider, IceAgent, IceAgentEvent, IceCreds, KindPreferences, PreferenceTable, Protocol,
-    TcpType,
-};
-use is::{Consent, EarlyRto, Rules, default_local_preference, try_default_local_preference};
+use is::{Candidate, CandidateKind, DefaultSha1HmacProvider, IceAgent, IceAgentEvent, IceCreds, Sha1HmacProvider, TcpType};
+use is::{Consent, EarlyRto, KindPreferences, PreferenceTable, Protocol, Rules};
 use random::Random;
+use random::looks::{PASSWORD, is_named_by_a_word, look_at_candidate, look_at_message, look_at_pair};
 use std::hint::black_box;
 use std::net::SocketAddr;
 use std::time::{Duration, Instant};
 
 const SESSIONS: u64 = 400;
 const CALLS: usize = 60;
-
-/// No event and no credentials print it.
-const PASSWORD: &str = "secret-of-a-session-22";
 
 /// A datagram: the side that it is for, protocol, source, destination and bytes.
 type Datagram = (usize, Protocol, SocketAddr, SocketAddr, Vec<u8>);
@@ -47,16 +42,6 @@ impl Drop for Session {
 
 fn creds(ufrag: &str) -> IceCreds {
     IceCreds { ufrag: ufrag.to_owned(), pass: PASSWORD.to_owned() }
-}
-
-/// Whether its text can be read again: not if an agent lists it whose username fragment is empty or has white space.
-fn is_named_by_a_word(c: &Candidate) -> bool {
-    let is_named = c.to_sdp_string().contains(" ufrag ");
-    c.ufrag().map_or(!is_named, |ufrag| !ufrag.contains(char::is_whitespace))
-}
-
-fn no_hmac(_: &[u8], _: &[&[u8]]) -> [u8; 20] {
-    unreachable!("HMAC-SHA1 is the library's")
 }
 
 /// Half of the calls pass time and packets, so that sessions get far.
@@ -124,20 +109,10 @@ impl Session {
     fn keep(&mut self, made: Result<Candidate, is::IceError>) {
         match made {
             Ok(candidate) => {
-                self.look_at(&candidate);
+                look_at_candidate(&candidate, &mut self.random);
                 self.candidates.push(candidate);
             }
             Err(why) => assert!(!why.to_string().is_empty()),
-        }
-    }
-
-    fn look_at(&mut self, c: &Candidate) {
-        black_box((c.addr(), c.local(), c.prio(), c.proto(), c.kind(), c.tcptype(), c.ufrag(), format!("{c} {c:?}")));
-        let (same_kind, read) = (self.random.number(), Candidate::from_sdp_string(&c.to_sdp_string()));
-        let (json, preference) = (c.try_to_json(), try_default_local_preference(c, same_kind));
-        if is_named_by_a_word(c) {
-            assert_eq!(read.unwrap().to_sdp_string(), c.to_sdp_string());
-            assert_eq!((json.unwrap(), preference), (c.to_json(), Ok(default_local_preference(c, same_kind))));
         }
     }
 
@@ -222,17 +197,24 @@ impl Session {
         }
         let listed: Vec<_> = self.agents[side].local_candidates().chain(self.agents[side].remote_candidates()).collect();
         if let Some(candidate) = listed.get(self.random.below(listed.len() + 1)) {
-            self.look_at(candidate);
+            look_at_candidate(candidate, &mut self.random);
             self.candidates.push(candidate.clone());
         }
     }
 
     // ---- settings
 
-    /// Rules with any numbers.
+    /// Rules of a name, or each on or off with any numbers.
     fn rules(&mut self) -> Rules {
         let (count, retransmits, interval) = (self.random.number(), self.random.number(), self.random.duration());
         let mut rules = if self.random.once_in(2) { Rules::modern() } else { Rules::original() };
+        if self.random.once_in(2) {
+            return rules;
+        }
+        rules.kinds_in_turn = self.random.once_in(2);
+        rules.selects_at_once = self.random.once_in(2);
+        rules.selected_first = self.random.once_in(2);
+        rules.timeout_after_requests = self.random.once_in(2);
         rules.triggered_checks = self.random.once_in(2).then_some(count as u64);
         rules.early_rto = self.random.once_in(2).then_some(EarlyRto { retransmits, interval });
         let (timeout, strict) = (self.random.duration(), self.random.once_in(2));
@@ -309,13 +291,10 @@ impl Session {
         ));
         black_box((agent.state().is_connected(), agent.state().is_disconnected(), agent.rules()));
         black_box((agent.nominated_pair_rtt(), agent.nominated_pair_total_rtt(), agent.nominated_pair_responses_received()));
-        black_box((agent.selected_path(), agent.has_viable_remote_candidate(address), agent.pairs().count()));
-        for pair in agent.pairs().take(2) {
-            black_box((pair.local_idx(), pair.remote_idx(), pair.is_nominated(), pair.remote_binding_request_time()));
-            black_box((pair.last_successful_rtt(), pair.total_round_trip_time()));
-        }
-        assert_eq!(agent.local_candidates().collect::<Vec<_>>(), agent.try_local_candidates().unwrap());
-        assert_eq!(agent.remote_candidates().collect::<Vec<_>>(), agent.try_remote_candidates().unwrap());
+        black_box((agent.selected_path(), agent.valid_path(), agent.has_viable_remote_candidate(address), agent.pairs().count()));
+        let (local, remote) = (agent.try_local_candidates().unwrap(), agent.try_remote_candidates().unwrap());
+        assert_eq!((agent.local_candidates().collect(), agent.remote_candidates().collect()), (local.clone(), remote.clone()));
+        agent.pairs().take(2).for_each(|pair| look_at_pair(&pair, &local, &remote));
         for text in [format!("{agent:?}"), format!("{:?} {:?}", agent.local_credentials(), agent.remote_credentials())] {
             assert!(!text.contains(PASSWORD), "{text}");
         }
@@ -391,7 +370,7 @@ impl Session {
         black_box(BindingResponse::parse(TransId([1; 12]), &bytes));
         let read = if self.random.once_in(4) { StunMessage::parse_any } else { StunMessage::parse };
         let Ok(message) = read(&bytes) else { return };
-        look(&message, &mut self.random);
+        look_at_message(&message, &mut self.random);
         let (now, packet) = (self.later(), StunPacket { proto, source, destination, message });
         let agent = &mut self.agents[side];
         let accepts = agent.accepts_packet(&packet);
@@ -405,7 +384,17 @@ impl Session {
 
     // ---- messages
 
+    /// What is neither an agent's nor a message's: names of protocols and TCP types, and HMAC-SHA1.
+    fn convert(&mut self) {
+        let (word, key, data) = (self.random.text(), self.random.bytes(200), self.random.bytes(200));
+        let word = if self.random.once_in(2) { word } else { self.random.word(&["udp", "sslTCP", "Passive", "so"]) };
+        let _ = black_box((Protocol::try_from(word.as_str()).map(|proto| proto.to_string()), word.parse::<TcpType>()));
+        let once = DefaultSha1HmacProvider.sha1_hmac(&key, &[&data]);
+        assert_eq!(DefaultSha1HmacProvider.sha1_hmac(&key, &[&data[..data.len() / 2], &data[data.len() / 2..]]), once);
+    }
+
     fn write_message(&mut self) {
+        self.convert();
         let (username, realm, nonce) = (self.random.text(), self.random.text(), self.random.text());
         let (id, address, number) =
             (TransId(self.random.bytes(12).try_into().unwrap_or([7; 12])), self.random.address(), self.random.number());
@@ -417,7 +406,7 @@ impl Session {
             2 => StunMessage::binding_role_conflict_reply(id),
             _ => self.built(texts, id, address, number),
         };
-        look(&message, &mut self.random);
+        look_at_message(&message, &mut self.random);
         let query = StunMessage::binding_query(id);
         assert!(StunMessage::parse_any(&query).is_ok_and(|query| query.is_binding_request() && query.trans_id() == id));
         let _ = black_box((TransId::new(), TransId::try_new()));
@@ -493,31 +482,6 @@ impl Session {
     }
 }
 
-/// Calls each accessor of a message, and writes it.
-fn look(m: &StunMessage<'_>, random: &mut Random) {
-    black_box((m.method(), m.class(), m.trans_id(), m.username(), m.mapped_address(), m.prio(), m.use_candidate()));
-    black_box((m.error_code(), m.channel_number(), m.lifetime(), m.xor_peer_address(), m.data().map(<[u8]>::len), m.realm(), m.nonce()));
-    black_box((m.xor_relayed_address(), m.software(), m.ice_controlled(), m.ice_controlling(), m.network_cost(), m.has_integrity()));
-    black_box((m.has_fingerprint(), m.is_signed_by(PASSWORD.as_bytes()), m.verify(b"", no_hmac), format!("{m:?}").len()));
-    black_box((m.is_binding_request(), m.is_successful_binding_response(), m.is_failed_binding_response(), m.is_allocate_request()));
-    black_box((m.is_create_permission_request(), m.is_channel_bind_request(), m.is_refresh_request(), m.is_send_indication()));
-    if let (Some(username), Some((receiver, sender))) = (m.username(), m.split_username()) {
-        assert_eq!(format!("{receiver}:{sender}"), username);
-    }
-    let (size, key) = (random.below(4000), random.bytes(30));
-    let password = (random.once_in(2)).then_some(key.as_slice());
-    let mut buffers = [vec![0; size], vec![0; size]];
-    let lengths = (m.write(password, &mut buffers[0]).ok(), m.to_bytes(password, &mut buffers[1], no_hmac).ok());
-    assert_eq!((lengths.0, &buffers[0]), (lengths.1, &buffers[1]));
-    if let Some(length) = lengths.0 {
-        // a channel number or an error code may be written that cannot be read
-        if let Ok(read) = StunMessage::parse_any(&buffers[0][..length]) {
-            assert_eq!((read.username(), read.data(), read.trans_id()), (m.username(), m.data(), m.trans_id()));
-            assert_eq!(read.split_username(), m.split_username());
-        }
-    }
-}
-
 fn from_environment(name: &str, otherwise: u64) -> u64 {
     std::env::var(name).map_or(otherwise, |value| value.parse().expect("a number"))
 }
@@ -532,18 +496,4 @@ fn random_sessions_end_without_a_panic() {
     }
     println!("{count} sessions: {} packets were accepted, {} paths were selected", seen[0], seen[1]);
     assert!(count < 400 || seen[0] > 500 && seen[1] > 30, "{seen:?}");
-}
-
-/// Each public function of the crate is in this file.
-#[test]
-fn no_function_is_left_out() {
-    let folder = std::path::Path::new(env!("CARGO_MANIFEST_DIR"));
-    let driver = std::fs::read_to_string(folder.join("tests/random_calls.rs")).unwrap();
-    for file in std::fs::read_dir(folder.join("src")).unwrap() {
-        let source = std::fs::read_to_string(file.unwrap().path()).unwrap();
-        for line in source.lines().filter_map(|line| line.trim_start().strip_prefix("pub fn ")) {
-            let name = line.split(['(', '<']).next().unwrap();
-            assert!(driver.contains(&format!("{name}(")) || driver.contains(&format!("::{name},")), "{name}");
-        }
-    }
 }

@@ -2,9 +2,9 @@
 
 mod world;
 
-use is::{Candidate, IceAgentEvent, IceConnectionState, IceCreds, Protocol, SelectedPath};
+use is::{Candidate, IceAgentEvent, IceConnectionState, IceCreds, MediaPath, Protocol};
 use std::time::Duration;
-use world::{Nat, World, at, creds, host, ms};
+use world::{Nat, TRIP, World, at, creds, host, ms};
 
 const LEFT: &str = "10.0.0.1:1000";
 const RIGHT: &str = "10.0.0.2:2000";
@@ -226,9 +226,21 @@ fn an_address_that_a_router_gives_is_discovered() {
     assert_eq!((discovered.local(), discovered.ufrag()), (at(LEFT), Some("left")));
     let heard_of = world.right().remote_candidates().next().unwrap();
     assert_eq!((heard_of.kind(), heard_of.addr()), (is::CandidateKind::PeerReflexive, at("192.0.2.9:9000")));
-    assert_eq!(world.left().selected_path(), Some(SelectedPath { proto: Protocol::Udp, source: at(LEFT), destination: at(RIGHT) }));
-    let back = SelectedPath { proto: Protocol::Udp, source: at(RIGHT), destination: at("192.0.2.9:9000") };
+    assert_eq!(world.left().selected_path(), Some(MediaPath { proto: Protocol::Udp, source: at(LEFT), destination: at(RIGHT) }));
+    let back = MediaPath { proto: Protocol::Udp, source: at(RIGHT), destination: at("192.0.2.9:9000") };
     assert_eq!(world.right().selected_path(), Some(back));
+}
+
+/// Media may go on the path of a valid pair before it is nominated (RFC 8445, section 12.1).
+#[test]
+fn a_path_is_valid_before_it_is_selected() {
+    let mut world = hosts();
+    assert_eq!(world.right().valid_path(), None);
+    world.pass(2 * TRIP + ms(1)); // a check and its response
+    let path = MediaPath { proto: Protocol::Udp, source: at(RIGHT), destination: at(LEFT) };
+    assert_eq!((world.right().valid_path(), world.right().selected_path()), (Some(path), None));
+    world.connect();
+    assert_eq!(world.right().selected_path(), Some(path));
 }
 
 /// A remote peer-reflexive candidate is removed as it is listed. A local one has no path of its own: it stays, and no other candidate is

@@ -158,8 +158,8 @@ fn write_roles<W: Write>(name: &str, log: &WorldLog, output: &mut W) -> Result<(
 }
 
 fn run(pair: &mut Pair, events: Vec<WorldEvent>) -> WorldLog {
-    let mut random = Pcg32::seed_from_u64(1);
-    pair.run(events, &mut random)
+    let (mut a, mut b) = (Pcg32::seed_from_u64(1), Pcg32::seed_from_u64(2));
+    pair.run(events, &mut a, &mut b)
 }
 
 /// Runs the events with two new agents, of which A has the greater tie-breaker.

@@ -10,12 +10,12 @@ fn main(rt: HostRuntime) -> ExitCode {
     let mut input = rt.reader();
     let mut errors = rt.stderr();
     // a script prints in small pieces, each of which would be a write of its own
-    let Ok(mut output) = BufWriter::new(rt.alloc(), io::writer(&rt)) else {
-        return ExitCode::from(2);
-    };
-    let status = play(rt.alloc(), &mut input, &mut output, &mut errors);
-    match output.flush() {
-        Ok(()) => ExitCode::from(status),
-        Err(_) => ExitCode::from(2),
+    match BufWriter::new(rt.alloc(), io::writer(&rt)) {
+        Ok(mut output) => { ExitCode::from(play(rt.alloc(), &mut input, &mut output, &mut errors)) }
+        Err(error) => {
+            // a failed write of this is status 2 too
+            let _written = writeln!(errors, "{error}");
+            ExitCode::from(2)
+        }
     }
 }

@@ -2,10 +2,15 @@
 //! timeouts.
 #![tactic(auto)]
 
+mod calls;
 mod fault;
 mod fields;
 mod playing;
+mod preference;
 mod print;
+mod reading;
+mod rules;
 mod script;
+mod table;
 
 pub use playing::play;

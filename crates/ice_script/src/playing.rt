@@ -1,17 +1,23 @@
 //! A script over any reader and two writers.
-use crate::fault::{Fault, Stop};
+use crate::calls::{Call, ScriptCall, Sent};
+use crate::fault::{Ended, Fault, Stop};
+use crate::preference::FixedPreference;
 use crate::print::{AnswerText, EventText, HexText, TimeoutText};
-use crate::script::{ScriptCall, ScriptLine, Sent, Side, read_script};
+use crate::reading::read_script;
+use crate::script::{ScriptLine, Side};
 use ice_counter::Counter;
-use is::{Answer, Call, DefaultSha1HmacProvider, IceAgent, IceCreds, IceError, SocketText, run};
+use is::{
+    Answer, DefaultSha1HmacProvider, IceAgentEvent, IceCreds, IceError, Instant, SocketText,
+    Transmit, run,
+};
 use std::alloc::Global;
 use std::io::{Read, Write};
 
-type Agent = IceAgent<DefaultSha1HmacProvider>;
+type Agent = is_agent::Agent<DefaultSha1HmacProvider, FixedPreference>;
 
-/// Plays a script, and returns the exit status: 0 if every line was played; 1 if one could not be, whose number and fault are
-/// then written to `errors`; 2 if it runs out of memory, if a read or a write fails, or if the input is longer than 16777216
-/// bytes or not UTF-8.
+/// Plays a script, and returns the exit status: 0 if every line was played; 1 if one could not be; 2 if it runs out of memory,
+/// if a read or a write fails, or if the input is longer than 16777216 bytes or not UTF-8. Why it is not 0 is written to `errors`,
+/// after the output.
 ///
 /// The whole input is read before the first line is played.
 pub fn play<R: Read, W: Write, E: Write>(
@@ -20,34 +26,48 @@ pub fn play<R: Read, W: Write, E: Write>(
     output: &mut W,
     errors: &mut E,
 ) -> u8 {
-    let Ok(text) = read_script(alloc, input) else {
-        return 2;
-    };
-    let Err(Ended { line, stop }) = play_text(alloc, text.as_str(), output) else {
-        return 0;
-    };
-    match stop {
-        Stop::Broken => 2,
-        Stop::Line(fault) => match writeln!(errors, "line {line}: {fault}") {
-            Ok(()) => 1,
+    match play_input(alloc, input, output) {
+        Ok(()) => 0,
+        Err(ended) => match writeln!(errors, "{ended}") {
+            Ok(()) => ended.stop.status(),
             Err(_) => 2,
         },
     }
 }
 
-/// Where and why a script ends early.
-#[derive(Clone, Copy)]
-struct Ended {
-    /// The number of the line, from 1 on.
-    line: u64,
-    stop: Stop,
+/// Plays what the input has, and writes all that is printed.
+fn play_input<R: Read, W: Write>(
+    alloc: Global,
+    input: &mut R,
+    output: &mut W,
+) -> Result<(), Ended> {
+    let text = read_script(alloc, input)?;
+    let played = play_text(alloc, text.as_str(), output);
+    match output.flush() {
+        Ok(()) => played,
+        Err(error) => Err(Ended {
+            line: None,
+            stop: Stop::Writing(error),
+        }),
+    }
 }
 
-/// The agents of a script, each from the line on that makes it.
+/// An agent of a script.
 #[derive(Drop)]
-struct Agents {
-    a: Option<Agent>,
-    b: Option<Agent>,
+struct Player {
+    /// From the line on that makes it.
+    agent: Option<Agent>,
+    /// How many calls were made since all packets were polled. A call issues at most one packet, so no more of them wait.
+    unpolled: usize,
+}
+
+impl Player {
+    fn new() -> Player {
+        Player {
+            agent: None,
+            unpolled: 0,
+        }
+    }
 }
 
 /// What the agents share.
@@ -60,27 +80,30 @@ struct Shared {
 
 /// Plays the lines of a script, starting without agents.
 fn play_text<W: Write>(alloc: Global, text: &str, output: &mut W) -> Result<(), Ended> {
-    let mut agents = Agents { a: None, b: None };
+    let mut players = [Player::new(), Player::new()];
     let mut shared = Shared {
         random: Counter::new(),
         sent: Vec::new(alloc),
     };
-    play_lines(alloc, text, &mut agents, &mut shared, output)
+    play_lines(alloc, text, &mut players, &mut shared, output)
 }
 
 /// Plays the lines in turn, until one can't be played.
 fn play_lines<W: Write>(
     alloc: Global,
     text: &str,
-    agents: &mut Agents,
+    players: &mut [Player; 2],
     shared: &mut Shared,
     output: &mut W,
 ) -> Result<(), Ended> {
     let mut number = 0u64;
     for line in text.split('\n') {
         number = number.saturating_add(1);
-        if let Err(stop) = play_line(alloc, line, agents, shared, output) {
-            return Err(Ended { line: number, stop });
+        if let Err(stop) = play_line(alloc, line, players, shared, output) {
+            return Err(Ended {
+                line: Some(number),
+                stop,
+            });
         }
     }
     Ok(())
@@ -89,7 +112,7 @@ fn play_lines<W: Write>(
 fn play_line<W: Write>(
     alloc: Global,
     text: &str,
-    agents: &mut Agents,
+    players: &mut [Player; 2],
     shared: &mut Shared,
     output: &mut W,
 ) -> Result<(), Stop> {
@@ -98,8 +121,8 @@ fn play_line<W: Write>(
     }
     let line = ScriptLine::read(alloc, text)?;
     match line.side {
-        Side::A => play_on(alloc, &line, &mut agents.a, shared, output),
-        Side::B => play_on(alloc, &line, &mut agents.b, shared, output),
+        Side::A => play_on(alloc, &line, &mut players[0], shared, output),
+        Side::B => play_on(alloc, &line, &mut players[1], shared, output),
     }
 }
 
@@ -107,34 +130,51 @@ fn play_line<W: Write>(
 fn play_on<W: Write>(
     alloc: Global,
     line: &ScriptLine,
-    agent: &mut Option<Agent>,
+    player: &mut Player,
     shared: &mut Shared,
     output: &mut W,
 ) -> Result<(), Stop> {
-    if agent.is_none() && !line.makes_agent() {
-        return Err(Stop::Line(Fault::NoAgent));
+    if player.agent.is_none() && !line.makes_agent() {
+        return Err(Stop::Line(Fault::NoAgent(line.side)));
     }
     let call = line.call(alloc, &shared.sent)?;
-    let answer = answer(alloc, agent, call, &mut shared.random)?;
-    // a call issues at most one packet; after this no allocation can fail, so that a line is printed whole or not at all
-    shared.sent.reserve(1)?;
-    let answer = AnswerText(&answer);
-    writeln!(output, "{} {} {answer}", line.side, line.word())?;
-    match agent {
-        Some(agent) => poll(line.side, agent, &mut shared.sent, output),
-        None => Ok(()),
+    let answer = answer(
+        alloc,
+        line.side,
+        &mut player.agent,
+        call,
+        &mut shared.random,
+    )?;
+    // after this no allocation can fail, so that a line is printed whole or not at all
+    player.unpolled = player.unpolled.saturating_add(1);
+    shared.sent.reserve(player.unpolled)?;
+    writeln!(
+        output,
+        "{} {} {}",
+        line.side,
+        line.word(),
+        AnswerText(&answer)
+    )?;
+    print_polled(line.side, answer, &mut shared.sent, output)?;
+    match &mut player.agent {
+        Some(agent) if line.polls() => {
+            player.unpolled = 0;
+            poll(line.side, agent, &mut shared.sent, output)
+        }
+        _ => Ok(()),
     }
 }
 
 fn answer(
     alloc: Global,
+    side: Side,
     agent: &mut Option<Agent>,
     call: ScriptCall,
     random: &mut Counter,
 ) -> Result<Answer, Stop> {
     match call {
         ScriptCall::Agent { creds, tie_breaker } => make(alloc, agent, creds, tie_breaker),
-        ScriptCall::Call(call) => make_call(alloc, agent, call, random),
+        ScriptCall::Call(call) => make_call(alloc, side, agent, call, random),
         ScriptCall::Rejected(error) => Ok(Answer::Refused(error)),
     }
 }
@@ -158,12 +198,13 @@ fn make(
 /// Makes one call of the agent.
 fn make_call(
     alloc: Global,
+    side: Side,
     agent: &mut Option<Agent>,
     call: Call,
     random: &mut Counter,
 ) -> Result<Answer, Stop> {
     let Some(agent) = agent else {
-        return Err(Stop::Line(Fault::NoAgent));
+        return Err(Stop::Line(Fault::NoAgent(side)));
     };
     let mut log = run(agent, vec![in alloc; call]?, random);
     match log.entries.pop() {
@@ -171,14 +212,14 @@ fn make_call(
             Answer::Refused(error) => rejected(error),
             answer => Ok(answer),
         },
-        None => Err(Stop::Broken),
+        None => Err(Stop::OutOfMemory),
     }
 }
 
 /// The result of a call that fails, except out of memory, which ends the script.
 fn rejected(error: IceError) -> Result<Answer, Stop> {
     match error {
-        IceError::OutOfMemory => Err(Stop::Broken),
+        IceError::OutOfMemory => Err(Stop::OutOfMemory),
         error => Ok(Answer::Refused(error)),
     }
 }
@@ -191,20 +232,55 @@ fn poll<W: Write>(
     output: &mut W,
 ) -> Result<(), Stop> {
     while let Some(packet) = agent.poll_transmit() {
-        let source = SocketText(packet.source);
-        let destination = SocketText(packet.destination);
-        let bytes = HexText(&packet.contents);
-        let proto = packet.proto;
-        let number = sent.len();
-        writeln!(
-            output,
-            "{side} send {number} {proto} {source} {destination} {bytes}"
-        )?;
-        sent.push(Sent { side, packet })?;
+        print_packet(side, packet, sent, output)?;
     }
     while let Some(event) = agent.poll_event() {
-        writeln!(output, "{side} event {}", EventText(&event))?;
+        print_event(side, &event, output)?;
     }
-    writeln!(output, "{side} wake {}", TimeoutText(agent.poll_timeout()))?;
+    print_timeout(side, agent.poll_timeout(), output)
+}
+
+/// Prints what a single poll returned, if anything.
+fn print_polled<W: Write>(
+    side: Side,
+    answer: Answer,
+    sent: &mut Vec<Sent>,
+    output: &mut W,
+) -> Result<(), Stop> {
+    match answer {
+        Answer::Transmit(Some(packet)) => print_packet(side, packet, sent, output),
+        Answer::Event(Some(event)) => print_event(side, &event, output),
+        Answer::Wake(Some(time)) => print_timeout(side, Some(time), output),
+        _ => Ok(()),
+    }
+}
+
+/// Prints a packet that is sent, and keeps it to be delivered.
+fn print_packet<W: Write>(
+    side: Side,
+    packet: Transmit,
+    sent: &mut Vec<Sent>,
+    output: &mut W,
+) -> Result<(), Stop> {
+    let source = SocketText(packet.source);
+    let destination = SocketText(packet.destination);
+    let bytes = HexText(&packet.contents);
+    let proto = packet.proto;
+    let number = sent.len();
+    writeln!(
+        output,
+        "{side} send {number} {proto} {source} {destination} {bytes}"
+    )?;
+    sent.push(Sent { side, packet })?;
+    Ok(())
+}
+
+fn print_event<W: Write>(side: Side, event: &IceAgentEvent, output: &mut W) -> Result<(), Stop> {
+    writeln!(output, "{side} event {}", EventText(event))?;
+    Ok(())
+}
+
+fn print_timeout<W: Write>(side: Side, time: Option<Instant>, output: &mut W) -> Result<(), Stop> {
+    writeln!(output, "{side} wake {}", TimeoutText(time))?;
     Ok(())
 }

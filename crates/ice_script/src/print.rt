@@ -11,11 +11,10 @@ fn rejection_name(error: &IceError) -> &'static str {
         IceError::MtuTooSmall => "MtuTooSmall",
         IceError::CredentialsTooLong => "CredentialsTooLong",
         IceError::PriorityTooHigh => "PriorityTooHigh",
-        IceError::LiteStaysControlled => "LiteStaysControlled",
     }
 }
 
-/// A call's result. What only polls return is printed in lines of its own.
+/// A call's result. What polls return is printed in lines of its own.
 #[derive(Clone, Copy)]
 pub struct AnswerText<'a>(pub &'a Answer);
 
@@ -27,7 +26,16 @@ impl fmt::Display for AnswerText<'_> {
             Answer::NotAdded => f.write_str("none"),
             Answer::Flag(flag) => write!(f, "{flag}"),
             Answer::Unparsed(fault) => write!(f, "unparsed {fault:?}"),
+            Answer::Refused(IceError::BadCandidate(reason)) => {
+                write!(f, "refused BadCandidate {reason:?}")
+            }
             Answer::Refused(error) => write!(f, "refused {}", rejection_name(error)),
+            Answer::Transmit(Some(_)) | Answer::Event(Some(_)) | Answer::Wake(Some(_)) => {
+                f.write_str("ok")
+            }
+            Answer::Transmit(None) | Answer::Event(None) | Answer::Wake(None) => {
+                f.write_str("none")
+            }
             _ => Ok(()),
         }
     }

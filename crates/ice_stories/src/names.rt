@@ -12,9 +12,12 @@ pub const MS: u64 = 1_000_000;
 /// How many ids are tried to find the number of a transaction.
 const TRANSACTIONS: usize = 500;
 
-/// The random source of each story, new.
-pub fn random() -> Pcg32 {
-    Pcg32::seed_from_u64(1)
+/// The random source of an agent of each story, new.
+pub fn random(side: Side) -> Pcg32 {
+    match side {
+        Side::A => Pcg32::seed_from_u64(1),
+        Side::B => Pcg32::seed_from_u64(2),
+    }
 }
 
 fn at(host: u8, port: u16) -> SocketAddr {
@@ -134,9 +137,9 @@ pub fn address_of(word: &str) -> Option<SocketAddr> {
     }
 }
 
-/// The id of the agents' check of this number, counted from 0 over both: each draws the next twelve bytes.
+/// The id of A's check of this number, counted from 0: each draws the next twelve bytes.
 pub fn check_id(number: usize) -> TransId {
-    let mut random = random();
+    let mut random = random(Side::A);
     let mut id = TransId::new(&mut random);
     for _ in 0..number {
         id = TransId::new(&mut random);
@@ -144,11 +147,11 @@ pub fn check_id(number: usize) -> TransId {
     id
 }
 
-/// The number of the agents' check with this id.
+/// The number of the agent's check with this id, counted from 0 for each agent.
 pub fn check_number(id: TransId) -> Option<usize> {
-    let mut random = random();
+    let (mut a, mut b) = (random(Side::A), random(Side::B));
     for number in 0..TRANSACTIONS {
-        if TransId::new(&mut random) == id {
+        if TransId::new(&mut a) == id || TransId::new(&mut b) == id {
             return Some(number);
         }
     }

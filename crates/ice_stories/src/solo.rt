@@ -142,7 +142,7 @@ fn agent_of(alloc: Global, block: &str) -> Option<Agent> {
 
 /// Runs the calls on the agent.
 fn play_on(alloc: Global, agent: &mut Agent, calls: Vec<Call>, block: &str) -> Option<Played> {
-    let log = run(agent, calls, &mut random());
+    let log = run(agent, calls, &mut random(Side::A));
     let rows = rows_of(alloc, &log, Asserts::of(block))?;
     let results = results_of(alloc, agent, &log, &rows, block)?;
     Some(Played { rows, results })

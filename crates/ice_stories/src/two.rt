@@ -58,7 +58,7 @@ fn world_of(alloc: Global, start: Start) -> Option<Two> {
 /// The log of the events between two new agents.
 pub fn log_of(alloc: Global, start: Start, events: Vec<WorldEvent>) -> Option<WorldLog> {
     match world_of(alloc, start) {
-        Some(mut world) => Some(world.run(events, &mut random())),
+        Some(mut world) => Some(world.run(events, &mut random(Side::A), &mut random(Side::B))),
         None => None,
     }
 }

@@ -199,12 +199,37 @@ pub fn delivery(arrival: Arrival) -> WorldEvent {
     }
 }
 
-/// The event of a word, between two agents.
+/// The event of a packet that comes from elsewhere, and not from the other agent.
+fn stray(side: Side, call: Call) -> Option<WorldEvent> {
+    match call {
+        AgentCall::Packet {
+            now,
+            proto,
+            source,
+            destination,
+            bytes,
+        } => Some(WorldEvent::Stray {
+            side,
+            now,
+            proto,
+            source,
+            destination,
+            bytes,
+        }),
+        _ => None,
+    }
+}
+
+/// The event of a word, between two agents. `~garbage.0@5` is a packet that comes from elsewhere.
 pub fn event_of(alloc: Global, file: &str, word: &str) -> Option<WorldEvent> {
     match word {
         "A>" => return Some(WorldEvent::Poll(Side::A)),
         "B>" => return Some(WorldEvent::Poll(Side::B)),
         _ => {}
+    }
+    if let Some(word) = word.strip_prefix('~') {
+        let (side, call) = call_of(alloc, file, word)?;
+        return stray(side, call);
     }
     if let Some(arrival) = arrival_of(word) {
         return Some(delivery(arrival));

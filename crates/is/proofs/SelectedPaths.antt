@@ -3,6 +3,7 @@ pub mod LastSelected
 pub mod SelectedInRounds
 pub mod SelectedAfterNomination
 pub mod BothSelectInRounds
+pub mod ChecksInTime
 pub mod NewAgentsSelect
 pub mod PathsOfOnePair
 pub mod LastNominatedPath

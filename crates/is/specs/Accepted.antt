@@ -10,7 +10,7 @@ use Rattle.is_rules.specs.declared.emitted.Path.{Path}
 use Rattle.is_rules.specs.Agent.{AgentRecord}
 use Rattle.is_rules.specs.Accepting.{IsAcceptedOn}
 use Rattle.is_rules.specs.Emitted.{nothing_emitted}
-use Rattle.is_rules.specs.Steps.{ReceivePacket, Answer, Flag, Unparsed, Rejected, Entry}
+use Rattle.is_rules.specs.Steps.{ReceivePacket, Answer, Flag, Unparsed, Rejected, NotInWorld, Entry}
 use Rattle.is_theorems.specs.Logs.{Logged}
 use Rattle.is_theorems.specs.Runs.{AtEach}
 
@@ -32,6 +32,11 @@ module _ {H P : Type 0} (mac : H → List ℕ → List ℕ → List ℕ) where
   -- The bytes encode a message that the agent accepts on the path on which it was received.
   abbrev pub AcceptsOnPath : AgentRecord H P → Path → List ℕ → Type 0
   AcceptsOnPath a path bytes = (m : Message) × Reads bytes m × IsAcceptedOn mac a path m
+
+  -- The agent receives bytes that it does not accept, and says so; it does not receive bytes that it would accept.
+  abbrev pub LeavesOut : AgentRecord H P → Path → List ℕ → Answer → Type 0
+  LeavesOut a path bytes answer =
+      (SaysNo answer × ¬ AcceptsOnPath a path bytes) ⊎ ((answer ≡ NotInWorld) × AcceptsOnPath a path bytes)
 
   -- Bytes that are not accepted change nothing. For accepted bytes the call returns true, or it fails.
   pub record IsSettled (old : AgentRecord H P) (path : Path) (bytes : List ℕ) (e : Entry) (new : AgentRecord H P) : Type 0 where

@@ -1,7 +1,6 @@
 -- What makes the controlled one of two agents select a path: the other one nominates it, and its own check on it is answered (RFC
 -- 8445, sections 7.2.5.3.2 and 7.3.1.5).
-use Rattle.std.specs.Prelude.{◌≡◌, ℕ, suc, ◌+◌, ◌<◌, ◌≤◌, ◌&&◌, Bool, true, false, List, [], ◌∷◌, ◌++◌, Option, Some, if◌then◌else◌}
-use Rattle.rand_core.specs.Stream.{Stream}
+use Rattle.std.specs.Prelude.{◌≡◌, ℕ, suc, ◌+◌, ◌<◌, ◌≤◌, ◌&&◌, Bool, true, false, List, [], ◌∷◌, ◌++◌, Option, Some, None, if◌then◌else◌}
 use Rattle.is_proto.specs.Lists.{Has}
 use Rattle.is_proto.specs.Packets.{Packet}
 use Rattle.is_candidate.specs.Candidates.{CandidateRecord}
@@ -12,13 +11,14 @@ use Rattle.is_theorems.specs.AskedCourses.{Ends}
 use Rattle.is_theorems.specs.Asking.{AreNominatedOn}
 use Rattle.is_theorems.specs.Delivery.{KnowEachOther, IsReachedBy, Sends}
 use Rattle.is_rules.specs.Issuing.{via_out}
+use Rattle.is_rules.specs.Queue.{request_at}
 use Rattle.is_theorems.specs.Pending.{is_check_on}
 use Rattle.is_rules.specs.Steps as agent
 use Rattle.is_rules.specs.Emitted.{reversed}
 use Rattle.is.specs.declared.world.Side.{Side}
 use Rattle.is.specs.declared.world.Side.TheVariants.{A, B}
 use Rattle.is.specs.Deliveries.{Hands}
-use Rattle.is.specs.World.{WorldRecord, Call, Outcome, LoggedEvent, WorldRun, at, other}
+use Rattle.is.specs.World.{WorldRecord, Call, Outcome, LoggedEvent, WorldRun, at, other, Streams}
 
 -- a log entry, with the states of the network model before and after it
 pub record Occurrence (H P : Type 0) : Type 0 where
@@ -39,6 +39,13 @@ module _ {H P : Type 0} where
   -- Before each of these entries the side is controlled, and the other side is controlling.
   abbrev pub IsControlled : Side → List (Occurrence H P) → Type 0
   IsControlled side all = (x : Occurrence H P) → Has all x → ((at side x.before).controlling ≡ false) × ((at (other side) x.before).controlling ≡ true)
+
+  -- A `handle_timeout` call of the side that succeeds and serves no early request.
+  pub record IsPlainTimeout (side : Side) (x : Occurrence H P) : Type 0 where
+    pub now : ℕ
+    pub event : x.entry.event ≡ Call side (agent.HandleTimeout now)
+    pub done : x.entry.outcome.entry.answer ≡ agent.Done
+    pub serves_none : request_at now (at side x.before) ≡ None
 
   -- The packet is delivered to the side, on the path `via`.
   pub record Arrival (side : Side) (via : Path) (packet : Packet) (all : List (Occurrence H P)) : Type 0 where
@@ -109,7 +116,7 @@ module _ {H P : Type 0} where
 
   module _ (mac : H → List ℕ → List ℕ → List ℕ) (answers : P → CandidateRecord → ℕ → ℕ → Type 0) where
     -- the entries of an execution, with the states before and after each
-    abbrev pub occurrences_in : (w : WorldRecord H P) (s : Stream) (n : ℕ) (log : List (LoggedEvent P)) (last : WorldRecord H P) (t : Stream) → WorldRun mac answers w s n log last t
+    abbrev pub occurrences_in : (w : WorldRecord H P) (s : Streams) (n : ℕ) (log : List (LoggedEvent P)) (last : WorldRecord H P) (t : Streams) → WorldRun mac answers w s n log last t
         → List (Occurrence H P)
     occurrences_in w s n [] last t run = []
     occurrences_in w s n (x ∷ rest) last t run = record { before = w; entry = x; following = run.0 } ∷ occurrences_in run.0 run.1 (suc n) rest last t run.4

@@ -1,25 +1,19 @@
 -- How both of two agents select a path, if each has rounds in which the network delivers (RFC 8445, sections 6.1.4.2, 7.2.5.3 and
 -- 7.3.1.5).
-use Rattle.std.specs.Prelude.{◌≡◌, ℕ, List, [], ◌∷◌, ◌++◌, Some, None, ◌⊎◌, slice_get}
-use Rattle.rand_core.specs.Stream.{Stream}
+use Rattle.std.specs.Prelude.{◌≡◌, ℕ, List, [], ◌∷◌, ◌++◌, Some, ◌⊎◌, slice_get}
 use Rattle.is_proto.specs.Lists.{Has}
 use Rattle.is_candidate.specs.Candidates.{CandidateRecord}
 use Rattle.is_pair.specs.Pairs.{PairRecord}
 use Rattle.is_rules.specs.declared.emitted.Path.{Path}
-use Rattle.is_theorems.specs.Asked.{IsOnlyPair}
 use Rattle.is_theorems.specs.AskedCourses.{AcceptsSuccessOn}
-use Rattle.is_rules.specs.Queue.{request_at}
 use Rattle.is_theorems.specs.Reached.{IsInLine, IsLasting}
-use Rattle.is_theorems.specs.Runs.{IsTopPath}
 use Rattle.is_rules.specs.Sending.{path_of}
 use Rattle.is_rules.specs.Steps as agent
 use Rattle.is.specs.declared.world.Side.{Side}
-use Rattle.is.specs.Deliveries.{SelectsPath}
-use Rattle.is.specs.AcceptedNominationsIn.{Occurrence, IsControlled, IsAskedOver, IsExchangedOver, MayEndAt, occurrences_in}
+use Rattle.is.specs.AcceptedNominationsIn.{Occurrence, IsAskedOver, IsExchangedOver, occurrences_in}
+use Rattle.is.specs.AcceptedNominations.{IsControlledSegment, MayEndIn, SelectsTop}
 use Rattle.is.specs.Selections.{SideRound, all_of, AreKept, MayEndInRounds, SideRoundsSuffice, RoundChecks}
-use Rattle.is.specs.Sides.{own_log}
-use Rattle.is.specs.World.{WorldRecord, InFlightRecord, Call, Deliver, LoggedEvent, WorldRun, at, other}
-use Rattle.is.specs.WorldRoles.{IsNewAgent}
+use Rattle.is.specs.World.{WorldRecord, InFlightRecord, Deliver, LoggedEvent, WorldRun, at, other, Streams}
 
 module _ {H P : Type 0} where
   -- The side has rounds in the segment that suffice for a pair on the path, which is due by the time `by` when they begin. If the side
@@ -60,27 +54,28 @@ module _ {H P : Type 0} where
   abbrev pub RoundIsAnswered : (H → List ℕ → List ℕ → List ℕ) → Side → Path → List (Occurrence H P) → SideRound H P → Type 0
   RoundIsAnswered mac side path part r = RoundChecks path r → IsExchangedOver mac side path part
 
+  -- The other side has rounds for its path in the segment, and each asks the side (`Asks`).
+  pub record AsksInRounds (mac : H → List ℕ → List ℕ → List ℕ) (side : Side) (path its : Path) (part : List (Occurrence H P)) (last : WorldRecord H P) : Type 0 where
+    pub rounds : HasRounds (other side) its part last
+    pub asks : (r : SideRound H P) → Has (rounds.first ∷ rounds.later) r → Asks mac side path its part r
+
+  -- The side has rounds for its path in the segment, and each is answered (`RoundIsAnswered`).
+  pub record IsAnsweredInRounds (mac : H → List ℕ → List ℕ → List ℕ) (side : Side) (path : Path) (part : List (Occurrence H P)) (last : WorldRecord H P) : Type 0 where
+    pub rounds : HasRounds side path part last
+    pub answered : (r : SideRound H P) → Has (rounds.first ∷ rounds.later) r → RoundIsAnswered mac side path part r
+
   module _ (mac : H → List ℕ → List ℕ → List ℕ) (answers : P → CandidateRecord → ℕ → ℕ → Type 0) where
-    -- Two agents are newly created. In a segment of the log the controlling side has rounds that suffice for a pair on its path
-    -- `its`. If it sends checks on `its` in them, one that nominates is delivered on the reverse of the controlled side's path. The
-    -- controlled side has rounds that suffice for a pair on its path. If it sends checks on it in them, one is answered. Both may
-    -- happen at any time in the segment, and through NATs. A `handle_timeout` call of the controlled side that serves no early
-    -- request follows. By then the controlled side selected a path, and the one that it selected last is that of an eligible pair with
-    -- the greatest stored priority (`IsTopPath`), if only one of its pairs uses this path's addresses, unless one of its calls may have
-    -- removed such a pair, or a candidate that the controlling side adds in its rounds one of `its`. This holds whatever else happens.
-    abbrev pub BothConnect : WorldRecord H P → Stream → List (LoggedEvent P) → Type 0
+    -- In a segment as that of `AcceptedNominationsSelect` the controlling side has rounds that suffice for a pair on its path `its`. If
+    -- it sends checks on `its` in them, one that nominates is delivered on the reverse of the controlled side's path. The controlled
+    -- side has rounds that suffice for a pair on its path. If it sends checks on it in them, one is answered. Both may happen at any
+    -- time in the segment, and through NATs. By its end the controlled side selected a path, and the last is the best one, unless one
+    -- of its calls may have removed a pair of the path, or a candidate that the controlling side adds in its rounds one of `its`. This
+    -- holds whatever else happens.
+    abbrev pub BothConnect : WorldRecord H P → Streams → List (LoggedEvent P) → Type 0
     BothConnect first s log =
-        (last : WorldRecord H P) (t : Stream) (run : WorldRun mac answers first s 0 log last t) (before part rest : List (Occurrence H P)) (timeout : Occurrence H P)
-        (now : ℕ) (side : Side) (path its : Path)
-        → ((x : Side) → IsNewAgent (at x first)) → occurrences_in mac answers first s 0 log last t run ≡ before ++ ((part ++ timeout ∷ []) ++ rest)
-        → IsControlled side (part ++ timeout ∷ [])
-        → (asking : HasRounds (other side) its part timeout.before)
-        → ((r : SideRound H P) → Has (asking.first ∷ asking.later) r → Asks mac side path its part r)
-        → (asked : HasRounds side path part timeout.before)
-        → ((r : SideRound H P) → Has (asked.first ∷ asked.later) r → RoundIsAnswered mac side path part r)
-        → timeout.entry.event ≡ Call side (agent.HandleTimeout now) → timeout.entry.outcome.entry.answer ≡ agent.Done → request_at now (at side timeout.before) ≡ None
-        → IsOnlyPair (at side timeout.following) path
-        → (((x : Occurrence H P) × Has (before ++ (part ++ timeout ∷ [])) x × SelectsPath side x.entry)
-        × IsTopPath mac answers (own_log side [] (before ++ (part ++ timeout ∷ []))) (at side timeout.following))
-        ⊎ (((x : Occurrence H P) × Has (part ++ timeout ∷ []) x × MayEndAt answers side path x)
-        ⊎ MayEndInRounds answers (other side) its (asking.first ∷ asking.later))
+        (last : WorldRecord H P) (t : Streams) (run : WorldRun mac answers first s 0 log last t) (before part rest : List (Occurrence H P)) (timeout : Occurrence H P)
+        (side : Side) (path its : Path)
+        → IsControlledSegment first (occurrences_in mac answers first s 0 log last t run) before part rest timeout side path
+        → (asking : AsksInRounds mac side path its part timeout.before) → IsAnsweredInRounds mac side path part timeout.before
+        → SelectsTop mac answers side (before ++ (part ++ timeout ∷ [])) timeout
+        ⊎ (MayEndIn answers side path (part ++ timeout ∷ []) ⊎ MayEndInRounds answers (other side) its (asking.rounds.first ∷ asking.rounds.later))

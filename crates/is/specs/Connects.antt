@@ -1,7 +1,6 @@
 -- How both of two new agents select a path, in whatever roles they begin, if the network delivers on one path of each (RFC 8445,
 -- sections 6.1.4.2, 7.2.5.3, 7.3.1.1, 7.3.1.5 and 8.1.1).
-use Rattle.std.specs.Prelude.{◌≡◌, ◌≢◌, ℕ, false, List, [], ◌∷◌, ◌++◌, None, ◌⊎◌}
-use Rattle.rand_core.specs.Stream.{Stream}
+use Rattle.std.specs.Prelude.{◌≡◌, ◌≢◌, ℕ, false, List, [], ◌∷◌, ◌++◌, ◌⊎◌}
 use Rattle.is_proto.specs.Lists.{Has}
 use Rattle.is_proto.specs.Packets.{Packet}
 use Rattle.is_candidate.specs.Candidates.{CandidateRecord}
@@ -13,18 +12,14 @@ use Rattle.is_theorems.specs.Asking.{AreNominatedOn}
 use Rattle.is_theorems.specs.Delivery.{Sends}
 use Rattle.is_rules.specs.Emitted.{reversed}
 use Rattle.is_theorems.specs.Progress.{Awaits, IsUnanswered}
-use Rattle.is_rules.specs.Queue.{request_at}
-use Rattle.is_theorems.specs.Runs.{IsTopPath}
 use Rattle.is_rules.specs.Sending.{path_of}
-use Rattle.is_rules.specs.Steps as agent
 use Rattle.is.specs.declared.world.Side.{Side}
 use Rattle.is.specs.Connections.{HasRounds, Succeeds}
-use Rattle.is.specs.Deliveries.{SelectsPath}
-use Rattle.is.specs.AcceptedNominationsIn.{Occurrence, HandedCheck, IsReturnedInTime, MayEndAt, occurrences_in}
+use Rattle.is.specs.AcceptedNominationsIn.{Occurrence, HandedCheck, IsReturnedInTime, IsPlainTimeout, occurrences_in}
+use Rattle.is.specs.AcceptedNominations.{MayEndIn, SelectsIn, SelectsTop}
 use Rattle.is.specs.Meetings.{IsMeeting}
 use Rattle.is.specs.Selections.{SideRound, all_of, state_after, AreKept, MayEndInRounds, AreEachPolled, SideRoundsSuffice, RoundChecks}
-use Rattle.is.specs.Sides.{own_log}
-use Rattle.is.specs.World.{WorldRecord, Call, LoggedEvent, WorldRun, at, other}
+use Rattle.is.specs.World.{WorldRecord, LoggedEvent, WorldRun, at, other, Streams}
 use Rattle.is.specs.WorldRoles.{IsFairWorld}
 
 module _ {H P : Type 0} where
@@ -63,31 +58,34 @@ module _ {H P : Type 0} where
   abbrev pub AgreeOnRoles : (H → List ℕ → List ℕ → List ℕ) → (P → CandidateRecord → ℕ → ℕ → Type 0) → WorldRecord H P → List (Occurrence H P) → Type 0
   AgreeOnRoles mac answers w all = (w.a.controlling ≢ w.b.controlling) ⊎ ((side : Side) × (path : Path) × IsMeeting mac answers side path all)
 
-  -- The side selected a path at one of these entries.
-  abbrev pub SelectsIn : Side → List (Occurrence H P) → Type 0
-  SelectsIn side all = (x : Occurrence H P) × Has all x × SelectsPath side x.entry
+  -- Two agents are newly created, with different tie-breakers, in any roles. First they agree on roles (`meeting`). Let `path` be one of
+  -- the side that is controlled then, and `its` one of the other side: what one sends on its own arrives on the reverse of the other's.
+  -- Next the controlling side has rounds for its path, and the network delivers on it (`opening`). From then on its pairs on this path
+  -- are nominated, each side has rounds for its path, and the network delivers on both (`part`). A `handle_timeout` call of the
+  -- controlled side that serves no early request follows, after which only one of its pairs uses the path's addresses.
+  pub record IsSession (mac : H → List ℕ → List ℕ → List ℕ) (answers : P → CandidateRecord → ℕ → ℕ → Type 0) (first : WorldRecord H P) (log : List (LoggedEvent P))
+      (all meeting opening part rest : List (Occurrence H P)) (timeout : Occurrence H P) (side : Side) (path its : Path) : Type 0 where
+    pub greater : Side
+    pub fair : IsFairWorld first greater log
+    pub split : all ≡ meeting ++ (opening ++ ((part ++ timeout ∷ []) ++ rest))
+    pub agree : AgreeOnRoles mac answers first meeting
+    pub controlled : (at side (state_after first meeting)).controlling ≡ false
+    pub opens : Opens mac answers (other side) its (reversed path) opening
+    pub nominated : (x : Occurrence H P) → Has part x → AreNominatedOn (at (other side) x.following) its
+    pub leads : Goes mac answers (other side) its (reversed path) part timeout.before
+    pub follows : Goes mac answers side path (reversed its) part timeout.before
+    pub plain : IsPlainTimeout side timeout
+    pub only_pair : IsOnlyPair (at side timeout.following) path
 
   module _ (mac : H → List ℕ → List ℕ → List ℕ) (answers : P → CandidateRecord → ℕ → ℕ → Type 0) where
-    -- Two agents are newly created, with different tie-breakers, in any roles. First they agree on roles. Let `path` be one of the side
-    -- that is controlled then, and `its` one of the other side: what one sends on its own arrives on the reverse of the other's. Next
-    -- the controlling side has rounds for its path, and the network delivers on it. Then it selects a path by then. After that its
-    -- pairs on this path are nominated, each side has rounds for its path, and the network delivers on both. A `handle_timeout`
-    -- call of the controlled side that serves no early request follows. By then this side selected a path, too, and the one that it
-    -- selected last is that of an eligible pair with the greatest stored priority (`IsTopPath`), if only one of its pairs uses the
-    -- path's addresses. An exception is that an added candidate, or another call, may have removed the pair of a path.
-    abbrev pub BothSelect : WorldRecord H P → Stream → List (LoggedEvent P) → Type 0
+    -- In such a session the controlling side selects a path while it opens. By the end the other side selected a path, too, and last the
+    -- best one. An exception is that an added candidate, or another call, may have removed the pair of a path.
+    abbrev pub BothSelect : WorldRecord H P → Streams → List (LoggedEvent P) → Type 0
     BothSelect first s log =
-        (greater side : Side) (last : WorldRecord H P) (t : Stream) (run : WorldRun mac answers first s 0 log last t) (meeting opening part rest : List (Occurrence H P))
-        (timeout : Occurrence H P) (now : ℕ) (path its : Path)
-        → IsFairWorld first greater log → occurrences_in mac answers first s 0 log last t run ≡ meeting ++ (opening ++ ((part ++ timeout ∷ []) ++ rest))
-        → AgreeOnRoles mac answers first meeting → (at side (state_after first meeting)).controlling ≡ false
-        → (opens : Opens mac answers (other side) its (reversed path) opening)
-        → ((x : Occurrence H P) → Has part x → AreNominatedOn (at (other side) x.following) its)
-        → (leads : Goes mac answers (other side) its (reversed path) part timeout.before) → Goes mac answers side path (reversed its) part timeout.before
-        → timeout.entry.event ≡ Call side (agent.HandleTimeout now) → timeout.entry.outcome.entry.answer ≡ agent.Done → request_at now (at side timeout.before) ≡ None
-        → IsOnlyPair (at side timeout.following) path
-        → (SelectsIn (other side) opening ⊎ MayEndInRounds answers (other side) its (opens.first ∷ opens.later))
-        × ((SelectsIn side (meeting ++ (opening ++ (part ++ timeout ∷ [])))
-        × IsTopPath mac answers (own_log side [] (meeting ++ (opening ++ (part ++ timeout ∷ [])))) (at side timeout.following))
-        ⊎ (((x : Occurrence H P) × Has (part ++ timeout ∷ []) x × MayEndAt answers side path x)
-        ⊎ MayEndInRounds answers (other side) its (leads.rounds.first ∷ leads.rounds.later)))
+        (last : WorldRecord H P) (t : Streams) (run : WorldRun mac answers first s 0 log last t) (meeting opening part rest : List (Occurrence H P))
+        (timeout : Occurrence H P) (side : Side) (path its : Path)
+        → (is : IsSession mac answers first log (occurrences_in mac answers first s 0 log last t run) meeting opening part rest timeout side path its)
+        → (SelectsIn (other side) opening ⊎ MayEndInRounds answers (other side) its (is.opens.first ∷ is.opens.later))
+        × (SelectsTop mac answers side (meeting ++ (opening ++ (part ++ timeout ∷ []))) timeout
+        ⊎ (MayEndIn answers side path (part ++ timeout ∷ [])
+        ⊎ MayEndInRounds answers (other side) its (is.leads.rounds.first ∷ is.leads.rounds.later)))

@@ -12,7 +12,7 @@ use Rattle.is_theorems.specs.Waiting.{IsShort, discovery_count}
 use Rattle.is.specs.declared.world.Side.{Side}
 use Rattle.is.specs.AcceptedNominationsIn.{Occurrence, occurrences_in}
 use Rattle.is.specs.Sides.{own_at, own_log}
-use Rattle.is.specs.World.{WorldRecord, LoggedEvent, WorldRun, at}
+use Rattle.is.specs.World.{WorldRecord, LoggedEvent, WorldRun, at, Streams}
 use Rattle.is.specs.WorldRoles.{IsNewAgent}
 
 -- ---- one agent
@@ -41,28 +41,28 @@ module _ {H P : Type 0} where
   module _ (mac : H → List ℕ → List ℕ → List ℕ) (answers : P → CandidateRecord → ℕ → ℕ → Type 0) where
     -- Two agents are newly created. After each entry of the log the property holds of the log up to this entry, of either side, and
     -- of the state of that side.
-    abbrev pub AfterEach : WorldRecord H P → Stream → List (LoggedEvent P) → (List (Occurrence H P) → Side → AgentRecord H P → Type 0) → Type 0
+    abbrev pub AfterEach : WorldRecord H P → Streams → List (LoggedEvent P) → (List (Occurrence H P) → Side → AgentRecord H P → Type 0) → Type 0
     AfterEach first s log Holds =
-        (last : WorldRecord H P) (t : Stream) (run : WorldRun mac answers first s 0 log last t) (before rest : List (Occurrence H P)) (x : Occurrence H P) (side : Side)
+        (last : WorldRecord H P) (t : Streams) (run : WorldRun mac answers first s 0 log last t) (before rest : List (Occurrence H P)) (x : Occurrence H P) (side : Side)
         → ((z : Side) → IsNewAgent (at z first)) → occurrences_in mac answers first s 0 log last t run ≡ (before ++ x ∷ []) ++ rest
         → Holds (before ++ x ∷ []) side (at side x.following)
 
     -- With its limit, a side has at most as many local candidates as the limit and its calls that add one together, likewise remote
     -- candidates, and at most as many sources as the limit.
-    abbrev pub BothAreBounded : WorldRecord H P → Stream → List (LoggedEvent P) → Type 0
+    abbrev pub BothAreBounded : WorldRecord H P → Streams → List (LoggedEvent P) → Type 0
     BothAreBounded first s log =
         AfterEach first s log (λ part side a. (most : ℕ) → IsLimitedFor side most part → IsBounded most (gathered_count (own_log side [] part)) (signal_count (own_log side [] part)) a)
 
     -- A side has at most as many pairs as its limit on pairs, plus its local candidates times its remote ones.
-    abbrev pub BothHaveFewPairs : WorldRecord H P → Stream → List (LoggedEvent P) → Type 0
+    abbrev pub BothHaveFewPairs : WorldRecord H P → Streams → List (LoggedEvent P) → Type 0
     BothHaveFewPairs first s log =
         AfterEach first s log (λ part side a. (limit : ℕ) → FormsFewFor side limit part → length a.pairs ≤ limit + length a.local * length a.remote)
 
     -- At most as much waits in a side as its own log says.
-    abbrev pub BothAreShort : WorldRecord H P → Stream → List (LoggedEvent P) → Type 0
+    abbrev pub BothAreShort : WorldRecord H P → Streams → List (LoggedEvent P) → Type 0
     BothAreShort first s log = AfterEach first s log (λ part side a. IsShort (own_log side [] part) a)
 
     -- With its limit, at most as many `DiscoveredRecv` events wait in a side.
-    abbrev pub BothDiscoverFew : WorldRecord H P → Stream → List (LoggedEvent P) → Type 0
+    abbrev pub BothDiscoverFew : WorldRecord H P → Streams → List (LoggedEvent P) → Type 0
     BothDiscoverFew first s log =
         AfterEach first s log (λ part side a. (most : ℕ) → IsLimitedFor side most part → discovery_count a.events ≤ most)

@@ -19,6 +19,7 @@ pub mod Sides
 pub mod AcceptedNominations
 pub mod Floods
 pub mod Renominations
+pub mod Punctual
 pub mod WorldTheorems
 pub use Rattle.is_proto.specs.Times
 pub use Rattle.is_proto.specs.Packets

@@ -1,7 +1,6 @@
 -- How two agents come to have different roles: by one check that the network delivers, and its 487 if it gets one (RFC 8445,
 -- section 7.3.1.1).
 use Rattle.std.specs.Prelude.{◌≡◌, ◌≢◌, ℕ, List, ◌++◌}
-use Rattle.rand_core.specs.Stream.{Stream}
 use Rattle.is_proto.specs.Lists.{Has}
 use Rattle.is_proto.specs.Packets.{Packet}
 use Rattle.is_candidate.specs.Candidates.{CandidateRecord}
@@ -11,7 +10,7 @@ use Rattle.is_theorems.specs.Delivery.{Sends}
 use Rattle.is.specs.declared.world.Side.{Side}
 use Rattle.is.specs.declared.world.Side.TheVariants.{A, B}
 use Rattle.is.specs.AcceptedNominationsIn.{Occurrence, HandedCheck, IsReturnedInTime, occurrences_in}
-use Rattle.is.specs.World.{WorldRecord, LoggedEvent, WorldRun, at, other}
+use Rattle.is.specs.World.{WorldRecord, LoggedEvent, WorldRun, at, other, Streams}
 use Rattle.is.specs.WorldRoles.{IsFairWorld, role_in}
 
 -- After the entry one agent is controlling and the other is controlled.
@@ -34,8 +33,8 @@ module _ {H P : Type 0} where
   -- Two agents are newly created, with different tie-breakers, in any roles. In a segment of the log a check of either agent is
   -- delivered to the other one, and its 487 if it gets one, at any time, also through NATs. Then their roles are different after
   -- the segment.
-  abbrev pub RolesMeet : (mac : H → List ℕ → List ℕ → List ℕ) (answers : P → CandidateRecord → ℕ → ℕ → Type 0) → WorldRecord H P → Stream → List (LoggedEvent P) → Type 0
+  abbrev pub RolesMeet : (mac : H → List ℕ → List ℕ → List ℕ) (answers : P → CandidateRecord → ℕ → ℕ → Type 0) → WorldRecord H P → Streams → List (LoggedEvent P) → Type 0
   RolesMeet mac answers first s log =
-      (greater side : Side) (last : WorldRecord H P) (t : Stream) (run : WorldRun mac answers first s 0 log last t) (part rest : List (Occurrence H P)) (path : Path)
+      (greater side : Side) (last : WorldRecord H P) (t : Streams) (run : WorldRun mac answers first s 0 log last t) (part rest : List (Occurrence H P)) (path : Path)
       → IsFairWorld first greater log → occurrences_in mac answers first s 0 log last t run ≡ part ++ rest → IsMeeting mac answers side path part
       → (last.a.controlling ≢ last.b.controlling) × ((x : Occurrence H P) → Has rest x → StayOpposite x)

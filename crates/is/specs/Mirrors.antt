@@ -1,6 +1,5 @@
 -- How the selected paths of two agents relate to each other.
 use Rattle.std.specs.Prelude.{◌≡◌, ℕ, false, List, Some}
-use Rattle.rand_core.specs.Stream.{Stream}
 use Rattle.is_proto.specs.Lists.{Has}
 use Rattle.is_candidate.specs.Candidates.{CandidateRecord}
 use Rattle.is_pair.specs.Pairs.{PairRecord}
@@ -9,7 +8,7 @@ use Rattle.is_rules.specs.Sending.{path_of}
 use Rattle.is_rules.specs.Emitted.{reversed}
 use Rattle.is.specs.declared.world.Side.{Side}
 use Rattle.is.specs.AcceptedNominationsIn.{Occurrence, occurrences_in}
-use Rattle.is.specs.World.{WorldRecord, LoggedEvent, WorldRun, at, other}
+use Rattle.is.specs.World.{WorldRecord, LoggedEvent, WorldRun, at, other, Streams}
 use Rattle.is.specs.WorldRoles.{IsNewAgent}
 
 module _ {H P : Type 0} where
@@ -24,9 +23,9 @@ module _ {H P : Type 0} where
   module _ (mac : H → List ℕ → List ℕ → List ℕ) (answers : P → CandidateRecord → ℕ → ℕ → Type 0) where
     -- Two agents are newly created. Before each entry of the log neither is lite, all pairs of one are on a path, and all pairs
     -- of the other are on the reverse path. Then any two paths that they selected are the reverse of each other.
-    abbrev pub LonePathsMirror : WorldRecord H P → Stream → List (LoggedEvent P) → Type 0
+    abbrev pub LonePathsMirror : WorldRecord H P → Streams → List (LoggedEvent P) → Type 0
     LonePathsMirror first s log =
-        (last : WorldRecord H P) (t : Stream) (run : WorldRun mac answers first s 0 log last t) (x y : Occurrence H P) (side : Side) (path one two : Path)
+        (last : WorldRecord H P) (t : Streams) (run : WorldRun mac answers first s 0 log last t) (x y : Occurrence H P) (side : Side) (path one two : Path)
         → ((z : Side) → IsNewAgent (at z first))
         → ((z : Occurrence H P) → Has (occurrences_in mac answers first s 0 log last t run) z
         → KeepsTo side path z.before × KeepsTo (other side) (reversed path) z.before)

@@ -1,13 +1,11 @@
 -- How two agents with renomination come to be on one path: both select the path that the controlling one nominated last.
 use Rattle.std.specs.Prelude.{◌≡◌, ℕ, true, false, List, [], ◌∷◌, ◌++◌, None, Some, ◌⊎◌, slice_get}
-use Rattle.rand_core.specs.Stream.{Stream}
 use Rattle.is_proto.specs.Lists.{Has}
 use Rattle.is_candidate.specs.Candidates.{CandidateRecord}
 use Rattle.is_stun.specs.declared.header.Class.TheVariants.{Request}
 use Rattle.is_stun.specs.Message.{Message}
 use Rattle.is_stun.specs.Reading.{Reads}
 use Rattle.is_rules.specs.declared.emitted.Path.{Path}
-use Rattle.is_theorems.specs.Asked.{IsOnlyPair}
 use Rattle.is_theorems.specs.Asking.{AreNominatedOn}
 use Rattle.is_rules.specs.Effects.{last_of}
 use Rattle.is_rules.specs.Emitted.{reversed}
@@ -15,10 +13,10 @@ use Rattle.is_theorems.specs.Logs.{last_selected}
 use Rattle.is_rules.specs.Queue.{request_at}
 use Rattle.is_rules.specs.Steps as agent
 use Rattle.is.specs.declared.world.Side.{Side}
-use Rattle.is.specs.AcceptedNominationsIn.{Occurrence, HandedCheck, IsControlled, IsExchangedOver, MayEndAt, occurrences_in}
+use Rattle.is.specs.AcceptedNominationsIn.{Occurrence, HandedCheck, IsExchangedOver, occurrences_in}
+use Rattle.is.specs.AcceptedNominations.{IsControlledSegment, MayEndIn}
 use Rattle.is.specs.Sides.{own_log}
-use Rattle.is.specs.World.{WorldRecord, InFlightRecord, Call, Deliver, LoggedEvent, WorldRun, at, other}
-use Rattle.is.specs.WorldRoles.{IsNewAgent}
+use Rattle.is.specs.World.{WorldRecord, InFlightRecord, Call, Deliver, LoggedEvent, WorldRun, at, other, Streams}
 
 module _ {H P : Type 0} where
   -- Both agents have renomination after each of these entries.
@@ -50,20 +48,15 @@ module _ {H P : Type 0} where
   IsSelectedLast side path all = last_selected (own_log side [] all) ≡ Some path
 
   module _ (mac : H → List ℕ → List ℕ → List ℕ) (answers : P → CandidateRecord → ℕ → ℕ → Type 0) where
-    -- Two agents are newly created, and have renomination in a segment of the log. In it the controlling side nominates a path last,
-    -- and the controlled side's own check on it is answered, in either order and at any time, also through NATs. A `handle_timeout`
-    -- call of the controlled side that serves no early request follows. By then both selected this path last, each as it sees it: the
-    -- controlling side `its`, on which it sent the nomination, and the controlled side `path`, on whose reverse that arrived. For the
-    -- controlled side only one of its pairs uses the path's addresses, and none of its calls may have removed such a pair.
-    abbrev pub OnePathIsSelected : WorldRecord H P → Stream → List (LoggedEvent P) → Type 0
+    -- In a segment as that of `AcceptedNominationsSelect` both have renomination. In it the controlling side nominates a path last, and
+    -- the controlled side's own check on it is answered, in either order and at any time, also through NATs. By its end both selected
+    -- this path last, each as it sees it: the controlling side `its`, on which it sent the nomination, and the controlled side `path`,
+    -- on whose reverse that arrived. For the controlled side none of its calls may have removed a pair of the path.
+    abbrev pub OnePathIsSelected : WorldRecord H P → Streams → List (LoggedEvent P) → Type 0
     OnePathIsSelected first s log =
-        (last : WorldRecord H P) (t : Stream) (run : WorldRun mac answers first s 0 log last t) (before part rest : List (Occurrence H P)) (timeout : Occurrence H P)
-        (now : ℕ) (side : Side) (its path : Path)
-        → ((x : Side) → IsNewAgent (at x first)) → occurrences_in mac answers first s 0 log last t run ≡ before ++ ((part ++ timeout ∷ []) ++ rest)
-        → IsControlled side (part ++ timeout ∷ []) → Renominate (part ++ timeout ∷ [])
-        → IsNominatedLast mac side its path part → IsExchangedOver mac side path part
-        → timeout.entry.event ≡ Call side (agent.HandleTimeout now) → timeout.entry.outcome.entry.answer ≡ agent.Done → request_at now (at side timeout.before) ≡ None
-        → IsOnlyPair (at side timeout.following) path
+        (last : WorldRecord H P) (t : Streams) (run : WorldRun mac answers first s 0 log last t) (before part rest : List (Occurrence H P)) (timeout : Occurrence H P)
+        (side : Side) (its path : Path)
+        → IsControlledSegment first (occurrences_in mac answers first s 0 log last t run) before part rest timeout side path
+        → Renominate (part ++ timeout ∷ []) → IsNominatedLast mac side its path part → IsExchangedOver mac side path part
         → IsSelectedLast (other side) its (before ++ (part ++ timeout ∷ []))
-        × (IsSelectedLast side path (before ++ (part ++ timeout ∷ []))
-        ⊎ ((x : Occurrence H P) × Has (part ++ timeout ∷ []) x × MayEndAt answers side path x))
+        × (IsSelectedLast side path (before ++ (part ++ timeout ∷ [])) ⊎ MayEndIn answers side path (part ++ timeout ∷ []))

@@ -1,7 +1,6 @@
 -- How the controlling one of two agents selects a path: rounds that suffice for one of its pairs, and a check that is answered while
 -- it is pending (RFC 8445, sections 6.1.4.2, 7.2.5.3 and 8.1.1).
 use Rattle.std.specs.Prelude.{◌≡◌, ℕ, ◌<◌, ◌≤◌, ◌⊎◌, true, false, List, [], ◌∷◌, ◌++◌, length, Some}
-use Rattle.rand_core.specs.Stream.{Stream}
 use Rattle.is_proto.specs.Lists.{Has}
 use Rattle.is_proto.specs.Times.{MAX}
 use Rattle.is_proto.specs.Packets.{Packet}
@@ -19,7 +18,7 @@ use Rattle.is_theorems.specs.FirstTimeouts.{Suffices}
 use Rattle.is.specs.declared.world.Side.{Side}
 use Rattle.is.specs.Deliveries.{MakesPolls, MakesInRound, SelectsPath}
 use Rattle.is.specs.AcceptedNominationsIn.{Occurrence, HandedCheck, IsReturnedInTime, MayEndAt, occurrences_in}
-use Rattle.is.specs.World.{WorldRecord, Call, LoggedEvent, WorldRun, at, other}
+use Rattle.is.specs.World.{WorldRecord, Call, LoggedEvent, WorldRun, at, other, Streams}
 use Rattle.is.specs.WorldRoles.{IsNewAgent}
 
 -- a `handle_timeout` call of a side, and what happens after it, oldest first
@@ -95,24 +94,35 @@ module _ {H P : Type 0} where
       × ((reply : Packet) → Sends (at (other side) k.comes.handed.before) k.comes.handed.entry.outcome.entry Success k.id reply (at (other side) k.comes.handed.following)
       → IsReturnedInTime mac answers side path over all k reply)
 
-  -- Two agents are newly created. A segment of the log begins with rounds of the controlling side. When they begin, no pair of the
-  -- side is valid, and one on the path is due by the time `by`, with due times computed at the time of the first round. The rounds
-  -- suffice: if n pairs are due by then, n rounds in which the side makes only polls, or one more if the time is not earlier than
-  -- the first one (`AreEachPolled`); or else 2n - 1 rounds for n pairs in all, and one more for each pair that is added in them
-  -- (`SideRoundsSuffice`), also by candidates that the side adds. If checks may go ahead, it is 2n, or 4n - 1 and two more. If the side sends
-  -- a check on the path in them, a check on it in the segment is answered. That may happen at any time while the check is pending, and
-  -- through NATs. Then the side selects a path in the segment, unless a candidate that it adds in the rounds may remove a pair of the
-  -- path. This holds whatever else happens.
-  abbrev pub DeliveredRoundsSelect : (mac : H → List ℕ → List ℕ → List ℕ) (answers : P → CandidateRecord → ℕ → ℕ → Type 0) → WorldRecord H P → Stream → List (LoggedEvent P) → Type 0
+  -- Two agents are newly created. A segment of their log, in which the side is controlling, begins with rounds of the side. When they
+  -- begin, no pair of the side is valid, and one is due by the time `by`, with due times computed at the time of the first round. The
+  -- rounds suffice: if n pairs are due by then, n rounds in which the side makes only polls, or one more if the time is not earlier
+  -- than the first one (`AreEachPolled`); or else 2n - 1 rounds for n pairs in all, and one more for each pair that is added in them
+  -- (`SideRoundsSuffice`), also by candidates that the side adds. If checks may go ahead, it is 2n, or 4n - 1 and two more.
+  pub record IsControllingSegment (first : WorldRecord H P) (all before more rest : List (Occurrence H P)) (side : Side) (r : SideRound H P) (rounds : List (SideRound H P))
+      (p : PairRecord) (by : ℕ) : Type 0 where
+    pub new : (x : Side) → IsNewAgent (at x first)
+    pub split : all ≡ before ++ ((all_of (r ∷ rounds) ++ more) ++ rest)
+    pub role : (at side r.timeout.before).controlling ≡ true
+    pub controlling : IsControlling side (all_of (r ∷ rounds) ++ more)
+    pub waits : Awaits r.now by (at side r.timeout.before) p
+    pub unanswered : IsUnanswered (at side r.timeout.before) p
+    pub kept : AreKept side by r rounds
+    pub enough : AreEachPolled side by r rounds ⊎ SideRoundsSuffice side by r rounds (state_after r.timeout.before (all_of (r ∷ rounds)))
+
+  -- If the side sends a check on the path in the rounds, a check on it in the segment is answered in time.
+  abbrev pub RoundsAreAnswered : (H → List ℕ → List ℕ → List ℕ) → (P → CandidateRecord → ℕ → ℕ → Type 0) → Side → Path → List (SideRound H P) → List (Occurrence H P) → Type 0
+  RoundsAreAnswered mac answers side path rounds all =
+      (x : SideRound H P) → Has rounds x → RoundChecks path x → IsAnsweredInTime mac answers side path all
+
+  -- In such a segment, if the side sends a check on the path of the pair in the rounds, a check on it in the segment is answered. That
+  -- may happen at any time while the check is pending, and through NATs. Then the side selects a path in the segment, unless a
+  -- candidate that it adds in the rounds may remove a pair of the path. This holds whatever else happens.
+  abbrev pub DeliveredRoundsSelect : (mac : H → List ℕ → List ℕ → List ℕ) (answers : P → CandidateRecord → ℕ → ℕ → Type 0) → WorldRecord H P → Streams → List (LoggedEvent P) → Type 0
   DeliveredRoundsSelect mac answers first s log =
-      (last : WorldRecord H P) (t : Stream) (run : WorldRun mac answers first s 0 log last t) (before more rest : List (Occurrence H P)) (side : Side)
+      (last : WorldRecord H P) (t : Streams) (run : WorldRun mac answers first s 0 log last t) (before more rest : List (Occurrence H P)) (side : Side)
       (r : SideRound H P) (rounds : List (SideRound H P)) (p : PairRecord) (by : ℕ)
-      → ((x : Side) → IsNewAgent (at x first)) → occurrences_in mac answers first s 0 log last t run ≡ before ++ ((all_of (r ∷ rounds) ++ more) ++ rest)
-      → (at side r.timeout.before).controlling ≡ true → IsControlling side (all_of (r ∷ rounds) ++ more)
-      → Awaits r.now by (at side r.timeout.before) p → IsUnanswered (at side r.timeout.before) p
-      → AreKept side by r rounds
-      → AreEachPolled side by r rounds ⊎ SideRoundsSuffice side by r rounds (state_after r.timeout.before (all_of (r ∷ rounds)))
-      → ((x : SideRound H P) → Has (r ∷ rounds) x → RoundChecks (path_of (at side r.timeout.before) p) x
-      → IsAnsweredInTime mac answers side (path_of (at side r.timeout.before) p) (all_of (r ∷ rounds) ++ more))
+      → IsControllingSegment first (occurrences_in mac answers first s 0 log last t run) before more rest side r rounds p by
+      → RoundsAreAnswered mac answers side (path_of (at side r.timeout.before) p) (r ∷ rounds) (all_of (r ∷ rounds) ++ more)
       → ((x : Occurrence H P) × Has (all_of (r ∷ rounds) ++ more) x × SelectsPath side x.entry)
       ⊎ MayEndInRounds answers side (path_of (at side r.timeout.before) p) (r ∷ rounds)

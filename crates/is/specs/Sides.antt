@@ -8,7 +8,7 @@ use Rattle.is_rules.specs.Steps.{Answer, Entry, Polled, Rejected, quiet}
 use Rattle.is.specs.declared.world.Side.{Side}
 use Rattle.is.specs.declared.world.Side.TheVariants.{A, B}
 use Rattle.is.specs.AcceptedNominationsIn.{Occurrence}
-use Rattle.is.specs.World.{WorldRecord, InFlightRecord, Event, Call, Poll, Deliver, at, other, in_world}
+use Rattle.is.specs.World.{WorldRecord, InFlightRecord, Event, Call, Poll, Deliver, Stray, at, other, in_world}
 
 -- ---- at one event
 
@@ -40,6 +40,7 @@ module _ {H P : Type 0} where
   acts side w (Call s c) e = only side s (if in_world c then (c, e) ∷ [] else [])
   acts side w (Poll s) e = only side s (polled_as e.answer (at side w).packets)
   acts side w (Deliver place now path) e = received_as side now path e (slice_get w.network place)
+  acts side w (Stray s now path bytes) e = []
 
   -- ---- along a log
 

@@ -31,6 +31,7 @@ use Rattle.is.specs.declared.world.TwoAgentsEvent.TheVariants as event
 use Rattle.is.specs.declared.world.WorldEntry.{WorldEntry}
 use Rattle.is.specs.declared.world.WorldLog.{WorldLog}
 use Rattle.is.specs.Views.{call_view, answer_view}
+use Rattle.is.specs.Accepted.{LeavesOut}
 
 -- ---- the state of the network model
 
@@ -62,6 +63,23 @@ abbrev pub put : {H P : Type 0} → Side → AgentRecord H P → WorldRecord H P
 put A r w = record w { a = r }
 put B r w = record w { b = r }
 
+-- the random sources of both agents
+pub record Streams : Type 0 where
+  pub a : Stream
+  pub b : Stream
+
+abbrev pub sources : Stream → Stream → Streams
+sources a b = record { a = a; b = b }
+
+abbrev pub source_of : Side → Streams → Stream
+source_of A s = s.a
+source_of B s = s.b
+
+-- what is left of the sources, after a side drew from its own
+abbrev pub drawn_by : Side → Stream → Streams → Streams
+drawn_by A left s = record s { a = left }
+drawn_by B left s = record s { b = left }
+
 -- A's role first
 abbrev pub roles_of : {H P : Type 0} → WorldRecord H P → List Bool
 roles_of w = w.a.controlling ∷ w.b.controlling ∷ []
@@ -91,12 +109,16 @@ pub data Event (P : Type 0) : Type 0 where
   Poll : Side → Event P
   -- the index of an in-flight packet, the time, and the path on which it is received
   Deliver : ℕ → ℕ → Path → Event P
+  -- bytes that the other agent did not send: the side to which they come, the time, the path on which they are received, and they
+  Stray : Side → ℕ → Path → List ℕ → Event P
 
 abbrev pub event_view : {P : Type 0} → TwoAgentsEvent P → Event P
 event_view (event.Call side c) = Call side (call_view c)
 event_view (event.Poll side) = Poll side
 event_view (event.Deliver packet now proto source destination) =
     Deliver packet now.0 (record { proto = proto; source = source; destination = destination })
+event_view (event.Stray side now proto source destination bytes) =
+    Stray side now.0 (record { proto = proto; source = source; destination = destination }) bytes.items
 
 -- The recorded result of an event: what the agent returned and emitted, both roles after it, the side that acted, whether the
 -- event cleared its pairs, and what a delivered packet encodes.
@@ -147,14 +169,16 @@ plain answer side roles = record { entry = quiet answer; controlling = roles; si
 
 module _ {H P : Type 0} (mac : H → List ℕ → List ℕ → List ℕ) (answers : P → CandidateRecord → ℕ → ℕ → Type 0) where
   -- Nothing happens, and the log entry says why.
-  abbrev pub Persists : WorldRecord H P → Stream → Answer → Option Side → Outcome → WorldRecord H P → Stream → Type 0
+  abbrev pub Persists : WorldRecord H P → Streams → Answer → Option Side → Outcome → WorldRecord H P → Streams → Type 0
   Persists w s answer side e w' t = (w' ≡ w) × (t ≡ s) × (e ≡ plain answer side (roles_of w))
 
-  -- one agent makes a call
-  pub record TakesTurn (w : WorldRecord H P) (s : Stream) (side : Side) (c : agent.Call P) (e : Outcome) (w' : WorldRecord H P) (t : Stream)
+  -- one agent makes a call, and draws from its random source
+  pub record TakesTurn (w : WorldRecord H P) (s : Streams) (side : Side) (c : agent.Call P) (e : Outcome) (w' : WorldRecord H P) (t : Streams)
       : Type 0 where
     pub new : AgentRecord H P
-    pub step : Step mac answers (at side w) s c e.entry new t
+    pub left : Stream
+    pub step : Step mac answers (at side w) (source_of side s) c e.entry new left
+    pub drawn : t ≡ drawn_by side left s
     pub given : GivesBased c
     pub world : w' ≡ put side new w
     pub roles : e.controlling ≡ roles_of w'
@@ -163,7 +187,7 @@ module _ {H P : Type 0} (mac : H → List ℕ → List ℕ → List ℕ) (answer
     pub moved : e.moved ≡ moved_by c
 
   -- An agent's packet becomes an in-flight packet.
-  pub record Polls (w : WorldRecord H P) (s : Stream) (side : Side) (e : Outcome) (w' : WorldRecord H P) (t : Stream) : Type 0 where
+  pub record Polls (w : WorldRecord H P) (s : Streams) (side : Side) (e : Outcome) (w' : WorldRecord H P) (t : Streams) : Type 0 where
     pub answer : Answer
     pub new : AgentRecord H P
     pub network : List InFlightRecord
@@ -172,15 +196,20 @@ module _ {H P : Type 0} (mac : H → List ℕ → List ℕ → List ℕ) (answer
     pub emitted : e ≡ plain answer (Some side) (roles_of w')
     pub stream : t ≡ s
 
-  abbrev pub Delivers : WorldRecord H P → Stream → Option InFlightRecord → ℕ → Path → Outcome → WorldRecord H P → Stream → Type 0
+  abbrev pub Delivers : WorldRecord H P → Streams → Option InFlightRecord → ℕ → Path → Outcome → WorldRecord H P → Streams → Type 0
   Delivers w s None now path e w' t = Persists w s NoSuchPacket None e w' t
   Delivers w s (Some l) now path e w' t = TakesTurn w s (other l.sender) (agent.ReceivePacket now path l.packet.contents) e w' t
 
+  -- Nothing happens at bytes that the other agent did not send. If they are accepted, they are no event of the network model.
+  abbrev pub IgnoresStray : WorldRecord H P → Streams → Side → Path → List ℕ → Outcome → WorldRecord H P → Streams → Type 0
+  IgnoresStray w s side path bytes e w' t = (answer : Answer) × LeavesOut mac (at side w) path bytes answer × Persists w s answer (Some side) e w' t
+
   -- one event
-  abbrev pub Happens : WorldRecord H P → Stream → Event P → Outcome → WorldRecord H P → Stream → Type 0
+  abbrev pub Happens : WorldRecord H P → Streams → Event P → Outcome → WorldRecord H P → Streams → Type 0
   Happens w s (Call side c) e w' t = MatchBool (in_world c) (TakesTurn w s side c e w' t) (Persists w s NotInWorld (Some side) e w' t)
   Happens w s (Poll side) e w' t = Polls w s side e w' t
   Happens w s (Deliver place now path) e w' t = Delivers w s (slice_get w.network place) now path e w' t
+  Happens w s (Stray side now path bytes) e w' t = IgnoresStray w s side path bytes e w' t
 
 -- ---- the log
 
@@ -201,13 +230,13 @@ logged (v ∷ events) (e ∷ entries) = logged_as v e ∷ logged events entries
 
 module _ {H P : Type 0} (mac : H → List ℕ → List ℕ → List ℕ) (answers : P → CandidateRecord → ℕ → ℕ → Type 0) where
   -- The log, in order, may be that of an execution from the first state to the last. Its entries are numbered from n.
-  abbrev pub WorldRun : WorldRecord H P → Stream → ℕ → List (LoggedEvent P) → WorldRecord H P → Stream → Type 0
+  abbrev pub WorldRun : WorldRecord H P → Streams → ℕ → List (LoggedEvent P) → WorldRecord H P → Streams → Type 0
   WorldRun first s n [] last t = (last ≡ first) × (t ≡ s)
   WorldRun first s n (x ∷ rest) last t =
-      (mid : WorldRecord H P) × (u : Stream) × (x.number ≡ n) × Happens mac answers first s x.event x.outcome mid u × WorldRun mid u (suc n) rest last t
+      (mid : WorldRecord H P) × (u : Streams) × (x.number ≡ n) × Happens mac answers first s x.event x.outcome mid u × WorldRun mid u (suc n) rest last t
 
   -- One entry for each event, in order; or nothing was done.
-  abbrev pub IsWorldLog : WorldRecord H P → Stream → List (TwoAgentsEvent P) → WorldLog → WorldRecord H P → Stream → Type 0
+  abbrev pub IsWorldLog : WorldRecord H P → Streams → List (TwoAgentsEvent P) → WorldLog → WorldRecord H P → Streams → Type 0
   IsWorldLog old s events log new t =
       MatchBool log.stopped
       ((log.entries.items ≡ []) × (new ≡ old) × (t ≡ s))

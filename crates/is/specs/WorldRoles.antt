@@ -1,7 +1,6 @@
 -- Roles of two agents over any network (RFC 8445, section 7.3.1.1).
 use Rattle.std.specs.List.{AllByRecursion}
 use Rattle.std.specs.Prelude.{◌≡◌, ◌≢◌, ℕ, ◌+◌, ◌<◌, ◌≤◌, Bool, true, false, List, [], ◌∷◌, ◌++◌, map, Some, ◌⊎◌, slice_get, if◌then◌else◌}
-use Rattle.rand_core.specs.Stream.{Stream}
 use Rattle.is_proto.specs.Lists.{same}
 use Rattle.is_candidate.specs.Candidates.{CandidateRecord}
 use Rattle.is_stun.specs.declared.header.Class.TheVariants as class
@@ -17,7 +16,7 @@ use Rattle.is_rules.specs.Emitted.{issued_as}
 use Rattle.is.specs.declared.world.Side.{Side}
 use Rattle.is.specs.declared.world.Side.TheVariants.{A, B}
 use Rattle.is.specs.World as world
-use Rattle.is.specs.World.{WorldRecord, InFlightRecord, LoggedEvent, Event, at, other, in_world}
+use Rattle.is.specs.World.{WorldRecord, InFlightRecord, LoggedEvent, Event, at, other, in_world, Streams}
 
 -- ---- the preconditions
 
@@ -76,6 +75,7 @@ module _ {H P : Type 0} where
   Makes w (world.Poll s) side d = ⊥
   Makes w (world.Deliver place now path) side d =
       (l : InFlightRecord) × (slice_get w.network place ≡ Some l) × (other l.sender ≡ side) × (d ≡ agent.ReceivePacket now path l.packet.contents)
+  Makes w (world.Stray s now path bytes) side d = ⊥
 
   -- At this event the side serves a request that passes the tests of its USERNAME and its destination, received now or earlier;
   -- or it accepts an error response with code 487.
@@ -87,22 +87,22 @@ module _ {H P : Type 0} where
 
 module _ {H P : Type 0} (mac : H → List ℕ → List ℕ → List ℕ) (answers : P → CandidateRecord → ℕ → ℕ → Type 0) where
   -- x is in the log, with the state of the network model before it.
-  pub record Point (first : WorldRecord H P) (s : Stream) (log : List (LoggedEvent P)) (mid : WorldRecord H P) (x : LoggedEvent P)
+  pub record Point (first : WorldRecord H P) (s : Streams) (log : List (LoggedEvent P)) (mid : WorldRecord H P) (x : LoggedEvent P)
       (rest : List (LoggedEvent P)) : Type 0 where
     pub before : List (LoggedEvent P)
     pub split : log ≡ before ++ x ∷ rest
     pub after : WorldRecord H P
     pub last : WorldRecord H P
-    pub u : Stream
-    pub v : Stream
-    pub t : Stream
+    pub u : Streams
+    pub v : Streams
+    pub t : Streams
     pub n : ℕ
     pub led : world.WorldRun mac answers first s 0 before mid u
     pub happens : world.Happens mac answers mid u x.event x.outcome after v
     pub leads : world.WorldRun mac answers after v n rest last t
 
   -- Once the agent with the smaller tie-breaker has met the other one's role (`Meets`), the roles are different.
-  abbrev pub RolesDifferOnceMet : WorldRecord H P → Stream → List (LoggedEvent P) → Type 0
+  abbrev pub RolesDifferOnceMet : WorldRecord H P → Streams → List (LoggedEvent P) → Type 0
   RolesDifferOnceMet first s log =
       (greater : Side) → IsFairWorld first greater log → (mid : WorldRecord H P) (x : LoggedEvent P) (rest : List (LoggedEvent P))
       → Point first s log mid x rest

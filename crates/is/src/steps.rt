@@ -1,5 +1,5 @@
 //! One call of a run.
-ghost use Rattle.std.specs.Prelude.{◌≡◌, true};
+ghost use Rattle.std.specs.Prelude.{◌≡◌, true, IsTrue, ◌↔◌};
 ghost use Rattle.rand_core.specs.Stream.{Stream};
 ghost use Rattle.is_agent.specs.View.{record_of, emitted_of};
 ghost use Rattle.is_rules.specs.Steps as steps;
@@ -7,6 +7,7 @@ ghost use Rattle.is_rules.specs.Steps.{Receives, Step};
 ghost use Rattle.is_rules.specs.Sound.{GivesBased};
 ghost use Rattle.is.specs.Views.{call_view, answer_view, entry_view};
 ghost use Rattle.is.specs.Subjects.{is_plain_setting, is_quiet};
+ghost use Rattle.is.specs.Accepted.{AcceptsOnPath, LeavesOut};
 
 use crate::calls::{AgentCall, Answer, Entry};
 use is_agent::Agent;
@@ -101,6 +102,43 @@ pub(crate) fn take_packet<H: Sha1HmacProvider + Drop, P: LocalPreference>(
     }
 }
 
+/// Whether the agent accepts these bytes on this path.
+fn accepts_bytes<H: Sha1HmacProvider + Drop, P: LocalPreference>(
+    agent: &Agent<H, P>,
+    path: Path,
+    bytes: &[u8],
+) -> bool
+    ensures { IsTrue result ↔ AcceptsOnPath H.mac (record_of agent.now) path bytes.now }
+{
+    let Ok(message) = StunMessage::parse(bytes) else {
+        return false;
+    };
+    agent.accepts_packet(&StunPacket {
+        proto: path.proto,
+        source: path.source,
+        destination: path.destination,
+        message,
+    })
+}
+
+/// Bytes that the other agent of a network model did not send. The agent receives them only if it does not accept them.
+pub(crate) fn take_stray<H: Sha1HmacProvider + Drop, P: LocalPreference>(
+    agent: &mut Agent<H, P>,
+    number: usize,
+    now: Instant,
+    path: Path,
+    bytes: &[u8],
+) -> Entry
+    ensures same { record_of agent.new ≡ record_of agent.old }
+    ensures said { (answer : steps.Answer) × LeavesOut H.mac (record_of agent.old) path bytes.now answer × (entry_view result ≡ steps.quiet answer) }
+    ensures numbered { result.number ≡ number }
+{
+    if accepts_bytes(agent, path, bytes) {
+        return quiet(number, Answer::NotInWorld);
+    }
+    take_packet(agent, number, now, path, bytes)
+}
+
 /// A `handle_timeout` call.
 fn take_timeout<H: Sha1HmacProvider + Drop, P: LocalPreference, R: Rng>(
     agent: &mut Agent<H, P>,
@@ -153,6 +191,7 @@ fn take_setting<H: Sha1HmacProvider + Drop, P: LocalPreference>(
         AgentCall::SetMaxStunRto(rto) => agent.set_max_stun_rto(rto),
         AgentCall::SetLiteTimeout(timeout) => agent.set_lite_timeout(timeout),
         AgentCall::SetLocalPreference(object) => agent.set_local_preference(object),
+        AgentCall::SetControlling(controlling) => agent.set_controlling(controlling),
         AgentCall::SkipPairIds(least) => agent.skip_pair_ids(least),
         _ => unreachable!(),
     }
@@ -170,7 +209,6 @@ fn take_quiet<H: Sha1HmacProvider + Drop, P: LocalPreference>(
 {
     match call {
         AgentCall::SetMtu(mtu) => done_or_rejected(agent.set_mtu(mtu)),
-        AgentCall::SetControlling(role) => done_or_rejected(agent.set_controlling(role)),
         AgentCall::SetMaxStunRetransmits(limit) => take_limit(agent, limit),
         AgentCall::SetLocalCredentials(own) => done_or_rejected(agent.set_local_credentials(own)),
         AgentCall::SetRemoteCredentials(far) => done_or_rejected(agent.set_remote_credentials(far)),

@@ -2,7 +2,6 @@
 //! how often and from where.
 
 ghost use Rattle.std.specs.Prelude.{◌≡◌, Some, None, true, false, MatchOption, map, slice_get, if◌then◌else◌};
-ghost use Rattle.rand_core.specs.Stream.{Stream};
 ghost use Rattle.is_stun.specs.Reading.{fault_of, message_of};
 ghost use Rattle.is_agent.specs.View.{record_of};
 ghost use Rattle.is_rules.specs.Steps as steps;
@@ -10,7 +9,7 @@ ghost use Rattle.is_rules.specs.Steps.{is_done};
 ghost use Rattle.is_rules.specs.Effects.{is_clearing};
 ghost use Rattle.is.specs.Views.{call_view, answer_view, entry_view};
 ghost use Rattle.is.specs.World as world;
-ghost use Rattle.is.specs.World.{world_of, in_flight_of, event_view, outcome_of, read_unless, roles_of, Happens, TakesTurn};
+ghost use Rattle.is.specs.World.{Streams, sources, world_of, in_flight_of, event_view, outcome_of, read_unless, roles_of, Happens, TakesTurn};
 ghost use Rattle.is.specs.World.{PolledInto, MakesMember, MakesWorld, made_world, logged, IsWorldLog};
 ghost use Rattle.is_agent.specs.View.{made};
 ghost use Rattle.is.specs.WorldRoles.{GreaterKeeps, LesserSwitchesOnce, RolesDifferOnceMet};
@@ -19,17 +18,18 @@ ghost use Rattle.is.specs.Selections.{DeliveredRoundsSelect};
 ghost use Rattle.is.specs.Connections.{BothConnect};
 ghost use Rattle.is.specs.AcceptedNominations.{AcceptedNominationsSelect};
 ghost use Rattle.is.specs.Connects.{BothSelect};
+ghost use Rattle.is.specs.Punctual.{ChecksComeInTime};
 ghost use Rattle.is.specs.Meetings.{RolesMeet};
 ghost use Rattle.is.specs.Mirrors.{LonePathsMirror};
 ghost use Rattle.is.specs.Renominations.{OnePathIsSelected};
 ghost use Rattle.is.specs.Floods.{BothAreBounded, BothHaveFewPairs, BothAreShort, BothDiscoverFew};
 
 use crate::calls::{AgentCall, Answer, Entry};
-use crate::steps::{quiet, step, take_packet};
+use crate::steps::{quiet, step, take_packet, take_stray};
 use crate::world_theorems::{
-    accepted_nominations_select, both_connect, both_select, delivered_rounds_select, greater_keeps,
-    lesser_switches_once, lone_paths_mirror, one_path_is_selected, roles_differ_once_met,
-    roles_meet, selected_are_traced,
+    accepted_nominations_select, both_connect, both_select, checks_come_in_time,
+    delivered_rounds_select, greater_keeps, lesser_switches_once, lone_paths_mirror,
+    one_path_is_selected, roles_differ_once_met, roles_meet, selected_are_traced,
 };
 use is_agent::{Agent, IceCreds};
 use is_candidate::LocalPreference;
@@ -79,6 +79,22 @@ pub enum TwoAgentsEvent<P> {
         source: SocketAddr,
         /// The local address to which it is delivered.
         destination: SocketAddr,
+    },
+    /// Bytes arrive that the other agent did not send: media, responses of other servers, an attacker's packets. An agent that
+    /// would accept them does not receive them, and the answer is `NotInWorld`.
+    Stray {
+        /// The agent at which they arrive.
+        side: Side,
+        /// When they arrive.
+        now: Instant,
+        /// The protocol over which they arrive.
+        proto: Protocol,
+        /// Where they come from.
+        source: SocketAddr,
+        /// The local address at which they arrive.
+        destination: SocketAddr,
+        /// The whole packet.
+        bytes: Vec<u8>,
     },
 }
 
@@ -235,7 +251,7 @@ fn member<H: Sha1HmacProvider + Drop, P: LocalPreference>(
     ensures { MakesMember spec (made result) }
 {
     let mut agent = Agent::with_hmac(alloc, spec.creds, spec.provider, spec.tie_breaker)?;
-    agent.set_controlling(spec.controlling)?;
+    agent.set_controlling(spec.controlling);
     Ok(agent)
 }
 
@@ -296,27 +312,28 @@ impl<H: Sha1HmacProvider + Drop, P: LocalPreference> TwoAgents<H, P> {
         self.emitted(entry, Some(side), clear, None)
     }
 
-    /// One agent makes a call.
-    fn turn<R: Rng>(
+    /// One agent makes a call, with its own random source.
+    fn turn<R: Rng, S: Rng>(
         &mut self,
         side: Side,
         number: usize,
         call: AgentCall<P>,
-        rng: &mut R,
+        rng_a: &mut R,
+        rng_b: &mut S,
     ) -> WorldEntry
         requires { world.in_world (call_view call) ≡ true }
-        ensures did { TakesTurn H.mac P.answers (world_of self.old) (R.stream rng.old) side (call_view call) (outcome_of result)
-            (world_of self.new) (R.stream rng.new) }
+        ensures did { TakesTurn H.mac P.answers (world_of self.old) (sources (R.stream rng_a.old) (S.stream rng_b.old)) side (call_view call)
+            (outcome_of result) (world_of self.new) (sources (R.stream rng_a.new) (S.stream rng_b.new)) }
         ensures numbered { result.number ≡ number }
     {
         let clearing = is_clearing(&call);
         match side {
             Side::A => {
-                let entry = step(&mut self.a, number, call, rng);
+                let entry = step(&mut self.a, number, call, rng_a);
                 self.emitted_call(entry, Side::A, clearing)
             }
             Side::B => {
-                let entry = step(&mut self.b, number, call, rng);
+                let entry = step(&mut self.b, number, call, rng_b);
                 self.emitted_call(entry, Side::B, clearing)
             }
         }
@@ -332,7 +349,7 @@ impl<H: Sha1HmacProvider + Drop, P: LocalPreference> TwoAgents<H, P> {
 
     /// An agent's packet becomes an in-flight packet.
     fn poll(&mut self, side: Side, number: usize) -> WorldEntry
-        ensures did { (s : Stream) → Happens H.mac P.answers (world_of self.old) s (world.Poll side) (outcome_of result) (world_of self.new) s }
+        ensures did { (s : Streams) → Happens H.mac P.answers (world_of self.old) s (world.Poll side) (outcome_of result) (world_of self.new) s }
         ensures numbered { result.number ≡ number }
     {
         match side {
@@ -349,7 +366,7 @@ impl<H: Sha1HmacProvider + Drop, P: LocalPreference> TwoAgents<H, P> {
 
     /// An in-flight packet is delivered to the agent that did not send it.
     fn deliver(&mut self, number: usize, place: usize, now: Instant, path: Path) -> WorldEntry
-        ensures did { (s : Stream) → Happens H.mac P.answers (world_of self.old) s (world.Deliver place now.0 path) (outcome_of result)
+        ensures did { (s : Streams) → Happens H.mac P.answers (world_of self.old) s (world.Deliver place now.0 path) (outcome_of result)
             (world_of self.new) s }
         ensures numbered { result.number ≡ number }
     {
@@ -372,16 +389,47 @@ impl<H: Sha1HmacProvider + Drop, P: LocalPreference> TwoAgents<H, P> {
         }
     }
 
+    /// Bytes that the other agent did not send arrive.
+    fn stray(
+        &mut self,
+        number: usize,
+        side: Side,
+        now: Instant,
+        path: Path,
+        bytes: &[u8],
+    ) -> WorldEntry
+        ensures did { (s : Streams) → Happens H.mac P.answers (world_of self.old) s (world.Stray side now.0 path bytes.now) (outcome_of result)
+            (world_of self.new) s }
+        ensures numbered { result.number ≡ number }
+    {
+        match side {
+            Side::A => {
+                let entry = take_stray(&mut self.a, number, now, path, bytes);
+                self.emitted(entry, Some(Side::A), false, None)
+            }
+            Side::B => {
+                let entry = take_stray(&mut self.b, number, now, path, bytes);
+                self.emitted(entry, Some(Side::B), false, None)
+            }
+        }
+    }
+
     /// One event.
-    fn happen<R: Rng>(&mut self, number: usize, event: TwoAgentsEvent<P>, rng: &mut R) -> WorldEntry
-        ensures did { Happens H.mac P.answers (world_of self.old) (R.stream rng.old) (event_view event) (outcome_of result)
-            (world_of self.new) (R.stream rng.new) }
+    fn happen<R: Rng, S: Rng>(
+        &mut self,
+        number: usize,
+        event: TwoAgentsEvent<P>,
+        rng_a: &mut R,
+        rng_b: &mut S,
+    ) -> WorldEntry
+        ensures did { Happens H.mac P.answers (world_of self.old) (sources (R.stream rng_a.old) (S.stream rng_b.old)) (event_view event)
+            (outcome_of result) (world_of self.new) (sources (R.stream rng_a.new) (S.stream rng_b.new)) }
         ensures numbered { result.number ≡ number }
     {
         match event {
             TwoAgentsEvent::Call(side, call) => {
                 if in_world(&call) {
-                    self.turn(side, number, call, rng)
+                    self.turn(side, number, call, rng_a, rng_b)
                 } else {
                     self.unchanged_step(number, Answer::NotInWorld, Some(side))
                 }
@@ -401,12 +449,33 @@ impl<H: Sha1HmacProvider + Drop, P: LocalPreference> TwoAgents<H, P> {
                 };
                 self.deliver(number, packet, now, path)
             }
+            TwoAgentsEvent::Stray {
+                side,
+                now,
+                proto,
+                source,
+                destination,
+                bytes,
+            } => {
+                let path = Path {
+                    proto,
+                    source,
+                    destination,
+                };
+                self.stray(number, side, now, path, &bytes)
+            }
         }
     }
 
     /// Memory for all entries is allocated before the first event.
-    fn run_events<R: Rng>(&mut self, events: Vec<TwoAgentsEvent<P>>, rng: &mut R) -> WorldLog
-        ensures { IsWorldLog H.mac P.answers (world_of self.old) (R.stream rng.old) events.items result (world_of self.new) (R.stream rng.new) }
+    fn run_events<R: Rng, S: Rng>(
+        &mut self,
+        events: Vec<TwoAgentsEvent<P>>,
+        rng_a: &mut R,
+        rng_b: &mut S,
+    ) -> WorldLog
+        ensures { IsWorldLog H.mac P.answers (world_of self.old) (sources (R.stream rng_a.old) (S.stream rng_b.old)) events.items result
+            (world_of self.new) (sources (R.stream rng_a.new) (S.stream rng_b.new)) }
     {
         let alloc = *events.allocator();
         let Ok(mut entries) = Vec::with_capacity(alloc, events.len()) else {
@@ -416,7 +485,7 @@ impl<H: Sha1HmacProvider + Drop, P: LocalPreference> TwoAgents<H, P> {
             };
         };
         for event in events {
-            let entry = self.happen(entries.len(), event, rng);
+            let entry = self.happen(entries.len(), event, rng_a, rng_b);
             entries.push_reserved(entry);
         }
         WorldLog {
@@ -429,9 +498,15 @@ impl<H: Sha1HmacProvider + Drop, P: LocalPreference> TwoAgents<H, P> {
     /// agents as `new` creates them.
     ///
     /// Memory for all entries is allocated first. If that fails nothing is done, and the log says so.
-    pub fn run<R: Rng>(&mut self, events: Vec<TwoAgentsEvent<P>>, rng: &mut R) -> WorldLog
+    pub fn run<R: Rng, S: Rng>(
+        &mut self,
+        events: Vec<TwoAgentsEvent<P>>,
+        rng_a: &mut R,
+        rng_b: &mut S,
+    ) -> WorldLog
         // The log is an execution of both agents' transitions: one entry for each event, in order, or nothing was done.
-        ensures log { IsWorldLog H.mac P.answers (world_of self.old) (R.stream rng.old) events.items result (world_of self.new) (R.stream rng.new) }
+        ensures log { IsWorldLog H.mac P.answers (world_of self.old) (sources (R.stream rng_a.old) (S.stream rng_b.old)) events.items result
+            (world_of self.new) (sources (R.stream rng_a.new) (S.stream rng_b.new)) }
 
         // The agent with the greater tie-breaker keeps its role.
         ensures keeps { GreaterKeeps (world_of self.old) (logged events.items result.entries.items) }
@@ -440,12 +515,12 @@ impl<H: Sha1HmacProvider + Drop, P: LocalPreference> TwoAgents<H, P> {
         ensures switches_role { LesserSwitchesOnce (world_of self.old) (logged events.items result.entries.items) }
 
         // Once this other agent has met the role of the first (`Meets`), the roles are different.
-        ensures differ { RolesDifferOnceMet H.mac P.answers (world_of self.old) (R.stream rng.old) (logged events.items result.entries.items) }
+        ensures differ { RolesDifferOnceMet H.mac P.answers (world_of self.old) (sources (R.stream rng_a.old) (S.stream rng_b.old)) (logged events.items result.entries.items) }
 
         // Whatever roles they start with: if a check of either is delivered, at any time and through any NATs, and so is its 487 if
         // it gets one, the roles are different from then on. Precondition: the 487 comes while the check is pending, and none of
         // its sender's calls may have removed the pair.
-        ensures meet { RolesMeet H.mac P.answers (world_of self.old) (R.stream rng.old) (logged events.items result.entries.items) }
+        ensures meet { RolesMeet H.mac P.answers (world_of self.old) (sources (R.stream rng_a.old) (S.stream rng_b.old)) (logged events.items result.entries.items) }
 
         // If an agent is never lite, each path that it selected was answered by the other agent, and the response was received on
         // its reverse path.
@@ -457,7 +532,7 @@ impl<H: Sha1HmacProvider + Drop, P: LocalPreference> TwoAgents<H, P> {
         // differ, and the check reaches the other agent. Then the controlling agent selects a path by then, whatever else happens.
         // Candidates may be added in the rounds, if there are 2n - 1 for n pairs in all, and one more for each pair that is added,
         // unless an added candidate may remove a pair of the path. If checks may go ahead, it is 2n rounds, or 4n - 1 and two more.
-        ensures rounds { DeliveredRoundsSelect H.mac P.answers (world_of self.old) (R.stream rng.old) (logged events.items result.entries.items) }
+        ensures rounds { DeliveredRoundsSelect H.mac P.answers (world_of self.old) (sources (R.stream rng_a.old) (S.stream rng_b.old)) (logged events.items result.entries.items) }
 
         // Progress of the controlled agent: the controlling agent checks a path whose pairs it nominated, and the check arrives on
         // the reverse of a path that the controlled agent checks. The network delivers the first check, the second, and its success
@@ -465,43 +540,48 @@ impl<H: Sha1HmacProvider + Drop, P: LocalPreference> TwoAgents<H, P> {
         // next `handle_timeout` call that serves no early request, and the path that it selected last is that of an eligible pair of
         // greatest priority. Precondition: only one of its pairs uses the path's addresses, and none of its calls may have removed
         // such a pair.
-        ensures nomination_accepted { AcceptedNominationsSelect H.mac P.answers (world_of self.old) (R.stream rng.old) (logged events.items result.entries.items) }
+        ensures nomination_accepted { AcceptedNominationsSelect H.mac P.answers (world_of self.old) (sources (R.stream rng_a.old) (S.stream rng_b.old)) (logged events.items result.entries.items) }
 
         // Progress of both: the controlling agent has a nominated pair, and the controlled agent a pair. Each has rounds that
         // suffice: 2n - 1 if it has n pairs, and one more for each pair that is added, or 4n - 1 and two more if checks may go ahead. If
         // checks are sent on the two paths in these rounds, one of each agent is delivered, and so is the success response to the
         // controlled agent, as above. Then the controlled agent selected a path by its next `handle_timeout` call, as above.
-        ensures connect { BothConnect H.mac P.answers (world_of self.old) (R.stream rng.old) (logged events.items result.entries.items) }
+        ensures connect { BothConnect H.mac P.answers (world_of self.old) (sources (R.stream rng_a.old) (S.stream rng_b.old)) (logged events.items result.entries.items) }
+
+        // In nanoseconds: a side has rounds as in `connect`, k after the first, and its caller is punctual: it calls `handle_timeout` at most
+        // `delay` after a time that `poll_timeout` returned. Then a check is sent on the path at most k times `pace + delay` after the
+        // first round begins, for a pacing interval of at most `pace`, unless the path is answered earlier.
+        ensures in_time { ChecksComeInTime H.mac P.answers (world_of self.old) (sources (R.stream rng_a.old) (S.stream rng_b.old)) (logged events.items result.entries.items) }
 
         // Together, for two new agents with different tie-breakers, in whatever roles they begin: one check of either is delivered,
         // and its 487 if it gets one. If then the network delivers on one path of each, in both directions and while checks are
         // pending, the controlling agent selects a path once a check is answered, as in `rounds`. If its pairs on this path are
         // nominated from then on, the controlled agent selects one by its next `handle_timeout` call after its rounds, as in
         // `connect`.
-        ensures both { BothSelect H.mac P.answers (world_of self.old) (R.stream rng.old) (logged events.items result.entries.items) }
+        ensures both { BothSelect H.mac P.answers (world_of self.old) (sources (R.stream rng_a.old) (S.stream rng_b.old)) (logged events.items result.entries.items) }
 
         // And on the same path: while neither is lite, all pairs of one are on a path, and all pairs of the other on the reverse
         // path, any two paths that they selected are the reverse of each other.
-        ensures mirror { LonePathsMirror H.mac P.answers (world_of self.old) (R.stream rng.old) (logged events.items result.entries.items) }
+        ensures mirror { LonePathsMirror H.mac P.answers (world_of self.old) (sources (R.stream rng_a.old) (S.stream rng_b.old)) (logged events.items result.entries.items) }
 
         // And on the same path, with several paths and through any NATs: both have renomination, and the controlling agent nominates a
         // path last. This check is delivered, no nomination of another path comes after it, and the controlled agent's own check on the
         // path is answered. Then each selected this path last, as it sees it, from the controlled agent's next `handle_timeout` call
         // on that serves no early request. Preconditions on its pairs of the path are those of `nomination_accepted`.
-        ensures one_path { OnePathIsSelected H.mac P.answers (world_of self.old) (R.stream rng.old) (logged events.items result.entries.items) }
+        ensures one_path { OnePathIsSelected H.mac P.answers (world_of self.old) (sources (R.stream rng_a.old) (S.stream rng_b.old)) (logged events.items result.entries.items) }
 
         // Each agent stores what `run` bounds, whatever the network delivers. With a limit on what packets bring, whenever it receives
         // one or a timeout comes: at most as many local candidates as the limit and its own `add_local_candidate` calls together, as
         // many remote ones as the limit and its `add_remote_candidate` calls, and as many sources as the limit.
-        ensures bounded { BothAreBounded H.mac P.answers (world_of self.old) (R.stream rng.old) (logged events.items result.entries.items) }
+        ensures bounded { BothAreBounded H.mac P.answers (world_of self.old) (sources (R.stream rng_a.old) (S.stream rng_b.old)) (logged events.items result.entries.items) }
 
         // Of pairs at most as many as the greatest limit on pairs that was in force when it added a candidate, plus its local
         // candidates times its remote ones.
-        ensures few { BothHaveFewPairs H.mac P.answers (world_of self.old) (R.stream rng.old) (logged events.items result.entries.items) }
+        ensures few { BothHaveFewPairs H.mac P.answers (world_of self.old) (sources (R.stream rng_a.old) (S.stream rng_b.old)) (logged events.items result.entries.items) }
 
         // Packets, events and early requests wait in it as in `run`, and with the limit at most as many `DiscoveredRecv` events.
-        ensures waiting { BothAreShort H.mac P.answers (world_of self.old) (R.stream rng.old) (logged events.items result.entries.items) }
-        ensures discovered { BothDiscoverFew H.mac P.answers (world_of self.old) (R.stream rng.old) (logged events.items result.entries.items) }
+        ensures waiting { BothAreShort H.mac P.answers (world_of self.old) (sources (R.stream rng_a.old) (S.stream rng_b.old)) (logged events.items result.entries.items) }
+        ensures discovered { BothDiscoverFew H.mac P.answers (world_of self.old) (sources (R.stream rng_a.old) (S.stream rng_b.old)) (logged events.items result.entries.items) }
     {
         greater_keeps::<H, P>();
         lesser_switches_once::<H, P>();
@@ -510,6 +590,7 @@ impl<H: Sha1HmacProvider + Drop, P: LocalPreference> TwoAgents<H, P> {
         delivered_rounds_select::<H, P>();
         accepted_nominations_select::<H, P>();
         both_connect::<H, P>();
+        checks_come_in_time::<H, P>();
         both_select::<H, P>();
         lone_paths_mirror::<H, P>();
         one_path_is_selected::<H, P>();
@@ -518,6 +599,6 @@ impl<H: Sha1HmacProvider + Drop, P: LocalPreference> TwoAgents<H, P> {
         pairs_stay_few::<H, P>();
         queues_are_short::<H, P>();
         discoveries_stay_few::<H, P>();
-        self.run_events(events, rng)
+        self.run_events(events, rng_a, rng_b)
     }
 }

@@ -1,6 +1,6 @@
 //! The theorems of each execution of the two-agent network model. Each is the contract of a function that does nothing.
 
-ghost use Rattle.is.specs.WorldTheorems.{KeepsTheorem, SwitchesOnceTheorem, DiffersTheorem, TracedTheorem, DeliveriesTheorem, AcceptedNominationsTheorem, ConnectionsTheorem, ConnectsTheorem, MeetingsTheorem, MirrorsTheorem, RenominationsTheorem};
+ghost use Rattle.is.specs.WorldTheorems.{KeepsTheorem, SwitchesOnceTheorem, DiffersTheorem, TracedTheorem, DeliveriesTheorem, AcceptedNominationsTheorem, ConnectionsTheorem, ConnectsTheorem, InTimeTheorem, MeetingsTheorem, MirrorsTheorem, RenominationsTheorem};
 
 use is_candidate::LocalPreference;
 use is_proto::Sha1HmacProvider;
@@ -9,6 +9,7 @@ use is_theorems::reaching::{courses_check_from_due, courses_reach_from_due};
 use is_theorems::renominating::{last_accepted_nominations_are_last, nominated_are_last};
 use is_theorems::roles::conflicts_settle;
 use is_theorems::selecting::{accepted_nominations_are_selected, successes_select};
+use is_theorems::timing::courses_reach_in_time;
 use is_theorems::transitions::{fresh_is_sound, path_effect, role_effect};
 
 /// Of two agents over any network, the one with the greater tie-breaker keeps its role.
@@ -86,6 +87,14 @@ pub(crate) fn both_connect<H: Sha1HmacProvider, P: LocalPreference>()
     checks_ask::<H, P>();
     accepted_nominations_are_selected::<H, P>();
     courses_reach_from_due::<H, P>();
+}
+
+/// If the caller of one of two agents is punctual, and k rounds after the first suffice for a pair on the path, it checks the path at most
+/// k times one pacing interval and the caller's delay after the first round begins, unless the path is answered earlier.
+pub(crate) fn checks_come_in_time<H: Sha1HmacProvider, P: LocalPreference>()
+    ensures { InTimeTheorem H.mac P.answers }
+{
+    courses_reach_in_time::<H, P>();
 }
 
 /// In whatever roles two new agents begin, if the network delivers on one path of each: the controlling one selects a path once its

@@ -15,6 +15,7 @@ pub mod Adding
 pub mod Rejections
 pub mod Credentials
 pub mod Making
+pub mod Clock
 pub mod Packets
 pub mod Accepting
 pub mod Events
@@ -28,6 +29,7 @@ pub mod StunWrite
 pub mod StunFill
 pub mod Pairs
 pub mod Selected
+pub mod Paths
 pub mod Lines
 pub mod Fields
 pub mod Mdns

@@ -20,6 +20,7 @@ use Rattle.is_rules.specs.Timeouts.{TimesOut}
 use Rattle.is_c.specs.declared.address.Address.{Address}
 use Rattle.is_c.specs.declared.packets.Packet.{Packet}
 use Rattle.is_c.specs.Addresses.{socket_of, protocol_of}
+use Rattle.is_c.specs.Clock.{agent_time, caller_time}
 use Rattle.is_c.specs.Codes.{OK, NOTHING, BAD_ADDRESS, UNPARSED, BUFFER_TOO_SHORT, TOO_FEW_RANDOM_BYTES, done_code, flag_code}
 use Rattle.is_c.specs.Credentials.{MakesCreds}
 use Rattle.is_c.specs.Held.{Held, HomeRecord, KeepsRest, Rejects}
@@ -48,7 +49,7 @@ abbrev pub TakesBytes : Mac → ℕ → Path → List ℕ → HomeRecord → ℤ
 TakesBytes mac now path bytes old code new =
     ((e : StunError) × FailsBy bytes e × Rejects UNPARSED old code new)
     ⊎ ((m : Message) × Reads bytes m × ((r : Result Bool IceError) × ((emitted : Emitted)
-    × HandlesPacket mac now old.agent path m r emitted new.agent × (code ≡ flag_code r) × KeepsRest old new)))
+    × HandlesPacket mac (agent_time now) old.agent path m r emitted new.agent × (code ≡ flag_code r) × KeepsRest old new)))
 
 -- `is_ice_handle_packet`
 abbrev pub HandlesDatagram : Mac → ℕ → Option Path → List ℕ → HomeRecord → ℤ → HomeRecord → Type 0
@@ -72,13 +73,13 @@ TimesOutBy mac now random old code new =
     MatchBool (nat_lt (length random) 12)
     (Rejects TOO_FEW_RANDOM_BYTES old code new)
     ((r : Result (Unit {0}) IceError) × ((emitted : Emitted) × ((left : Stream)
-    × TimesOut mac now old.agent (stream_of given_steps random) r emitted new.agent left × (code ≡ done_code r) × KeepsRest old new)))
+    × TimesOut mac (agent_time now) old.agent (stream_of given_steps random) r emitted new.agent left × (code ≡ done_code r) × KeepsRest old new)))
 
 -- `is_ice_poll_timeout`
 abbrev pub ReturnsTimeout : ℕ → ℕ → HomeRecord → ℤ → HomeRecord → Type 0
 ReturnsTimeout before after old code new =
     (deadline : Option ℕ) × PollsTimeout old.agent deadline new.agent × KeepsRest old new
-    × MatchOption deadline ((code ≡ NOTHING) × (after ≡ before)) (λ at. (code ≡ OK) × (after ≡ at))
+    × MatchOption deadline ((code ≡ NOTHING) × (after ≡ before)) (λ at. (code ≡ OK) × (after ≡ caller_time at))
 
 -- ---- packets to send
 

@@ -1,5 +1,5 @@
 -- Candidate pairs, as C gets them.
-use Rattle.std.specs.Prelude.{◌≡◌, ℕ, Bool, true, false, List, length, Option, Some, None, Ok, Err, slice_get, ℤ, pos}
+use Rattle.std.specs.Prelude.{◌≡◌, ℕ, Bool, true, false, List, length, Option, Some, None, option_map, Ok, Err, slice_get, ℤ, pos}
 use Rattle.is_pair.specs.declared.pair.states.CheckState.{CheckState}
 use Rattle.is_pair.specs.declared.pair.states.CheckState.TheVariants.{Waiting, InProgress, Succeeded}
 use Rattle.is_pair.specs.Checks.{last_round_trip}
@@ -9,6 +9,7 @@ use Rattle.is_agent.specs.Added.{listed_index}
 use Rattle.is_agent.specs.Pairs.{is_selected, next_due}
 use Rattle.is_c.specs.declared.pairs.Pair.{Pair}
 use Rattle.is_c.specs.Candidates.{Made, ReadsBytes}
+use Rattle.is_c.specs.Clock.{caller_time}
 use Rattle.is_c.specs.Codes.{OK, NOTHING, NOT_UTF8, code_of}
 use Rattle.is_c.specs.Held.{Held, HomeRecord}
 
@@ -31,8 +32,8 @@ IsPair a p s =
     × (s.checks_sent ≡ p.checks_sent) × (s.requests_received ≡ p.requests)
     × (s.responses ≡ p.answers) × (s.total_rtt ≡ p.total_round_trip)
     × IsTime (last_round_trip p.checks) s.has_rtt s.rtt
-    × IsTime p.last_request s.has_request s.last_request
-    × IsTime (next_due a p) s.has_due s.due
+    × IsTime (option_map caller_time p.last_request) s.has_request s.last_request
+    × IsTime (option_map caller_time (next_due a p)) s.has_due s.due
 
 abbrev pub ReturnsOfPair : Held → Option PairRecord → Pair → Pair → ℤ → Type 0
 ReturnsOfPair a None before after code = (code ≡ NOTHING) × (after ≡ before)

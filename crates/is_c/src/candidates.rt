@@ -5,8 +5,8 @@ ghost use Rattle.is_agent.specs.View.{record_of};
 ghost use Rattle.is_rules.specs.Discarding.{Invalidates};
 ghost use Rattle.is_c.specs.Adding.{addition_index, addition_code, has_room, PutsAddition, AddsGiven, AddsRead};
 ghost use Rattle.is_c.specs.Codes.{found_code};
-ghost use Rattle.is_c.specs.Held.{held_by, At};
-ghost use Rattle.is_c.specs.Given.{CallsGiven, CallsRead};
+ghost use Rattle.is_c.specs.Held.{home_of, held_by, At};
+ghost use Rattle.is_c.specs.Given.{CallsMade, CallsGiven, CallsRead};
 
 use crate::candidate::{LocalCandidate, line_candidate, local_candidate};
 use crate::codes;
@@ -15,6 +15,7 @@ use crate::questions::{local_at, remote_at};
 use crate::slot::Slot;
 use is_agent::Addition;
 use is_agent::added::{add_local_listed, add_remote_listed};
+use is_candidate::Candidate;
 use is_proto::IceError;
 use std::alloc::Global;
 
@@ -139,6 +140,17 @@ pub extern "C" fn is_ice_add_remote(
     }
 }
 
+/// Discards a candidate that equals the one that was made, or returns the code of why there is none.
+fn invalidate_made(home: &mut Home, made: Option<Result<Candidate, IceError>>, why: i32) -> i32
+    ensures { CallsMade Invalidates found_code why made (home_of home.old) result (home_of home.new) }
+{
+    match made {
+        Some(Ok(candidate)) => codes::found_code(home.agent.invalidate_candidate(&candidate)),
+        Some(Err(error)) => codes::code_of(&error),
+        None => why,
+    }
+}
+
 /// Discards a candidate that equals this one.
 #[unsafe(no_mangle)]
 pub extern "C" fn is_ice_invalidate_local(
@@ -151,11 +163,7 @@ pub extern "C" fn is_ice_invalidate_local(
     let Some(home) = slot.home() else {
         return codes::NO_AGENT;
     };
-    match local_candidate(alloc, candidate) {
-        Some(Ok(candidate)) => codes::found_code(home.agent.invalidate_candidate(&candidate)),
-        Some(Err(error)) => codes::code_of(&error),
-        None => codes::BAD_ADDRESS,
-    }
+    invalidate_made(home, local_candidate(alloc, candidate), codes::BAD_ADDRESS)
 }
 
 /// Discards a candidate that equals the one of the candidate attribute.
@@ -166,9 +174,5 @@ pub extern "C" fn is_ice_invalidate(alloc: Global, slot: &mut Slot, line: &[u8])
     let Some(home) = slot.home() else {
         return codes::NO_AGENT;
     };
-    match line_candidate(alloc, line) {
-        Some(Ok(candidate)) => codes::found_code(home.agent.invalidate_candidate(&candidate)),
-        Some(Err(error)) => codes::code_of(&error),
-        None => codes::NOT_UTF8,
-    }
+    invalidate_made(home, line_candidate(alloc, line), codes::NOT_UTF8)
 }

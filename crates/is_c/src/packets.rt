@@ -7,11 +7,12 @@ ghost use Rattle.is_c.specs.Held.{home_of, held_by, At};
 ghost use Rattle.is_c.specs.Packets.{packet_path, TakesBytes, HandlesDatagram, IsSettled, TimesOutBy, ReturnsTimeout, queue_of, IsReported, GivesFirst, Gives};
 
 use crate::address::{Address, address_of, number_of, protocol_of, socket_of};
+use crate::clock::{agent_time, caller_time};
 use crate::codes;
 use crate::home::Home;
 use crate::random::Given;
 use crate::slot::Slot;
-use is_proto::{DefaultSha1HmacProvider, Instant, Sha1HmacProvider, Transmit};
+use is_proto::{DefaultSha1HmacProvider, Sha1HmacProvider, Transmit};
 use is_rules::emitted::Path;
 use is_stun::stun::{StunMessage, StunPacket};
 use std::alloc::Global;
@@ -52,7 +53,7 @@ fn take_bytes(home: &mut Home, now: u64, path: Path, bytes: &[u8]) -> i32
                 destination: path.destination,
                 message,
             };
-            codes::flag_code(home.agent.handle_packet(Instant(now), packet))
+            codes::flag_code(home.agent.handle_packet(agent_time(now), packet))
         }
         Err(_) => codes::UNPARSED,
     }
@@ -121,7 +122,7 @@ pub extern "C" fn is_ice_handle_timeout(
         return codes::TOO_FEW_RANDOM_BYTES;
     }
     let mut given = Given { rest: random };
-    codes::done_code(home.agent.handle_timeout(Instant(now), &mut given))
+    codes::done_code(home.agent.handle_timeout(agent_time(now), &mut given))
 }
 
 /// The time of the next `is_ice_handle_timeout` call.
@@ -135,7 +136,7 @@ pub extern "C" fn is_ice_poll_timeout(alloc: Global, slot: &mut Slot, at: &mut u
     };
     match home.agent.poll_timeout() {
         Some(time) => {
-            *at = time.0;
+            *at = caller_time(time);
             codes::OK
         }
         None => codes::NOTHING,

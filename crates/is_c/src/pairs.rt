@@ -7,6 +7,7 @@ ghost use Rattle.is_c.specs.Held.{held_by, At};
 ghost use Rattle.is_c.specs.Pairs.{check_number, IsPair, ReturnsOfPair, ReturnsPair, ReportsCount, ReturnsFound};
 
 use crate::candidate::line_candidate;
+use crate::clock::caller_time;
 use crate::codes;
 use crate::home::Home;
 use crate::slot::Slot;
@@ -74,11 +75,11 @@ fn reported_pair(home: &Home, pair: &CandidatePair) -> Pair
             None => 0,
         },
         last_request: match request {
-            Some(at) => at.0,
+            Some(arrived) => caller_time(arrived),
             None => 0,
         },
         due: match due {
-            Some(at) => at.0,
+            Some(at) => caller_time(at),
             None => 0,
         },
         state: check_number(pair.state()),

@@ -2,5 +2,9 @@
 //! output fails.
 
 mod calls;
+mod faults;
+mod playing;
+mod rules;
 mod scripts;
+mod settings;
 mod surface;

@@ -1,6 +1,8 @@
 //! Random arguments from a seed: what a program or a peer may pass, odd texts and extreme numbers above all.
 #![allow(dead_code)]
 
+pub mod looks;
+
 use is::{IceCreds, Protocol};
 use std::net::{IpAddr, Ipv4Addr, Ipv6Addr, SocketAddr, SocketAddrV6};
 use std::time::Duration;

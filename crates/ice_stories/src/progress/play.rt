@@ -29,7 +29,8 @@ pub struct Play {
     pub alloc: Global,
     a: Agent,
     b: Agent,
-    random: Pcg32,
+    random_a: Pcg32,
+    random_b: Pcg32,
     sent: Vec<Sent>,
     early: [usize; 2],
     numbers: [u64; 2],
@@ -82,7 +83,7 @@ fn member(alloc: Global, side: Side, start: Start) -> Result<Agent, IceError> {
         creds(alloc, side, ufrag(side))?,
         of(side, start.tie_breakers),
     )?;
-    agent.set_controlling(of(side, start.controlling))?;
+    agent.set_controlling(of(side, start.controlling));
     Ok(agent)
 }
 
@@ -98,7 +99,8 @@ impl Play {
             alloc,
             a,
             b,
-            random: random(),
+            random_a: random(Side::A),
+            random_b: random(Side::B),
             sent: Vec::new(alloc),
             early: [0, 0],
             numbers: [0, 0],
@@ -162,8 +164,8 @@ impl Play {
     fn makes(&mut self, side: Side, call: Call) -> Option<Entry> {
         let calls = Vec::from_array(self.alloc, [call]).ok()?;
         let mut log = match side {
-            Side::A => run(&mut self.a, calls, &mut self.random),
-            Side::B => run(&mut self.b, calls, &mut self.random),
+            Side::A => run(&mut self.a, calls, &mut self.random_a),
+            Side::B => run(&mut self.b, calls, &mut self.random_b),
         };
         log.entries.pop()
     }

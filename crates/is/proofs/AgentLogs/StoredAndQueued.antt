@@ -17,7 +17,7 @@ use Rattle.is.specs.declared.world.Side.{Side}
 use Rattle.is.specs.Floods.{QueuesStayShort, DiscoveriesAreFew, BothAreBounded, BothHaveFewPairs, BothAreShort, BothDiscoverFew}
 use Rattle.is.specs.AcceptedNominationsIn.{Occurrence, occurrences_in}
 use Rattle.is.specs.Sides.{own_at, own_log}
-use Rattle.is.specs.World.{WorldRecord, LoggedEvent, WorldRun, at}
+use Rattle.is.specs.World.{WorldRecord, Streams, LoggedEvent, WorldRun, at}
 use Rattle.is.proofs.TwoAgentEvents.EventsOfSegments.{Follow, follows, cut}
 use Rattle.is.proofs.TwoAgentEvents.OwnLogs.{Led, along, ends}
 
@@ -57,7 +57,7 @@ module _ {H P : Type 0} (mac : H → List ℕ → List ℕ → List ℕ) (answer
   -- ---- two agents
 
   -- the side's own execution up to an entry
-  own_run : (Fits : AgentRecord H P → agent.Logged P → Type 0) (first : WorldRecord H P) (s : Stream) (log : List (LoggedEvent P)) (last : WorldRecord H P) (t : Stream)
+  own_run : (Fits : AgentRecord H P → agent.Logged P → Type 0) (first : WorldRecord H P) (s : Streams) (log : List (LoggedEvent P)) (last : WorldRecord H P) (t : Streams)
       (run : WorldRun mac answers first s 0 log last t) (before rest : List (Occurrence H P)) (x : Occurrence H P) (side : Side)
       → occurrences_in mac answers first s 0 log last t run ≡ (before ++ x ∷ []) ++ rest
       → ((z : Occurrence H P) → Has (before ++ x ∷ []) z → (y : agent.Logged P) → Has (own_at side z) y → Fits (at side z.before) y)
@@ -67,23 +67,23 @@ module _ {H P : Type 0} (mac : H → List ℕ → List ℕ → List ℕ) (answer
       subst (λ (w : WorldRecord H P). Led mac answers Fits (at side first) (own_log side [] (before ++ x ∷ [])) (at side w)) (ends mac answers before x first k.0 k.1)
       (along mac answers Fits (at side first) side (before ++ x ∷ []) first k.0 [] k.1 fits (refl, tt))
 
-  pub both_are_bounded : ListsStayBounded {H = H} mac answers → (first : WorldRecord H P) (s : Stream) (log : List (LoggedEvent P)) → BothAreBounded mac answers first s log
+  pub both_are_bounded : ListsStayBounded {H = H} mac answers → (first : WorldRecord H P) (s : Streams) (log : List (LoggedEvent P)) → BothAreBounded mac answers first s log
   both_are_bounded law first s log last t run before rest x side new split most limited =
       let k = own_run (IsLimitedAt most) first s log last t run before rest x side split (λ z has y own. search (limited z has y own)) in
       law most (at side first) (at side x.following) (own_log side [] (before ++ x ∷ [])) (new side) k.0 k.1
 
-  pub both_have_few_pairs : PairsStayFew {H = H} mac answers → (first : WorldRecord H P) (s : Stream) (log : List (LoggedEvent P)) → BothHaveFewPairs mac answers first s log
+  pub both_have_few_pairs : PairsStayFew {H = H} mac answers → (first : WorldRecord H P) (s : Streams) (log : List (LoggedEvent P)) → BothHaveFewPairs mac answers first s log
   both_have_few_pairs law first s log last t run before rest x side new split limit few =
       let k = own_run (FormsFewAt limit) first s log last t run before rest x side split (λ z has y own. search (few z has y own)) in
       law limit (at side first) (at side x.following) (own_log side [] (before ++ x ∷ [])) (new side) k.0 k.1
 
-  pub both_are_short : QueuesAreShort {H = H} mac answers → (first : WorldRecord H P) (s : Stream) (log : List (LoggedEvent P)) → BothAreShort mac answers first s log
+  pub both_are_short : QueuesAreShort {H = H} mac answers → (first : WorldRecord H P) (s : Streams) (log : List (LoggedEvent P)) → BothAreShort mac answers first s log
   both_are_short law first s log last t run before rest x side new split =
       let k = own_run (λ a y. Unit {0}) first s log last t run before rest x side split (λ z has y own. tt) in
       let short : IsShort (own_log side [] (before ++ x ∷ [])) (at side x.following) = law (at side first) (at side x.following) (own_log side [] (before ++ x ∷ [])) (new side) k.0 in
       search short
 
-  pub both_discover_few : DiscoveriesStayFew {H = H} mac answers → (first : WorldRecord H P) (s : Stream) (log : List (LoggedEvent P)) → BothDiscoverFew mac answers first s log
+  pub both_discover_few : DiscoveriesStayFew {H = H} mac answers → (first : WorldRecord H P) (s : Streams) (log : List (LoggedEvent P)) → BothDiscoverFew mac answers first s log
   both_discover_few law first s log last t run before rest x side new split most limited =
       let k = own_run (IsLimitedAt most) first s log last t run before rest x side split (λ z has y own. search (limited z has y own)) in
       law most (at side first) (at side x.following) (own_log side [] (before ++ x ∷ [])) (new side) k.0 k.1

@@ -1,5 +1,5 @@
 -- Bytes that are not accepted change nothing, and the result for accepted bytes is `true`.
-use Rattle.std.proofs.Common.{◌≡◌, ℕ, Bool, true, false, List, Ok, Err, Result, inl, inr, ap, sym, ◌∙◌, subst}
+use Rattle.std.proofs.Common.{◌≡◌, ◌↔◌, ℕ, Bool, true, false, List, Ok, Err, Result, inl, inr, ap, sym, ◌∙◌, subst}
 use Rattle.rand_core.specs.Stream.{Stream}
 use Rattle.is_proto.specs.declared.error.IceError.{IceError}
 use Rattle.is_stun.specs.Message.{Message}
@@ -9,9 +9,9 @@ use Rattle.is_rules.specs.declared.emitted.Path.{Path}
 use Rattle.is_rules.specs.declared.emitted.Emitted.{Emitted}
 use Rattle.is_rules.specs.Agent.{AgentRecord}
 use Rattle.is_rules.specs.Accepting.{IsAcceptedOn, HandlesPacket}
-use Rattle.is_rules.specs.Steps.{Entry, Flag, answer_by, Receives, Step, ReceivePacket}
+use Rattle.is_rules.specs.Steps.{Answer, Entry, Flag, answer_by, quiet, Receives, Step, ReceivePacket}
 use Rattle.is_theorems.specs.Logs.{Logged}
-use Rattle.is.specs.Accepted.{IsSettled, PacketsAreSettled}
+use Rattle.is.specs.Accepted.{AcceptsOnPath, IsSettled, LeavesOut, PacketsAreSettled}
 
 module _ {H P : Type 0} (mac : H → List ℕ → List ℕ → List ℕ) where
   handled : (old new : AgentRecord H P) (now : ℕ) (path : Path) (bytes : List ℕ) (m : Message) (r : Result Bool IceError) (emitted : Emitted) (e : Entry)
@@ -34,8 +34,14 @@ module _ {H P : Type 0} (mac : H → List ℕ → List ℕ → List ℕ) where
     accepted = λ _. inr (error, ap (λ (x : Entry). x.answer) is);
   }
 
+  -- whether bytes are accepted, by the message that they encode
+  pub accepted_if : (a : AgentRecord H P) (path : Path) (bytes : List ℕ) (m : Message) (Says : Type 0) → Reads bytes m → (Says ↔ IsAcceptedOn mac a path m)
+      → (Says ↔ AcceptsOnPath mac a path bytes)
+  accepted_if a path bytes m Says reads by =
+      (λ is. (m, reads, by.0 is), λ (n, other, accepted). by.1 (subst (λ (k : Message). IsAcceptedOn mac a path k) (other.spelled ∙ sym reads.spelled) accepted))
+
 module _ {H P : Type 0} (mac : H → List ℕ → List ℕ → List ℕ) (answers : P → CandidateRecord → ℕ → ℕ → Type 0) where
-  settled : (old new : AgentRecord H P) (now : ℕ) (path : Path) (bytes : List ℕ) (e : Entry)
+  pub settled : (old new : AgentRecord H P) (now : ℕ) (path : Path) (bytes : List ℕ) (e : Entry)
       → Receives mac answers now old path bytes e new → IsSettled mac old path bytes e new
   settled old new now path bytes e (inl (fault, fails, is, same)) = record {
     unaccepted = λ _. record {
@@ -46,6 +52,13 @@ module _ {H P : Type 0} (mac : H → List ℕ → List ℕ → List ℕ) (answer
     accepted = λ (m, reads, accepted). (let none = reads.faultless in cc);
   }
   settled old new now path bytes e (inr (m, reads, (r, emitted, is, did))) = handled mac old new now path bytes m r emitted e reads is did
+
+  -- the answer to bytes that are not accepted
+  pub left_out : (old new : AgentRecord H P) (now : ℕ) (path : Path) (bytes : List ℕ) (e : Entry) → ¬ AcceptsOnPath mac old path bytes
+      → Receives mac answers now old path bytes e new → (answer : Answer) × LeavesOut mac old path bytes answer × (e ≡ quiet answer)
+  left_out old new now path bytes e unaccepted received =
+      let unchanged = (settled old new now path bytes e received).unaccepted unaccepted in
+      (e.answer, inl (unchanged.answer, unaccepted), ap (λ o. let x : Entry = record { answer = e.answer; emitted = o } in x) unchanged.emitted)
 
   pub packets_are_settled : (first : AgentRecord H P) (s : Stream) (log : List (Logged P)) → PacketsAreSettled mac answers first s log
   packets_are_settled first s log before mid after x point now path bytes is =

@@ -3,7 +3,6 @@ use Rattle.std.proofs.Common.{◌≡◌, ℕ, zero, suc, Bool, true, false, List
 use Rattle.std.specs.Prelude.{◌||◌, MatchBool, slice_get}
 use Rattle.std.specs.List.{list_any}
 use Rattle.std.proofs.lemmas.Slice.Eq.{bytes_eq-Decides}
-use Rattle.rand_core.specs.Stream.{Stream}
 use Rattle.is_proto.specs.Lists.{Has}
 use Rattle.is_proto.specs.Packets.{Packet}
 use Rattle.is_proto.specs.declared.error.ParseFault.{ParseFault}
@@ -34,7 +33,7 @@ use Rattle.is_theorems.specs.RoleView.{mail_of, mail_unless, mail_read, mail_in,
 use Rattle.is.specs.declared.world.Side.{Side}
 use Rattle.is.specs.declared.world.Side.TheVariants.{A, B}
 use Rattle.is.specs.World as world
-use Rattle.is.specs.World.{WorldRecord, InFlightRecord, Event, Outcome, LoggedEvent, other, in_world, plain, read_unless, moved_by, PolledInto, TakesTurn, Persists, Polls, Delivers, Happens}
+use Rattle.is.specs.World.{WorldRecord, InFlightRecord, Event, Outcome, LoggedEvent, other, in_world, plain, read_unless, moved_by, PolledInto, TakesTurn, Persists, Polls, Delivers, Happens, Streams}
 use Rattle.is.specs.WorldRoles.{Makes}
 use Rattle.is.specs.Traces.{StaysFull, IsNeverLite}
 use Rattle.is.proofs.ExternalViews.NetworkModel as seen
@@ -292,12 +291,12 @@ module _ {H P : Type 0} where
       made : (s : Side) (d : agent.Call P) → Makes w x.event s d → (side ≡ s) × (c ≡ d)
       full : (s : Side) → StaysFull s x.event → side ≡ s → sets_lite c ≡ false
 
-    turns : (w w' : WorldRecord H P) (s t : Stream) (side : Side) (c : agent.Call P) (x : LoggedEvent P) → AreSound w → TakesTurn mac answers w s side c x.outcome w' t → Packets w side c x → Comes w w' x
+    turns : (w w' : WorldRecord H P) (s t : Streams) (side : Side) (c : agent.Call P) (x : LoggedEvent P) → AreSound w → TakesTurn mac answers w s side c x.outcome w' t → Packets w side c x → Comes w w' x
     turns w w' s t side c x sound k p =
         let old = world.at side w in
         let d = role_event_of old c x.outcome.entry in
-        let path = paths old k.new s t c x.outcome.entry (sound side) k.given k.step in
-        let role = roles old k.new s t c x.outcome.entry (sound side) k.given k.step in
+        let path = paths old k.new (world.source_of side s) k.left c x.outcome.entry (sound side) k.given k.step in
+        let role = roles old k.new (world.source_of side s) k.left c x.outcome.entry (sound side) k.given k.step in
         let did : Did w side d (emitted_at x) k.new w.network [] = record {
           effect = role;
           multiset_is = sym (append-nil w.network);
@@ -323,7 +322,7 @@ module _ {H P : Type 0} where
           sound = sound_put side k.new w w.network sound path.1;
         })
 
-    called : (w w' : WorldRecord H P) (s t : Stream) (side : Side) (c : agent.Call P) (x : LoggedEvent P) → AreSound w → x.event ≡ world.Call side c → in_world c ≡ true
+    called : (w w' : WorldRecord H P) (s t : Streams) (side : Side) (c : agent.Call P) (x : LoggedEvent P) → AreSound w → x.event ≡ world.Call side c → in_world c ≡ true
         → TakesTurn mac answers w s side c x.outcome w' t → Comes w w' x
     called w w' s t side c x sound event_is is k = turns w w' s t side c x sound k (record {
       delivered = λ m accepted. absurd (let none = unaccepting c x.outcome.entry.answer is in cc);
@@ -339,7 +338,7 @@ module _ {H P : Type 0} where
     other-other A = refl
     other-other B = refl
 
-    delivers : (o : Option InFlightRecord) (w w' : WorldRecord H P) (s t : Stream) (place now : ℕ) (via : Path) (x : LoggedEvent P) → x.event ≡ world.Deliver place now via → slice_get w.network place ≡ o
+    delivers : (o : Option InFlightRecord) (w w' : WorldRecord H P) (s t : Streams) (place now : ℕ) (via : Path) (x : LoggedEvent P) → x.event ≡ world.Deliver place now via → slice_get w.network place ≡ o
         → AreSound w → Delivers mac answers w s o now via x.outcome w' t → Comes w w' x
     delivers None w w' s t place now via x event_is found sound k =
         persists_still w w' x agent.NoSuchPacket None sound k.2 k.0
@@ -366,7 +365,7 @@ module _ {H P : Type 0} where
           full = λ s' full same. refl;
         })
       where
-        received : (w : WorldRecord H P) (s t : Stream) (side : Side) (now : ℕ) (via : Path) (bytes : List ℕ) (x : LoggedEvent P) → AreSound w
+        received : (w : WorldRecord H P) (s t : Streams) (side : Side) (now : ℕ) (via : Path) (bytes : List ℕ) (x : LoggedEvent P) → AreSound w
             → TakesTurn mac answers w s side (agent.ReceivePacket now via bytes) x.outcome w' t → (m : Mail) → when_accepted x.outcome.entry.answer (mail_read bytes) ≡ Some m → m.class ≡ class.Success
             → IsAwaited (role_state_of (world.at side w)) (role_event_of (world.at side w) (agent.ReceivePacket now via bytes) x.outcome.entry) m.id
         received w s t side now via bytes x sound k m accepted success =
@@ -375,7 +374,7 @@ module _ {H P : Type 0} where
             let is = when_is x.outcome.entry.answer (mail_read bytes) m accepted in
             let r = reads_so (fault_of bytes) (message_of bytes) m is.1 in
             let brings : Brings c x.outcome.entry now via (message_of bytes) = (refl, refl, record { faultless = r.0; spelled = refl }, is.0) in
-            let path = paths old k.new s t c x.outcome.entry (sound side) k.given k.step in
+            let path = paths old k.new (world.source_of side s) k.left c x.outcome.entry (sound side) k.given k.step in
             let taken = path.0.accepted now via (message_of bytes) brings in
             let as_success : IsAcceptedAs mac class.Success (keeps_check_on old via (message_of bytes).id) old (message_of bytes) =
             subst (λ y. IsAcceptedAs mac y (keeps_check_on old via (message_of bytes).id) old (message_of bytes)) (ap (λ (y : Mail). y.class) r.1 ∙ success) taken.1 in
@@ -388,7 +387,7 @@ module _ {H P : Type 0} where
 
     -- ---- a poll
 
-    polls : (w w' : WorldRecord H P) (s t : Stream) (side : Side) (x : LoggedEvent P) → AreSound w → x.event ≡ world.Poll side → Polls mac answers w s side x.outcome w' t → Comes w w' x
+    polls : (w w' : WorldRecord H P) (s t : Streams) (side : Side) (x : LoggedEvent P) → AreSound w → x.event ≡ world.Poll side → Polls mac answers w s side x.outcome w' t → Comes w w' x
     polls w w' s t side x sound event_is k = subst (λ v. Comes w v x) (sym k.world) (by k.new k.network k.answer k.polled (k.emitted ∙ ap (λ v. plain k.answer (Some side) (world.roles_of v)) k.world)) where
       no_one : (s' : Side) (c : agent.Call P) → Makes w x.event s' c → ⊥
       no_one s' c made = subst (λ v. Makes w v s' c) event_is made
@@ -402,9 +401,10 @@ module _ {H P : Type 0} where
           let old = world.at side w in
           let e : Entry = agent.quiet (agent.Polled given) in
           let d = role_event_of old agent.PollTransmit e in
-          let step : Step mac answers old s agent.PollTransmit e new s = (given, refl, polled, refl) in
-          let path = paths old new s s agent.PollTransmit e (sound side) tt step in
-          let role = roles old new s s agent.PollTransmit e (sound side) tt step in
+          let source = world.source_of side s in
+          let step : Step mac answers old source agent.PollTransmit e new source = (given, refl, polled, refl) in
+          let path = paths old new source source agent.PollTransmit e (sound side) tt step in
+          let role = roles old new source source agent.PollTransmit e (sound side) tt step in
           let did : Did w side d (emitted_at x) new network posted = record {
             effect = role;
             multiset_is = multiset_is;
@@ -445,7 +445,7 @@ module _ {H P : Type 0} where
 
     -- ---- executions
 
-    pub event : (w w' : WorldRecord H P) (s t : Stream) (x : LoggedEvent P) → AreSound w → Happens mac answers w s x.event x.outcome w' t → Comes w w' x
+    pub event : (w w' : WorldRecord H P) (s t : Streams) (x : LoggedEvent P) → AreSound w → Happens mac answers w s x.event x.outcome w' t → Comes w w' x
     event w w' s t x sound h = by x.event refl h where
       by : (v : Event P) → x.event ≡ v → Happens mac answers w s v x.outcome w' t → Comes w w' x
       by (world.Call side c) is k =
@@ -456,6 +456,8 @@ module _ {H P : Type 0} where
           ] refl k
       by (world.Poll side) is k = polls w w' s t side x sound is k
       by (world.Deliver place now via) is k = delivers (slice_get w.network place) w w' s t place now via x is refl sound k
+      by (world.Stray side now via bytes) is (answer, left, (same, kept, was)) = persists_still w w' x answer (Some side) sound was same
+          (λ s' d made. subst (λ v. Makes w v s' d) is made)
 
     -- an execution, as it is observed
     pub record Follows (first : WorldRecord H P) (log : List (LoggedEvent P)) (last : WorldRecord H P) : Type 0 where
@@ -465,7 +467,7 @@ module _ {H P : Type 0} where
       pub full : (side : Side) → IsNeverLite side log → NeverLite side seen_log
       pub sound : AreSound last
 
-    pub follow : (log : List (LoggedEvent P)) (first last : WorldRecord H P) (s t : Stream) (n : ℕ) → AreSound first → world.WorldRun mac answers first s n log last t → Follows first log last
+    pub follow : (log : List (LoggedEvent P)) (first last : WorldRecord H P) (s t : Streams) (n : ℕ) → AreSound first → world.WorldRun mac answers first s n log last t → Follows first log last
     follow [] first last s t n sound (is, _) = record { seen_log = []; ran = ap seen_of is; emitted = refl; full = λ side h. tt; sound = subst AreSound (sym is) sound }
     follow (x ∷ log) first last s t n sound (mid, u, number, happens, ran) =
         let c = event first mid s u x sound happens in

@@ -4,7 +4,6 @@ use Rattle.std.specs.Prelude.{MatchBool, slice_get}
 use Rattle.std.specs.List.{AllByRecursion}
 use Rattle.std.specs.Option.{option_map_or}
 use Rattle.std.proofs.lemmas.Option.{slice_get_within}
-use Rattle.rand_core.specs.Stream.{Stream}
 use Rattle.is_proto.specs.Lists.{Has}
 use Rattle.is_candidate.specs.Candidates.{CandidateRecord}
 use Rattle.is_stun.specs.declared.header.Class.{Class}
@@ -25,7 +24,7 @@ use Rattle.is.specs.declared.world.TwoAgentsEvent.{TwoAgentsEvent}
 use Rattle.is.specs.Views.{answer_view}
 use Rattle.is.specs.World as world
 use Rattle.is.specs.declared.world.WorldLog.{WorldLog}
-use Rattle.is.specs.World.{WorldRecord, Event, LoggedEvent, logged_as, logged, other, IsWorldLog}
+use Rattle.is.specs.World.{WorldRecord, Event, LoggedEvent, logged_as, logged, other, IsWorldLog, Streams}
 use Rattle.is.specs.WorldRoles.{HaveDistinctIds, IsFairWorld, Point, role_in, changes, GreaterKeeps, LesserSwitchesOnce}
 use Rattle.is.specs.Traces.{Issues, TakesMessage, SelectsPathAt, IsAt, IsUncleared, IsTrace, IsNeverLite, ComesBack, SelectedAreTraced}
 use Rattle.is.proofs.ExternalViews.NetworkModel as seen
@@ -112,6 +111,7 @@ came_back path via (world.Deliver place now w) came back =
     let same : w ≡ via = cc in (ap (λ (x : Path). x.source) same ∙ back.0, ap (λ (x : Path). x.destination) same ∙ back.1)
 came_back path via (world.Call side c) came back = absurd (let wrong : None ≡ Some via = came in cc)
 came_back path via (world.Poll side) came back = absurd (let wrong : None ≡ Some via = came in cc)
+came_back path via (world.Stray side now w bytes) came back = absurd (let wrong : None ≡ Some via = came in cc)
 
 -- an entry of the list, and its position in the log
 record Entered {P : Type 0} (events : List (TwoAgentsEvent P)) (entries : List WorldEntry) (n : ℕ) (x : LoggedEvent P) : Type 0 where
@@ -152,17 +152,17 @@ one_path log distinct i j id p q x y at_i at_j issued_i issued_j =
 
 module _ {H P : Type 0} (mac : H → List ℕ → List ℕ → List ℕ) (answers : P → CandidateRecord → ℕ → ℕ → Type 0) where
   -- what an execution does at an event
-  record Through (first : WorldRecord H P) (s : Stream) (n : ℕ) (before : List (LoggedEvent P)) (x : LoggedEvent P) (rest : List (LoggedEvent P)) (last : WorldRecord H P) (t : Stream) : Type 0 where
+  record Through (first : WorldRecord H P) (s : Streams) (n : ℕ) (before : List (LoggedEvent P)) (x : LoggedEvent P) (rest : List (LoggedEvent P)) (last : WorldRecord H P) (t : Streams) : Type 0 where
     mid : WorldRecord H P
-    u : Stream
+    u : Streams
     after : WorldRecord H P
-    v : Stream
+    v : Streams
     m : ℕ
     led : world.WorldRun mac answers first s n before mid u
     happens : world.Happens mac answers mid u x.event x.outcome after v
     leads : world.WorldRun mac answers after v m rest last t
 
-  through : (before : List (LoggedEvent P)) (x : LoggedEvent P) (rest : List (LoggedEvent P)) (first last : WorldRecord H P) (s t : Stream) (n : ℕ) → world.WorldRun mac answers first s n (before ++ x ∷ rest) last t
+  through : (before : List (LoggedEvent P)) (x : LoggedEvent P) (rest : List (LoggedEvent P)) (first last : WorldRecord H P) (s t : Streams) (n : ℕ) → world.WorldRun mac answers first s n (before ++ x ∷ rest) last t
       → Through first s n before x rest last t
   through [] x rest first last s t n (mid, u, number, happens, ran) = record { mid = first; u = s; after = mid; v = u; m = suc n; led = (refl, refl); happens = happens; leads = ran }
   through (y ∷ before) x rest first last s t n (mid, u, number, happens, ran) =
@@ -171,7 +171,7 @@ module _ {H P : Type 0} (mac : H → List ℕ → List ℕ → List ℕ) (answer
 
   module _ (paths : PathTheorem {H = H} {P = P} mac answers) (roles : RoleTheorem {H = H} {P = P} mac answers) (fresh_sound : FreshIsSound H P)
       (events : List (TwoAgentsEvent P)) (entries : List WorldEntry) (count : length entries ≡ length events)
-      (first last : WorldRecord H P) (s t : Stream) (ran : world.WorldRun mac answers first s 0 (logged events entries) last t) (greater : Side) (fair : IsFairWorld first greater (logged events entries)) where
+      (first last : WorldRecord H P) (s t : Streams) (ran : world.WorldRun mac answers first s 0 (logged events entries) last t) (greater : Side) (fair : IsFairWorld first greater (logged events entries)) where
     abbrev Log : List (LoggedEvent P)
     Log = logged events entries
 
@@ -328,7 +328,7 @@ logged_none [] = refl
 logged_none (v ∷ events) = refl
 
 module _ {H P : Type 0} (mac : H → List ℕ → List ℕ → List ℕ) (answers : P → CandidateRecord → ℕ → ℕ → Type 0) where
-  ran_or_none : (first last : WorldRecord H P) (s t : Stream) (events : List (TwoAgentsEvent P)) (log : WorldLog) → IsWorldLog mac answers first s events log last t
+  ran_or_none : (first last : WorldRecord H P) (s t : Streams) (events : List (TwoAgentsEvent P)) (log : WorldLog) → IsWorldLog mac answers first s events log last t
       → (log.entries.items ≡ []) ⊎ ((length log.entries.items ≡ length events) × world.WorldRun mac answers first s 0 (logged events log.entries.items) last t)
   ran_or_none first last s t events log h =
       elim log.stopped as (λ b. MatchBool b ((log.entries.items ≡ []) × (last ≡ first) × (t ≡ s)) ((length log.entries.items ≡ length events) × world.WorldRun mac answers first s 0 (logged events log.entries.items) last t)
@@ -336,21 +336,21 @@ module _ {H P : Type 0} (mac : H → List ℕ → List ℕ → List ℕ) (answer
       [ true ↦ λ k. inl k.0 | false ↦ λ k. inr k ] h
 
   module _ (paths : PathTheorem {H = H} {P = P} mac answers) (roles : RoleTheorem {H = H} {P = P} mac answers) (fresh_sound : FreshIsSound H P) where
-    pub log_keeps : (first last : WorldRecord H P) (s t : Stream) (events : List (TwoAgentsEvent P)) (log : WorldLog) → IsWorldLog mac answers first s events log last t
+    pub log_keeps : (first last : WorldRecord H P) (s t : Streams) (events : List (TwoAgentsEvent P)) (log : WorldLog) → IsWorldLog mac answers first s events log last t
         → GreaterKeeps first (logged events log.entries.items)
     log_keeps first last s t events log h greater fair = elim (ran_or_none first last s t events log h) [
       | inl none ↦ subst (λ xs. AllByRecursion (λ x. role_in greater x ≡ (world.at greater first).controlling) xs) (sym (ap (logged events) none ∙ logged_none events)) tt
       | inr ran ↦ greater_keeps mac answers paths roles fresh_sound first last s t 0 (logged events log.entries.items) ran.1 greater fair
     ]
 
-    pub log_switches : (first last : WorldRecord H P) (s t : Stream) (events : List (TwoAgentsEvent P)) (log : WorldLog) → IsWorldLog mac answers first s events log last t
+    pub log_switches : (first last : WorldRecord H P) (s t : Streams) (events : List (TwoAgentsEvent P)) (log : WorldLog) → IsWorldLog mac answers first s events log last t
         → LesserSwitchesOnce first (logged events log.entries.items)
     log_switches first last s t events log h greater fair = elim (ran_or_none first last s t events log h) [
       | inl none ↦ subst (λ xs. changes (world.at (other greater) first).controlling (map (role_in (other greater)) xs) ≤ 1) (sym (ap (logged events) none ∙ logged_none events)) (omega arith)
       | inr ran ↦ lesser_switches_once mac answers paths roles fresh_sound first last s t 0 (logged events log.entries.items) ran.1 greater fair
     ]
 
-    pub log_traced : (first last : WorldRecord H P) (s t : Stream) (events : List (TwoAgentsEvent P)) (log : WorldLog) → IsWorldLog mac answers first s events log last t
+    pub log_traced : (first last : WorldRecord H P) (s t : Streams) (events : List (TwoAgentsEvent P)) (log : WorldLog) → IsWorldLog mac answers first s events log last t
         → SelectedAreTraced first (logged events log.entries.items) log.entries.items
     log_traced first last s t events log h greater side fair never n place path at = elim (ran_or_none first last s t events log h) [
       | inl none ↦ absurd (empty_at log.entries.items none n at.0 at.1)

@@ -2,7 +2,6 @@
 use Rattle.std.proofs.Common.{◌≡◌, ℕ, zero, suc, ◌<◌, ◌≤◌, Bool, true, false, List, [], ◌∷◌, ◌++◌, map, Option, Some, None, is_some, option_map, ◌⊎◌, inl, inr, refl, ap, sym, ◌∙◌, subst, not, arith}
 use Rattle.std.specs.Prelude.{◌≢◌, ◌&&◌, slice_get}
 use Rattle.std.specs.List.{AllByRecursion}
-use Rattle.rand_core.specs.Stream.{Stream}
 use Rattle.is_proto.specs.declared.error.ParseFault.{ParseFault}
 use Rattle.is_candidate.specs.Candidates.{CandidateRecord}
 use Rattle.is_stun.specs.declared.header.Class.{Class}
@@ -28,7 +27,7 @@ use Rattle.is_theorems.specs.RoleView.{mail_of, mail_unless, mail_read, role_sta
 use Rattle.is.specs.declared.world.Side.{Side}
 use Rattle.is.specs.declared.world.Side.TheVariants.{A, B}
 use Rattle.is.specs.World as world
-use Rattle.is.specs.World.{WorldRecord, LoggedEvent, other}
+use Rattle.is.specs.World.{WorldRecord, LoggedEvent, other, Streams}
 use Rattle.is.specs.WorldRoles.{IsNewAgent, HaveDistinctIds, IsFairWorld, role_at, role_in, changes, GreaterKeeps, LesserSwitchesOnce, Makes, Point, RolesDifferOnceMet}
 use Rattle.is.specs.Traces.{StaysFull, IsNeverLite}
 use Rattle.is.proofs.ExternalViews.NetworkModel as seen
@@ -202,7 +201,7 @@ module _ {H P : Type 0} where
     pub full : (side : Side) → IsNeverLite side log → NeverLite side whole
 
   module _ (mac : H → List ℕ → List ℕ → List ℕ) (answers : P → CandidateRecord → ℕ → ℕ → Type 0) (paths : PathTheorem {H = H} {P = P} mac answers) (roles : RoleTheorem {H = H} {P = P} mac answers) (fresh_sound : FreshIsSound H P) where
-    pub greater_keeps : (first last : WorldRecord H P) (s t : Stream) (n : ℕ) (log : List (LoggedEvent P)) → world.WorldRun mac answers first s n log last t → GreaterKeeps first log
+    pub greater_keeps : (first last : WorldRecord H P) (s t : Streams) (n : ℕ) (log : List (LoggedEvent P)) → world.WorldRun mac answers first s n log last t → GreaterKeeps first log
     greater_keeps first last s t n log ran greater p =
         let k = follow mac answers paths roles log first last s t n (sound_first fresh_sound first greater log p) ran in
         let all = runs.keeps_role (seen_of first) (seen_of last) k.seen_log k.ran greater (preconditions_seen first greater log (emitted_of k.seen_log) k.emitted p) in
@@ -210,14 +209,14 @@ module _ {H P : Type 0} where
         (subst (λ r. AllByRecursion (λ (e : Emitted). seen.role_at greater e.roles ≡ r) (map emitted_at log)) (role_of greater first)
         (subst (λ es. AllByRecursion (λ (e : Emitted). seen.role_at greater e.roles ≡ (seen.at greater (seen_of first)).controlling) es) k.emitted all))
 
-    pub lesser_switches_once : (first last : WorldRecord H P) (s t : Stream) (n : ℕ) (log : List (LoggedEvent P)) → world.WorldRun mac answers first s n log last t → LesserSwitchesOnce first log
+    pub lesser_switches_once : (first last : WorldRecord H P) (s t : Streams) (n : ℕ) (log : List (LoggedEvent P)) → world.WorldRun mac answers first s n log last t → LesserSwitchesOnce first log
     lesser_switches_once first last s t n log ran greater p =
         let k = follow mac answers paths roles log first last s t n (sound_first fresh_sound first greater log p) ran in
         let once = runs.switches_role_once (seen_of first) (seen_of last) k.seen_log k.ran greater (preconditions_seen first greater log (emitted_of k.seen_log) k.emitted p) in
         subst (λ r. changes r (map (role_in (other greater)) log) ≤ 1) (role_of (other greater) first)
         (subst (λ rs. changes (seen.at (other greater) (seen_of first)).controlling rs ≤ 1) (ap (roles_along (other greater)) k.emitted ∙ along (other greater) log) once)
 
-    pub sight : (first mid : WorldRecord H P) (s : Stream) (log rest : List (LoggedEvent P)) (x : LoggedEvent P) → AreSound first → (point : Point mac answers first s log mid x rest) → Sight first log point.before mid x rest
+    pub sight : (first mid : WorldRecord H P) (s : Streams) (log rest : List (LoggedEvent P)) (x : LoggedEvent P) → AreSound first → (point : Point mac answers first s log mid x rest) → Sight first log point.before mid x rest
     sight first mid s log rest x sound point =
         let one = follow mac answers paths roles point.before first mid s point.u 0 sound point.led in
         let two = event mac answers paths roles mid point.after point.u point.v x one.sound point.happens in
@@ -241,7 +240,7 @@ module _ {H P : Type 0} where
               all-join (λ (y : Happening). seen.StaysFull side y.kind) one.seen_log (h ∷ three.seen_log) (one.full side parts.0) (two.full side parts.1.0, three.full side parts.1.1));
         }
 
-    pub roles_differ_once_met : (first : WorldRecord H P) (s : Stream) (log : List (LoggedEvent P)) → RolesDifferOnceMet mac answers first s log
+    pub roles_differ_once_met : (first : WorldRecord H P) (s : Streams) (log : List (LoggedEvent P)) → RolesDifferOnceMet mac answers first s log
     roles_differ_once_met first s log greater p mid x rest point (c, makes, met) =
         let k = sight first mid s log rest x (sound_first fresh_sound first greater log p) point in
         let meeting = met_seen (other greater) mid c x.outcome.entry k.here.kind (k.made (other greater) c makes) met in

@@ -2,7 +2,6 @@
 -- are read by tactics where they are used: if one of them is weaker, that goal stays unproved.
 use Rattle.std.proofs.Common.{◌≡◌, ◌⊎◌, ℕ, suc, ◌<◌, Bool, true, false, not, List, [], ◌∷◌, ◌++◌, map, inl, inr, refl, ap, sym, ◌∙◌, subst, arith, append_assoc, append-nil}
 use Rattle.std.specs.Prelude.{◌≢◌}
-use Rattle.rand_core.specs.Stream.{Stream}
 use Rattle.is_proto.specs.Lists.{Has}
 use Rattle.is_proto.specs.Packets.{Packet}
 use Rattle.is_candidate.specs.Candidates.{CandidateRecord}
@@ -25,7 +24,7 @@ use Rattle.is.specs.AcceptedNominationsIn.{Occurrence, HandedCheck, IsReturned, 
 use Rattle.is.specs.Connects.{AgreeOnRoles}
 use Rattle.is.specs.Meetings.{AreOpposite, StayOpposite, RolesMeet}
 use Rattle.is.specs.Selections.{state_after}
-use Rattle.is.specs.World.{WorldRecord, Event, LoggedEvent, Happens, WorldRun, at, other}
+use Rattle.is.specs.World.{WorldRecord, Event, LoggedEvent, Happens, WorldRun, at, other, Streams}
 use Rattle.is.specs.WorldRoles.{IsFairWorld, Makes, Meets, role_in}
 use Rattle.is.proofs.TwoAgentEvents.DeliveredPackets.{rewritten, delivered}
 use Rattle.is.proofs.TwoAgentEvents.EventsOfSegments.{Follow, follows, cut, state_is, meet, own, Checked, checked, Awaited, awaits, removed}
@@ -93,7 +92,7 @@ module _ {H P : Type 0} where
     module _ (mac : H → List ℕ → List ℕ → List ℕ) (answers : P → CandidateRecord → ℕ → ℕ → Type 0) (paths : PathTheorem {H = H} {P = P} mac answers) (roles : RoleTheorem {H = H} {P = P} mac answers) where
       -- ---- one event
 
-      comes_on : (w w' : WorldRecord H P) (s t : Stream) (x : LoggedEvent P) (left : List (LoggedEvent P)) → Comes w (x ∷ left) → Happens mac answers w s x.event x.outcome w' t → Comes w' left
+      comes_on : (w w' : WorldRecord H P) (s t : Streams) (x : LoggedEvent P) (left : List (LoggedEvent P)) → Comes w (x ∷ left) → Happens mac answers w s x.event x.outcome w' t → Comes w' left
       comes_on w w' s t x left k happens =
           let c = event mac answers paths roles w w' s t x k.sound happens in
           let h : Happening = record { kind = c.kind; emitted = emitted_at x } in record {
@@ -104,12 +103,12 @@ module _ {H P : Type 0} where
             sound = c.sound;
           }
 
-      apart_on : (w w' : WorldRecord H P) (s t : Stream) (x : LoggedEvent P) (left : List (LoggedEvent P)) → Comes w (x ∷ left) → Happens mac answers w s x.event x.outcome w' t → Apart w → Apart w'
+      apart_on : (w w' : WorldRecord H P) (s t : Streams) (x : LoggedEvent P) (left : List (LoggedEvent P)) → Comes w (x ∷ left) → Happens mac answers w s x.event x.outcome w' t → Apart w → Apart w'
       apart_on w w' s t x left k happens differs =
           let c = event mac answers paths roles w w' s t x k.sound happens in
           event_apart (seen_of first) (seen_of w) (seen_of w') k.front (map emitted_at left) c.kind (emitted_at x) greater k.fair k.led c.happens (inr differs)
 
-      met_on : (w w' : WorldRecord H P) (s t : Stream) (x : LoggedEvent P) (left : List (LoggedEvent P)) → Comes w (x ∷ left) → Happens mac answers w s x.event x.outcome w' t → Meets (other greater) w x → Apart w'
+      met_on : (w w' : WorldRecord H P) (s t : Streams) (x : LoggedEvent P) (left : List (LoggedEvent P)) → Comes w (x ∷ left) → Happens mac answers w s x.event x.outcome w' t → Meets (other greater) w x → Apart w'
       met_on w w' s t x left k happens (c, makes, met) =
           let e = event mac answers paths roles w w' s t x k.sound happens in
           event_apart (seen_of first) (seen_of w) (seen_of w') k.front (map emitted_at left) e.kind (emitted_at x) greater k.fair k.led e.happens
@@ -147,7 +146,7 @@ module _ {H P : Type 0} where
       -- roles that are different after one of them are different after all
       apart_from : (xs ys : List (Occurrence H P)) (x : Occurrence H P) (left : List (LoggedEvent P)) (w last : WorldRecord H P) → Comes w (entries (xs ++ x ∷ ys) ++ left)
           → Follow mac answers w (xs ++ x ∷ ys) last
-          → (Comes x.before (x.entry ∷ (entries ys ++ left)) → (s t : Stream) → Happens mac answers x.before s x.entry.event x.entry.outcome x.following t → Apart x.following) → Apart last
+          → (Comes x.before (x.entry ∷ (entries ys ++ left)) → (s t : Streams) → Happens mac answers x.before s x.entry.event x.entry.outcome x.following t → Apart x.following) → Apart last
       apart_from xs ys x left w last k follow differs =
           let m = meet mac answers xs ys x w last follow in
           let k_x = comes_at xs ys x left w last k follow in
@@ -204,7 +203,7 @@ module _ {H P : Type 0} where
 
         -- an event after which the roles are different
         so : (xs ys : List (Occurrence H P)) (x : Occurrence H P) → part ≡ xs ++ x ∷ ys
-            → (Comes x.before (x.entry ∷ (entries ys ++ left)) → (s t : Stream) → Happens mac answers x.before s x.entry.event x.entry.outcome x.following t → Apart x.following) → Apart last
+            → (Comes x.before (x.entry ∷ (entries ys ++ left)) → (s t : Streams) → Happens mac answers x.before s x.entry.event x.entry.outcome x.following t → Apart x.following) → Apart last
         so xs ys x split differs =
             apart_from xs ys x left first last (subst (λ zs. Comes first (entries zs ++ left)) split from) (subst (λ zs. Follow mac answers first zs last) split follow) differs
 
@@ -306,11 +305,11 @@ module _ {H P : Type 0} where
 
 module _ {H P : Type 0} (mac : H → List ℕ → List ℕ → List ℕ) (answers : P → CandidateRecord → ℕ → ℕ → Type 0) (paths : PathTheorem {H = H} {P = P} mac answers) (roles : RoleTheorem {H = H} {P = P} mac answers)
     (new_sound : FreshIsSound H P) (resolves : CarriedSettle {H = H} {P = P} mac answers) where
-  entries_in : (w last : WorldRecord H P) (s t : Stream) (n : ℕ) (log : List (LoggedEvent P)) → (run : WorldRun mac answers w s n log last t) → entries (occurrences_in mac answers w s n log last t run) ≡ log
+  entries_in : (w last : WorldRecord H P) (s t : Streams) (n : ℕ) (log : List (LoggedEvent P)) → (run : WorldRun mac answers w s n log last t) → entries (occurrences_in mac answers w s n log last t run) ≡ log
   entries_in w last s t n [] run = refl
   entries_in w last s t n (x ∷ rest) (mid, u, number, happens, run) = ap (λ (l : List (LoggedEvent P)). x ∷ l) (entries_in mid last u t (suc n) rest run)
 
-  pub roles_meet : (first : WorldRecord H P) (s : Stream) (log : List (LoggedEvent P)) → RolesMeet mac answers first s log
+  pub roles_meet : (first : WorldRecord H P) (s : Streams) (log : List (LoggedEvent P)) → RolesMeet mac answers first s log
   roles_meet first s log greater side last t run part rest path fair split (over, k, back) =
       let whole : List (LoggedEvent P) = entries part ++ entries rest in
       let is : log ≡ whole = sym (entries_in first last s t 0 log run) ∙ (ap (λ (xs : List (Occurrence H P)). entries xs) split ∙ map-append (λ (x : Occurrence H P). x.entry) part rest) in
@@ -331,7 +330,7 @@ module _ {H P : Type 0} (mac : H → List ℕ → List ℕ → List ℕ) (answer
       let stays : (x : Occurrence H P) → Has rest x → StayOpposite x = after.1 in (after.0, search stays)
 
   -- once the roles are different, each agent keeps its role
-  pub roles_stay : (first : WorldRecord H P) (s : Stream) (log : List (LoggedEvent P)) (greater side : Side) (last : WorldRecord H P) (t : Stream) (run : WorldRun mac answers first s 0 log last t)
+  pub roles_stay : (first : WorldRecord H P) (s : Streams) (log : List (LoggedEvent P)) (greater side : Side) (last : WorldRecord H P) (t : Streams) (run : WorldRun mac answers first s 0 log last t)
       (part rest : List (Occurrence H P)) → IsFairWorld first greater log → occurrences_in mac answers first s 0 log last t run ≡ part ++ rest → AgreeOnRoles mac answers first part
       → (at side (state_after first part)).controlling ≡ false → (x : Occurrence H P) → Has rest x
       → (((at side x.before).controlling ≡ false) × ((at (other side) x.before).controlling ≡ true))

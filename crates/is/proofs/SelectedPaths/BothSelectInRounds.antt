@@ -1,8 +1,7 @@
 -- Both of two agents select a path in rounds in which the network delivers. The preconditions that mutants/specifications
 -- changes are read by tactics.
-use Rattle.std.proofs.Common.{◌≡◌, ℕ, suc, ◌<◌, Bool, true, false, List, [], ◌∷◌, ◌++◌, length, Option, Some, None, inl, inr, ◌⊎◌, refl, ap, sym, ◌∙◌, subst, arith, if◌then◌else◌, Ok}
+use Rattle.std.proofs.Common.{◌≡◌, ℕ, suc, ◌<◌, Bool, true, false, List, [], ◌∷◌, ◌++◌, length, Option, Some, None, inl, inr, ◌⊎◌, refl, ap, sym, ◌∙◌, subst, arith, if◌then◌else◌}
 use Rattle.std.specs.Prelude.{slice_get}
-use Rattle.rand_core.specs.Stream.{Stream}
 use Rattle.is_proto.specs.Lists.{Has}
 use Rattle.is_proto.specs.Packets.{Packet}
 use Rattle.is_candidate.specs.Candidates.{CandidateRecord}
@@ -30,8 +29,9 @@ use Rattle.is.specs.AcceptedNominationsIn.{Occurrence, IsAskedOver}
 use Rattle.is.specs.Deliveries.{MakesPolls}
 use Rattle.is.specs.Selections.{SideRound, all_of, times_in, state_after, IsKept, AreKept, MayEndInRounds, SideRoundsSuffice, AreEachPolled, RoundChecks}
 use Rattle.is.specs.Sides.{only, polled_as, received_as, acts}
+use Rattle.rand_core.specs.Stream.{Stream}
 use Rattle.is.specs.World as world
-use Rattle.is.specs.World.{WorldRecord, InFlightRecord, Event, LoggedEvent, Happens, at, other, in_world}
+use Rattle.is.specs.World.{WorldRecord, InFlightRecord, Event, LoggedEvent, Happens, at, other, in_world, Streams, source_of, TakesTurn}
 use Rattle.is.specs.WorldRoles.{IsNewAgent}
 use Rattle.is.proofs.ExternalViews.ViewsOfExecutions.{Has-front, Has-rear, AreSound}
 use Rattle.is.proofs.TwoAgentEvents.OwnExecutions.{only_own, course_on, turn_step}
@@ -55,33 +55,35 @@ module _ {H P : Type 0} (mac : H → List ℕ → List ℕ → List ℕ) (answer
   abbrev pub Moves : Side → SideRound H P → Type 0
   Moves side r = r.timeout.entry.event ≡ world.Call side (agent.HandleTimeout r.now)
 
-  pub moved : (side : Side) (r : SideRound H P) (s t : Stream) → Moves side r → Happens mac answers r.timeout.before s r.timeout.entry.event r.timeout.entry.outcome r.timeout.following t
-      → Step mac answers (at side r.timeout.before) s (agent.HandleTimeout r.now) r.timeout.entry.outcome.entry (at side r.timeout.following) t
+  pub moved : (side : Side) (r : SideRound H P) (s t : Streams) → Moves side r → Happens mac answers r.timeout.before s r.timeout.entry.event r.timeout.entry.outcome r.timeout.following t
+      → (left : Stream) × Step mac answers (at side r.timeout.before) (source_of side s) (agent.HandleTimeout r.now) r.timeout.entry.outcome.entry (at side r.timeout.following) left
   moved side r s t comes happens =
-      turn_step mac answers r.timeout.before r.timeout.following s t side (agent.HandleTimeout r.now) r.timeout.entry.outcome
-      (subst (λ (v : Event P). Happens mac answers r.timeout.before s v r.timeout.entry.outcome r.timeout.following t) comes happens)
+      let turn : TakesTurn mac answers r.timeout.before s side (agent.HandleTimeout r.now) r.timeout.entry.outcome r.timeout.following t =
+      subst (λ (v : Event P). Happens mac answers r.timeout.before s v r.timeout.entry.outcome r.timeout.following t) comes happens in
+      (turn.left, turn_step mac answers r.timeout.before r.timeout.following s t side (agent.HandleTimeout r.now) r.timeout.entry.outcome turn)
 
   -- the rounds of the side as those of a per-agent execution: what may remove a pair of the path there may do so here
-  abbrev Passing : Side → Path → List (SideRound H P) → AgentRecord H P → AgentRecord H P → Type 0
+  abbrev pub Passing : Side → Path → List (SideRound H P) → AgentRecord H P → AgentRecord H P → Type 0
   Passing side path rounds a b =
       (run : PassRounds mac answers (rounds_of side rounds) a b) × (EndsAmong mac answers (rounds_of side rounds) a b run path → MayEndInRounds answers side path rounds)
 
-  passes : (side : Side) (path : Path) (rounds : List (SideRound H P)) (w last : WorldRecord H P) → Follow mac answers w (all_of rounds) last → ((r : SideRound H P) → Has rounds r → Moves side r)
+  pub passes : (side : Side) (path : Path) (rounds : List (SideRound H P)) (w last : WorldRecord H P) → Follow mac answers w (all_of rounds) last → ((r : SideRound H P) → Has rounds r → Moves side r)
       → Passing side path rounds (at side w) (at side last)
   passes side path [] w last is comes = (ap (λ (v : WorldRecord H P). at side v) is, λ none. absurd none)
   passes side path (r ∷ later) w last (from, s, t, happens, more) comes =
       let c = cut mac answers r.following (all_of later) r.timeout.following last more in
       let o = owned mac answers side path r.following r.following r.timeout.following c.0 c.1 (λ x has. has) in
       let k = passes side path later c.0 last c.2 (λ y has. comes y (inr has)) in
+      let moves = moved side r s t (comes r (inl refl)) happens in
       subst (λ (v : WorldRecord H P). Passing side path (r ∷ later) (at side v) (at side last)) from (
-        (at side r.timeout.following, at side c.0, s, t, moved side r s t (comes r (inl refl)) happens, o.0, k.0),
+        (at side r.timeout.following, at side c.0, source_of side s, moves.0, moves.1, o.0, k.0),
         λ ends. elim ends [ inl here ↦ (r, inl refl, o.1 here) | inr others ↦ (let m = k.1 others in (m.0, inr m.1, m.2)) ],
       )
 
-  abbrev are_all : (CourseRound P → Type 0) → Side → List (SideRound H P) → Type 0
+  abbrev pub are_all : (CourseRound P → Type 0) → Side → List (SideRound H P) → Type 0
   are_all Q side rounds = (c : CourseRound P) → Has (rounds_of side rounds) c → Q c
 
-  each_round : (Q : CourseRound P → Type 0) (side : Side) (rounds : List (SideRound H P)) → ((r : SideRound H P) → Has rounds r → Q (round_of side r)) → are_all Q side rounds
+  pub each_round : (Q : CourseRound P → Type 0) (side : Side) (rounds : List (SideRound H P)) → ((r : SideRound H P) → Has rounds r → Q (round_of side r)) → are_all Q side rounds
   each_round Q side [] each c has = absurd has
   each_round Q side (r ∷ later) each c (inl is) = subst (λ (z : CourseRound P). Q z) is (each r (inl refl))
   each_round Q side (r ∷ later) each c (inr has) = each_round Q side later (λ y there. each y (inr there)) c has
@@ -105,10 +107,10 @@ module _ {H P : Type 0} (mac : H → List ℕ → List ℕ → List ℕ) (answer
   same_times side [] = refl
   same_times side (r ∷ later) = ap (λ ns. r.now ∷ ns) (same_times side later)
 
-  is_open : (side : Side) (r : SideRound H P) → IsKept side r → AreInRound (own mac answers side r.following)
+  pub is_open : (side : Side) (r : SideRound H P) → IsKept side r → AreInRound (own mac answers side r.following)
   is_open side r kept = own_in_round mac answers side r.following (λ x has. search (kept.between x has))
 
-  are_open : (side : Side) (by : ℕ) (r : SideRound H P) (later : List (SideRound H P)) → AreKept side by r later → are_all (λ c. IsOpenRound by c) side later
+  pub are_open : (side : Side) (by : ℕ) (r : SideRound H P) (later : List (SideRound H P)) → AreKept side by r later → are_all (λ c. IsOpenRound by c) side later
   are_open side by r later kept = each_round (λ c. IsOpenRound by c) side later (λ x has. (let k = kept.kept x (inr has) in record {
     done = k.done;
     late = (let late = kept.late x has in omega (arith, late));
@@ -134,7 +136,7 @@ module _ {H P : Type 0} (mac : H → List ℕ → List ℕ → List ℕ) (answer
   abbrev pub Reaches : Side → Path → List (SideRound H P) → Type 0
   Reaches side path rounds = SomeChecks path rounds ⊎ (Answers side path rounds ⊎ MayEndInRounds answers side path rounds)
 
-  pub reached : CoursesReachFromDue {H = H} {P = P} mac answers → (side : Side) (first last : WorldRecord H P) (s : Stream) (xs : List (agent.Call P × Entry)) (r : SideRound H P) (later : List (SideRound H P)) (p : PairRecord) (by : ℕ)
+  pub reached : CoursesReachFromDue {H = H} {P = P} mac answers → (side : Side) (first last : WorldRecord H P) (s : Streams) (xs : List (agent.Call P × Entry)) (r : SideRound H P) (later : List (SideRound H P)) (p : PairRecord) (by : ℕ)
       → IsNewAgent (at side first) → Course mac answers xs (at side first) (at side r.timeout.before) → Follow mac answers r.timeout.before (all_of (r ∷ later)) last
       → IsInLine r.now by (at side r.timeout.before) p → AreKept side by r later
       → ((x : SideRound H P) → Has later x → IsLasting x.now (at side r.timeout.before) p) → SideRoundsSuffice side by r later last
@@ -145,14 +147,15 @@ module _ {H P : Type 0} (mac : H → List ℕ → List ℕ → List ℕ) (answer
       let c = cut mac answers r.following (all_of later) r.timeout.following last more in
       let o = owned mac answers side path r.following r.following r.timeout.following c.0 c.1 (λ x has. has) in
       let k = passes side path later c.0 last c.2 (λ x has. (kept.kept x (inr has)).comes) in
+      let moves = moved side r u v own_first.comes happens in
       let many = as_many side later in
       let second : state_after r.timeout.following r.following ≡ c.0 = state_is mac answers r.following r.timeout.following c.0 c.1 in
       let so_many : Suffices by r.now (at side r.timeout.before) (at side c.0) (at side last) (length (rounds_of side later)) =
       subst (λ i. Suffices by r.now (at side r.timeout.before) (at side c.0) (at side last) i) (sym many)
       (subst (λ (w : WorldRecord H P). Suffices by r.now (at side r.timeout.before) (at side w) (at side last) (length later)) second (search enough)) in
       elim (reach (fresh (at side first).provider n.0 n.1) (at side r.timeout.before) (at side last) ((agent.SetControlling n.2, quiet Done) ∷ xs) (round_of side r) (rounds_of side later) p by
-      (n.0, n.1, refl) (at side first, s, s, tt, (Ok _, refl, (refl, n.3), refl), led) line (let from = kept.from in omega (arith, from)) own_first.done own_first.early (is_open side r own_first)
-      (at side r.timeout.following, at side c.0, u, v, moved side r u v own_first.comes happens, o.0, k.0) (are_open side by r later kept)
+      (n.0, n.1, refl) (at side first, source_of side s, source_of side s, tt, (refl, n.3, refl), led) line (let from = kept.from in omega (arith, from)) own_first.done own_first.early (is_open side r own_first)
+      (at side r.timeout.following, at side c.0, source_of side u, moves.0, moves.1, o.0, k.0) (are_open side by r later kept)
       (each_round (λ c. IsLasting c.now (at side r.timeout.before) p) side later (λ x has. lasting x has)) so_many) [
         | inl (x, id, has, out) ↦ (let z = back side (r ∷ later) x has in inl (z.0, z.1, (id, ap (λ (y : CourseRound P). y.timeout.emitted.issued) z.2 ∙ out)))
         | inr (inl (x, has, is)) ↦ (let z = back side (r ∷ later) x has in inr (inl (z.0, z.1, subst (λ (y : CourseRound P). IsAnsweredAlong y.following path) (sym z.2) is)))
@@ -161,7 +164,7 @@ module _ {H P : Type 0} (mac : H → List ℕ → List ℕ → List ℕ) (answer
       ]
 
   -- the rounds of a segment
-  reached_in : CoursesReachFromDue {H = H} {P = P} mac answers → (side : Side) (path : Path) (first start last : WorldRecord H P) (s : Stream) (before part : List (Occurrence H P))
+  reached_in : CoursesReachFromDue {H = H} {P = P} mac answers → (side : Side) (path : Path) (first start last : WorldRecord H P) (s : Streams) (before part : List (Occurrence H P))
       → IsNewAgent (at side first) → Follow mac answers first before start → Follow mac answers start part last → (k : HasRounds side path part last) → Reaches side path (k.first ∷ k.later)
   reached_in reach side path first start last s before part n led on k =
       let rounds : List (SideRound H P) = k.first ∷ k.later in
@@ -221,6 +224,7 @@ module _ {H P : Type 0} (mac : H → List ℕ → List ℕ → List ℕ) (answer
         }
         | inr none ↦ absurd none
       ]
+    by (world.Stray s now via bytes) is there = absurd there
 
   pub succeeds_in : (side : Side) (path : Path) (xs : List (Occurrence H P)) → IsAnsweredAlong (own mac answers side xs) path → (x : Occurrence H P) × Has xs x × Succeeds side path x
   succeeds_in side path xs (y, has, accepts) = let o = own_from mac answers side xs y has in (o.0, o.1, succeeds_at side path o.0 y o.2 accepts)
@@ -228,51 +232,51 @@ module _ {H P : Type 0} (mac : H → List ℕ → List ℕ → List ℕ) (answer
   -- ---- both
 
   pub both_connect : PathTheorem {H = H} {P = P} mac answers → FreshIsSound H P → CarriedAsk {H = H} {P = P} mac answers → CarriedSucceedLater {H = H} {P = P} mac answers
-      → AcceptedNominationsAreSelected {H = H} {P = P} mac answers → CoursesReachFromDue {H = H} {P = P} mac answers → (first : WorldRecord H P) (s : Stream) (log : List (LoggedEvent P)) → BothConnect mac answers first s log
-  both_connect paths new_sound asks succeeds announce reach first s log last t run before part rest timeout now side path its new split roles asking asks_so asked answered_so comes done none only_pair =
+      → AcceptedNominationsAreSelected {H = H} {P = P} mac answers → CoursesReachFromDue {H = H} {P = P} mac answers → (first : WorldRecord H P) (s : Streams) (log : List (LoggedEvent P)) → BothConnect mac answers first s log
+  both_connect paths new_sound asks succeeds announce reach first s log last t run before part rest timeout side path its segment asking answers_in =
       elim ask [
         | inl over ↦
-            elim (selected_where mac answers paths new_sound asks succeeds announce first last s before part rest timeout now side path new follow (λ x has. apart_at mac answers side (part ++ timeout ∷ []) x roles has)
-            (λ start led sound on. (over, answer start led sound on)) comes done idle lone) [
+            elim (selected_where mac answers paths new_sound asks succeeds announce first last s before part rest timeout segment.plain.now side path segment.new follow (λ x has. apart_at mac answers side (part ++ timeout ∷ []) x segment.controlled has)
+            (λ start led sound on. (over, answer start led sound on)) segment.plain.event segment.plain.done idle lone) [
               | inl selected_paths ↦ inl selected_paths
               | inr found ↦ inr (inl found)
             ]
         | inr ended ↦ inr (inr (search ended))
       ] where
-        idle : request_at now (at side timeout.before) ≡ None
-        idle = search none
+        idle : request_at segment.plain.now (at side timeout.before) ≡ None
+        idle = search segment.plain.serves_none
 
         lone : IsOnlyPair (at side timeout.following) path
-        lone = search only_pair
+        lone = search segment.only_pair
 
         follow : Follow mac answers first (before ++ ((part ++ timeout ∷ []) ++ rest)) last
-        follow = subst (λ xs. Follow mac answers first xs last) split (follows mac answers first last s t 0 log run)
+        follow = subst (λ xs. Follow mac answers first xs last) segment.split (follows mac answers first last s t 0 log run)
 
         part_roles : (x : Occurrence H P) → Has part x → ((at side x.before).controlling ≡ false) × ((at (other side) x.before).controlling ≡ true)
-        part_roles x has = apart_at mac answers side (part ++ timeout ∷ []) x roles (Has-front part (timeout ∷ []) x has)
+        part_roles x has = apart_at mac answers side (part ++ timeout ∷ []) x segment.controlled (Has-front part (timeout ∷ []) x has)
 
-        ask : IsAskedOver mac side path part ⊎ MayEndInRounds answers (other side) its (asking.first ∷ asking.later)
+        ask : IsAskedOver mac side path part ⊎ MayEndInRounds answers (other side) its (asking.rounds.first ∷ asking.rounds.later)
         ask =
             let led = cut mac answers before ((part ++ timeout ∷ []) ++ rest) first last follow in
             let on = cut mac answers (part ++ timeout ∷ []) rest led.0 last led.2 in
-            by (reached_in reach (other side) its first led.0 timeout.before s before part (new (other side)) led.1 (meet mac answers part [] timeout led.0 on.0 on.1).led asking) where
-              by : Reaches (other side) its (asking.first ∷ asking.later) → IsAskedOver mac side path part ⊎ MayEndInRounds answers (other side) its (asking.first ∷ asking.later)
-              by (inl (r, has, sent)) = inl (let so = asks_so r has in search (so.asked sent))
-              by (inr (inl (r, has, is))) = inl (let x = succeeds_in (other side) its r.following is in let so = asks_so r has in search (so.early x.0 x.1 x.2))
+            by (reached_in reach (other side) its first led.0 timeout.before s before part (segment.new (other side)) led.1 (meet mac answers part [] timeout led.0 on.0 on.1).led asking.rounds) where
+              by : Reaches (other side) its (asking.rounds.first ∷ asking.rounds.later) → IsAskedOver mac side path part ⊎ MayEndInRounds answers (other side) its (asking.rounds.first ∷ asking.rounds.later)
+              by (inl (r, has, sent)) = inl (let so = asking.asks r has in search (so.asked sent))
+              by (inr (inl (r, has, is))) = inl (let x = succeeds_in (other side) its r.following is in let so = asking.asks r has in search (so.early x.0 x.1 x.2))
               by (inr (inr ended)) = inr ended
 
-        within : (x : Occurrence H P) → Has (all_of (asked.first ∷ asked.later)) x → Has part x
-        within x has = subst (λ xs. Has xs x) (sym asked.split) (Has-rear asked.ahead (all_of (asked.first ∷ asked.later)) x has)
+        within : (x : Occurrence H P) → Has (all_of (answers_in.rounds.first ∷ answers_in.rounds.later)) x → Has part x
+        within x has = subst (λ xs. Has xs x) (sym answers_in.rounds.split) (Has-rear answers_in.rounds.ahead (all_of (answers_in.rounds.first ∷ answers_in.rounds.later)) x has)
 
         answer : (start : WorldRecord H P) → Follow mac answers first before start → AreSound start → Follow mac answers start part timeout.before
             → IsAnsweredAlong (own mac answers side part) path ⊎ Found mac answers side path (part ++ timeout ∷ [])
-        answer start led sound on = by (reached_in reach side path first start timeout.before s before part (new side) led on asked) where
-          by : Reaches side path (asked.first ∷ asked.later) → IsAnsweredAlong (own mac answers side part) path ⊎ Found mac answers side path (part ++ timeout ∷ [])
+        answer start led sound on = by (reached_in reach side path first start timeout.before s before part (segment.new side) led on answers_in.rounds) where
+          by : Reaches side path (answers_in.rounds.first ∷ answers_in.rounds.later) → IsAnsweredAlong (own mac answers side part) path ⊎ Found mac answers side path (part ++ timeout ∷ [])
           by (inl (r, has, sent)) =
               answered mac answers paths asks succeeds part (part ++ timeout ∷ []) start timeout.before sound on (λ x there. Has-front part (timeout ∷ []) x there) side path part_roles
-              (search (answered_so r has sent))
+              (search (answers_in.answered r has sent))
           by (inr (inl (r, has, (y, in_round, accepts)))) =
               let o = own_from mac answers side r.following y in_round in
-              inl (y, own_has mac answers side part o.0 y (within o.0 (in_rounds (asked.first ∷ asked.later) r o.0 has o.1)) o.2, accepts)
+              inl (y, own_has mac answers side part o.0 y (within o.0 (in_rounds (answers_in.rounds.first ∷ answers_in.rounds.later) r o.0 has o.1)) o.2, accepts)
           by (inr (inr (r, has, (x, in_round, ends)))) =
-              inr (x, Has-front part (timeout ∷ []) x (within x (in_rounds (asked.first ∷ asked.later) r x has in_round)), ends)
+              inr (x, Has-front part (timeout ∷ []) x (within x (in_rounds (answers_in.rounds.first ∷ answers_in.rounds.later) r x has in_round)), ends)

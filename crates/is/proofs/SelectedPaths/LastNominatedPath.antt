@@ -2,7 +2,6 @@
 -- preconditions that mutants/specifications changes are read by tactics where they are used: if one of them is weaker, that goal stays unproved.
 use Rattle.std.proofs.Common.{◌≡◌, ℕ, Bool, true, false, List, [], ◌∷◌, ◌++◌, Option, Some, None, inl, inr, ◌⊎◌, refl, ap, sym, ◌∙◌, subst, append_assoc, if◌then◌else◌}
 use Rattle.std.specs.Prelude.{MatchBool, slice_get}
-use Rattle.rand_core.specs.Stream.{Stream}
 use Rattle.is_proto.specs.Lists.{Has}
 use Rattle.is_proto.specs.Packets.{Packet}
 use Rattle.is_candidate.specs.Candidates.{CandidateRecord}
@@ -31,7 +30,7 @@ use Rattle.is.specs.AcceptedNominationsIn.{Occurrence, HandedCheck, IsControlled
 use Rattle.is.specs.Renominations.{IsSelectedLast, KeepsSelected, NominatesNoOther, OnePathIsSelected}
 use Rattle.is.specs.Sides.{only, polled_as, received_as, acts}
 use Rattle.is.specs.World as world
-use Rattle.is.specs.World.{WorldRecord, InFlightRecord, Event, LoggedEvent, TakesTurn, Persists, Happens, at, other, in_world}
+use Rattle.is.specs.World.{WorldRecord, InFlightRecord, Event, LoggedEvent, TakesTurn, Persists, Happens, at, other, in_world, Streams, source_of}
 use Rattle.is.specs.WorldRoles.{IsNewAgent}
 use Rattle.is.proofs.ExternalViews.ViewsOfExecutions.{Has-front, AreSound}
 use Rattle.is.proofs.RolesAndChains.RolesAndChainsOfViews.{sound_new}
@@ -80,7 +79,7 @@ module _ {H P : Type 0} (mac : H → List ℕ → List ℕ → List ℕ) (answer
       | inr none ↦ absurd none
     ]
 
-    acts_only : (x : Occurrence H P) (s t : Stream) → AreSound x.before → Happens mac answers x.before s x.entry.event x.entry.outcome x.following t → NominatesNoOther side path x
+    acts_only : (x : Occurrence H P) (s t : Streams) → AreSound x.before → Happens mac answers x.before s x.entry.event x.entry.outcome x.following t → NominatesNoOther side path x
         → OnlyAt (at side x.before) (acts_at mac answers side x)
     acts_only x s t sound happens n = by x.entry.event refl happens where
       received : (place now : ℕ) (via : Path) (l : InFlightRecord) → x.entry.event ≡ world.Deliver place now via → slice_get x.before.network place ≡ Some l
@@ -89,7 +88,7 @@ module _ {H P : Type 0} (mac : H → List ℕ → List ℕ → List ℕ) (answer
       received place now via l is there k same one g =
           let turn : TakesTurn mac answers x.before s side (agent.ReceivePacket now via l.packet.contents) x.entry.outcome x.following t =
           subst (λ z. TakesTurn mac answers x.before s z (agent.ReceivePacket now via l.packet.contents) x.entry.outcome x.following t) same k in
-          let f = (paths (at side x.before) (at side x.following) s t (agent.ReceivePacket now via l.packet.contents) x.entry.outcome.entry (sound side) tt
+          let f = (paths (at side x.before) (at side x.following) (source_of side s) turn.left (agent.ReceivePacket now via l.packet.contents) x.entry.outcome.entry (sound side) tt
           (turn_step mac answers x.before x.following s t side (agent.ReceivePacket now via l.packet.contents) x.entry.outcome turn)).0 in
           let m : Message = g.2.2 in
           let uses : m.attributes.use_candidate ≡ true = ap (λ (y : RequestRecord). y.use_candidate) (sym g.2.6) ∙ g.3 in
@@ -112,6 +111,7 @@ module _ {H P : Type 0} (mac : H → List ℕ → List ℕ → List ℕ) (answer
         given None there k = λ y has. absurd has
         given (Some l) there k =
             reversed_only (other l.sender) (at side x.before) (agent.ReceivePacket now via l.packet.contents) x.entry.outcome.entry (received place now via l is there k)
+      by (world.Stray z now via bytes) is h = λ y has. absurd has
 
     -- ---- the last nomination that the side accepts
 
@@ -219,7 +219,7 @@ module _ {H P : Type 0} (mac : H → List ℕ → List ℕ → List ℕ) (answer
           ∙ (ap (λ xs. selected_along (selected_along start_is (own mac answers from part)) xs) quiet_there
           ∙ nominated_selected mac answers paths nominates from its over before part first start timeout.before (new from) led sound on k (set k.sent sent_has from) nominated keeps)
 
-      follows_it : (start : WorldRecord H P) (u v : Stream) → Follow mac answers first before start → AreSound start → Follow mac answers start part timeout.before
+      follows_it : (start : WorldRecord H P) (u v : Streams) → Follow mac answers first before start → AreSound start → Follow mac answers start part timeout.before
           → Happens mac answers timeout.before u timeout.entry.event timeout.entry.outcome timeout.following v → far_it
       follows_it start u v led sound on happens =
           let side : Side = other from in
@@ -233,7 +233,7 @@ module _ {H P : Type 0} (mac : H → List ℕ → List ℕ → List ℕ) (answer
           let g = accepts_last from its over part (part ++ timeout ∷ []) start timeout.before sound on among (λ x has. roles x (among x has)) role k nominated none in
           elim (replies start sound on) [
             | inr found ↦ inr found
-            | inl replied ↦ elim (follows_last (at side first) (at side start) (at side timeout.before) (at side timeout.following) earlier here u v now timeout.entry.outcome.entry path (new side)
+            | inl replied ↦ elim (follows_last (at side first) (at side start) (at side timeout.before) (at side timeout.following) earlier here (source_of side u) turn.left now timeout.entry.outcome.entry path (new side)
                 (own_course mac answers side before first start led) g.0 (turn_step mac answers timeout.before timeout.following u v side (agent.HandleTimeout now) timeout.entry.outcome turn) done idle
                 (set timeout (middle part [] timeout) side) role g.2 replied only_pair) [
                   | inr ends ↦ inr (elim ends [
@@ -261,20 +261,20 @@ module _ {H P : Type 0} (mac : H → List ℕ → List ℕ → List ℕ) (answer
           answered mac answers paths asks succeeds part (part ++ timeout ∷ []) start timeout.before sound on (λ x has. Has-front part (timeout ∷ []) x has) side path
           (λ x has. apart_at mac answers side (part ++ timeout ∷ []) x roles (Has-front part (timeout ∷ []) x has)) exchanged
 
-      pub one_path : (first : WorldRecord H P) (s : Stream) (log : List (LoggedEvent P)) → OnePathIsSelected mac answers first s log
-      one_path first s log last t run before part rest timeout now A its path new split roles set last_is exchanged comes done none only_pair =
+      pub one_path : (first : WorldRecord H P) (s : Streams) (log : List (LoggedEvent P)) → OnePathIsSelected mac answers first s log
+      one_path first s log last t run before part rest timeout A its path segment set last_is exchanged =
           let nominated : AreNominatedOn (at B last_is.check.sent.following) its = search last_is.nominated in
           let answer : IsExchangedOver mac A path part = search exchanged in
-          let idle : request_at now (at A timeout.before) ≡ None = search none in
-          let lone : IsOnlyPair (at A timeout.following) path = search only_pair in
-          both_selected B its (reversed path) before part rest timeout now first last new (subst (λ xs. Follow mac answers first xs last) split (follows mac answers first last s t 0 log run))
-          (λ x has. apart_at mac answers A (part ++ timeout ∷ []) x roles has) (λ x has z. search (set x has z)) last_is.check nominated last_is.stays last_is.last
-          (replied A path part timeout roles answer) comes done idle lone
-      one_path first s log last t run before part rest timeout now B its path new split roles set last_is exchanged comes done none only_pair =
+          let idle : request_at segment.plain.now (at A timeout.before) ≡ None = search segment.plain.serves_none in
+          let lone : IsOnlyPair (at A timeout.following) path = search segment.only_pair in
+          both_selected B its (reversed path) before part rest timeout segment.plain.now first last segment.new (subst (λ xs. Follow mac answers first xs last) segment.split (follows mac answers first last s t 0 log run))
+          (λ x has. apart_at mac answers A (part ++ timeout ∷ []) x segment.controlled has) (λ x has z. search (set x has z)) last_is.check nominated last_is.stays last_is.last
+          (replied A path part timeout segment.controlled answer) segment.plain.event segment.plain.done idle lone
+      one_path first s log last t run before part rest timeout B its path segment set last_is exchanged =
           let nominated : AreNominatedOn (at A last_is.check.sent.following) its = search last_is.nominated in
           let answer : IsExchangedOver mac B path part = search exchanged in
-          let idle : request_at now (at B timeout.before) ≡ None = search none in
-          let lone : IsOnlyPair (at B timeout.following) path = search only_pair in
-          both_selected A its (reversed path) before part rest timeout now first last new (subst (λ xs. Follow mac answers first xs last) split (follows mac answers first last s t 0 log run))
-          (λ x has. apart_at mac answers B (part ++ timeout ∷ []) x roles has) (λ x has z. search (set x has z)) last_is.check nominated last_is.stays last_is.last
-          (replied B path part timeout roles answer) comes done idle lone
+          let idle : request_at segment.plain.now (at B timeout.before) ≡ None = search segment.plain.serves_none in
+          let lone : IsOnlyPair (at B timeout.following) path = search segment.only_pair in
+          both_selected A its (reversed path) before part rest timeout segment.plain.now first last segment.new (subst (λ xs. Follow mac answers first xs last) segment.split (follows mac answers first last s t 0 log run))
+          (λ x has. apart_at mac answers B (part ++ timeout ∷ []) x segment.controlled has) (λ x has z. search (set x has z)) last_is.check nominated last_is.stays last_is.last
+          (replied B path part timeout segment.controlled answer) segment.plain.event segment.plain.done idle lone

@@ -3,7 +3,6 @@
 use Rattle.std.proofs.Common.{◌≡◌, ℕ, Bool, true, false, List, [], ◌∷◌, ◌++◌, Option, Some, None, inl, inr, map, refl, ap, sym, ◌∙◌, subst, append_assoc, if◌then◌else◌}
 use Rattle.std.specs.Prelude.{MatchBool, slice_get}
 use Rattle.std.specs.Option.{option_or}
-use Rattle.rand_core.specs.Stream.{Stream}
 use Rattle.is_proto.specs.Lists.{Has}
 use Rattle.is_proto.specs.Packets.{Packet}
 use Rattle.is_candidate.specs.Candidates.{CandidateRecord}
@@ -23,7 +22,7 @@ use Rattle.is.specs.AcceptedNominationsIn.{Occurrence, HandedCheck}
 use Rattle.is.specs.Renominations.{KeepsSelected}
 use Rattle.is.specs.Sides.{only, own_at, own_log, polled_as, received_as, acts}
 use Rattle.is.specs.World as world
-use Rattle.is.specs.World.{WorldRecord, InFlightRecord, Event, Outcome, TakesTurn, Persists, Happens, at, other, in_world}
+use Rattle.is.specs.World.{WorldRecord, InFlightRecord, Event, Outcome, TakesTurn, Persists, Happens, at, other, in_world, Streams}
 use Rattle.is.specs.WorldRoles.{IsNewAgent}
 use Rattle.is.proofs.ExternalViews.ViewsOfExecutions.{AreSound}
 use Rattle.is.proofs.TwoAgentEvents.OwnExecutions.{course_on, only_none}
@@ -112,7 +111,7 @@ module _ {H P : Type 0} (mac : H → List ℕ → List ℕ → List ℕ) (answer
 
   -- ---- the controlling side selects no path
 
-  still_reversed : (side z : Side) (w w' : WorldRecord H P) (s t : Stream) (c : agent.Call P) (e : Outcome) (path : Option Path) → TakesTurn mac answers w s z c e w' t
+  still_reversed : (side z : Side) (w w' : WorldRecord H P) (s t : Streams) (c : agent.Call P) (e : Outcome) (path : Option Path) → TakesTurn mac answers w s z c e w' t
       → (e.side ≡ Some side → (last_of e.entry.emitted.selected_paths ≡ None) × (e.clear ≡ false))
       → selected_along path (only side z ((c, e.entry) ∷ [])) ≡ path
   still_reversed side z w w' s t c e path k keeps = by side z k.side_is keeps where
@@ -136,7 +135,7 @@ module _ {H P : Type 0} (mac : H → List ℕ → List ℕ → List ℕ) (answer
   still_polled A B _ ps path = refl
   still_polled B A _ ps path = refl
 
-  still_at : (side : Side) (w w' : WorldRecord H P) (s t : Stream) (v : Event P) (e : Outcome) (path : Option Path) → Happens mac answers w s v e w' t
+  still_at : (side : Side) (w w' : WorldRecord H P) (s t : Streams) (v : Event P) (e : Outcome) (path : Option Path) → Happens mac answers w s v e w' t
       → (e.side ≡ Some side → (last_of e.entry.emitted.selected_paths ≡ None) × (e.clear ≡ false)) → selected_along path (acts side w v e.entry) ≡ path
   still_at side w w' s t (world.Call z c) e path h keeps = by (in_world c) h where
     by : (b : Bool) → MatchBool b (TakesTurn mac answers w s z c e w' t) (Persists mac answers w s agent.NotInWorld (Some z) e w' t)
@@ -148,6 +147,7 @@ module _ {H P : Type 0} (mac : H → List ℕ → List ℕ → List ℕ) (answer
     by : (o : Option InFlightRecord) → world.Delivers mac answers w s o now via e w' t → selected_along {P = P} path (received_as side now via e.entry o) ≡ path
     by None k = refl
     by (Some l) k = still_reversed side (other l.sender) w w' s t (agent.ReceivePacket now via l.packet.contents) e path k keeps
+  still_at side w w' s t (world.Stray z now via bytes) e path h keeps = refl
 
   still_along : (side : Side) (xs : List (Occurrence H P)) (w last : WorldRecord H P) (path : Option Path) → Follow mac answers w xs last
       → ((x : Occurrence H P) → Has xs x → KeepsSelected side x) → selected_along path (own mac answers side xs) ≡ path

@@ -1,30 +1,26 @@
 -- Both of two new agents select a path. The preconditions that mutants/specifications changes are read by tactics.
-use Rattle.std.proofs.Common.{◌≡◌, ℕ, true, false, List, [], ◌∷◌, ◌++◌, None, inl, inr, ◌⊎◌, refl, ap, sym, ◌∙◌, subst, append_assoc}
-use Rattle.rand_core.specs.Stream.{Stream}
+use Rattle.std.proofs.Common.{◌≡◌, ℕ, true, false, List, [], ◌∷◌, ◌++◌, inl, inr, ◌⊎◌, refl, ap, sym, ◌∙◌, subst, append_assoc}
 use Rattle.is_proto.specs.Lists.{Has}
 use Rattle.is_candidate.specs.Candidates.{CandidateRecord}
 use Rattle.is_stun.specs.declared.header.Class.TheVariants.{Success}
 use Rattle.is_rules.specs.declared.emitted.Path.{Path}
-use Rattle.is_theorems.specs.Asked.{IsOnlyPair}
 use Rattle.is_theorems.specs.Asking.{AreNominatedOn}
 use Rattle.is_theorems.specs.AskedCourses.{AcceptedNominationsAreSelected, SuccessesSelect}
 use Rattle.is_theorems.specs.Carried.{CarriedAsk, CarriedSucceedLater, CarriedSettle}
 use Rattle.is_rules.specs.Effects.{PathTheorem}
 use Rattle.is_rules.specs.Emitted.{reversed}
-use Rattle.is_rules.specs.Queue.{request_at}
 use Rattle.is_theorems.specs.RoleView.{RoleTheorem}
-use Rattle.is_theorems.specs.Runs.{IsTopPath}
 use Rattle.is_rules.specs.Sending.{path_of}
 use Rattle.is_rules.specs.Sound.{FreshIsSound}
 use Rattle.is_theorems.specs.FirstChecks.{CoursesCheckFromDue}
 use Rattle.is_theorems.specs.FirstTimeouts.{CoursesReachFromDue}
 use Rattle.is.specs.declared.world.Side.{Side}
 use Rattle.is.specs.Connections.{Asks, RoundIsAnswered}
-use Rattle.is.specs.Connects.{ChecksAreDelivered, SelectsIn, BothSelect}
-use Rattle.is.specs.AcceptedNominationsIn.{Occurrence, HandedCheck, IsControlled, IsAskedOver, MayEndAt, occurrences_in}
-use Rattle.is.specs.Selections.{SideRound, all_of, IsControlling, IsAnsweredInTime, RoundChecks, MayEndInRounds}
-use Rattle.is.specs.Sides.{own_log}
-use Rattle.is.specs.World.{WorldRecord, LoggedEvent, at, other}
+use Rattle.is.specs.Connects.{ChecksAreDelivered, BothSelect}
+use Rattle.is.specs.AcceptedNominationsIn.{Occurrence, HandedCheck, IsControlled, IsPlainTimeout, IsAskedOver, occurrences_in}
+use Rattle.is.specs.AcceptedNominations.{MayEndIn, SelectsIn, SelectsTop}
+use Rattle.is.specs.Selections.{SideRound, all_of, IsControlling, IsControllingSegment, IsAnsweredInTime, RoundChecks, MayEndInRounds}
+use Rattle.is.specs.World.{WorldRecord, LoggedEvent, at, other, Streams}
 use Rattle.is.proofs.SelectedPaths.BothSelectInRounds.{both_connect}
 use Rattle.is.proofs.ExternalViews.ViewsOfExecutions.{Has-front, Has-rear}
 use Rattle.is.proofs.RolesAndChains.RolesBecomeOpposite.{roles_stay}
@@ -58,65 +54,73 @@ module _ {H P : Type 0} (mac : H → List ℕ → List ℕ → List ℕ) (answer
 
   pub both_select : PathTheorem {H = H} {P = P} mac answers → RoleTheorem {H = H} {P = P} mac answers → FreshIsSound H P → CarriedSettle {H = H} {P = P} mac answers
       → CarriedAsk {H = H} {P = P} mac answers → CarriedSucceedLater {H = H} {P = P} mac answers → AcceptedNominationsAreSelected {H = H} {P = P} mac answers → CoursesCheckFromDue {H = H} {P = P} mac answers
-      → CoursesReachFromDue {H = H} {P = P} mac answers → SuccessesSelect {H = H} {P = P} mac answers → (first : WorldRecord H P) (s : Stream) (log : List (LoggedEvent P)) → BothSelect mac answers first s log
-  both_select paths roles new_sound resolves asks succeeds announce checks reach selects first s log greater side last t run meeting opening part rest timeout now path its fair split agree controlled
-      opens nominated leads follows comes done none only_pair = (opened, connected) where
-        following : List (Occurrence H P)
-        following = opening ++ ((part ++ timeout ∷ []) ++ rest)
+      → CoursesReachFromDue {H = H} {P = P} mac answers → SuccessesSelect {H = H} {P = P} mac answers → (first : WorldRecord H P) (s : Streams) (log : List (LoggedEvent P)) → BothSelect mac answers first s log
+  both_select paths roles new_sound resolves asks succeeds announce checks reach selects first s log last t run meeting opening part rest timeout side path its is = (opened, connected) where
+    following : List (Occurrence H P)
+    following = opening ++ ((part ++ timeout ∷ []) ++ rest)
 
-        role : (x : Occurrence H P) → Has following x
-            → (((at side x.before).controlling ≡ false) × ((at (other side) x.before).controlling ≡ true))
-            × (((at side x.following).controlling ≡ false) × ((at (other side) x.following).controlling ≡ true))
-        role = roles_stay mac answers paths roles new_sound resolves first s log greater side last t run meeting following fair split (search agree) (search controlled)
+    role : (x : Occurrence H P) → Has following x
+        → (((at side x.before).controlling ≡ false) × ((at (other side) x.before).controlling ≡ true))
+        × (((at side x.following).controlling ≡ false) × ((at (other side) x.following).controlling ≡ true))
+    role = roles_stay mac answers paths roles new_sound resolves first s log is.greater side last t run meeting following is.fair is.split (search is.agree) (search is.controlled)
 
-        in_opening : (x : Occurrence H P) → Has opening x → Has following x
-        in_opening x has = Has-front opening ((part ++ timeout ∷ []) ++ rest) x has
+    in_opening : (x : Occurrence H P) → Has opening x → Has following x
+    in_opening x has = Has-front opening ((part ++ timeout ∷ []) ++ rest) x has
 
-        steers : IsControlling (other side) opening
-        steers x has = let r = role x (in_opening x has) in (r.1.1, subst (λ z. (at z x.following).controlling ≡ false) (sym (twice side)) r.1.0)
+    steers : IsControlling (other side) opening
+    steers x has = let r = role x (in_opening x has) in (r.1.1, subst (λ z. (at z x.following).controlling ≡ false) (sym (twice side)) r.1.0)
 
-        obeys : IsControlled side (part ++ timeout ∷ [])
-        obeys x has = (role x (Has-rear opening ((part ++ timeout ∷ []) ++ rest) x (Has-front (part ++ timeout ∷ []) rest x has))).0
+    obeys : IsControlled side (part ++ timeout ∷ [])
+    obeys x has = (role x (Has-rear opening ((part ++ timeout ∷ []) ++ rest) x (Has-front (part ++ timeout ∷ []) rest x has))).0
 
-        split_opening : occurrences_in mac answers first s 0 log last t run ≡ meeting ++ ((all_of (opens.first ∷ opens.later) ++ opens.more) ++ ((part ++ timeout ∷ []) ++ rest))
-        split_opening = split ∙ ap (λ xs. meeting ++ (xs ++ ((part ++ timeout ∷ []) ++ rest))) opens.split
+    all : List (Occurrence H P)
+    all = occurrences_in mac answers first s 0 log last t run
 
-        split_part : occurrences_in mac answers first s 0 log last t run ≡ (meeting ++ opening) ++ ((part ++ timeout ∷ []) ++ rest)
-        split_part = split ∙ sym (append_assoc meeting opening ((part ++ timeout ∷ []) ++ rest))
+    split_opening : all ≡ meeting ++ ((all_of (is.opens.first ∷ is.opens.later) ++ is.opens.more) ++ ((part ++ timeout ∷ []) ++ rest))
+    split_opening = is.split ∙ ap (λ xs. meeting ++ (xs ++ ((part ++ timeout ∷ []) ++ rest))) is.opens.split
 
-        idle : request_at now (at side timeout.before) ≡ None
-        idle = search none
+    split_part : all ≡ (meeting ++ opening) ++ ((part ++ timeout ∷ []) ++ rest)
+    split_part = is.split ∙ sym (append_assoc meeting opening ((part ++ timeout ∷ []) ++ rest))
 
-        lone : IsOnlyPair (at side timeout.following) path
-        lone = search only_pair
+    plain : IsPlainTimeout side timeout
+    plain = record { now = is.plain.now; event = is.plain.event; done = is.plain.done; serves_none = search is.plain.serves_none }
 
-        start : WorldRecord H P
-        start = opens.first.timeout.before
+    start : WorldRecord H P
+    start = is.opens.first.timeout.before
 
-        opened : SelectsIn (other side) opening ⊎ MayEndInRounds answers (other side) its (opens.first ∷ opens.later)
-        opened =
-            elim (rounds_select mac answers paths new_sound succeeds checks reach selects first s log last t run meeting opens.more ((part ++ timeout ∷ []) ++ rest) (other side)
-            opens.first opens.later opens.pair opens.by fair.new split_opening
-            (role opens.first.timeout (in_opening opens.first.timeout (subst (λ xs. Has xs opens.first.timeout) (sym opens.split) (inl refl)))).0.1
-            (subst (λ xs. IsControlling (other side) xs) opens.split steers) opens.waits opens.unanswered opens.kept opens.enough
-            (λ r has sent. subst (λ xs. IsAnsweredInTime mac answers (other side) (path_of (at (other side) start) opens.pair) xs) opens.split
-            (subst (λ via. IsAnsweredInTime mac answers (other side) via opening) (sym opens.on)
-            (in_time (other side) its (reversed path) (opens.first ∷ opens.later) opening opens.delivers r has (subst (λ via. RoundChecks via r) opens.on sent))))) [
-              | inl (x, has, said) ↦ inl (x, subst (λ xs. Has xs x) (sym opens.split) has, said)
-              | inr ended ↦ inr (subst (λ via. MayEndInRounds answers (other side) via (opens.first ∷ opens.later)) opens.on ended)
-            ]
+    begins : IsControllingSegment first all meeting is.opens.more ((part ++ timeout ∷ []) ++ rest) (other side) is.opens.first is.opens.later is.opens.pair is.opens.by
+    begins = record {
+      new = is.fair.new;
+      split = split_opening;
+      role = (role is.opens.first.timeout (in_opening is.opens.first.timeout (subst (λ xs. Has xs is.opens.first.timeout) (sym is.opens.split) (inl refl)))).0.1;
+      controlling = subst (λ xs. IsControlling (other side) xs) is.opens.split steers;
+      waits = is.opens.waits;
+      unanswered = is.opens.unanswered;
+      kept = is.opens.kept;
+      enough = is.opens.enough;
+    }
 
-        connected : (SelectsIn side (meeting ++ (opening ++ (part ++ timeout ∷ [])))
-            × IsTopPath mac answers (own_log side [] (meeting ++ (opening ++ (part ++ timeout ∷ [])))) (at side timeout.following))
-            ⊎ (((x : Occurrence H P) × Has (part ++ timeout ∷ []) x × MayEndAt answers side path x)
-            ⊎ MayEndInRounds answers (other side) its (leads.rounds.first ∷ leads.rounds.later))
-        connected =
-            elim (both_connect mac answers paths new_sound asks succeeds announce reach first s log last t run (meeting ++ opening) part rest timeout now side path its fair.new split_part obeys
-            leads.rounds (asks_in side path its (leads.rounds.first ∷ leads.rounds.later) part leads.delivers nominated)
-            follows.rounds (answered_in side path (reversed its) (follows.rounds.first ∷ follows.rounds.later) part follows.delivers) comes done idle lone) [
-              | inl ((x, has, said), top) ↦ inl (
-                (x, subst (λ xs. Has xs x) (append_assoc meeting opening (part ++ timeout ∷ [])) has, said),
-                subst (λ xs. IsTopPath mac answers (own_log side [] xs) (at side timeout.following)) (append_assoc meeting opening (part ++ timeout ∷ [])) top,
-              )
-              | inr ended ↦ inr ended
-            ]
+    opened : SelectsIn (other side) opening ⊎ MayEndInRounds answers (other side) its (is.opens.first ∷ is.opens.later)
+    opened =
+        elim (rounds_select mac answers paths new_sound succeeds checks reach selects first s log last t run meeting is.opens.more ((part ++ timeout ∷ []) ++ rest) (other side)
+        is.opens.first is.opens.later is.opens.pair is.opens.by begins
+        (λ r has sent. subst (λ xs. IsAnsweredInTime mac answers (other side) (path_of (at (other side) start) is.opens.pair) xs) is.opens.split
+        (subst (λ via. IsAnsweredInTime mac answers (other side) via opening) (sym is.opens.on)
+        (in_time (other side) its (reversed path) (is.opens.first ∷ is.opens.later) opening is.opens.delivers r has (subst (λ via. RoundChecks via r) is.opens.on sent))))) [
+          | inl (x, has, said) ↦ inl (x, subst (λ xs. Has xs x) (sym is.opens.split) has, said)
+          | inr ended ↦ inr (subst (λ via. MayEndInRounds answers (other side) via (is.opens.first ∷ is.opens.later)) is.opens.on ended)
+        ]
+
+    whole : List (Occurrence H P)
+    whole = meeting ++ (opening ++ (part ++ timeout ∷ []))
+
+    connected : SelectsTop mac answers side whole timeout
+        ⊎ (MayEndIn answers side path (part ++ timeout ∷ []) ⊎ MayEndInRounds answers (other side) its (is.leads.rounds.first ∷ is.leads.rounds.later))
+    connected =
+        elim (both_connect mac answers paths new_sound asks succeeds announce reach first s log last t run (meeting ++ opening) part rest timeout side path its
+        (record { new = is.fair.new; split = split_part; controlled = obeys; plain = plain; only_pair = search is.only_pair })
+        (record { rounds = is.leads.rounds; asks = asks_in side path its (is.leads.rounds.first ∷ is.leads.rounds.later) part is.leads.delivers is.nominated })
+        (record { rounds = is.follows.rounds; answered = answered_in side path (reversed its) (is.follows.rounds.first ∷ is.follows.rounds.later) part is.follows.delivers })) [
+          | inl best ↦ inl (subst (λ xs. SelectsTop mac answers side xs timeout) (append_assoc meeting opening (part ++ timeout ∷ [])) best)
+          | inr ended ↦ inr ended
+        ]

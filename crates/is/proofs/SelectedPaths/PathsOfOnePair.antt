@@ -2,7 +2,6 @@
 -- are read by tactics where they are used: if one of them is weaker, that goal stays unproved.
 use Rattle.std.proofs.Common.{◌≡◌, ℕ, Bool, true, false, List, [], ◌∷◌, Option, Some, None, inl, inr, ◌⊎◌, sym, ◌∙◌, subst}
 use Rattle.std.specs.Prelude.{MatchBool, slice_get}
-use Rattle.rand_core.specs.Stream.{Stream}
 use Rattle.is_proto.specs.Lists.{Has}
 use Rattle.is_candidate.specs.Candidates.{CandidateRecord}
 use Rattle.is_pair.specs.Pairs.{PairRecord}
@@ -19,7 +18,7 @@ use Rattle.is.specs.declared.world.Side.{Side}
 use Rattle.is.specs.AcceptedNominationsIn.{Occurrence, occurrences_in}
 use Rattle.is.specs.Mirrors.{SelectsThePath, KeepsTo, LonePathsMirror}
 use Rattle.is.specs.World as world
-use Rattle.is.specs.World.{WorldRecord, InFlightRecord, Event, Outcome, LoggedEvent, TakesTurn, Persists, Happens, WorldRun, at, other, in_world, plain}
+use Rattle.is.specs.World.{WorldRecord, InFlightRecord, Event, Outcome, LoggedEvent, TakesTurn, Persists, Happens, WorldRun, at, other, in_world, plain, Streams, source_of}
 use Rattle.is.proofs.ExternalViews.ViewsOfExecutions.{AreSound}
 use Rattle.is.proofs.RolesAndChains.RolesAndChainsOfViews.{sound_new}
 use Rattle.is.proofs.TwoAgentEvents.OwnExecutions.{turn_step, sound_on}
@@ -48,19 +47,19 @@ module _ {H P : Type 0} (mac : H → List ℕ → List ℕ → List ℕ) (answer
   had a c e path (inr (now, by, m, role, peer, brings, class_is, kept, known, signed, back)) = (kept.0, kept.2, kept.6)
 
   module _ (paths : PathTheorem {H = H} {P = P} mac answers) where
-    turn_returns : (x : Occurrence H P) (s t : Stream) (side z : Side) (c : agent.Call P) (path one : Path) → AreSound x.before → KeepsTo side path x.before → SelectsThePath side one x
+    turn_returns : (x : Occurrence H P) (s t : Streams) (side z : Side) (c : agent.Call P) (path one : Path) → AreSound x.before → KeepsTo side path x.before → SelectsThePath side one x
         → TakesTurn mac answers x.before s z c x.entry.outcome x.following t → one ≡ path
     turn_returns x s t side z c path one sound keeps (its, has) k =
         let own : z ≡ side = some_is z side (sym k.side_is ∙ its) in
         let lite : (at z x.before).lite ≡ false = subst (λ v. (at v x.before).lite ≡ false) (sym own) (search keeps) in
         let on : (p : PairRecord) → Has (at z x.before).pairs p → path_of (at z x.before) p ≡ path =
         subst (λ v. (p : PairRecord) → Has (at v x.before).pairs p → path_of (at v x.before) p ≡ path) (sym own) (search keeps) in
-        let effect = (paths (at z x.before) (at z x.following) s t c x.entry.outcome.entry (sound z) k.given (turn_step mac answers x.before x.following s t z c x.entry.outcome k)).0 in
+        let effect = (paths (at z x.before) (at z x.following) (source_of z s) k.left c x.entry.outcome.entry (sound z) k.given (turn_step mac answers x.before x.following s t z c x.entry.outcome k)).0 in
         let h = had (at z x.before) c x.entry.outcome.entry one (effect.selected_paths lite one has) in
         sym h.2 ∙ on h.0 h.1
 
     -- each path that the side selects is this one
-    reports : (x : Occurrence H P) (s t : Stream) (v : Event P) (side : Side) (path one : Path) → AreSound x.before → KeepsTo side path x.before → SelectsThePath side one x
+    reports : (x : Occurrence H P) (s t : Streams) (v : Event P) (side : Side) (path one : Path) → AreSound x.before → KeepsTo side path x.before → SelectsThePath side one x
         → Happens mac answers x.before s v x.entry.outcome x.following t → one ≡ path
     reports x s t (world.Call z c) side path one sound keeps emitted h = by (in_world c) h where
       by : (b : Bool) → MatchBool b (TakesTurn mac answers x.before s z c x.entry.outcome x.following t) (Persists mac answers x.before s agent.NotInWorld (Some z) x.entry.outcome x.following t) → one ≡ path
@@ -71,6 +70,8 @@ module _ {H P : Type 0} (mac : H → List ℕ → List ℕ → List ℕ) (answer
       by : (o : Option InFlightRecord) → world.Delivers mac answers x.before s o now via x.entry.outcome x.following t → one ≡ path
       by None k = absurd (plain_returns x agent.NoSuchPacket None (world.roles_of x.before) side one k.2 emitted)
       by (Some l) k = turn_returns x s t side (other l.sender) (agent.ReceivePacket now via l.packet.contents) path one sound keeps emitted k
+    reports x s t (world.Stray z now via bytes) side path one sound keeps emitted (answer, left, (same, kept, is)) =
+        absurd (plain_returns x answer (Some z) (world.roles_of x.before) side one is emitted)
 
     returns_in : (xs : List (Occurrence H P)) (w last : WorldRecord H P) → Follow mac answers w xs last → AreSound w → (x : Occurrence H P) → Has xs x
         → (side : Side) (path one : Path) → KeepsTo side path x.before → SelectsThePath side one x → one ≡ path
@@ -81,7 +82,7 @@ module _ {H P : Type 0} (mac : H → List ℕ → List ℕ → List ℕ) (answer
     returns_in (y ∷ rest) w last (from, s, t, happens, more) sound x (inr has) side path one keeps emitted =
         returns_in rest y.following last more (sound_on mac answers paths y.before y.following s t y.entry (subst AreSound (sym from) sound) happens) x has side path one keeps emitted
 
-  pub lone_paths_mirror : PathTheorem {H = H} {P = P} mac answers → FreshIsSound H P → (first : WorldRecord H P) (s : Stream) (log : List (LoggedEvent P)) → LonePathsMirror mac answers first s log
+  pub lone_paths_mirror : PathTheorem {H = H} {P = P} mac answers → FreshIsSound H P → (first : WorldRecord H P) (s : Streams) (log : List (LoggedEvent P)) → LonePathsMirror mac answers first s log
   lone_paths_mirror paths new_sound first s log last t run x y side path one two new keep has_x has_y emitted_x emitted_y =
       let sound : AreSound first = λ z. sound_new new_sound (at z first) (new z) in
       let all = occurrences_in mac answers first s 0 log last t run in

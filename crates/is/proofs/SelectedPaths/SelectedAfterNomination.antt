@@ -1,8 +1,7 @@
 -- A path of the controlled one of two agents that was nominated by the peer and answered is selected by its next
 -- `handle_timeout` call. The preconditions that mutants/specifications changes are read by tactics where they are used: if one
 -- of them is weaker, that goal stays unproved.
-use Rattle.std.proofs.Common.{◌≡◌, ℕ, true, false, not, List, [], ◌∷◌, ◌++◌, Option, Some, None, is_some, inl, inr, ◌⊎◌, refl, ap, sym, ◌∙◌, subst, append_assoc, Ok}
-use Rattle.rand_core.specs.Stream.{Stream}
+use Rattle.std.proofs.Common.{◌≡◌, ℕ, true, false, not, List, [], ◌∷◌, ◌++◌, Option, Some, None, is_some, inl, inr, ◌⊎◌, refl, ap, sym, ◌∙◌, subst, append_assoc}
 use Rattle.is_proto.specs.Lists.{Has}
 use Rattle.is_proto.specs.Packets.{Packet}
 use Rattle.is_candidate.specs.Candidates.{CandidateRecord}
@@ -20,7 +19,6 @@ use Rattle.is_rules.specs.Issuing.{via_out}
 use Rattle.is_theorems.specs.Pending.{IsValidBy}
 use Rattle.is_rules.specs.Points.{HasSelected}
 use Rattle.is_rules.specs.Queue.{request_at}
-use Rattle.is_theorems.specs.Runs.{IsTopPath}
 use Rattle.is_rules.specs.Sound.{FreshIsSound}
 use Rattle.is_rules.specs.Steps as agent
 use Rattle.is_rules.specs.Steps.{Entry, Done, quiet}
@@ -28,11 +26,10 @@ use Rattle.is_rules.specs.Emitted.{reversed}
 use Rattle.is.specs.declared.world.Side.{Side}
 use Rattle.is.specs.declared.world.Side.TheVariants.{A, B}
 use Rattle.is.specs.Deliveries.{SelectsPath}
-use Rattle.is.specs.AcceptedNominationsIn.{Occurrence, IsControlled, HandedCheck, IsAskedOver, IsReturned, IsExchangedOver, MayEndAt}
-use Rattle.is.specs.AcceptedNominations.{AcceptedNominationsSelect}
-use Rattle.is.specs.Sides.{own_log}
+use Rattle.is.specs.AcceptedNominationsIn.{Occurrence, IsControlled, HandedCheck, IsAskedOver, IsReturned, IsExchangedOver}
+use Rattle.is.specs.AcceptedNominations.{AcceptedNominationsSelect, MayEndIn, SelectsTop}
 use Rattle.is.specs.World as world
-use Rattle.is.specs.World.{WorldRecord, Event, LoggedEvent, TakesTurn, Happens, at, other}
+use Rattle.is.specs.World.{WorldRecord, Event, LoggedEvent, TakesTurn, Happens, at, other, Streams, source_of}
 use Rattle.is.specs.WorldRoles.{IsNewAgent}
 use Rattle.is.proofs.ExternalViews.ViewsOfExecutions.{Has-front, Has-rear, AreSound}
 use Rattle.is.proofs.RolesAndChains.RolesAndChainsOfViews.{sound_new}
@@ -184,16 +181,14 @@ module _ {H P : Type 0} (mac : H → List ℕ → List ℕ → List ℕ) (answer
 
   -- the case in which the peer nominates the path, and the segment answers it in whichever way
   pub selected_where : PathTheorem {H = H} {P = P} mac answers → FreshIsSound H P → CarriedAsk {H = H} {P = P} mac answers → CarriedSucceedLater {H = H} {P = P} mac answers → AcceptedNominationsAreSelected {H = H} {P = P} mac answers
-      → (first last : WorldRecord H P) (s : Stream) (before part rest : List (Occurrence H P)) (timeout : Occurrence H P) (now : ℕ) (side : Side) (path : Path)
+      → (first last : WorldRecord H P) (s : Streams) (before part rest : List (Occurrence H P)) (timeout : Occurrence H P) (now : ℕ) (side : Side) (path : Path)
       → ((x : Side) → IsNewAgent (at x first)) → Follow mac answers first (before ++ ((part ++ timeout ∷ []) ++ rest)) last
       → ((x : Occurrence H P) → Has (part ++ timeout ∷ []) x → ((at side x.before).controlling ≡ false) × ((at (other side) x.before).controlling ≡ true))
       → ((start : WorldRecord H P) → Follow mac answers first before start → AreSound start → Follow mac answers start part timeout.before
       → IsAskedOver mac side path part × (IsAnsweredAlong (own mac answers side part) path ⊎ Found mac answers side path (part ++ timeout ∷ [])))
       → timeout.entry.event ≡ world.Call side (agent.HandleTimeout now) → timeout.entry.outcome.entry.answer ≡ Done → request_at now (at side timeout.before) ≡ None
       → IsOnlyPair (at side timeout.following) path
-      → (((x : Occurrence H P) × Has (before ++ (part ++ timeout ∷ [])) x × SelectsPath side x.entry)
-      × IsTopPath mac answers (own_log side [] (before ++ (part ++ timeout ∷ []))) (at side timeout.following))
-      ⊎ ((x : Occurrence H P) × Has (part ++ timeout ∷ []) x × MayEndAt answers side path x)
+      → SelectsTop mac answers side (before ++ (part ++ timeout ∷ [])) timeout ⊎ MayEndIn answers side path (part ++ timeout ∷ [])
   selected_where paths new_sound asks succeeds announce first last s before part rest timeout now side path new follow roles happened comes done none only_pair =
       let led = cut mac answers before ((part ++ timeout ∷ []) ++ rest) first last follow in
       let start : WorldRecord H P = led.0 in
@@ -209,13 +204,13 @@ module _ {H P : Type 0} (mac : H → List ℕ → List ℕ → List ℕ) (answer
       let n = new side in
       elim h.1 [
         | inl replied ↦ elim (announce (fresh (at side first).provider n.0 n.1) (at side start) (at side timeout.before) (at side timeout.following) ((agent.SetControlling n.2, quiet Done) ∷ own mac answers side before)
-            (own mac answers side part) m.s m.t now timeout.entry.outcome.entry path (n.0, n.1, refl)
-            (at side first, s, s, tt, (Ok _, refl, (refl, n.3), refl), own_course mac answers side before first start led.1)
+            (own mac answers side part) (source_of side m.s) turn.left now timeout.entry.outcome.entry path (n.0, n.1, refl)
+            (at side first, source_of side s, source_of side s, tt, (refl, n.3, refl), own_course mac answers side before first start led.1)
             g.0 (turn_step mac answers timeout.before timeout.following m.s m.t side (agent.HandleTimeout now) timeout.entry.outcome turn) done none g.2 replied only_pair) [
-              | inl emitted ↦ inl (
-                emitted_back side before part timeout first start timeout.before (agent.SetControlling n.2) (agent.HandleTimeout now) led.1 m.led turn.side_is emitted.0,
-                subst (λ (o : Option Path). HasSelected o (at side timeout.following)) (sym (selected_call mac answers side before part timeout now comes)) emitted.1,
-              )
+              | inl emitted ↦ inl (record {
+                selects = emitted_back side before part timeout first start timeout.before (agent.SetControlling n.2) (agent.HandleTimeout now) led.1 m.led turn.side_is emitted.0;
+                top = subst (λ (o : Option Path). HasSelected o (at side timeout.following)) (sym (selected_call mac answers side before part timeout now comes)) emitted.1;
+              })
               | inr ends ↦ inr (elim ends [
                 | inl e ↦ g.1 e
                 | inr e ↦ (timeout, middle part [] timeout, (agent.HandleTimeout now, comes, e))
@@ -225,18 +220,18 @@ module _ {H P : Type 0} (mac : H → List ℕ → List ℕ → List ℕ) (answer
       ]
 
   pub accepted_select : PathTheorem {H = H} {P = P} mac answers → FreshIsSound H P → CarriedAsk {H = H} {P = P} mac answers → CarriedSucceedLater {H = H} {P = P} mac answers → AcceptedNominationsAreSelected {H = H} {P = P} mac answers
-      → (first : WorldRecord H P) (s : Stream) (log : List (LoggedEvent P)) → AcceptedNominationsSelect mac answers first s log
-  accepted_select paths new_sound asks succeeds announce first s log last t run before part rest timeout now side path new split roles ask answer comes done none only_pair =
-      let idle : request_at now (at side timeout.before) ≡ None = search none in
-      let lone : IsOnlyPair (at side timeout.following) path = search only_pair in
+      → (first : WorldRecord H P) (s : Streams) (log : List (LoggedEvent P)) → AcceptedNominationsSelect mac answers first s log
+  accepted_select paths new_sound asks succeeds announce first s log last t run before part rest timeout side path segment ask answer =
+      let idle : request_at segment.plain.now (at side timeout.before) ≡ None = search segment.plain.serves_none in
+      let lone : IsOnlyPair (at side timeout.following) path = search segment.only_pair in
       let apart : (x : Occurrence H P) → Has (part ++ timeout ∷ []) x → ((at side x.before).controlling ≡ false) × ((at (other side) x.before).controlling ≡ true) =
-      λ x has. apart_at side (part ++ timeout ∷ []) x roles has in
-      selected_where paths new_sound asks succeeds announce first last s before part rest timeout now side path new
-      (subst (λ xs. Follow mac answers first xs last) split (follows mac answers first last s t 0 log run)) apart
+      λ x has. apart_at side (part ++ timeout ∷ []) x segment.controlled has in
+      selected_where paths new_sound asks succeeds announce first last s before part rest timeout segment.plain.now side path segment.new
+      (subst (λ xs. Follow mac answers first xs last) segment.split (follows mac answers first last s t 0 log run)) apart
       (λ start led sound follow. (
         ask,
         answered paths asks succeeds part (part ++ timeout ∷ []) start timeout.before sound follow
             (λ (x : Occurrence H P) (has : Has part x). Has-front part (timeout ∷ []) x has) side path
             (λ (x : Occurrence H P) (has : Has part x). apart x (Has-front part (timeout ∷ []) x has)) answer,
       ))
-      comes done idle lone
+      segment.plain.event segment.plain.done idle lone

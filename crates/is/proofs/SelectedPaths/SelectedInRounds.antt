@@ -1,8 +1,7 @@
 -- In rounds that suffice for one of its pairs, a controlling side sends a check on the pair's path, or selects a path, unless a
 -- candidate that it adds may remove the pair. If a check is answered while it is pending, it selects one. The preconditions that mutants/specifications changes are read by tactics where they are used:
 -- if one of them is weaker, that goal stays unproved.
-use Rattle.std.proofs.Common.{◌≡◌, ℕ, ◌≤◌, ◌⊎◌, Bool, true, false, not, List, [], ◌∷◌, ◌++◌, length, is_some, inl, inr, refl, ap, sym, ◌∙◌, subst, arith, append_assoc, Ok}
-use Rattle.rand_core.specs.Stream.{Stream}
+use Rattle.std.proofs.Common.{◌≡◌, ℕ, ◌⊎◌, Bool, true, false, not, List, [], ◌∷◌, ◌++◌, is_some, inl, inr, refl, ap, sym, ◌∙◌, subst, arith, append_assoc}
 use Rattle.is_proto.specs.Lists.{Has}
 use Rattle.is_proto.specs.Packets.{Packet}
 use Rattle.is_candidate.specs.Candidates.{CandidateRecord}
@@ -31,7 +30,7 @@ use Rattle.is.specs.Deliveries.{SelectsPath}
 use Rattle.is.specs.AcceptedNominationsIn.{Occurrence, HandedCheck, IsReturned, IsReturnedInTime, MayEndAt}
 use Rattle.is.specs.Selections.{SideRound, all_of, times_in, state_after, IsKept, AreKept, SideRoundsSuffice, AreEachPolled, IsControlling, IsAnsweredInTime, DeliveredRoundsSelect}
 use Rattle.is.specs.World as world
-use Rattle.is.specs.World.{WorldRecord, Event, LoggedEvent, TakesTurn, Happens, at, other}
+use Rattle.is.specs.World.{WorldRecord, Event, LoggedEvent, TakesTurn, Happens, at, other, Streams, source_of}
 use Rattle.is.specs.WorldRoles.{IsNewAgent}
 use Rattle.is.proofs.ExternalViews.ViewsOfExecutions.{Has-front, Has-rear, AreSound}
 use Rattle.is.proofs.RolesAndChains.RolesAndChainsOfViews.{sound_new}
@@ -74,12 +73,13 @@ module _ {H P : Type 0} (mac : H → List ℕ → List ℕ → List ℕ) (answer
     courses (r ∷ later) w last (from, s, t, happens, more) comes roles =
         let c = cut mac answers r.following (all_of later) r.timeout.following last more in
         let k = steered r.following r.timeout.following c.0 c.1 (λ x has. roles x (inr (Has-front r.following (all_of later) x has))) in
+        let moves = moved mac answers side r s t (comes r (inl refl)) happens in
         subst (λ (v : WorldRecord H P). CourseRounds mac answers (rounds_of mac answers side (r ∷ later)) (at side v) (at side last)) from (
           at side r.timeout.following,
           at side c.0,
-          s,
-          t,
-          moved mac answers side r s t (comes r (inl refl)) happens,
+          source_of side s,
+          moves.0,
+          moves.1,
           roles r.timeout (inl refl),
           k.0,
           k.1,
@@ -106,7 +106,7 @@ module _ {H P : Type 0} (mac : H → List ℕ → List ℕ → List ℕ) (answer
     parted (y ∷ xs) x (inl is) = ([], xs, ap (λ z. z ∷ xs) is)
     parted (y ∷ xs) x (inr has) = let k = parted xs x has in (y ∷ k.0, k.1, ap (λ zs. y ∷ zs) k.2)
 
-    succeeded : (x : Occurrence H P) (s t : Stream) (path : Path) → (z : Succeeds side path x) → Happens mac answers x.before s x.entry.event x.entry.outcome x.following t
+    succeeded : (x : Occurrence H P) (s t : Streams) (path : Path) → (z : Succeeds side path x) → Happens mac answers x.before s x.entry.event x.entry.outcome x.following t
         → TakesTurn mac answers x.before s side (agent.ReceivePacket z.now z.via z.in_flight.packet.contents) x.entry.outcome x.following t
     succeeded x s t path z happens =
         subst (λ y. TakesTurn mac answers x.before s y (agent.ReceivePacket z.now z.via z.in_flight.packet.contents) x.entry.outcome x.following t) z.its
@@ -116,19 +116,19 @@ module _ {H P : Type 0} (mac : H → List ℕ → List ℕ → List ℕ) (answer
     -- ---- a check that is answered
 
     module _ (paths : PathTheorem {H = H} {P = P} mac answers) (succeeds : CarriedSucceedLater {H = H} {P = P} mac answers) (selects : SuccessesSelect {H = H} {P = P} mac answers) where
-      module _ (first start last : WorldRecord H P) (s : Stream) (before part : List (Occurrence H P)) (new : IsNewAgent (at side first)) (sound : AreSound start)
+      module _ (first start last : WorldRecord H P) (s : Streams) (before part : List (Occurrence H P)) (new : IsNewAgent (at side first)) (sound : AreSound start)
           (led : Follow mac answers first before start) (follow : Follow mac answers start part last) (role : (at side start).controlling ≡ true)
           (roles : (x : Occurrence H P) → Has part x → Leads x.following) (invalid : (p : PairRecord) → Has (at side start).pairs p → is_valid p ≡ false) where
         -- what the success response selects
-        selected : (ahead rest : List (Occurrence H P)) (again : Occurrence H P) (reply : Packet) (via : Path) (now : ℕ) (u v : Stream) → part ≡ ahead ++ again ∷ rest → Follow mac answers start ahead again.before
+        selected : (ahead rest : List (Occurrence H P)) (again : Occurrence H P) (reply : Packet) (via : Path) (now : ℕ) (u v : Streams) → part ≡ ahead ++ again ∷ rest → Follow mac answers start ahead again.before
             → TakesTurn mac answers again.before u side (agent.ReceivePacket now via reply.contents) again.entry.outcome again.following v
             → IsTaken mac answers (rewritten via reply) now again.entry.outcome.entry Success → (x : Occurrence H P) × Has part x × SelectsPath side x.entry
         selected ahead rest again reply via now u v split on turn (m, brings, success) =
             let call : agent.Call P = agent.ReceivePacket now via reply.contents in
             let n = new in
             let said = selects (fresh (at side first).provider n.0 n.1) (at side start) (at side again.before) (at side again.following)
-            ((agent.SetControlling n.2, quiet Done) ∷ own mac answers side before) (own mac answers side ahead) u v now via reply.contents again.entry.outcome.entry m (n.0, n.1, refl)
-            (at side first, s, s, tt, (Ok _, refl, (refl, n.3), refl), own_course mac answers side before first start led) invalid (own_course mac answers side ahead start again.before on)
+            ((agent.SetControlling n.2, quiet Done) ∷ own mac answers side before) (own mac answers side ahead) (source_of side u) turn.left now via reply.contents again.entry.outcome.entry m (n.0, n.1, refl)
+            (at side first, source_of side s, source_of side s, tt, (refl, n.3, refl), own_course mac answers side before first start led) invalid (own_course mac answers side ahead start again.before on)
             (turn_step mac answers again.before again.following u v side call again.entry.outcome turn) brings success (roles again (subst (λ xs. Has xs again) (sym split) (middle ahead rest again))).0 in
             let y = said.0 in
             elim (either_has (own mac answers side ahead) ((call, again.entry.outcome.entry) ∷ []) y.0 y.1) [
@@ -191,7 +191,7 @@ module _ {H P : Type 0} (mac : H → List ℕ → List ℕ → List ℕ) (answer
 
     -- ---- a check is sent in one of the rounds, or a path is selected
 
-    polled : CoursesCheckFromDue {H = H} {P = P} mac answers → (first last : WorldRecord H P) (s : Stream) (before : List (Occurrence H P)) (r : SideRound H P) (rounds : List (SideRound H P)) (p : PairRecord) (by : ℕ)
+    polled : CoursesCheckFromDue {H = H} {P = P} mac answers → (first last : WorldRecord H P) (s : Streams) (before : List (Occurrence H P)) (r : SideRound H P) (rounds : List (SideRound H P)) (p : PairRecord) (by : ℕ)
         → IsNewAgent (at side first) → Follow mac answers first before r.timeout.before → Follow mac answers r.timeout.before (all_of (r ∷ rounds)) last → (at side r.timeout.before).controlling ≡ true
         → ((x : Occurrence H P) → Has (all_of (r ∷ rounds)) x → (at side x.following).controlling ≡ true) → Awaits r.now by (at side r.timeout.before) p → IsUnanswered (at side r.timeout.before) p
         → AreKept side by r rounds → AreEachPolled side by r rounds
@@ -200,19 +200,20 @@ module _ {H P : Type 0} (mac : H → List ℕ → List ℕ → List ℕ) (answer
         let own_first : IsKept side r = kept.kept r (inl refl) in
         let c = cut mac answers r.following (all_of rounds) r.timeout.following last more in
         let k = steered r.following r.timeout.following c.0 c.1 (λ x has. roles x (inr (Has-front r.following (all_of rounds) x has))) in
+        let moves = moved mac answers side r u v own_first.comes happens in
         let second : state_after r.timeout.following r.following ≡ c.0 = state_is mac answers r.following r.timeout.following c.0 c.1 in
         let enough : SufficeForDue by r.now (at side r.timeout.before) (at side c.0) (times_of (rounds_of mac answers side rounds)) =
         subst (λ ns. SufficeForDue by r.now (at side r.timeout.before) (at side c.0) ns) (sym (same_times mac answers side rounds))
         (subst (λ (w : WorldRecord H P). SufficeForDue by r.now (at side r.timeout.before) (at side w) (times_in rounds)) second (search each.few)) in
         elim (checks (fresh (at side first).provider n.0 n.1) (at side r.timeout.before) (at side last) ((agent.SetControlling n.2, quiet Done) ∷ own mac answers side before)
         (round_of mac answers side r) (rounds_of mac answers side rounds) p by (n.0, n.1, refl)
-        (at side first, s, s, tt, (Ok _, refl, (refl, n.3), refl), own_course mac answers side before first r.timeout.before led)
+        (at side first, source_of side s, source_of side s, tt, (refl, n.3, refl), own_course mac answers side before first r.timeout.before led)
         role waits unanswered (let from = kept.from in omega (arith, from)) own_first.done own_first.early (only_polls mac answers side by r rounds each) (
           at side r.timeout.following,
           at side c.0,
-          u,
-          v,
-          moved mac answers side r u v own_first.comes happens,
+          source_of side u,
+          moves.0,
+          moves.1,
           roles r.timeout (inl refl),
           k.0,
           k.1,
@@ -241,20 +242,21 @@ module _ {H P : Type 0} (mac : H → List ℕ → List ℕ → List ℕ) (answer
     }
 
   pub rounds_select : PathTheorem {H = H} {P = P} mac answers → FreshIsSound H P → CarriedSucceedLater {H = H} {P = P} mac answers → CoursesCheckFromDue {H = H} {P = P} mac answers
-      → CoursesReachFromDue {H = H} {P = P} mac answers → SuccessesSelect {H = H} {P = P} mac answers → (first : WorldRecord H P) (s : Stream) (log : List (LoggedEvent P)) → DeliveredRoundsSelect mac answers first s log
-  rounds_select paths new_sound succeeds checks reach selects first s log last t run before more rest side r rounds p by new split role roles waits unanswered kept enough answers_so =
-      elim enough [
-        | inl each ↦ inl (elim (polled side checks first begun.0 s before r rounds p by (new side) to begun.1 role
-            (λ x has. (steady x (Has-front (all_of (r ∷ rounds)) more x has)).0) waits unanswered kept each) [
+      → CoursesReachFromDue {H = H} {P = P} mac answers → SuccessesSelect {H = H} {P = P} mac answers → (first : WorldRecord H P) (s : Streams) (log : List (LoggedEvent P)) → DeliveredRoundsSelect mac answers first s log
+  rounds_select paths new_sound succeeds checks reach selects first s log last t run before more rest side r rounds p by segment answers_so =
+      elim segment.enough [
+        | inl each ↦ inl (elim (polled side checks first begun.0 s before r rounds p by (segment.new side) to begun.1 segment.role
+            (λ x has. (steady x (Has-front (all_of (r ∷ rounds)) more x has)).0) segment.waits segment.unanswered segment.kept each) [
               | inl sent ↦ sends sent
               | inr (x, has, selected_paths) ↦ (x, Has-front (all_of (r ∷ rounds)) more x has, selected_paths)
             ])
-        | inr many ↦ elim (reached mac answers reach side first begun.0 s (own mac answers side before) r rounds p by (new side) (own_course mac answers side before first start to) begun.1
-            (in_line side r.now by (at side start) p waits unanswered) kept (λ x has. lasts side x.now (at side start) p unanswered waits.there)
+        | inr many ↦ elim (reached mac answers reach side first begun.0 s (own mac answers side before) r rounds p by (segment.new side) (own_course mac answers side before first start to) begun.1
+            (in_line side r.now by (at side start) p segment.waits segment.unanswered) segment.kept
+            (λ x has. lasts side x.now (at side start) p segment.unanswered segment.waits.there)
             (subst (λ (w : WorldRecord H P). SideRoundsSuffice side by r rounds w) (state_is mac answers (all_of (r ∷ rounds)) start begun.0 begun.1) many)) [
               | inl sent ↦ inl (sends sent)
               | inr (inl (x, has, is)) ↦ inl (let y = succeeds_in mac answers side path x.following is in
-                  accepted side paths succeeds selects first start on.0 s before part (new side) sound to on.1 role steady unanswered.invalid path y.0
+                  accepted side paths succeeds selects first start on.0 s before part (segment.new side) sound to on.1 segment.role steady segment.unanswered.invalid path y.0
                   (Has-front (all_of (r ∷ rounds)) more y.0 (in_rounds mac answers (r ∷ rounds) x y.0 has y.1)) y.2)
               | inr (inr ended) ↦ inr (search ended)
             ]
@@ -269,7 +271,7 @@ module _ {H P : Type 0} (mac : H → List ℕ → List ℕ → List ℕ) (answer
         path = path_of (at side start) p
 
         led : (mid : WorldRecord H P) × Follow mac answers first before mid × Follow mac answers mid (part ++ rest) last
-        led = cut mac answers before (part ++ rest) first last (subst (λ xs. Follow mac answers first xs last) split (follows mac answers first last s t 0 log run))
+        led = cut mac answers before (part ++ rest) first last (subst (λ xs. Follow mac answers first xs last) segment.split (follows mac answers first last s t 0 log run))
 
         to : Follow mac answers first before start
         to = subst (λ (w : WorldRecord H P). Follow mac answers first before w) (sym led.2.0) led.1
@@ -281,10 +283,10 @@ module _ {H P : Type 0} (mac : H → List ℕ → List ℕ → List ℕ) (answer
         begun = cut mac answers (all_of (r ∷ rounds)) more start on.0 on.1
 
         sound : AreSound start
-        sound = sound_along mac answers paths before first start to (λ z. sound_new new_sound (at z first) (new z))
+        sound = sound_along mac answers paths before first start to (λ z. sound_new new_sound (at z first) (segment.new z))
 
         steady : (x : Occurrence H P) → Has part x → Leads side x.following
-        steady x has = leads_at side part x roles has
+        steady x has = leads_at side part x segment.controlling has
 
         sends : SomeChecks mac answers path (r ∷ rounds) → (x : Occurrence H P) × Has part x × SelectsPath side x.entry
-        sends (x, has, sent) = answered side paths succeeds selects first start on.0 s before part (new side) sound to on.1 role steady unanswered.invalid path (search (answers_so x has sent))
+        sends (x, has, sent) = answered side paths succeeds selects first start on.0 s before part (segment.new side) sound to on.1 segment.role steady segment.unanswered.invalid path (search (answers_so x has sent))

@@ -1,6 +1,5 @@
 -- A packet that is delivered to a side is a call of it.
 use Rattle.std.proofs.Common.{ℕ, List, [], ◌∷◌, inl, refl, sym, subst}
-use Rattle.rand_core.specs.Stream.{Stream}
 use Rattle.is_proto.specs.Lists.{Has}
 use Rattle.is_proto.specs.Packets.{Packet}
 use Rattle.is_candidate.specs.Candidates.{CandidateRecord}
@@ -12,7 +11,7 @@ use Rattle.is.specs.declared.world.Side.TheVariants.{A, B}
 use Rattle.is.specs.Deliveries.{Hands}
 use Rattle.is.specs.Sides.{only, received_as, acts}
 use Rattle.is.specs.World as world
-use Rattle.is.specs.World.{WorldRecord, Event, LoggedEvent, TakesTurn, Happens, at, other}
+use Rattle.is.specs.World.{WorldRecord, Event, LoggedEvent, TakesTurn, Happens, at, other, Streams, source_of}
 use Rattle.is.proofs.TwoAgentEvents.OwnExecutions.{twice, turn_step}
 
 only_self : {X : Type 0} (side : Side) (x : X) → Has (only side (other (other side)) (x ∷ [])) x
@@ -26,7 +25,7 @@ rewritten via packet = record { proto = via.proto; source = via.source; destinat
 module _ {H P : Type 0} (mac : H → List ℕ → List ℕ → List ℕ) (answers : P → CandidateRecord → ℕ → ℕ → Type 0) where
   -- ---- a packet that is delivered
 
-  pub handed : (side : Side) (via : Path) (packet : Packet) (w w' : WorldRecord H P) (s t : Stream) (x : LoggedEvent P) → (h : Hands side via packet w x) → Happens mac answers w s x.event x.outcome w' t
+  pub handed : (side : Side) (via : Path) (packet : Packet) (w w' : WorldRecord H P) (s t : Streams) (x : LoggedEvent P) → (h : Hands side via packet w x) → Happens mac answers w s x.event x.outcome w' t
       → TakesTurn mac answers w s side (agent.ReceivePacket h.now via packet.contents) x.outcome w' t
   handed side via packet w w' s t x h happens =
       subst (λ z. TakesTurn mac answers w s z (agent.ReceivePacket h.now via packet.contents) x.outcome w' t) (twice side)
@@ -40,11 +39,11 @@ module _ {H P : Type 0} (mac : H → List ℕ → List ℕ → List ℕ) (answer
       (subst (λ o. Has (received_as {P = P} side h.now via x.outcome.entry o) (agent.ReceivePacket h.now via packet.contents, x.outcome.entry)) (sym h.sent)
       (only_self side (agent.ReceivePacket h.now via packet.contents, x.outcome.entry)))
 
-  pub delivered : (side : Side) (via : Path) (packet : Packet) (w w' : WorldRecord H P) (s t : Stream) (x : LoggedEvent P) → (h : Hands side via packet w x) → Happens mac answers w s x.event x.outcome w' t
+  pub delivered : (side : Side) (via : Path) (packet : Packet) (w w' : WorldRecord H P) (s t : Streams) (x : LoggedEvent P) → (h : Hands side via packet w x) → Happens mac answers w s x.event x.outcome w' t
       → Delivered mac answers (rewritten via packet) h.now (at side w) x.outcome.entry (at side w')
   delivered side via packet w w' s t x h happens = record {
-    before = s;
-    following = t;
+    before = source_of side s;
+    following = (handed side via packet w w' s t x h happens).left;
     step = turn_step mac answers w w' s t side (agent.ReceivePacket h.now via packet.contents) x.outcome (handed side via packet w w' s t x h happens);
     nomination_accepted = h.nomination_accepted;
   }

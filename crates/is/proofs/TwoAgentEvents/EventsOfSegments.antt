@@ -3,7 +3,6 @@
 -- goal stays unproved.
 use Rattle.std.proofs.Common.{◌≡◌, ℕ, suc, ◌+◌, ◌<◌, ◌≤◌, ◌&&◌, Bool, true, false, List, [], ◌∷◌, ◌++◌, Option, Some, None, inl, inr, ◌⊎◌, refl, ap, sym, ◌∙◌, subst, arith, if◌then◌else◌, append_assoc}
 use Rattle.std.specs.Prelude.{MatchBool, slice_get}
-use Rattle.rand_core.specs.Stream.{Stream}
 use Rattle.is_proto.specs.Lists.{Has}
 use Rattle.is_proto.specs.Packets.{Packet}
 use Rattle.is_candidate.specs.Candidates.{CandidateRecord}
@@ -25,8 +24,9 @@ use Rattle.is.specs.Deliveries.{MakesPolls, MakesInRound, Hands}
 use Rattle.is.specs.AcceptedNominationsIn.{is_of, check_count, Occurrence, HandedCheck, checks_of, IsReturned, MayEndAt, occurrences_in}
 use Rattle.is.specs.Selections.{state_after}
 use Rattle.is.specs.Sides.{only, polled_as, received_as, acts}
+use Rattle.rand_core.specs.Stream.{Stream}
 use Rattle.is.specs.World as world
-use Rattle.is.specs.World.{WorldRecord, InFlightRecord, Event, Outcome, LoggedEvent, TakesTurn, Persists, Happens, WorldRun, at, other, in_world}
+use Rattle.is.specs.World.{WorldRecord, InFlightRecord, Event, Outcome, LoggedEvent, TakesTurn, Persists, Happens, WorldRun, at, other, in_world, Streams, source_of}
 use Rattle.is.proofs.ExternalViews.ViewsOfExecutions.{Has-front, Has-rear, AreSound}
 use Rattle.is.proofs.TwoAgentEvents.OwnExecutions.{either_has, only_none, acts_between, acts_in_round, course_on, turn_step, acts_course, sound_on}
 use Rattle.is.proofs.TwoAgentEvents.DeliveredPackets.{rewritten, delivered}
@@ -44,9 +44,9 @@ module _ {H P : Type 0} (mac : H → List ℕ → List ℕ → List ℕ) (answer
   abbrev pub Follow : WorldRecord H P → List (Occurrence H P) → WorldRecord H P → Type 0
   Follow w [] last = last ≡ w
   Follow w (x ∷ rest) last =
-      (x.before ≡ w) × (s t : Stream) × Happens mac answers x.before s x.entry.event x.entry.outcome x.following t × Follow x.following rest last
+      (x.before ≡ w) × (s t : Streams) × Happens mac answers x.before s x.entry.event x.entry.outcome x.following t × Follow x.following rest last
 
-  pub follows : (w last : WorldRecord H P) (s t : Stream) (n : ℕ) (log : List (LoggedEvent P)) → (run : WorldRun mac answers w s n log last t) → Follow w (occurrences_in mac answers w s n log last t run) last
+  pub follows : (w last : WorldRecord H P) (s t : Streams) (n : ℕ) (log : List (LoggedEvent P)) → (run : WorldRun mac answers w s n log last t) → Follow w (occurrences_in mac answers w s n log last t run) last
   follows w last s t n [] run = run.0
   follows w last s t n (x ∷ rest) (mid, u, number, happens, run) = (refl, s, u, happens, follows mid last u t (suc n) rest run)
 
@@ -61,8 +61,8 @@ module _ {H P : Type 0} (mac : H → List ℕ → List ℕ → List ℕ) (answer
   -- one of them, what leads to it and what follows it
   pub record Met (w last : WorldRecord H P) (xs : List (Occurrence H P)) (x : Occurrence H P) (ys : List (Occurrence H P)) : Type 0 where
     pub led : Follow w xs x.before
-    pub s : Stream
-    pub t : Stream
+    pub s : Streams
+    pub t : Streams
     pub happens : Happens mac answers x.before s x.entry.event x.entry.outcome x.following t
     pub rest : Follow x.following ys last
 
@@ -130,8 +130,8 @@ module _ {H P : Type 0} (mac : H → List ℕ → List ℕ → List ℕ) (answer
     pub step : Step mac answers (at from k.sent.before) s (agent.HandleTimeout k.now) k.sent.entry.outcome.entry (at from k.sent.following) t
     pub onward : Follow k.sent.following k.following last
     pub sound : AreSound k.comes.handed.before
-    pub u : Stream
-    pub v : Stream
+    pub u : Streams
+    pub v : Streams
     pub happens : Happens mac answers k.comes.handed.before u k.comes.handed.entry.event k.comes.handed.entry.outcome k.comes.handed.following v
     pub rest : Follow k.comes.handed.following k.comes.rest last
     pub know : KnowEachOther mac (at from k.sent.before) (at (other from) k.comes.handed.before)
@@ -143,12 +143,13 @@ module _ {H P : Type 0} (mac : H → List ℕ → List ℕ → List ℕ) (answer
       let one = meet k.before k.following k.sent w last (subst (λ xs. Follow w xs last) k.split follow) in
       let two = meet k.comes.between k.comes.rest k.comes.handed k.sent.following last (subst (λ xs. Follow k.sent.following xs last) k.comes.split one.rest) in
       let sound_sent = sound_along paths k.before w k.sent.before one.led sound in
+      let turn : TakesTurn mac answers k.sent.before one.s from (agent.HandleTimeout k.now) k.sent.entry.outcome k.sent.following one.t =
+      subst (λ (v : Event P). Happens mac answers k.sent.before one.s v k.sent.entry.outcome k.sent.following one.t) k.timeout one.happens in
       record {
-        s = one.s;
-        t = one.t;
+        s = source_of from one.s;
+        t = turn.left;
         sound_sent = sound_sent;
-        step = turn_step mac answers k.sent.before k.sent.following one.s one.t from (agent.HandleTimeout k.now) k.sent.entry.outcome
-            (subst (λ (v : Event P). Happens mac answers k.sent.before one.s v k.sent.entry.outcome k.sent.following one.t) k.timeout one.happens);
+        step = turn_step mac answers k.sent.before k.sent.following one.s one.t from (agent.HandleTimeout k.now) k.sent.entry.outcome turn;
         onward = one.rest;
         sound = sound_along paths k.comes.between k.sent.following k.comes.handed.before two.led
             (sound_on mac answers paths k.sent.before k.sent.following one.s one.t k.sent.entry sound_sent one.happens);
@@ -204,7 +205,7 @@ module _ {H P : Type 0} (mac : H → List ℕ → List ℕ → List ℕ) (answer
   counts_polled A B path _ ps n = omega arith
   counts_polled B A path _ ps n = omega arith
 
-  counts_at : (side : Side) (path : Path) (w w' : WorldRecord H P) (s t : Stream) (v : Event P) (e : Outcome) → Happens mac answers w s v e w' t
+  counts_at : (side : Side) (path : Path) (w w' : WorldRecord H P) (s t : Streams) (v : Event P) (e : Outcome) → Happens mac answers w s v e w' t
       → checks_on path (acts side w v e.entry) ≤ check_count side path e
   counts_at side path w w' s t (world.Call z c) e h = by (in_world c) h where
     by : (b : Bool) → MatchBool b (TakesTurn mac answers w s z c e w' t) (Persists mac answers w s agent.NotInWorld (Some z) e w' t)
@@ -216,6 +217,7 @@ module _ {H P : Type 0} (mac : H → List ℕ → List ℕ → List ℕ) (answer
     by : (o : Option InFlightRecord) → world.Delivers mac answers w s o now via e w' t → checks_on {P = P} path (received_as side now via e.entry o) ≤ check_count side path e
     by None k = omega arith
     by (Some l) k = counts_turn side (other l.sender) path (agent.ReceivePacket now via l.packet.contents) e k.side_is
+  counts_at side path w w' s t (world.Stray z now via bytes) e h = omega arith
 
   counts : (side : Side) (path : Path) (xs : List (Occurrence H P)) (w last : WorldRecord H P) → Follow w xs last → checks_on path (own side xs) ≤ checks_of side path xs
   counts side path [] w last is = omega arith
@@ -271,8 +273,9 @@ module _ {H P : Type 0} (mac : H → List ℕ → List ℕ → List ℕ) (answer
         | inl here ↦ absurd here.3
         | inr none ↦ absurd none
       ]
+    ends_at w (world.Stray s now via bytes) e b course ends = absurd ends
 
-    pub act_owned : (x : Occurrence H P) (s t : Stream) → Happens mac answers x.before s x.entry.event x.entry.outcome x.following t → Has whole x → Owned (acts_at side x) (at side x.before) (at side x.following)
+    pub act_owned : (x : Occurrence H P) (s t : Streams) → Happens mac answers x.before s x.entry.event x.entry.outcome x.following t → Has whole x → Owned (acts_at side x) (at side x.before) (at side x.following)
     act_owned x s t happens has =
         let course = acts_course mac answers x.before x.following s t side x.entry happens in
         (course, λ e. (x, has, ends_at x.before x.entry.event x.entry.outcome.entry (at side x.following) course e))
@@ -328,6 +331,7 @@ module _ {H P : Type 0} (mac : H → List ℕ → List ℕ → List ℕ) (answer
       by : (o : Option InFlightRecord) (on : Course mac answers (received_as side now via e o) (at side w) b) → KeepsAlong mac answers limit (received_as side now via e o) (at side w) b on
       by None on = tt
       by (Some l) on = keeps_one limit side (other l.sender) (agent.ReceivePacket now via l.packet.contents, e) (at side w) b least on
+    keeps_at limit w (world.Stray z now via bytes) e b least course = tt
 
     pub kept : (limit : ℕ) (xs : List (Occurrence H P)) (w last : WorldRecord H P) → Follow w xs last → ((x : Occurrence H P) → Has xs x → Has whole x)
         → ((x : Occurrence H P) → Has xs x → limit ≤ (at side x.before).timing.max_retransmits) → Kept limit (own side xs) (at side w) (at side last)

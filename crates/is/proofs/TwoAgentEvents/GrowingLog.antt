@@ -1,10 +1,9 @@
 -- The log of a two-agent network model grows by an event and its entry.
 use Rattle.std.proofs.Common.{◌≡◌, ℕ, suc, List, [], ◌∷◌, ◌++◌, length, ◌+◌, refl, ap, ◌∙◌, subst, arith}
-use Rattle.rand_core.specs.Stream.{Stream}
 use Rattle.is_candidate.specs.Candidates.{CandidateRecord}
 use Rattle.is.specs.declared.world.TwoAgentsEvent.{TwoAgentsEvent}
 use Rattle.is.specs.declared.world.WorldEntry.{WorldEntry}
-use Rattle.is.specs.World.{WorldRecord, LoggedEvent, logged_as, logged, WorldRun, Happens}
+use Rattle.is.specs.World.{WorldRecord, LoggedEvent, logged_as, logged, WorldRun, Happens, Streams}
 
 pub logged-push : {P : Type 0} (events : List (TwoAgentsEvent P)) (entries : List WorldEntry) (v : TwoAgentsEvent P) (e : WorldEntry) → length entries ≡ length events → logged (events ++ v ∷ []) (entries ++ e ∷ []) ≡ logged events entries ++ logged_as v e ∷ []
 logged-push [] [] v e h = refl
@@ -19,7 +18,7 @@ length-logged (d ∷ events) [] h = cc
 length-logged (d ∷ events) (f ∷ entries) h = let more = length-logged events entries (omega arith) in ap suc more
 
 module _ {H P : Type 0} (mac : H → List ℕ → List ℕ → List ℕ) (answers : P → CandidateRecord → ℕ → ℕ → Type 0) where
-  pub run_push : (log : List (LoggedEvent P)) (first w last : WorldRecord H P) (s u t : Stream) (n m : ℕ) (x : LoggedEvent P) → WorldRun mac answers first s n log w u
+  pub run_push : (log : List (LoggedEvent P)) (first w last : WorldRecord H P) (s u t : Streams) (n m : ℕ) (x : LoggedEvent P) → WorldRun mac answers first s n log w u
       → m ≡ n + length log → x.number ≡ m → Happens mac answers w u x.event x.outcome last t → WorldRun mac answers first s n (log ++ x ∷ []) last t
   run_push [] first w last s u t n m x (same_world, same_stream) count is h =
       (last, t, (is ∙ omega (arith, count)), subst (λ v. Happens mac answers v s x.event x.outcome last t) same_world (subst (λ q. Happens mac answers w q x.event x.outcome last t) same_stream h), (refl, refl))

@@ -21,7 +21,7 @@ use Rattle.is.specs.declared.world.Side.TheVariants.{A, B}
 use Rattle.is.specs.Deliveries.{MakesPolls, MakesInRound, SelectsPath}
 use Rattle.is.specs.Sides.{only, first_packet, polled_as, received_as, acts}
 use Rattle.is.specs.World as world
-use Rattle.is.specs.World.{WorldRecord, InFlightRecord, Event, Outcome, LoggedEvent, PolledInto, TakesTurn, Persists, Happens, at, other, in_world, roles_of}
+use Rattle.is.specs.World.{WorldRecord, InFlightRecord, Event, Outcome, LoggedEvent, PolledInto, TakesTurn, Persists, Happens, at, other, in_world, roles_of, Streams, source_of, drawn_by}
 use Rattle.is.specs.WorldRoles.{role_at, role_in}
 use Rattle.is.proofs.ExternalViews.ViewsOfExecutions.{AreSound}
 
@@ -65,11 +65,13 @@ polls_pass : {P : Type 0} (side : Side) (v : Event P) → MakesPolls side v → 
 polls_pass side (world.Call s c) polls = λ is. poll_between c (polls is)
 polls_pass side (world.Poll s) polls = tt
 polls_pass side (world.Deliver place now path) polls = tt
+polls_pass side (world.Stray s now path bytes) polls = tt
 
 in_round_passes : {P : Type 0} (side : Side) (v : Event P) → MakesInRound side v → Passes is_in_round side v
 in_round_passes side (world.Call s c) calls = calls
 in_round_passes side (world.Poll s) calls = tt
 in_round_passes side (world.Deliver place now path) calls = tt
+in_round_passes side (world.Stray s now path bytes) calls = tt
 
 -- ---- what a side does at an event
 
@@ -102,6 +104,7 @@ module _ {H P : Type 0} where
       | inl is ↦ ap (λ (z : agent.Call P × Entry). test z.0) (sym is) ∙ packets now path l.packet.contents
       | inr none ↦ absurd none
     ]
+  acts_pass test packets polled side w (world.Stray s now path bytes) e passes y has = absurd has
 
   pub acts_between : (side : Side) (w : WorldRecord H P) (v : Event P) (e : Entry) → MakesPolls side v → AreBetween (acts side w v e)
   acts_between side w v e polls = acts_pass is_between (λ now via bytes. refl) refl side w v e (polls_pass side v polls)
@@ -135,21 +138,22 @@ module _ {H P : Type 0} where
     abbrev Acts : List (agent.Call P × Entry) → AgentRecord H P → AgentRecord H P → Type 0
     Acts xs a b = (course : Course mac answers xs a b) × (b.controlling ≡ true → ControlsAlong mac answers xs a b course)
 
-    pub turn_new : (w w' : WorldRecord H P) (s t : Stream) (side : Side) (c : agent.Call P) (e : Outcome) → (k : TakesTurn mac answers w s side c e w' t) → at side w' ≡ k.new
+    pub turn_new : (w w' : WorldRecord H P) (s t : Streams) (side : Side) (c : agent.Call P) (e : Outcome) → (k : TakesTurn mac answers w s side c e w' t) → at side w' ≡ k.new
     turn_new w w' s t A c e k = ap (λ (v : WorldRecord H P). at A v) k.world
     turn_new w w' s t B c e k = ap (λ (v : WorldRecord H P). at B v) k.world
 
-    pub turn_other : (w w' : WorldRecord H P) (s t : Stream) (side : Side) (c : agent.Call P) (e : Outcome) → TakesTurn mac answers w s side c e w' t → at (other side) w' ≡ at (other side) w
+    pub turn_other : (w w' : WorldRecord H P) (s t : Streams) (side : Side) (c : agent.Call P) (e : Outcome) → TakesTurn mac answers w s side c e w' t → at (other side) w' ≡ at (other side) w
     turn_other w w' s t A c e k = ap (λ (v : WorldRecord H P). at B v) k.world
     turn_other w w' s t B c e k = ap (λ (v : WorldRecord H P). at A v) k.world
 
-    pub turn_step : (w w' : WorldRecord H P) (s t : Stream) (side : Side) (c : agent.Call P) (e : Outcome) → (k : TakesTurn mac answers w s side c e w' t) → Step mac answers (at side w) s c e.entry (at side w') t
-    turn_step w w' s t side c e k = subst (λ (a : AgentRecord H P). Step mac answers (at side w) s c e.entry a t) (sym (turn_new w w' s t side c e k)) k.step
+    pub turn_step : (w w' : WorldRecord H P) (s t : Streams) (side : Side) (c : agent.Call P) (e : Outcome) → (k : TakesTurn mac answers w s side c e w' t)
+        → Step mac answers (at side w) (source_of side s) c e.entry (at side w') k.left
+    turn_step w w' s t side c e k = subst (λ (a : AgentRecord H P). Step mac answers (at side w) (source_of side s) c e.entry a k.left) (sym (turn_new w w' s t side c e k)) k.step
 
-    one : (w w' : WorldRecord H P) (s t : Stream) (side : Side) (c : agent.Call P) (e : Outcome) → TakesTurn mac answers w s side c e w' t → Acts ((c, e.entry) ∷ []) (at side w) (at side w')
-    one w w' s t side c e k = ((at side w', s, t, k.given, turn_step w w' s t side c e k, refl), λ role. (role, tt))
+    one : (w w' : WorldRecord H P) (s t : Streams) (side : Side) (c : agent.Call P) (e : Outcome) → TakesTurn mac answers w s side c e w' t → Acts ((c, e.entry) ∷ []) (at side w) (at side w')
+    one w w' s t side c e k = ((at side w', source_of side s, k.left, k.given, turn_step w w' s t side c e k, refl), λ role. (role, tt))
 
-    turn : (w w' : WorldRecord H P) (s t : Stream) (side z : Side) (c : agent.Call P) (e : Outcome) → TakesTurn mac answers w s z c e w' t
+    turn : (w w' : WorldRecord H P) (s t : Streams) (side z : Side) (c : agent.Call P) (e : Outcome) → TakesTurn mac answers w s z c e w' t
         → Acts (only side z ((c, e.entry) ∷ [])) (at side w) (at side w')
     turn w w' s t A A c e k = one w w' s t A c e k
     turn w w' s t B B c e k = one w w' s t B c e k
@@ -174,17 +178,17 @@ module _ {H P : Type 0} where
     polls_so old new network multiset' side answer s (inr (inl (is, polled, kept))) = subst (λ a. Acts (polled_as a old.packets) old new) (sym is) (hands_out old new None s polled)
     polls_so old new network multiset' side answer s (inr (inr (p, polled, is, grown))) = subst (λ a. Acts (polled_as a old.packets) old new) (sym is) (hands_out old new (Some p) s polled)
 
-    poll : (w w' : WorldRecord H P) (s t : Stream) (side z : Side) (e : Outcome) → world.Polls mac answers w s z e w' t → Acts (only side z (polled_as e.entry.answer (at side w).packets)) (at side w) (at side w')
+    poll : (w w' : WorldRecord H P) (s t : Streams) (side z : Side) (e : Outcome) → world.Polls mac answers w s z e w' t → Acts (only side z (polled_as e.entry.answer (at side w).packets)) (at side w) (at side w')
     poll w w' s t A A e k =
         subst (λ (a : AgentRecord H P). Acts (polled_as e.entry.answer w.a.packets) w.a a) (sym (ap (λ (v : WorldRecord H P). at A v) k.world))
-        (subst (λ x. Acts (polled_as x w.a.packets) w.a k.new) (sym (ap (λ (o : Outcome). o.entry.answer) k.emitted)) (polls_so w.a k.new w.network k.network A k.answer s k.polled))
+        (subst (λ x. Acts (polled_as x w.a.packets) w.a k.new) (sym (ap (λ (o : Outcome). o.entry.answer) k.emitted)) (polls_so w.a k.new w.network k.network A k.answer s.a k.polled))
     poll w w' s t B B e k =
         subst (λ (a : AgentRecord H P). Acts (polled_as e.entry.answer w.b.packets) w.b a) (sym (ap (λ (v : WorldRecord H P). at B v) k.world))
-        (subst (λ x. Acts (polled_as x w.b.packets) w.b k.new) (sym (ap (λ (o : Outcome). o.entry.answer) k.emitted)) (polls_so w.b k.new w.network k.network B k.answer s k.polled))
+        (subst (λ x. Acts (polled_as x w.b.packets) w.b k.new) (sym (ap (λ (o : Outcome). o.entry.answer) k.emitted)) (polls_so w.b k.new w.network k.network B k.answer s.b k.polled))
     poll w w' s t A B e k = (ap (λ (v : WorldRecord H P). at A v) k.world, λ role. tt)
     poll w w' s t B A e k = (ap (λ (v : WorldRecord H P). at B v) k.world, λ role. tt)
 
-    act : (w w' : WorldRecord H P) (s t : Stream) (side : Side) (v : Event P) (e : Outcome) → Happens mac answers w s v e w' t → Acts (acts side w v e.entry) (at side w) (at side w')
+    act : (w w' : WorldRecord H P) (s t : Streams) (side : Side) (v : Event P) (e : Outcome) → Happens mac answers w s v e w' t → Acts (acts side w v e.entry) (at side w) (at side w')
     act w w' s t side (world.Call z c) e h = by (in_world c) h where
       by : (b : Bool) → MatchBool b (TakesTurn mac answers w s z c e w' t) (Persists mac answers w s agent.NotInWorld (Some z) e w' t)
           → Acts (only side z (if b then (c, e.entry) ∷ [] else [])) (at side w) (at side w')
@@ -195,17 +199,18 @@ module _ {H P : Type 0} where
       by : (o : Option InFlightRecord) → world.Delivers mac answers w s o now path e w' t → Acts (received_as side now path e.entry o) (at side w) (at side w')
       by None k = still w w' side k.0
       by (Some l) k = turn w w' s t side (other l.sender) (agent.ReceivePacket now path l.packet.contents) e k
+    act w w' s t side (world.Stray z now path bytes) e (answer, left, (same, kept, is)) = still w w' side same
 
     -- ---- what the entry records
 
-    turn_emitted : (w w' : WorldRecord H P) (s t : Stream) (side z : Side) (c : agent.Call P) (x : LoggedEvent P) (y : agent.Call P × Entry) → TakesTurn mac answers w s z c x.outcome w' t
+    turn_emitted : (w w' : WorldRecord H P) (s t : Streams) (side z : Side) (c : agent.Call P) (x : LoggedEvent P) (y : agent.Call P × Entry) → TakesTurn mac answers w s z c x.outcome w' t
         → Has (only side z ((c, x.outcome.entry) ∷ [])) y → is_some (last_of y.1.emitted.selected_paths) ≡ true → SelectsPath side x
     turn_emitted w w' s t side z c x y k has emitted = let o = only_own side z ((c, x.outcome.entry) ∷ []) y has in elim o.0 [
       | inl is ↦ (k.side_is ∙ ap Some o.1, ap (λ (u : agent.Call P × Entry). is_some (last_of u.1.emitted.selected_paths)) is ∙ emitted)
       | inr none ↦ absurd none
     ]
 
-    pub acts_emitted : (w w' : WorldRecord H P) (s t : Stream) (side : Side) (x : LoggedEvent P) (y : agent.Call P × Entry) (v : Event P) → Happens mac answers w s v x.outcome w' t
+    pub acts_emitted : (w w' : WorldRecord H P) (s t : Streams) (side : Side) (x : LoggedEvent P) (y : agent.Call P × Entry) (v : Event P) → Happens mac answers w s v x.outcome w' t
         → Has (acts side w v x.outcome.entry) y → is_some (last_of y.1.emitted.selected_paths) ≡ true → SelectsPath side x
     acts_emitted w w' s t side x y (world.Call z c) h has emitted = by (in_world c) h has where
       by : (b : Bool) → MatchBool b (TakesTurn mac answers w s z c x.outcome w' t) (Persists mac answers w s agent.NotInWorld (Some z) x.outcome w' t)
@@ -218,8 +223,9 @@ module _ {H P : Type 0} where
       by : (o : Option InFlightRecord) → world.Delivers mac answers w s o now path x.outcome w' t → Has (received_as side now path x.outcome.entry o) y → SelectsPath side x
       by None k there = absurd there
       by (Some l) k there = turn_emitted w w' s t side (other l.sender) (agent.ReceivePacket now path l.packet.contents) x y k there emitted
+    acts_emitted w w' s t side x y (world.Stray z now path bytes) h has emitted = absurd has
 
-    roles_emitted : (w w' : WorldRecord H P) (s t : Stream) (v : Event P) (e : Outcome) → Happens mac answers w s v e w' t → e.controlling ≡ roles_of w'
+    roles_emitted : (w w' : WorldRecord H P) (s t : Streams) (v : Event P) (e : Outcome) → Happens mac answers w s v e w' t → e.controlling ≡ roles_of w'
     roles_emitted w w' s t (world.Call z c) e h = by (in_world c) h where
       by : (b : Bool) → MatchBool b (TakesTurn mac answers w s z c e w' t) (Persists mac answers w s agent.NotInWorld (Some z) e w' t) → e.controlling ≡ roles_of w'
       by true k = k.roles
@@ -229,23 +235,25 @@ module _ {H P : Type 0} where
       by : (o : Option InFlightRecord) → world.Delivers mac answers w s o now path e w' t → e.controlling ≡ roles_of w'
       by None k = ap (λ (o : Outcome). o.controlling) k.2 ∙ ap (λ (u : WorldRecord H P). roles_of u) (sym k.0)
       by (Some l) k = k.roles
+    roles_emitted w w' s t (world.Stray z now path bytes) e (answer, left, (same, kept, is)) =
+        ap (λ (o : Outcome). o.controlling) is ∙ ap (λ (u : WorldRecord H P). roles_of u) (sym same)
 
     role_is : (side : Side) (w : WorldRecord H P) → role_at side (roles_of w) ≡ (at side w).controlling
     role_is A w = refl
     role_is B w = refl
 
-    pub role_after : (w w' : WorldRecord H P) (s t : Stream) (side : Side) (x : LoggedEvent P) (role : Bool) → Happens mac answers w s x.event x.outcome w' t → role_in side x ≡ role → (at side w').controlling ≡ role
+    pub role_after : (w w' : WorldRecord H P) (s t : Streams) (side : Side) (x : LoggedEvent P) (role : Bool) → Happens mac answers w s x.event x.outcome w' t → role_in side x ≡ role → (at side w').controlling ≡ role
     role_after w w' s t side x role h is = sym (role_is side w') ∙ (ap (λ rs. role_at side rs) (sym (roles_emitted w w' s t x.event x.outcome h)) ∙ is)
 
     -- ---- an execution
 
-    pub sound_on : PathTheorem {H = H} {P = P} mac answers → (w w' : WorldRecord H P) (s t : Stream) (x : LoggedEvent P) → AreSound w → Happens mac answers w s x.event x.outcome w' t → AreSound w'
+    pub sound_on : PathTheorem {H = H} {P = P} mac answers → (w w' : WorldRecord H P) (s t : Streams) (x : LoggedEvent P) → AreSound w → Happens mac answers w s x.event x.outcome w' t → AreSound w'
     sound_on paths w w' s t x sound h z = sound_course paths (acts z w x.event x.outcome.entry) (at z w) (at z w') (sound z) (act w w' s t z x.event x.outcome h).0
 
-    pub acts_course : (w w' : WorldRecord H P) (s t : Stream) (side : Side) (x : LoggedEvent P) → Happens mac answers w s x.event x.outcome w' t
+    pub acts_course : (w w' : WorldRecord H P) (s t : Streams) (side : Side) (x : LoggedEvent P) → Happens mac answers w s x.event x.outcome w' t
         → Course mac answers (acts side w x.event x.outcome.entry) (at side w) (at side w')
     acts_course w w' s t side x h = (act w w' s t side x.event x.outcome h).0
 
-    pub acts_steered : (w w' : WorldRecord H P) (s t : Stream) (side : Side) (x : LoggedEvent P) → Happens mac answers w s x.event x.outcome w' t → (at side w').controlling ≡ true
+    pub acts_steered : (w w' : WorldRecord H P) (s t : Streams) (side : Side) (x : LoggedEvent P) → Happens mac answers w s x.event x.outcome w' t → (at side w').controlling ≡ true
         → Steered (acts side w x.event x.outcome.entry) (at side w) (at side w')
     acts_steered w w' s t side x h role = let a = act w w' s t side x.event x.outcome h in (a.0, a.1 role)

@@ -49,6 +49,7 @@ pub acts_once : {H P : Type 0} (side : Side) (w : WorldRecord H P) (v : Event P)
 acts_once side w (world.Call s c) e = of_one_side side s (if in_world c then (c, e) ∷ [] else []) (called_once c e (in_world c))
 acts_once side w (world.Poll s) e = of_one_side side s (polled_as e.answer (at side w).packets) (polled_once _ e.answer (at side w).packets)
 acts_once side w (world.Deliver place now path) e = received_once _ side now path e (slice_get w.network place)
+acts_once side w (world.Stray s now path bytes) e = tt
 
 -- ---- executions
 

@@ -1,4 +1,4 @@
-//! The selected path, and what a new agent begins with.
+//! The selected path and that of a valid pair, and what a new agent begins with.
 
 use super::{address, host, no_event, no_packet};
 use crate::address::Address;
@@ -8,6 +8,7 @@ use crate::credentials::is_ice_set_remote_credentials;
 use crate::events::is_ice_poll_event;
 use crate::making::{is_ice_agent_free, is_ice_agent_new};
 use crate::packets::{is_ice_handle_packet, is_ice_handle_timeout, is_ice_poll_transmit};
+use crate::paths::{MediaPath, is_ice_valid_path};
 use crate::questions::{Nominated, Status, is_ice_nominated, is_ice_status};
 use crate::session::is_ice_restart;
 use crate::settings::is_ice_set_controlling;
@@ -25,6 +26,7 @@ fn no_path() -> Nominated {
     }
 }
 
+// The clock starts at 0.
 #[test]
 fn the_selected_path_is_reported(rt: HostRuntime) {
     let alloc = rt.alloc();
@@ -33,6 +35,11 @@ fn the_selected_path_is_reported(rt: HostRuntime) {
     let mut near = Slot::empty(alloc);
     let mut far = Slot::empty(alloc);
     let mut path = no_path();
+    let mut valid = MediaPath {
+        source: own,
+        destination: own,
+        protocol: 9,
+    };
     let mut packet = no_packet();
     let mut event = no_event();
     let mut index = 9;
@@ -57,25 +64,28 @@ fn the_selected_path_is_reported(rt: HostRuntime) {
     let line = b"candidate:1 1 udp 2130706175 10.0.0.2 2000 typ host";
     let added = is_ice_add_remote(alloc, &mut near, line, &mut index);
     assert!(rt; added == codes::OK);
-    let begun = is_ice_handle_timeout(alloc, &mut near, 60_000_000_000, &id);
+    let begun = is_ice_handle_timeout(alloc, &mut near, 0, &id);
     assert!(rt; begun == codes::OK);
     let early = is_ice_nominated(alloc, &mut near, &mut path);
     assert!(rt; early == codes::NOTHING);
     assert!(rt; path.protocol == 9);
+    let early = is_ice_valid_path(alloc, &mut near, &mut valid);
+    assert!(rt; early == codes::NOTHING);
+    assert!(rt; valid.protocol == 9);
     let sent = is_ice_poll_transmit(alloc, &mut near, &mut buffer, &mut packet);
     assert!(rt; sent == codes::OK);
     let check = &buffer[..packet.length];
-    let taken = is_ice_handle_packet(alloc, &mut far, 60_010_000_000, 0, &own, &peer, check);
+    let taken = is_ice_handle_packet(alloc, &mut far, 10_000_000, 0, &own, &peer, check);
     assert!(rt; taken == codes::OK);
     let sent = is_ice_poll_transmit(alloc, &mut far, &mut buffer, &mut packet);
     assert!(rt; sent == codes::OK);
     let reply = &buffer[..packet.length];
-    let taken = is_ice_handle_packet(alloc, &mut near, 60_030_000_000, 0, &peer, &own, reply);
+    let taken = is_ice_handle_packet(alloc, &mut near, 30_000_000, 0, &peer, &own, reply);
     assert!(rt; taken == codes::OK);
     // Also before the event is polled, and after a call that selects nothing.
     let chosen = is_ice_nominated(alloc, &mut near, &mut path);
     assert!(rt; chosen == codes::OK);
-    let later = is_ice_handle_timeout(alloc, &mut near, 61_000_000_000, &id);
+    let later = is_ice_handle_timeout(alloc, &mut near, 1_000_000_000, &id);
     assert!(rt; later == codes::OK);
     let chosen = is_ice_nominated(alloc, &mut near, &mut path);
     assert!(rt; chosen == codes::OK);
@@ -85,6 +95,11 @@ fn the_selected_path_is_reported(rt: HostRuntime) {
     assert!(rt; path.responses == 1);
     assert!(rt; path.rtt == 30_000_000);
     assert!(rt; path.has_rtt);
+    let media = is_ice_valid_path(alloc, &mut near, &mut valid);
+    assert!(rt; media == codes::OK);
+    assert!(rt; valid.protocol == 0);
+    assert!(rt; is_at(&valid.source, 1, 1000));
+    assert!(rt; is_at(&valid.destination, 2, 2000));
     for _ in 0..3 {
         let heard = is_ice_poll_event(alloc, &mut near, &mut event);
         assert!(rt; heard == codes::OK);

@@ -45,7 +45,7 @@ use Rattle.is_rules.specs.Timeouts.{at_request, timeout_begun, start_emitted, at
 use Rattle.is_rules.specs.Steps.{Call, SetMtu, SetControlTieBreaker, SetMaxCandidatePairs, SetMaxDiscovered, SetIceLite, SetRenomination, SetRules, SetTimingAdvance, SetInitialStunRto, SetMaxStunRto, SetMaxStunRetransmits, SetLiteTimeout, SetLocalPreference, SetControlling, SetLocalCredentials, SetRemoteCredentials, SkipPairIds, AddLocalCandidate, AddRemoteCandidate, InvalidateCandidate, RestartIce, RecreateCandidatePairs, ReceivePacket, HandleTimeout, PollTransmit, PollTimeout, PollEvent, Done, NotCalled, Entry, quiet, Becomes, Receives, Step}
 use Rattle.is_theorems.specs.Reporting.{Extends, Begins, Reports, QueuesTheorem}
 use Rattle.is_theorems.proofs.RuleEffects.UnchangedSettings.{either}
-use Rattle.is_theorems.proofs.CallEffects.FailedCallsAndNewAgents.{mtu_kept, controlling_kept, local_kept, remote_kept, restart_kept, recreation_kept, enrolment_kept, storing_kept}
+use Rattle.is_theorems.proofs.CallEffects.FailedCallsAndNewAgents.{mtu_kept, local_kept, remote_kept, restart_kept, recreation_kept, enrolment_kept, storing_kept}
 use Rattle.is_theorems.proofs.CallEffects.SettingsRoleAndQueues.{FrameEffect, framed}
 use Rattle.is_theorems.proofs.CallEffects.AddedCandidates.{by_adding_local, by_adding_remote, by_waking}
 
@@ -278,8 +278,7 @@ module _ {H P : Type 0} where
     reports (SetMaxStunRetransmits n) h = retransmits (n == 0) n h
     reports (SetLiteTimeout by) h = becomes _ refl h
     reports (SetLocalPreference object) h = becomes _ refl h
-    reports (SetControlling controlling) (Ok _, is, h, drawn) = same_events old new (ap (λ (a : AgentRecord H P). a.events) h.1)
-    reports (SetControlling controlling) (Err error, is, h, drawn) = stays old new (controlling_kept old new controlling error h)
+    reports (SetControlling controlling) h = becomes _ refl h
     reports (SetLocalCredentials creds) (Ok _, is, h, drawn) = same_events old new (ap (λ (a : AgentRecord H P). a.events) h.1)
     reports (SetLocalCredentials creds) (Err error, is, h, drawn) = stays old new (local_kept old new creds error h)
     reports (SetRemoteCredentials creds) (Ok _, is, h, drawn) = same_events old new (ap (λ (a : AgentRecord H P). a.events) h.1)

@@ -1,0 +1,72 @@
+//! The rules that a line sets.
+use crate::fault::Stop;
+use crate::fields::Fields;
+use crate::table::{
+    CONSENT, EARLY_RTO, INTERVAL, KINDS_IN_TURN, NAME, RETRANSMITS, SELECTED_FIRST,
+    SELECTS_AT_ONCE, STRICT, TIMEOUT, TIMEOUT_AFTER_REQUESTS, TRIGGERED_CHECKS,
+};
+use is::{Consent, EarlyRto, Rules};
+
+/// The rules of this name, except those that have a field of their own.
+pub fn rules_of(fields: Fields<'_>) -> Result<Rules, Stop> {
+    let named = named(fields)?;
+    Ok(Rules {
+        kinds_in_turn: fields.flag_or(KINDS_IN_TURN, named.kinds_in_turn)?,
+        triggered_checks: triggered_checks(fields, named)?,
+        early_rto: early_rto(fields, named)?,
+        selects_at_once: fields.flag_or(SELECTS_AT_ONCE, named.selects_at_once)?,
+        consent: consent(fields, named)?,
+        selected_first: fields.flag_or(SELECTED_FIRST, named.selected_first)?,
+        timeout_after_requests: fields.flag_or(
+            TIMEOUT_AFTER_REQUESTS,
+            named.timeout_after_requests,
+        )?,
+    })
+}
+
+/// `original`, `modern`, or `kinds`: of these, kinds in turn only.
+fn named(fields: Fields<'_>) -> Result<Rules, Stop> {
+    match fields.line(NAME)? {
+        "original" => Ok(Rules::original()),
+        "modern" => Ok(Rules::modern()),
+        "kinds" => Ok(Rules {
+            kinds_in_turn: true,
+            ..Rules::original()
+        }),
+        _ => Err(fields.bad(NAME)),
+    }
+}
+
+fn triggered_checks(fields: Fields<'_>, named: Rules) -> Result<Option<u64>, Stop> {
+    if fields.has(TRIGGERED_CHECKS) {
+        fields.number_or_null(TRIGGERED_CHECKS)
+    } else {
+        Ok(named.triggered_checks)
+    }
+}
+
+fn early_rto(fields: Fields<'_>, named: Rules) -> Result<Option<EarlyRto>, Stop> {
+    if !fields.has(EARLY_RTO) {
+        return Ok(named.early_rto);
+    }
+    match fields.object_or_null(EARLY_RTO)? {
+        Some(fields) => Ok(Some(EarlyRto {
+            retransmits: fields.count(RETRANSMITS)?,
+            interval: fields.duration(INTERVAL)?,
+        })),
+        None => Ok(None),
+    }
+}
+
+fn consent(fields: Fields<'_>, named: Rules) -> Result<Option<Consent>, Stop> {
+    if !fields.has(CONSENT) {
+        return Ok(named.consent);
+    }
+    match fields.object_or_null(CONSENT)? {
+        Some(fields) => Ok(Some(Consent {
+            timeout: fields.duration(TIMEOUT)?,
+            strict: fields.flag(STRICT)?,
+        })),
+        None => Ok(None),
+    }
+}

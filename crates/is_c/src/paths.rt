@@ -1,0 +1,52 @@
+//! A path for media before one is selected.
+
+ghost use Rattle.std.specs.Prelude.{◌≡◌, None};
+ghost use Rattle.is_c.specs.Held.{held_by, At};
+ghost use Rattle.is_c.specs.Paths.{IsMediaPath, ReturnsValidPath};
+
+use crate::address::{Address, address_of, number_of};
+use crate::codes;
+use crate::slot::Slot;
+use is_rules::emitted::Path;
+use std::alloc::Global;
+
+/// A path for media.
+#[repr(C)]
+#[derive(Clone, Copy)]
+pub struct MediaPath {
+    /// Media is sent from here,
+    pub source: Address,
+    /// to here,
+    pub destination: Address,
+    /// and over this protocol.
+    pub protocol: u8,
+}
+
+fn reported_path(path: Path) -> MediaPath
+    ensures { IsMediaPath path result }
+{
+    MediaPath {
+        source: address_of(path.source),
+        destination: address_of(path.destination),
+        protocol: number_of(path.proto),
+    }
+}
+
+/// Writes the path of a valid pair, one of the greatest priority: media may go there before a path is selected (RFC 8445,
+/// section 12.1).
+#[unsafe(no_mangle)]
+pub extern "C" fn is_ice_valid_path(alloc: Global, slot: &mut Slot, path: &mut MediaPath) -> i32
+    ensures returned { At (ReturnsValidPath path.old path.new) (held_by slot.old) result (held_by slot.new) }
+    ensures without { held_by slot.old ≡ None → path.new ≡ path.old }
+{
+    let Some(home) = slot.home() else {
+        return codes::NO_AGENT;
+    };
+    match home.agent.valid_path() {
+        Some(found) => {
+            *path = reported_path(found);
+            codes::OK
+        }
+        None => codes::NOTHING,
+    }
+}

@@ -1,0 +1,138 @@
+"""The local candidates of a connection."""
+
+from __future__ import annotations
+
+from collections.abc import Sequence
+from dataclasses import dataclass, replace
+from ipaddress import IPv4Address, IPv6Address, ip_address
+from typing import Any, Union
+
+from ._session_log import SessionLog
+from .address import SocketAddress
+from .agent import IceAgent
+from .attribute import CandidateAttribute
+from .candidate import Candidate, CandidateFields, CandidateKind
+from .errors import IceError
+from .gather import Allocation, ServerAddress, TurnServer, all_of, allocate, server_reflexive_candidates
+from .loop import IceLoop
+from .mdns import Mdns
+from .stun_client import StunClient
+
+IPAddress = Union[IPv4Address, IPv6Address]
+
+_NO_ADDRESS = {4: "0.0.0.0", 6: "::"}  # in place of a related address that is hidden
+
+
+@dataclass(frozen=True)
+class Sources:
+    """Where candidates come from. `relay_only`: from servers only. `hides`: host candidates are signaled with mDNS names."""
+
+    addresses: Sequence[str]
+    stun_server: ServerAddress | None
+    turn_server: TurnServer | None
+    relay_only: bool
+    hides: bool
+
+
+class LocalCandidates:
+    """Gathers the local candidates of an agent, and names them for signaling."""
+
+    def __init__(self, agent: IceAgent, loop: IceLoop, mdns: Mdns, log: SessionLog) -> None:
+        self.allocations: list[Allocation] = []
+        self._agent, self._loop, self._mdns, self._log = agent, loop, mdns, log
+        self._stun = StunClient(loop.send)
+        self._hides = self._closed = False
+        self._names: dict[IPAddress, str] = {}  # mDNS names of local addresses
+        self._numbers: dict[str, str] = {}  # of foundations: the agent's are hashes of addresses, which can be found by trial
+
+    def close(self) -> None:
+        """Ends all changes to the agent."""
+        self._closed = True
+
+    def take_response(self, source: SocketAddress, local: SocketAddress, data: bytes) -> bool:
+        """Returns whether a STUN message is the response of the STUN server, and takes it."""
+        return self._stun.receive(source, local, data)
+
+    def signaled(self) -> list[CandidateAttribute]:
+        """Returns the candidates for signaling."""
+        return [self._hidden(fields) for fields in self._gathered()]
+
+    def with_foundation(self, foundation: str) -> CandidateFields:
+        """Returns a candidate that is signaled with this foundation. ValueError if there is none."""
+        for fields in self._gathered():
+            if self._hidden(fields).foundation == foundation:
+                return fields
+        raise ValueError(f"no local candidate has the foundation {foundation}")
+
+    def _gathered(self) -> list[CandidateFields]:
+        return [fields for fields in self._agent.local_fields() if fields.kind is not CandidateKind.PEER_REFLEXIVE]
+
+    def _hidden(self, fields: CandidateFields) -> CandidateAttribute:
+        """A candidate for signaling: without any trace of a local address, if addresses are hidden."""
+        candidate = CandidateAttribute.from_fields(fields)
+        if not self._hides:
+            return candidate
+        candidate = replace(candidate, foundation=self._numbers.setdefault(fields.foundation, str(len(self._numbers) + 1)))
+        if fields.kind is CandidateKind.HOST:
+            return replace(candidate, host=self._names.get(ip_address(candidate.host), candidate.host))
+        return replace(candidate, related_address=_NO_ADDRESS[fields.address.version], related_port=0)
+
+    async def gather(self, sources: Sources) -> None:
+        """Gathers candidates from all sources. ImportError if addresses are to be hidden and aioice is not installed."""
+        self._hides = sources.hides
+        bases = [base for ip in sources.addresses if (base := await self._opened(ip))]
+        if not sources.relay_only:  # otherwise the sockets only serve the STUN server
+            for base in bases:
+                if self._hides:
+                    self._names[ip_address(base.ip)] = await self._mdns.offer(base.ip)
+                self._add(Candidate.host(base), sources)
+        await all_of(self._gather_reflexive(bases, sources), self._gather_relayed(sources))
+
+    async def _opened(self, ip: str) -> SocketAddress | None:
+        try:
+            return await self._loop.open(ip)
+        except OSError as error:
+            self._log.warning("no host candidate at %s: %s", ip, error)
+            return None
+
+    async def _gather_reflexive(self, bases: list[SocketAddress], sources: Sources) -> None:
+        if sources.stun_server:
+            for candidate in await server_reflexive_candidates(self._stun, bases, sources.stun_server):
+                self._add(candidate, sources)
+
+    async def _gather_relayed(self, sources: Sources) -> None:
+        if not sources.turn_server:
+            return
+        try:
+            allocation = await allocate(self._loop, sources.turn_server)
+        except OSError as error:
+            self._log.warning("no relayed candidate: %s", error)
+            return
+        self.allocations.append(allocation)
+        candidate = Candidate.relayed(allocation.local, allocation.base)
+        self._add(candidate, sources)
+
+        def withdraw(_: Any) -> None:
+            if not self._closed:
+                self._log.info("the relayed candidate %s is lost", candidate.address)
+                self._agent.invalidate_candidate(candidate)
+                self._loop.wake()
+
+        allocation.freed.add_done_callback(withdraw)
+
+    def _add(self, candidate: Candidate, sources: Sources) -> None:
+        if self._closed or self._takes_the_last_place(candidate, sources):
+            return
+        try:
+            added = self._agent.add_local_candidate(candidate)
+        except IceError as error:
+            self._log.warning("no candidate at %s: %s", candidate.address, error)
+        else:
+            self._log.info("local candidate %s %s", candidate.address, candidate.kind.name if added else "is redundant")
+
+    def _takes_the_last_place(self, candidate: Candidate, sources: Sources) -> bool:
+        """Whether the candidate would take the place that is left for the relayed one."""
+        limit = self._agent.max_candidates
+        if limit is None or sources.turn_server is None or candidate.kind is CandidateKind.RELAYED:
+            return False
+        return len(self._agent.local_candidates()) >= limit - 1

@@ -1,0 +1,43 @@
+"""Why a session failed: what it tried, and what came back."""
+
+from __future__ import annotations
+
+from collections.abc import Iterable, Mapping
+from itertools import islice
+
+from .agent import IceAgent
+from .candidate import CandidateFields
+from .events import CandidatePair
+
+_MOST = 8  # of a list
+
+
+def _listed(what: str, texts: Iterable[str], count: int) -> str:
+    """A list, of which only the first ones are named."""
+    more = f" and {count - _MOST} more" if count > _MOST else ""
+    return f"{what}: {', '.join(islice(texts, _MOST)) or 'none'}{more}"
+
+
+def _candidate_text(fields: CandidateFields) -> str:
+    return f"{fields.address} ({fields.kind.name.replace('_', '-').lower()})"
+
+
+def _pair_text(pair: CandidatePair, local: list[CandidateFields], remote: list[CandidateFields]) -> str:
+    state = pair.state.name.replace("_", " ").lower()
+    return (f"{local[pair.local].address} -> {remote[pair.remote].address} {state}, {pair.checks_sent} checks sent, "
+            f"{pair.responses} answered, {pair.requests_received} received")
+
+
+def tried(agent: IceAgent, discarded: Mapping[str, int]) -> str:
+    """Says what an agent tried and what came back. `discarded` counts the STUN messages that nobody took, by kind.
+
+    The agent does not list a pair that it removed, nor why: once the library does, it belongs after the pairs.
+    """
+    local, remote, pairs, stats = agent.local_fields(), agent.remote_fields(), agent.pairs, agent.stats
+    return "; ".join([
+        f"state {agent.state.name.capitalize()}",
+        _listed("local candidates", map(_candidate_text, local), len(local)),
+        _listed("remote candidates", map(_candidate_text, remote), len(remote)),
+        _listed("pairs", (_pair_text(pair, local, remote) for pair in pairs), len(pairs)),
+        f"{stats.bind_request_sent} checks sent, {stats.bind_success_recv} answered, {stats.bind_request_recv} received in all",
+        _listed("discarded", (f"{count} x {kind}" for kind, count in discarded.items()), len(discarded))])

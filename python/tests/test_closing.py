@@ -1,0 +1,208 @@
+"""Closing of a connection: what it ends, at whatever time, and what outlives it."""
+
+from __future__ import annotations
+
+import asyncio
+import copy
+import gc
+import os
+import pickle
+import socket
+import time
+import unittest
+from collections.abc import Awaitable, Callable
+from typing import Any
+from unittest import mock
+
+from is_ice import HasAgent, NominatedSend, SocketAddress
+from is_ice.connection import ConnectionClosed
+from is_ice.gather import Allocation
+
+from pairs import add_candidates, agent, aioice, close, gather, join, other_tasks
+
+
+async def ended_by_cancelling(call: Awaitable[object], steps: int) -> bool:
+    """Cancels a call after some steps of the loop. Returns whether it was not yet done."""
+    task = asyncio.ensure_future(call)
+    for _ in range(steps):
+        await asyncio.sleep(0)
+    task.cancel()
+    await asyncio.wait({task})
+    return task.cancelled()
+
+
+class Closing(unittest.IsolatedAsyncioTestCase):
+    async def test_a_close_that_is_cancelled(self) -> None:
+        """While a TURN server frees an allocation, and while the socket of mDNS is opened: neither ever happens here."""
+        for what in ("allocation", "mdns"):
+            with self.subTest(what=what):
+                a = agent(True)
+                await a.gather_candidates()
+                if what == "allocation":
+                    a._local.allocations.append(Allocation(a._loop))
+                else:
+                    a._mdns._opened = asyncio.get_running_loop().create_future()
+                event = asyncio.ensure_future(a.get_event())
+                await asyncio.sleep(0)
+                with self.assertRaises(asyncio.TimeoutError):
+                    await asyncio.wait_for(a.close(), 0.1)
+                self.assertIsInstance(await asyncio.wait_for(event, 1), ConnectionClosed)
+                await asyncio.wait_for(a.close(), 2)
+                self.assertIsNone(await a.get_event())
+                self.assertEqual(other_tasks(), set())
+
+    async def test_calls_that_are_cancelled_at_each_step(self) -> None:
+        open_files = len(os.listdir("/proc/self/fd"))
+        cancelled = 0
+        for steps in range(16):
+            a, b = agent(True), agent(False)
+            cancelled += await ended_by_cancelling(a.gather_candidates(), steps)
+            await join(a, b)
+            received = asyncio.ensure_future(b.recv())
+            await asyncio.sleep(0)
+            received.cancel()
+            await a.send(b"x")
+            self.assertEqual(await asyncio.wait_for(b.recv(), 1), b"x")
+            event = asyncio.ensure_future(a.get_event())
+            await asyncio.sleep(0)
+            cancelled += await ended_by_cancelling(a.close(), steps)
+            self.assertIsInstance(await asyncio.wait_for(event, 1), ConnectionClosed)
+            await close(a, b)
+        for steps in range(16):
+            a, b = agent(True), agent(False)
+            await gather(a, b)
+            await add_candidates(a, b)
+            other = asyncio.ensure_future(b.connect())
+            cancelled += await ended_by_cancelling(a.connect(), steps)
+            await asyncio.wait_for(asyncio.gather(a.connect(), other), 5)
+            await close(a, b)
+            c = agent(True)
+            cancelled += await ended_by_cancelling(c.gather_candidates(), steps)
+            await c.close()
+        self.assertGreater(cancelled, 16)
+        await asyncio.sleep(0.05)
+        gc.collect()
+        self.assertEqual(other_tasks(), set())
+        self.assertLessEqual(len(os.listdir("/proc/self/fd")), open_files + 1)
+
+    async def test_tasks_of_gathering_end(self) -> None:
+        with socket.socket(socket.AF_INET, socket.SOCK_DGRAM) as silent:
+            silent.bind(("127.0.0.1", 0))
+            at = silent.getsockname()
+            for server in ({"stun_server": at}, {"turn_server": at}, {"stun_server": at, "turn_server": at}):
+                if aioice is None and "turn_server" in server:
+                    continue
+                with self.subTest(server=server):
+                    open_files = len(os.listdir("/proc/self/fd"))
+                    a = agent(True, **server)
+                    gathering = asyncio.ensure_future(a.gather_candidates())
+                    await asyncio.sleep(0.1)
+                    self.assertGreater(len(other_tasks()), 1)
+                    await a.close()
+                    await asyncio.wait_for(gathering, 1)  # it returns, since nobody cancelled it
+                    self.assertEqual((other_tasks(), a.local_candidates), (set(), []))
+                    await asyncio.sleep(0.05)
+                    self.assertLessEqual(len(os.listdir("/proc/self/fd")), open_files)
+                    await a.gather_candidates()
+                    self.assertEqual(other_tasks(), set())
+
+    @unittest.skipIf(aioice is None, "aioice is not installed (Debian's python3-aioice)")
+    async def test_an_allocation_is_freed(self) -> None:
+        from turn_server import TurnServer
+        for begun in (False, True):  # closed while the server makes it, and after
+            server = TurnServer()
+            a = agent(True, turn_server=await server.start())
+            gathering = asyncio.ensure_future(a.gather_candidates())
+            if begun:
+                await gathering
+            else:
+                while not a.local_candidates:
+                    await asyncio.sleep(0)
+            await asyncio.wait_for(a.close(), 2)
+            await asyncio.wait_for(gathering, 1)
+            self.assertGreaterEqual(server.freed, 1)
+            self.assertEqual(other_tasks(), set())
+            server.close()
+
+    async def test_an_allocation_that_nobody_frees(self) -> None:
+        if aioice is None:
+            self.skipTest("aioice is not installed (Debian's python3-aioice)")
+        from turn_server import TurnServer
+        server = TurnServer()
+        a = agent(True, turn_server=await server.start())
+        await a.gather_candidates()
+        with mock.patch("is_ice.gather._SENDING", 64):
+            for _ in range(100):  # no channel is bound
+                a._loop.send(a._local.allocations[0].local, SocketAddress("127.0.0.1", 9), b"x")
+        self.assertEqual(len(a._local.allocations[0]._tasks), 64)
+        server.close()
+        start = time.monotonic()
+        await a.close()
+        self.assertLess(time.monotonic() - start, 2)
+        await asyncio.sleep(0.05)
+        self.assertEqual(other_tasks(), set())
+
+    async def test_a_close_in_a_handler_and_while_sending(self) -> None:
+        a, b = agent(True), agent(False)
+        await gather(a, b)
+        await add_candidates(a, b)
+        closing: list[asyncio.Future[None]] = []
+        a.on_event = lambda event: closing.append(asyncio.ensure_future(a.close())) if isinstance(event, NominatedSend) else None
+        other = asyncio.ensure_future(b.connect())
+        await asyncio.gather(a.connect(), return_exceptions=True)
+        await asyncio.gather(*closing)
+        await close(a, b)
+        await asyncio.gather(other, return_exceptions=True)
+        self.assertEqual(other_tasks(), set())
+        a, b = agent(True), agent(False)
+        await join(a, b)
+
+        async def pump() -> int:
+            count = 0
+            try:
+                while True:
+                    await a.send(b"z" * 1000)
+                    count += 1
+                    await asyncio.sleep(0)
+            except ConnectionError:
+                return count
+
+        pumps = [asyncio.ensure_future(pump()) for _ in range(3)]
+        await asyncio.sleep(0.05)
+        await a.close()
+        self.assertGreater(min(await asyncio.wait_for(asyncio.gather(*pumps), 1)), 0)
+        await b.close()
+        self.assertEqual(other_tasks(), set())
+
+    def test_a_close_before_the_loop_runs(self) -> None:
+        loop = asyncio.new_event_loop()
+        a = agent(True)
+        loop.run_until_complete(a.gather_candidates())
+        closing = a.close()
+        self.assertEqual(len(a.local_candidates), 1)
+        loop.run_until_complete(closing)
+        self.assertEqual(a.local_candidates, [])
+        loop.close()
+
+    async def test_an_agent_that_the_program_closed(self) -> None:
+        a = agent(True)
+        await a.gather_candidates()
+        a.agent.close()
+        await a.close()
+        self.assertEqual((a.ice_controlling, a.local_candidates, a.remote_candidates), (True, [], []))
+
+    async def test_a_connection_is_neither_copied_nor_begun_again(self) -> None:
+        a = agent(True)
+        await a.gather_candidates()
+        makes: tuple[Callable[[Any], object], ...] = (copy.copy, copy.deepcopy, pickle.dumps)
+        for value in (a, a._loop):
+            for make in makes:
+                self.assertRaisesRegex(TypeError, "cannot be copied", make, value)
+        self.assertRaises(HasAgent, a.__init__, False)  # type: ignore[misc]
+        self.assertRaises(HasAgent, a._loop.__init__, a.agent, print, print)  # type: ignore[misc]
+        self.assertEqual(len(a.local_candidates), 1)
+        await a.close()
+
+
+if __name__ == "__main__":
+    unittest.main()

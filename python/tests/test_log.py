@@ -1,0 +1,184 @@
+"""What sessions log, and what `connect` says when it fails."""
+
+from __future__ import annotations
+
+import asyncio
+import logging
+import unittest
+from types import SimpleNamespace
+from typing import Any
+from unittest import mock
+
+import is_ice.connection
+from is_ice import CandidateKind, CheckState, IceAgent, IceConnectionState, SocketAddress
+from is_ice._report import tried
+from is_ice._session_log import SessionLog, kind_of_message
+from is_ice.mdns import Mdns
+from is_ice.stun import StunClass, StunMethod, write_message
+
+from pairs import LOOPBACK, NOBODY, add_candidates, agent, close, gather, join
+from test_loop import BINDING_REQUEST, BINDING_RESPONSE
+
+THERE, HERE = SocketAddress("192.0.2.2", 2000), SocketAddress("192.0.2.1", 1000)
+
+
+def unauthorized(code: int = 401) -> bytes:
+    """An error response without MESSAGE-INTEGRITY, as other agents send for a wrong password."""
+    return write_message(StunMethod.BINDING, StunClass.FAILURE, bytes(12), error=(code, "no"))
+
+
+class Lines(unittest.IsolatedAsyncioTestCase):
+    async def test_a_session(self) -> None:
+        a, b = agent(True), agent(False)
+        with self.assertLogs("is_ice", "INFO") as logged:
+            await join(a, b)
+            async with asyncio.timeout(5):
+                while not all(side.agent.state is IceConnectionState.COMPLETED for side in (a, b)):
+                    await asyncio.sleep(0.01)
+        for one, other in ((a, b), (b, a)):
+            ports = [side.local_candidates[0].port for side in (one, other)]
+            lines = [record.getMessage() for record in logged.records]
+            lines = [line.removeprefix(f"{one.local_username}: ") for line in lines if line.startswith(one.local_username)]
+            self.assertEqual(lines[:4], [
+                f"local candidate 127.0.0.1:{ports[0]} HOST", f"remote candidate 127.0.0.1:{ports[1]} HOST: ADDED",
+                "session begins", "state Checking"])
+            self.assertEqual(lines.count(f"selected 127.0.0.1:{ports[0]} -> 127.0.0.1:{ports[1]}"), 1)
+            self.assertEqual(lines[-1], "state Completed")
+        await close(a, b)
+
+    async def test_candidates_that_are_left_out(self) -> None:
+        a = agent(True)
+        await a.gather_candidates()  # without pairs no candidate is known
+        with self.assertLogs("is_ice.connection", "INFO") as logged, mock.patch.object(Mdns, "resolve", mock.AsyncMock(return_value=None)):
+            for line in ("1 1 udp", NOBODY, NOBODY, NOBODY.replace(" 1 udp", " 2 udp"), "x" * 5000, "1 1 udp 1 h.local 9 typ host"):
+                await a.add_remote_candidate(line)
+            await asyncio.gather(*a._remote.names)
+        told = [record.getMessage().split(": ", 1)[1] for record in logged.records]
+        self.assertRegex(told[0], "^left out a candidate: 'bad candidate: ")
+        self.assertEqual(told[1:4], [f"remote candidate 127.0.0.1:9 HOST: {result}" for result in ("ADDED", "KNOWN", "OTHER_COMPONENT")])
+        self.assertEqual(told[4:], ["left out a candidate of 5010 characters", "nobody resolves 'h.local'"])
+        await a.close()
+
+    async def test_the_first_message_of_each_kind_that_nobody_takes(self) -> None:
+        a = agent(True)
+        with self.assertLogs("is_ice.loop", "INFO") as logged:
+            a._loop.begin()
+            for message in (BINDING_RESPONSE, unauthorized(), BINDING_REQUEST, unauthorized(), unauthorized(420), BINDING_REQUEST):
+                a._loop.receive(THERE, HERE, message)
+        told = [record.getMessage().split(": ", 1)[1] for record in logged.records if "discarded" in record.getMessage()]
+        kinds = {"Binding success response": 1, "Binding error response 401": 2, "Binding request": 2, "Binding error response 420": 1}
+        self.assertEqual(told, [f"discarded {kind} from {THERE} at {HERE}" for kind in kinds])
+        self.assertEqual(a._loop.log.discarded, kinds)
+        await a.close()
+
+    def test_kinds_are_limited(self) -> None:
+        log = SessionLog(logging.getLogger("is_ice.test"), IceAgent())
+        for code in range(300, 400):
+            log.message_discarded(THERE, HERE, unauthorized(code))
+        self.assertEqual((len(log.discarded), log.discarded["other STUN message"]), (33, 68))
+
+    def test_kinds_of_messages(self) -> None:
+        for method, class_, kind in ((StunMethod.ALLOCATE, StunClass.SUCCESS, "Allocate success response"),
+                                     (StunMethod.CREATE_PERMISSION, StunClass.REQUEST, "Create permission request"),
+                                     (StunMethod.DATA, StunClass.INDICATION, "Data indication")):
+            self.assertEqual(kind_of_message(write_message(method, class_, bytes(12))), kind)
+        for other in (b"", b"\0" * 30, unauthorized()[:-3]):
+            self.assertEqual(kind_of_message(other), "malformed STUN message")
+
+
+class Failures(unittest.IsolatedAsyncioTestCase):
+    async def failed(self, a: Any, within: float = 5) -> str:
+        """What `connect` raises."""
+        with self.assertLogs("is_ice.connection", "INFO") as logged, self.assertRaises(ConnectionError) as caught:
+            await asyncio.wait_for(a.connect(), within)
+        told = str(caught.exception)
+        self.assertEqual(logged.records[-1].getMessage(), f"{a.local_username}: {told}")
+        return told
+
+    async def alone(self, *lines: str, end: bool = True) -> Any:
+        """A connection with these candidates of a peer that does not exist."""
+        a = agent(True)
+        a.agent.set_max_stun_retransmits(1)
+        a.agent.set_max_stun_rto(10_000_000)
+        await a.gather_candidates()
+        a.remote_username, a.remote_password = "abcd", "p" * 22
+        for line in lines:
+            await a.add_remote_candidate(line)
+        if end:
+            await a.add_remote_candidate(None)
+        return a
+
+    async def test_nobody_responds(self) -> None:
+        a = await self.alone(NOBODY)
+        told = await self.failed(a)
+        self.assertRegex(told, "^ICE negotiation failed: all checks failed; state Disconnected; ")
+        self.assertIn(f"; local candidates: 127.0.0.1:{a.local_candidates[0].port} (host); remote candidates: 127.0.0.1:9 (host); ", told)
+        self.assertRegex(told, "; [1-9][0-9]* checks sent, 0 answered, 0 received in all; discarded: none$")
+        await a.close()
+
+    async def test_there_is_no_time_left(self) -> None:
+        a = agent(True)
+        await a.gather_candidates()
+        a.remote_username, a.remote_password = "abcd", "p" * 22
+        await a.add_remote_candidate(NOBODY)
+        a._loop.receive(THERE, HERE, unauthorized())
+        with mock.patch.object(is_ice.connection, "_PATIENCE", 0.2):
+            told = await self.failed(a)
+        port = a.local_candidates[0].port
+        self.assertRegex(told, "^ICE negotiation failed: there is no path after 0.2 s; state Checking; ")
+        self.assertRegex(told, f"; pairs: 127.0.0.1:{port} -> 127.0.0.1:9 in progress, [1-9] checks sent, 0 answered, 0 received; ")
+        self.assertIn("; discarded: 1 x Binding error response 401; ", told)
+        self.assertRegex(told, "; the peer did not signal the end of its candidates$")
+        await a.close()
+
+    async def test_the_peer_has_another_password(self) -> None:
+        a, b = agent(True), agent(False)
+        await gather(a, b)
+        await add_candidates(a, b)
+        a.remote_password = "q" * 22
+        with mock.patch.object(is_ice.connection, "_PATIENCE", 0.3):
+            results = await asyncio.gather(a.connect(), b.connect(), return_exceptions=True)
+        self.assertRegex(str(results[1]), "; discarded: [1-9][0-9]* x Binding request")  # a signs with what b does not know
+        await close(a, b)
+
+    async def test_names_that_nobody_resolves(self) -> None:
+        with mock.patch.object(Mdns, "resolve", mock.AsyncMock(return_value=None)):
+            a = await self.alone("1 1 udp 1 h.local 9 typ host")
+            with mock.patch.object(is_ice.connection, "_PATIENCE", 0.1):
+                told = await self.failed(a)
+        self.assertRegex(told, "; remote candidates: none; pairs: none; .*; mDNS names of the peer without an address: 1$")
+        await a.close()
+
+    async def test_it_is_closed(self) -> None:
+        a = await self.alone(NOBODY, end=False)
+        connecting = asyncio.ensure_future(a.connect())
+        await asyncio.sleep(0.05)
+        await a.close()
+        with self.assertRaisesRegex(ConnectionError, "^ICE negotiation failed: the connection was closed; state Checking; "):
+            await connecting
+        with self.assertRaisesRegex(ConnectionError, "^ICE negotiation failed: the connection was closed$"):
+            await a.connect()
+
+    async def test_there_are_no_candidates(self) -> None:
+        a = await self.alone()
+        with self.assertRaisesRegex(ConnectionError, "^ICE negotiation failed: the peer has no candidates; state New; "):
+            await a.connect()
+        await a.close()
+
+    def test_long_lists_are_cut(self) -> None:
+        def fields(port: int) -> Any:
+            return SimpleNamespace(address=SocketAddress(LOOPBACK[0], port), kind=CandidateKind.SERVER_REFLEXIVE)
+
+        pair = SimpleNamespace(local=0, remote=99, state=CheckState.SUCCEEDED, checks_sent=3, responses=2, requests_received=1)
+        of_ten: Any = SimpleNamespace(
+            local_fields=lambda: [fields(1)], remote_fields=lambda: [fields(port) for port in range(1, 101)], pairs=[pair] * 9,
+            stats=SimpleNamespace(bind_request_sent=27, bind_success_recv=18, bind_request_recv=9), state=IceConnectionState.CONNECTED)
+        told = tried(of_ten, {}).split("; ")
+        self.assertEqual(told[1], "local candidates: 127.0.0.1:1 (server-reflexive)")
+        self.assertRegex(told[2], r"^remote candidates: (127.0.0.1:[1-8] \(server-reflexive\)(, )?){8} and 92 more$")
+        self.assertRegex(told[3], "^pairs: .*127.0.0.1:1 -> 127.0.0.1:100 succeeded, 3 checks sent, 2 answered, 1 received and 1 more$")
+        self.assertEqual(told[4:], ["27 checks sent, 18 answered, 9 received in all", "discarded: none"])
+
+
+if __name__ == "__main__":
+    unittest.main()
