@@ -10,9 +10,9 @@
  *             send buffer[0 .. packet.length] from packet.source to packet.destination;
  *         while (is_ice_poll_event(&agent, &event) == IS_ICE_OK)
  *             use the event;
- *         wait for a datagram, or until `at`;
+ *         wait for a datagram, or until the earliest `at` since is_ice_handle_timeout;
  *         a datagram arrived:  is_ice_handle_packet(&agent, now, IS_ICE_UDP, &from, &to, bytes, length);
- *         `at` has passed:     is_ice_handle_timeout(&agent, now, random, sizeof random);
+ *         that has passed:     is_ice_handle_timeout(&agent, now, random, sizeof random);
  *     }
  *
  * examples/peer.c, next to the documents, is a complete program over UDP sockets. is_ice.hpp has the calls for C++17.

@@ -13,9 +13,9 @@
  *             send packet->contents from packet->source to packet->destination;
  *         while (auto event = agent.poll_event())
  *             if (auto path = std::get_if<is_ice::nominated_send>(&*event)) use the path;
- *         wait for a datagram, or until *at;
+ *         wait for a datagram, or until the earliest *at since handle_timeout;
  *         a datagram arrived:  agent.handle_packet(now(), IS_ICE_UDP, from, to, data, length);
- *         *at has passed:      agent.handle_timeout(now(), random());
+ *         that has passed:     agent.handle_timeout(now(), random());
  *     }
  *
  * examples/two.cpp is a complete program. An error code is thrown as is_ice::error, and changed nothing. Times and
