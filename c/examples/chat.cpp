@@ -3,9 +3,8 @@
 // are those of peer_net.c and peer_signal.c. usage: chat controlling|controlled [-l]     -l: at 127.0.0.1 only
 #include "is_ice.hpp"
 #include "peer.h"
+#include <algorithm>
 #include <iostream>
-
-using namespace std::chrono_literals;
 
 static const char *const states[] = {"New", "Checking", "Connected", "Completed", "Disconnected"};
 static net sockets;
@@ -66,14 +65,14 @@ int main(int argc, char **argv)
     rules.consent_timeout = 5 * SECOND; // a lost peer is noticed after 5 s, and not after 30 s,
     rules.strict_consent = true;
     agent.set_rules(rules);
-    agent.set_max_rto(1s); // as the path is checked each second
+    agent.set_max_rto(is_ice::nanoseconds(SECOND)); // as the path is checked each second
     agent.set_controlling(goes_on && std::string_view(argv[1]) == "controlling");
     setvbuf(stdin, nullptr, _IONBF, 0); // so that each line is waited for
     for (is_ice::nanoseconds timeout{}; goes_on;) try {
             auto now = is_ice::nanoseconds(net_now());
             if (net_move(&sockets, net_now(), argc > 2 ? "127.0.0.1" : nullptr)) restart(agent);
             if (now >= timeout) {
-                timeout = now + 1s; // at the latest
+                timeout = now + is_ice::nanoseconds(SECOND); // at the latest
                 agent.handle_timeout(now, randomized<is_ice::timeout_random>());
             }
             report(agent);
