@@ -12,6 +12,7 @@ from is_ice.stun import StunMessage
 
 from .clock import MILLISECOND, SECOND
 from .kinds import ORIGINAL, Rules, is_brought, kind_of, least_of_most, turn_of
+from .numbers import LAST_NUMBER, as_taken, first_numbered
 from .pairs import Pair, Path, Place, Timing, pair_priority
 from .requests import Request, request_of
 from .states import CHECKING, NEW, has_nominated, has_possible, next_state
@@ -60,6 +61,9 @@ class Agent:
     next_number: int = 0
     selected: int | None = None
     last_nominated: int | None = None  # by the peer
+    nominations: int = 0  # how many paths were selected, which numbers the nominations
+    nomination_due: bool = False  # a path was selected, and its pair was not checked since
+    numbers_seen: bool = False  # a nomination with a number was served since the last restart
     ahead_turn: bool = False  # the next check may go ahead of pairs that are due earlier
     next_kind: int = 0  # from which kind on kinds take turns
     state: IceConnectionState = NEW
@@ -94,15 +98,49 @@ class Agent:
         return pair.is_nominated and (not self.renominates or pair.number == self.selected)
 
     @property
+    def numbers(self) -> bool:
+        """Whether nominations have numbers."""
+        return self.renominates and self.rules.numbered_nominations
+
+    @property
+    def keeps_role(self) -> bool:
+        """Whether it never changes its role."""
+        return self.lite and self.rules.lite_keeps_role
+
+    @property
+    def followed(self) -> int | None:
+        """The number of the pair that it follows: the one that its peer nominated last or, once a number came, by the greatest one."""
+        if not self.renominates or self.controlling:
+            return None
+        if not (self.numbers and self.numbers_seen):
+            return self.last_nominated
+        return first_numbered((p for p in self.pairs if self.is_eligible(p)), self.selected)
+
+    @property
     def follows(self) -> bool:
-        """Whether it selects the pair that its peer nominated last."""
-        return self.renominates and not self.controlling and self.last_nominated is not None
+        """Whether it selects a pair that its peer nominated, whatever the priorities."""
+        return self.followed is not None
+
+    @property
+    def has_selected(self) -> bool:
+        """Whether the pair that was selected last is still there."""
+        return any(p.number == self.selected for p in self.pairs)
+
+    @property
+    def nominates_at_once(self) -> bool:
+        """Whether the nomination of the selected path is still to be sent: its pair is checked first."""
+        return self.controlling and not self.lite and self.numbers and self.nomination_due and self.has_selected
+
+    @property
+    def is_pressing(self) -> bool:
+        """Whether that is so, or the selected pair is gone and another one may be selected."""
+        return self.nominates_at_once or (self.numbers and not self.has_selected and any(self.is_eligible(p) for p in self.pairs))
 
     def chosen(self) -> Pair | None:
-        """Returns the pair to be selected: of an agent that follows its peer the pair that the peer nominated last, or the one that was
-        selected last; else an eligible one with the greatest priority."""
+        """Returns the pair to be selected: of an agent that follows its peer the followed pair, or the one that was selected last; else an
+        eligible one with the greatest priority."""
         eligible = [p for p in self.pairs if self.is_eligible(p)]
-        favored = (self.last_nominated, self.selected) if self.follows else ()
+        favored = (self.followed, self.selected) if self.follows else ()
         best = max(eligible, key=lambda p: p.priority, default=None)
         return next((p for number in favored for p in eligible if p.number == number), best)
 
@@ -234,7 +272,8 @@ class Agent:
 
     def restart(self, creds: IceCreds, keeps: bool) -> Agent:
         """Makes an ICE restart."""
-        return replace(self, creds=creds, peer=None, local=self.local if keeps else (), remote=(), pairs=(), state=CHECKING)
+        local = self.local if keeps else ()
+        return replace(self, creds=creds, peer=None, local=local, remote=(), pairs=(), numbers_seen=False, state=CHECKING)
 
     def recreate(self) -> Agent:
         """Forms the pairs again."""
@@ -251,7 +290,7 @@ class Agent:
         top = self.chosen()
         if top is None or self.remains(top):
             return self, ()
-        new = replace(self, selected=top.number)
+        new = replace(self, selected=top.number, nominations=min(self.nominations + 1, LAST_NUMBER), nomination_due=True)
         if not top.is_nominated and (self.controlling or self.lite):
             new = new._changed(top.number, lambda p: replace(p, nomination="success" if self.lite else "nominated"))
         return new, (self.path(top),)
@@ -270,7 +309,7 @@ class Agent:
         if self.peer is None or q.ufrag != self.peer.ufrag or at is None:
             return self, None, ()
         rival = q.controlling if self.controlling else q.controlled
-        if rival is not None and rival <= self.tie_breaker:
+        if rival is not None and (self.keeps_role or rival <= self.tie_breaker):
             return self, Issued("failure", (q.local, q.source), q.id), ()
         new = self if rival is None else self.switched()
         return (new, None, ()) if new.controlling and q.use_candidate else new._serve_at(q, at)
@@ -293,10 +332,10 @@ class Agent:
                 return new, None, ()
             pair = Pair(new.next_number, local, remote, new.priority_between(local, remote))
             new = replace(new, pairs=(*new.pairs, pair), next_number=new.next_number + 1)
-        was_valid = pair.is_valid
-        if not new.controlling and q.use_candidate:
-            new = replace(new, last_nominated=pair.number)
-        new = new._changed(pair.number, lambda p: self._served(new, p, q))
+        was_valid, taken = pair.is_valid, as_taken(q, new.numbers)
+        if not new.controlling and taken.use_candidate:
+            new = replace(new, last_nominated=pair.number, numbers_seen=new.numbers_seen or bool(taken.nomination))
+        new = new._changed(pair.number, lambda p: self._served(new, p, taken))
         selects = new.controlling or new.rules.selects_at_once
         new, told = new._nominate() if selects and was_valid else (new, ())
         return new, Issued("success", (new.local[local].base, q.source), q.id), told
@@ -317,7 +356,8 @@ class Agent:
         state = "succeeded" if agent.lite and not agent.controlling else pair.state
         asks = not agent.controlling and q.use_candidate and not pair.is_nominated
         nomination = ("success" if agent.lite else "nominated") if asks else pair.nomination
-        return replace(new, state=state, nomination=nomination)
+        greatest = pair.greatest if agent.controlling else max(pair.greatest, q.nomination or 0)
+        return replace(new, state=state, nomination=nomination, greatest=greatest)
 
     # ---- packets
 
@@ -334,7 +374,8 @@ class Agent:
             return self, None, ()
         if message.kind == "failure":
             sent = next(c for c in pair.checks if c.id == message.transaction)
-            return (self.switched() if message.code == 487 and sent.controlling == self.controlling else self), None, ()
+            is_rejected = message.code == 487 and sent.controlling == self.controlling and not self.keeps_role
+            return (self.switched() if is_rejected else self), None, ()
         new = self._mapped(pair, contents)._changed(pair.number, lambda p: p.answered(now, message.transaction))
         chosen, told = new._nominate()
         return chosen._evaluated(now), None, told
@@ -371,15 +412,22 @@ class Agent:
             return replace(self, pairs=tuple(p if p.last_request is not None else p.asked(now) for p in self.pairs)), None
         new = replace(self, pairs=tuple(p.fixed(now, self.timing) for p in self.pairs))
         is_ahead = new.is_ahead_turn(now)
-        order = {p.number: new._place_in_order(p, now, is_ahead) for p in new.pairs if p.due_at(now, self.timing) <= now}
-        if not order:
+        first = new._first_to_check(now, is_ahead)
+        if not first:
             return new, None
-        least = min(order.values())
-        first = [p for p in new.pairs if order.get(p.number) == least]
         pair = next((p for p in first if new.path(p) == seen), first[0])
-        checked = new._changed(pair.number, lambda p: p.checked(now, self.timing, self.controlling, id))
+        begun = new._changed(pair.number, Pair.renominated) if new.nominates_at_once else new
+        checked = begun._changed(pair.number, lambda p: p.checked(now, self.timing, self.controlling, id))
         following = kind_of(self.local, self.remote, pair) + 1 if is_ahead else self.next_kind
-        return replace(checked, ahead_turn=not is_ahead, next_kind=following), Issued("request", new.path(pair), id)
+        due = self.nomination_due and pair.number != self.selected
+        return replace(checked, ahead_turn=not is_ahead, next_kind=following, nomination_due=due), Issued("request", new.path(pair), id)
+
+    def _first_to_check(self, now: int, is_ahead: bool) -> list[Pair]:
+        """Returns the pairs of which one is checked: the selected one, if its nomination is to be sent, else those that come first."""
+        if self.nominates_at_once:
+            return [p for p in self.pairs if p.number == self.selected]
+        order = {p.number: self._place_in_order(p, now, is_ahead) for p in self.pairs if p.due_at(now, self.timing) <= now}
+        return [p for p in self.pairs if order.get(p.number) == min(order.values())] if order else []
 
     def _place_in_order(self, pair: Pair, now: int, is_ahead: bool) -> tuple[int, int, int]:
         """Returns what decides which of the due pairs is checked: if the check goes ahead its turn, then its due time and its priority."""
@@ -399,7 +447,7 @@ class Agent:
         if self.last is None:
             return self, None
         soon = self.last + self.advance
-        if is_waiting or self.queue:
+        if is_waiting or self.queue or self.is_pressing:
             return self, soon
         if self.lite or not self.pairs:
             return self, self.last + 3 * SECOND
