@@ -31,6 +31,9 @@ record_of a = record {
   next_number = a.next_number;
   selected_pair = a.selected_pair;
   last_nominated = a.last_nominated;
+  nominations = a.nominations;
+  nomination_due = a.nomination_due;
+  numbers_seen = a.numbers_seen;
   ahead_turn = a.ahead_turn;
   next_kind = a.next_kind;
   queue = map waiting_view a.queue.items;
@@ -42,7 +45,7 @@ record_of a = record {
   stats = a.stats;
 }
 
--- what the agent issued and selected at the last packet or `handle_timeout` call
+-- what the agent issued and selected at the last packet, `handle_timeout` call, or candidate that was added or invalidated
 abbrev pub emitted_of : {H P : Type 0} → code.Agent H P → Emitted
 emitted_of a = a.emitted
 

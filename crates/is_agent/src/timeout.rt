@@ -2,7 +2,7 @@
 //!
 //! Capacity for all of it is reserved before the agent changes; what follows can't fail.
 
-ghost use Rattle.std.specs.Prelude.{◌≡◌, ℕ, Option, Some, true, IsSome, None, IfOk, IfErr, OnOk, MatchOption};
+ghost use Rattle.std.specs.Prelude.{◌≡◌, ℕ, ◌||◌, Option, Some, true, IsSome, None, IfOk, IfErr, OnOk, MatchOption};
 ghost use Rattle.std.specs.List.{list_any};
 ghost use Rattle.is_stun.specs.Theorems.{IsPut};
 ghost use Rattle.is_stun.specs.Writing.{written};
@@ -10,12 +10,12 @@ ghost use Rattle.is_stun.specs.declared.header.Class.TheVariants as classes;
 ghost use Rattle.is_rules.specs.declared.credentials.IceCreds as model;
 ghost use Rattle.is_agent.specs.View.{record_of, emitted_of};
 ghost use Rattle.is_agent.specs.Room.{HasPacketRoom, HasEventRoom, HasCheckRoom, HasCheckRoomAt, IsPrepared, UsesEvents};
-ghost use Rattle.is_rules.specs.Checking.{check_message, is_ahead_turn, ChecksPair, ChecksNext, MayCheck};
+ghost use Rattle.is_rules.specs.Checking.{check_message, is_ahead_turn, is_selected_number, ChecksPair, ChecksNext, MayCheck};
 ghost use Rattle.is_pair.specs.Multiset.{has_number, pair_numbered};
 ghost use Rattle.is_pair.specs.Due.{is_due};
 ghost use Rattle.is_rules.specs.Agent.{AgentRecord};
-ghost use Rattle.is_rules.specs.Due.{may_fall_due, Drafts, check_counted};
-ghost use Rattle.is_rules.specs.Nominating.{Nominates};
+ghost use Rattle.is_rules.specs.Due.{may_nominate, may_fall_due, Drafts, check_counted};
+ghost use Rattle.is_rules.specs.Nominating.{nominates_at_once, Nominates};
 ghost use Rattle.is_pair.specs.Pairs.{PairRecord};
 ghost use Rattle.is_rules.specs.Queue.{request_at};
 ghost use Rattle.is_rules.specs.Sending.{with_packet};
@@ -27,12 +27,13 @@ ghost use Rattle.is_rules.specs.TimeoutStart.{outdated};
 ghost use Rattle.is_rules.specs.Timeouts.{at_request, timeout_begun, is_expired, expired_gone, RemovesExpired, MayFailAtTimeout, ServesQueued, MaintainsPairs, TimesOut};
 
 use crate::agent::Agent;
-use crate::settings::MTU_FLOOR;
+use crate::settings::CHECK_ROOM;
 use is_candidate::LocalPreference;
 use is_pair::checklist::Expired;
-use is_proto::{IceError, Instant, Sha1HmacProvider, Transmit};
+use is_proto::{IceError, Instant, Sha1HmacProvider, Transmit, reserve_one_in};
 use is_rules::checking::{Draft, write_username};
 use is_rules::emitted::{Emitted, Issued, Path};
+use is_rules::nomination::begin_nomination;
 use is_rules::queue::count_outdated;
 use is_rules::theorems;
 use is_rules::timeout::FallsDue;
@@ -80,8 +81,8 @@ impl<H: Sha1HmacProvider + Drop, P: LocalPreference> Agent<H, P> {
         self.emitted = Emitted::by(None, first, second);
     }
 
-    /// Removes the pairs that are no longer possible. If there is one, nomination and state are evaluated. A path that this
-    /// selects is emitted after the path that was selected before.
+    /// Removes the pairs that are no longer possible. If there is one, nomination and state are evaluated; else the state is, by the
+    /// rule. A path that this selects is emitted after the path that was selected before.
     fn remove_expired(&mut self, first: Option<Path>, now: Instant)
         requires room { HasEventRoom 2 self.old }
         ensures expired { (second : Option Path) × RemovesExpired now.0 (record_of self.old) second (record_of self.new)
@@ -89,6 +90,7 @@ impl<H: Sha1HmacProvider + Drop, P: LocalPreference> Agent<H, P> {
         ensures checks { (t : ℕ) → HasCheckRoomAt t self.old → HasCheckRoomAt t self.new }
     {
         if !self.any_expired(now) {
+            self.settle_state(true, now);
             self.emitted = Emitted::selected_only(first);
             return;
         }
@@ -126,6 +128,16 @@ impl<H: Sha1HmacProvider + Drop, P: LocalPreference> Agent<H, P> {
         Issued::new(path, Class::Request, id)
     }
 
+    /// The number is that of the pair that was selected last.
+    fn is_selected_number(&self, number: u64) -> bool
+        ensures { result ≡ is_selected_number (record_of self.now) number }
+    {
+        match self.selected_pair {
+            Some(selected) => selected == number,
+            None => false,
+        }
+    }
+
     /// Checks the pair with this number, with the content of its draft. The next check may go ahead unless this one does.
     fn check<R: Rng>(
         &mut self,
@@ -145,6 +157,9 @@ impl<H: Sha1HmacProvider + Drop, P: LocalPreference> Agent<H, P> {
     {
         self.next_kind = self.next_kind_after(number, ahead);
         self.ahead_turn = !ahead;
+        let begins = self.nominates_at_once();
+        begin_nomination(&mut self.pairs, number, begins);
+        self.nomination_due = self.nomination_due && !self.is_selected_number(number);
         let controlling = self.controlling;
         let id = self
             .pairs
@@ -182,7 +197,7 @@ impl<H: Sha1HmacProvider + Drop, P: LocalPreference> Agent<H, P> {
 
     /// Checks the pair that is next, if one is due, and records the packet.
     fn check_next<R: Rng>(&mut self, now: Instant, rng: &mut R)
-        requires room { list_any (is_due now.0 self.old.timing) (record_of self.old).pairs ≡ true → HasCheckRoom self.old }
+        requires room { (nominates_at_once (record_of self.old) || list_any (is_due now.0 self.old.timing) (record_of self.old).pairs) ≡ true → HasCheckRoom self.old }
         ensures { (peer : model.IceCreds) (first second : Option Path) → self.old.remote_creds ≡ Some peer
             → emitted_of self.old ≡ emitted_by None first second → (issued : Option Issued)
             × ChecksNext H.mac now.0 peer (record_of self.old) (R.stream rng.old) issued (record_of self.new) (R.stream rng.new)
@@ -218,17 +233,25 @@ impl<H: Sha1HmacProvider + Drop, P: LocalPreference> Agent<H, P> {
 // ---- capacity
 
 impl<H: Sha1HmacProvider + Drop, P: LocalPreference> Agent<H, P> {
+    /// The nomination of a selected path may be due.
+    fn may_nominate(&self) -> bool
+        ensures { result ≡ may_nominate (record_of self.now) }
+    {
+        self.controlling && !self.lite && self.numbers()
+    }
+
     /// A check may be due at time `now`.
     fn may_fall_due(&self, now: Instant) -> bool
         ensures { result ≡ may_fall_due now.0 (record_of self.now) }
     {
         !self.lite
             && self.remote_creds.is_some()
-            && self.pairs.any(&FallsDue {
-                controlling: self.controlling,
-                now,
-                timing: &self.timing,
-            })
+            && (self.may_nominate()
+                || self.pairs.any(&FallsDue {
+                    controlling: self.controlling,
+                    now,
+                    timing: &self.timing,
+                }))
     }
 
     /// Prepares the USERNAME and the buffer of a check, once the peer is known.
@@ -240,7 +263,7 @@ impl<H: Sha1HmacProvider + Drop, P: LocalPreference> Agent<H, P> {
             return Ok(());
         };
         write_username(&mut self.username, peer, &self.local_creds)?;
-        self.contents.resize(MTU_FLOOR, 0)
+        self.contents.resize(CHECK_ROOM, 0)
     }
 
     /// Reserves capacity for a packet, and for one more check of any pair. It is a separate function, so that calls without a
@@ -251,7 +274,7 @@ impl<H: Sha1HmacProvider + Drop, P: LocalPreference> Agent<H, P> {
         ensures room { OnOk result (HasCheckRoom self.new) }
     {
         self.prepare_check()?;
-        self.packets.reserve(1)?;
+        reserve_one_in(&mut self.packets)?;
         self.pairs.reserve_check()
     }
 

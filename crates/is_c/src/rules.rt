@@ -31,6 +31,10 @@ pub struct AgentRules {
     pub strict_consent: bool,
     pub selected_first: bool,
     pub timeout_after_requests: bool,
+    pub lite_keeps_role: bool,
+    pub numbered_nominations: bool,
+    pub discovered_if_served: bool,
+    pub state_after_nomination: bool,
 }
 
 /// How many requests trigger a check: 0 means that there are no triggered checks.
@@ -78,6 +82,10 @@ fn rules_of(rules: &AgentRules) -> Rules
         consent: consent_of(rules.consent_timeout, rules.strict_consent),
         selected_first: rules.selected_first,
         timeout_after_requests: rules.timeout_after_requests,
+        lite_keeps_role: rules.lite_keeps_role,
+        numbered_nominations: rules.numbered_nominations,
+        discovered_if_served: rules.discovered_if_served,
+        state_after_nomination: rules.state_after_nomination,
     }
 }
 
@@ -102,6 +110,10 @@ fn reported_rules(rules: Rules) -> AgentRules
         strict_consent,
         selected_first: rules.selected_first,
         timeout_after_requests: rules.timeout_after_requests,
+        lite_keeps_role: rules.lite_keeps_role,
+        numbered_nominations: rules.numbered_nominations,
+        discovered_if_served: rules.discovered_if_served,
+        state_after_nomination: rules.state_after_nomination,
     }
 }
 

@@ -149,6 +149,8 @@ pub enum IceError {
     CredentialsTooLong,
     /// The local candidate has priority 4294967295, for which no pair priority fits 64 bits.
     PriorityTooHigh,
+    /// A lite agent that keeps its role can't be made controlling.
+    LiteStaysControlled,
 }
 
 impl fmt::Display for IceError {
@@ -162,6 +164,7 @@ impl fmt::Display for IceError {
             IceError::MtuTooSmall => f.write_str("MTU target too small"),
             IceError::CredentialsTooLong => f.write_str("ICE credentials too long"),
             IceError::PriorityTooHigh => f.write_str("candidate priority too high"),
+            IceError::LiteStaysControlled => f.write_str("lite agent stays controlled"),
         }
     }
 }

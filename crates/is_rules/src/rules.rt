@@ -36,6 +36,19 @@ pub struct Rules {
     pub selected_first: bool,
     /// `poll_timeout` returns a time after each successful `handle_timeout` call, also after one that serves an early request.
     pub timeout_after_requests: bool,
+    /// A lite agent keeps its role: it sends a 487 to each sender that claims the same role, whatever the tie-breakers are, and a
+    /// 487 that it receives has no effect (RFC 8445, sections 6.1.1 and 7.3.1.1: only full agents repair roles). It can't be made
+    /// controlling.
+    pub lite_keeps_role: bool,
+    /// With renomination, nominations are numbered by the attribute NOMINATION (draft-thatcher-ice-renomination), which browsers agree on as
+    /// `renomination`. A controlling agent numbers the paths that it selects, and nominates each at once. A controlled agent selects the
+    /// valid pair with the greatest number, whatever is lost, late or replayed.
+    pub numbered_nominations: bool,
+    /// `DiscoveredRecv` is not emitted for a request that is dropped: one that gets no response, although the peer is known.
+    pub discovered_if_served: bool,
+    /// The state is evaluated after nomination in each call, and not before it. So the agent is Connected or Completed if and only if the
+    /// path of the last `NominatedSend` is that of a pair that can be used.
+    pub state_after_nomination: bool,
 }
 
 /// How often, and how far apart.
@@ -63,10 +76,16 @@ impl Rules {
             consent: None,
             selected_first: false,
             timeout_after_requests: false,
+            lite_keeps_role: false,
+            numbered_nominations: false,
+            discovered_if_served: false,
+            state_after_nomination: false,
         }
     }
 
-    /// All rules: agents connect sooner, consent ends in time, and `poll_timeout` returns a time after each successful `handle_timeout`.
+    /// All rules: agents connect sooner, consent ends in time, `poll_timeout` returns a time after each successful `handle_timeout`,
+    /// lite agents keep their role, a request that is dropped reports no source, and the state says whether a path is selected. With
+    /// renomination, nominations are numbered.
     pub fn modern() -> Rules
         ensures { result ≡ modern_rules }
     {
@@ -78,6 +97,10 @@ impl Rules {
             consent: Some(MODERN_CONSENT),
             selected_first: true,
             timeout_after_requests: true,
+            lite_keeps_role: true,
+            numbered_nominations: true,
+            discovered_if_served: true,
+            state_after_nomination: true,
         }
     }
 }

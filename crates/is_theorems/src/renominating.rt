@@ -2,6 +2,7 @@
 
 ghost use Rattle.is_theorems.specs.Renominating.{OnlySelectedAreNominated, FollowedAreSelected, LastAskedAreSelected, BothSelectOnePath};
 ghost use Rattle.is_theorems.specs.RenominatingCourses.{NominatedAreLast, LastAcceptedNominationsAreLast};
+ghost use Rattle.is_theorems.specs.Numbered.{GreatestAreSelected, GreatestAreKept};
 
 use is_candidate::LocalPreference;
 use is_proto::Sha1HmacProvider;
@@ -46,4 +47,16 @@ pub fn nominated_are_last<H: Sha1HmacProvider, P: LocalPreference>()
 /// only one pair uses this path's addresses and no pair that does may have been removed.
 pub fn last_accepted_nominations_are_last<H: Sha1HmacProvider, P: LocalPreference>()
     ensures { LastAcceptedNominationsAreLast H.mac P.answers }
+{}
+
+/// From a newly created agent: a controlled agent goes by numbers, and one eligible pair was nominated by a greater number than all others.
+/// Then it is selected, after an accepted success response, and after a `handle_timeout` call that serves no early request.
+pub fn greatest_are_selected<H: Sha1HmacProvider, P: LocalPreference>()
+    ensures { GreatestAreSelected H.mac P.answers }
+{}
+
+/// Once a path is selected that was nominated by a number greater than all others, it stays selected as long as its pair is eligible,
+/// whatever is lost, late or replayed: no request on another path moves it unless it nominates by as great a number.
+pub fn greatest_are_kept<H: Sha1HmacProvider, P: LocalPreference>()
+    ensures { GreatestAreKept H.mac P.answers }
 {}

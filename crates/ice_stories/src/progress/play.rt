@@ -83,7 +83,7 @@ fn member(alloc: Global, side: Side, start: Start) -> Result<Agent, IceError> {
         creds(alloc, side, ufrag(side))?,
         of(side, start.tie_breakers),
     )?;
-    agent.set_controlling(of(side, start.controlling));
+    agent.set_controlling(of(side, start.controlling))?;
     Ok(agent)
 }
 

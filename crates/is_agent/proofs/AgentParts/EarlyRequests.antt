@@ -10,7 +10,8 @@ use Rattle.is_rules.specs.Request.{RequestRecord}
 use Rattle.is_rules.specs.RequestView.{waiting_view}
 use Rattle.is_rules.specs.Agent.{AgentRecord}
 use Rattle.is_rules.specs.Queue.{is_outdated, queue_left, next_request, first_taken, request_at}
-use Rattle.is_rules.specs.States.{same_state, evaluated}
+use Rattle.is_rules.specs.States.{same_state}
+use Rattle.is_rules.specs.Settling as settling
 use Rattle.is_rules.specs.declared.event.IceAgentEvent.TheVariants.{IceRestart}
 use Rattle.is_rules.specs.declared.event.IceConnectionState.TheVariants.{New}
 use Rattle.is_rules.specs.TimeoutStart.{with_start, start_event, outdated}
@@ -21,7 +22,7 @@ use Rattle.is_agent.specs.Ready.{IsPlan}
 use Rattle.is_rules.specs.Places.{local_place}
 use Rattle.is_rules.specs.Serving.{lacks_number, AlwaysLacksNumber, MayFailAtRequest}
 use Rattle.is_proto.specs.declared.error.IceError.{IceError}
-use Rattle.is_proto.specs.declared.error.IceError.TheVariants.{BadCandidate, OutOfMemory, PairIdsExhausted, MtuTooSmall, CredentialsTooLong, PriorityTooHigh}
+use Rattle.is_proto.specs.declared.error.IceError.TheVariants.{BadCandidate, OutOfMemory, PairIdsExhausted, MtuTooSmall, CredentialsTooLong, PriorityTooHigh, LiteStaysControlled}
 
 -- as many models pass at the front
 pub front-views : {X Y : Type 0} (view : X → Y) (test : Y → Bool) (xs : List X) → length (take_while (λ x. test (view x)) xs) ≡ length (take_while test (map view xs))
@@ -90,7 +91,7 @@ module _ {H P : Type 0} where
   started a following = rw (following) refl
 
   -- the state after the start of a call
-  pub begun : (now : ℕ) (a mid : AgentRecord H P) (queue : List RequestRecord) (many : ℕ) → mid ≡ evaluated now (start_emitted a) → queue ≡ drop many a.queue
+  pub begun : (now : ℕ) (a mid : AgentRecord H P) (queue : List RequestRecord) (many : ℕ) → mid ≡ settling.started now (start_emitted a) → queue ≡ drop many a.queue
       → many ≡ outdated now a.timing a.remote_creds a → record mid { queue = queue } ≡ timeout_begun now a
   begun now a mid queue many m q is = rw (m, q, is, outdated-left now a.timing a.remote_creds a) refl
 
@@ -123,6 +124,7 @@ module _ {H P : Type 0} where
   rejected-timeout_begun now a q MtuTooSmall may = may
   rejected-timeout_begun now a q CredentialsTooLong may = may
   rejected-timeout_begun now a q PriorityTooHigh may = may
+  rejected-timeout_begun now a q LiteStaysControlled may = may
 
   -- why the call that serves this request fails
   pub rejected-late : (now : ℕ) (a : AgentRecord H P) (o : Option RequestRecord) (error : IceError) → o ≡ request_at now a

@@ -1,17 +1,17 @@
 -- The indices of pairs are in the lists of candidates: what follows, and what keeps it.
-use Rattle.std.proofs.Common.{if◌then◌else◌, ◌≡◌, ℕ, ◌<◌, ◌≤◌, ◌&&◌, Bool, true, false, not, nat_lt, List, [], ◌∷◌, ◌++◌, filter, map, length, Option, Some, None, inl, inr, refl, sym, ap, ◌∙◌, arith}
+use Rattle.std.proofs.Common.{if◌then◌else◌, ◌≡◌, ℕ, ◌<◌, ◌≤◌, ◌&&◌, ◌||◌, Bool, true, false, not, nat_lt, List, [], ◌∷◌, ◌++◌, filter, map, length, Option, Some, None, inl, inr, refl, sym, ap, ◌∙◌, arith}
 use Rattle.std.specs.List.{list_any, list_all}
 use Rattle.std.proofs.lemmas.Bool.Decides.{nat_tests}
 use Rattle.std.proofs.lemmas.List.Folds.{list_all-append}
 use Rattle.is_proto.specs.Lists.{Has}
 use Rattle.is_candidate.specs.Candidates.{CandidateRecord}
-use Rattle.is_pair.specs.Pairs.{PairRecord, nominated, taking_over, validated, with_request}
+use Rattle.is_pair.specs.Pairs.{PairRecord, nominated, numbered, renominated, taking_over, validated, with_request}
 use Rattle.is_pair.specs.Due.{is_triggered, moved_up, triggered}
-use Rattle.is_pair.specs.Multiset.{is_numbered, change_at, change_pair, is_awaiting, keeps_check, without, IsAwaiting, IsGreatest}
+use Rattle.is_pair.specs.Multiset.{has_number, is_numbered, change_at, change_pair, is_awaiting, keeps_check, without, IsAwaiting, IsGreatest}
 use Rattle.is_rules.specs.Kept.{is_placed, are_placed}
 use Rattle.is_rules.specs.Nominating.{nominated_by_self}
 use Rattle.is_rules.specs.Request.{RequestRecord}
-use Rattle.is_rules.specs.Serving.{served, validated_by_peer}
+use Rattle.is_rules.specs.Serving.{nominated_by_peer, numbered_by_peer, served, validated_by_peer}
 use Rattle.is_rules.proofs.PairLists.PairsByNumber.{both}
 use Rattle.is_rules.proofs.PairLists.RemovedInTurn.{Removes, RemovesInTurn}
 
@@ -130,6 +130,15 @@ placed-changed local remote n f ps keeps all = placed-mapped local remote (chang
   remote = λ p. elim (is_numbered n p) as (λ b. (if b then f p else p).remote ≡ p.remote) [ true ↦ keeps.remote p | false ↦ refl ];
 }) all
 
+-- a pair that is nominated again has its number
+pub changed-has : (n : ℕ) (ps : List PairRecord) → has_number n (change_pair n renominated ps) ≡ has_number n ps
+changed-has n [] = refl
+changed-has n (p ∷ ps) =
+    elim (is_numbered n p) as (λ b. is_numbered n (if b then renominated p else p) || has_number n (change_pair n renominated ps) ≡ is_numbered n p || has_number n ps) [
+      | true ↦ ap (λ b. is_numbered n p || b) (changed-has n ps)
+      | false ↦ ap (λ b. is_numbered n p || b) (changed-has n ps)
+    ]
+
 pub placed-push : (local remote : List CandidateRecord) (ps : List PairRecord) (p : PairRecord) → are_placed local remote ps ≡ true
     → p.local < length local → p.remote < length remote → are_placed local remote (ps ++ p ∷ []) ≡ true
 placed-push local remote ps p all l r = all-push (is_placed local remote) ps p all (in-is local remote p l r)
@@ -166,13 +175,28 @@ triggered-places (Some most) at = record {
   remote = λ p. if-kept (λ (x : PairRecord). x.remote) (is_triggered most p) (moved_up at p) p refl;
 }
 
-served-places : (controlling lite : Bool) (q : RequestRecord) → KeepsPlaces (served controlling lite q)
-served-places controlling lite q = record {
+nominated-by-peer-places : (controlling lite : Bool) (q : RequestRecord) → KeepsPlaces (λ p. nominated_by_peer controlling lite q (validated_by_peer controlling lite (with_request q.time p)))
+nominated-by-peer-places controlling lite q = record {
   local = λ p. if-kept (λ (x : PairRecord). x.local) _ (nominated lite (validated_by_peer controlling lite (with_request q.time p))) _ (nominated-places lite _).0
       ∙ if-kept (λ (x : PairRecord). x.local) (lite && not controlling) (validated (with_request q.time p)) (with_request q.time p) refl;
   remote = λ p. if-kept (λ (x : PairRecord). x.remote) _ (nominated lite (validated_by_peer controlling lite (with_request q.time p))) _ (nominated-places lite _).1
       ∙ if-kept (λ (x : PairRecord). x.remote) (lite && not controlling) (validated (with_request q.time p)) (with_request q.time p) refl;
 }
+
+numbered-places : (controlling : Bool) (o : Option ℕ) → KeepsPlaces (numbered_by_peer controlling o)
+numbered-places controlling None = record { local = λ p. refl; remote = λ p. refl }
+numbered-places controlling (Some n) = record {
+  local = λ p. if-kept (λ (x : PairRecord). x.local) controlling p (numbered n p) refl;
+  remote = λ p. if-kept (λ (x : PairRecord). x.remote) controlling p (numbered n p) refl;
+}
+
+served-places : (controlling lite : Bool) (q : RequestRecord) → KeepsPlaces (served controlling lite q)
+served-places controlling lite q =
+    let first = nominated-by-peer-places controlling lite q in
+    let own = numbered-places controlling q.nomination in record {
+      local = λ p. own.local _ ∙ first.local p;
+      remote = λ p. own.remote _ ∙ first.remote p;
+    }
 
 -- what a request, which may trigger a check, leaves of a pair
 pub request-places : (controlling lite : Bool) (q : RequestRecord) (most : Option ℕ) (at : ℕ)

@@ -263,5 +263,6 @@ module _ {H P : Type 0} (mac : H → List ℕ → List ℕ → List ℕ) (answer
         waits = f.waits;
         role = f.role;
         settled = f.settled;
+        keeps = f.keeps;
         expired = f.expired;
       }

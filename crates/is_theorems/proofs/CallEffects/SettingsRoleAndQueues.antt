@@ -1,5 +1,5 @@
 -- For each call: its effect on settings, credentials, role and queues.
-use Rattle.std.proofs.Common.{◌≡◌, ℕ, ◌==◌, Bool, true, false, not, List, [], ◌∷◌, ◌++◌, length, take, drop, Option, Some, None, is_some, Result, Ok, Err, inl, inr, ◌⊎◌, refl, ap, sym, ◌∙◌, subst, if◌then◌else◌}
+use Rattle.std.proofs.Common.{◌&&◌, ◌≡◌, ℕ, ◌==◌, Bool, true, false, not, List, [], ◌∷◌, ◌++◌, length, take, drop, Option, Some, None, is_some, Result, Ok, Err, inl, inr, ◌⊎◌, refl, ap, sym, ◌∙◌, subst, if◌then◌else◌}
 use Rattle.std.specs.Prelude.{MatchBool, MatchOption, take_while}
 use Rattle.std.proofs.lemmas.List.{take-append-drop}
 use Rattle.rand_core.specs.Stream.{Stream}
@@ -24,15 +24,16 @@ use Rattle.is_rules.specs.Emitted.{nothing_emitted}
 use Rattle.is_rules.specs.Agent.{AgentRecord}
 use Rattle.is_rules.specs.Sending.{path_of}
 use Rattle.is_rules.specs.Forming.{Combination, FormsAll}
-use Rattle.is_rules.specs.Roles.{conflict_of, switched}
-use Rattle.is_rules.specs.Settings.{SetsMtu, with_retransmits, with_rtos}
+use Rattle.is_rules.specs.declared.roles.Conflict.TheVariants.{Absent, Send487, SwitchRole}
+use Rattle.is_rules.specs.Roles.{conflict_by, conflict_of, keeps_role, rival, switched}
+use Rattle.is_rules.specs.Settings.{SetsControlling, SetsMtu, with_retransmits, with_rtos}
 use Rattle.is_rules.specs.Credentials.{SetsLocal, SetsRemote}
 use Rattle.is_rules.specs.Discarding.{InvalidatesAt, place_to_discard}
 use Rattle.is_rules.specs.Discarding.{local_discarded, remote_discarded}
 use Rattle.is_rules.specs.Local.{AddsLocal, appended, enabled_again}
 use Rattle.is_rules.specs.Remote.{AddsRemote, as_remote, with_remote}
 use Rattle.is_rules.specs.Restarting.{Restarts, Recreates, restarted, emptied}
-use Rattle.is_rules.specs.Serving.{Serves}
+use Rattle.is_rules.specs.Serving.{Drops, Serves}
 use Rattle.is_rules.specs.Queue.{queue_left, next_request, first_taken, request_at, queued, is_outdated}
 use Rattle.is_rules.specs.Answers.{TakesFailure, LeavesRole, is_role_conflict}
 use Rattle.is_rules.specs.Accepting.{Takes, discovered_emitted}
@@ -42,7 +43,7 @@ use Rattle.is_rules.specs.Steps.{Call, SetMtu, SetControlTieBreaker, SetMaxCandi
 use Rattle.is_rules.specs.Brought.{Brings, IsServing, IsServedPastTests, SwitchesRoleFor, IsRejectedBy, IsRoleSet, role_once}
 use Rattle.is_rules.specs.Issuing.{QueuesPackets, Waits, WaitsPast, IsQueued}
 use Rattle.is_rules.specs.Effects.{tie_set_by, lite_set_by, local_after, remote_after}
-use Rattle.is_theorems.proofs.CallEffects.FailedCallsAndNewAgents.{mtu_kept, local_kept, remote_kept, restart_kept, recreation_kept, enrolment_kept, storing_kept}
+use Rattle.is_theorems.proofs.CallEffects.FailedCallsAndNewAgents.{mtu_kept, controlling_kept, local_kept, remote_kept, restart_kept, recreation_kept, enrolment_kept, storing_kept}
 use Rattle.is_theorems.proofs.RuleEffects.UnchangedSettings.{Frame, either, frame_of, packet_along, nominates_frame, Stays, Turns, drops, serves, serves_role, takes_success, removes_expired}
 use Rattle.is_theorems.proofs.CallEffects.AddedCandidates.{by_adding_local, by_adding_remote, by_waking}
 use Rattle.is_pair.specs.Due.{asked}
@@ -84,6 +85,20 @@ unknown : (peer : Option IceCreds) → peer ≡ None → is_some peer ≡ true �
 unknown None none known = let no : false ≡ true = known in cc
 unknown (Some peer) none known = cc
 
+and-false : (b : Bool) → b && not true ≡ false
+and-false true = refl
+and-false false = refl
+
+and-true : (b : Bool) → b && not false ≡ b
+and-true true = refl
+and-true false = refl
+
+-- an agent that keeps its role does not switch it
+never-switches : (keeps : Bool) (own : ℕ) (o : Option ℕ) → keeps ≡ true → conflict_by keeps own o ≡ SwitchRole → ⊥
+never-switches true own None is h = let no : Absent ≡ SwitchRole = h in cc
+never-switches true own (Some rival) is h = let no : Send487 ≡ SwitchRole = h in cc
+never-switches false own o is h = let no : false ≡ true = is in cc
+
 module _ {H P : Type 0} where
   -- the fields of an effect that are about settings, credentials, role and queues
   pub record FrameEffect (old : AgentRecord H P) (call : Call P) (e : Entry) (new : AgentRecord H P) : Type 0 where
@@ -98,7 +113,8 @@ module _ {H P : Type 0} where
         ⊎ (SwitchesRoleFor old call e new ⊎ (IsRejectedBy old call e new ⊎ IsRoleSet call new.controlling))
     pub settled : (q : RequestRecord) → IsServing old call e q → IsServedPastTests old q
         → new.controlling ≡ role_once (conflict_of old q) old.controlling
-    pub expired : (at : ℕ) (by : Path) (m : Message) → Brings call e at by m → m.class ≡ class.Failure → is_role_conflict m ≡ true
+    pub keeps : keeps_role old ≡ true → (new.controlling ≡ old.controlling) ⊎ IsRoleSet call new.controlling
+    pub expired : keeps_role old ≡ false → (at : ℕ) (by : Path) (m : Message) → Brings call e at by m → m.class ≡ class.Failure → is_role_conflict m ≡ true
         → IsRejectedBy old call e new
 
   -- the entry and the abstract state are these
@@ -124,7 +140,8 @@ module _ {H P : Type 0} where
     waits = h;
     role = elim role [ inl k ↦ inl k | inr k ↦ inr (inr (inr k)) ];
     settled = λ q k. absurd (serving q k);
-    expired = λ at by m k. absurd (brings at by m k);
+    keeps = λ _. role;
+    expired = λ _ at by m k. absurd (brings at by m k);
   }
 
   -- the same frame, and the same packets
@@ -227,7 +244,8 @@ module _ {H P : Type 0} where
               (left.0, left.1 ∙ ap (λ (rest : List RequestRecord). left.0 ++ rest) (sym (ap (λ (f : Frame H). f.queue) k.0)));
           role = inl (ap (λ (f : Frame H). f.controlling) k.0);
           settled = λ q serving past. (let no : None ≡ Some q = sym is ∙ serving.0 in cc);
-          expired = λ at by m brings. absurd brings;
+          keeps = λ _. inl (ap (λ (f : Frame H). f.controlling) k.0);
+          expired = λ _ at by m brings. absurd brings;
         }
     timeout_by now old new s t emitted (Some q) is (h, drawn) =
         let turn : Turns mac q (first_taken (at_request now (timeout_begun now old))) emitted new = serves mac q (first_taken (at_request now (timeout_begun now old))) new emitted h in
@@ -244,7 +262,8 @@ module _ {H P : Type 0} where
                 (past.0, past.1 ∙ ap (λ (rest : List RequestRecord). past.0 ++ q ∷ rest) (sym (ap (λ (f : Frame H). f.queue) k.0)));
             role = inl (ap (λ (f : Frame H). f.controlling) k.0);
             settled = settled;
-            expired = λ at by m brings. absurd brings;
+            keeps = λ _. inl (ap (λ (f : Frame H). f.controlling) k.0);
+            expired = λ _ at by m brings. absurd brings;
           }
           | inr k ↦ record {
             provider = ap (λ (f : Frame H). f.provider) k.1.0;
@@ -257,7 +276,8 @@ module _ {H P : Type 0} where
                 (past.0, past.1 ∙ ap (λ (rest : List RequestRecord). past.0 ++ q ∷ rest) (sym (ap (λ (f : Frame H). f.queue) k.1.0)));
             role = inr (inl (q, serving, k.0, ap (λ (f : Frame H). f.controlling) k.1.0));
             settled = settled;
-            expired = λ at by m brings. absurd brings;
+            keeps = λ kept. absurd (never-switches (keeps_role old) old.tie_breaker (rival old q) kept k.0);
+            expired = λ _ at by m brings. absurd brings;
           }
         ] where
           settled : (r : RequestRecord) → IsServing old (HandleTimeout now) (record { answer = Done; emitted = emitted }) r → IsServedPastTests old r
@@ -277,7 +297,7 @@ module _ {H P : Type 0} where
       entry = record { answer = Flag true; emitted = emitted }
 
       abbrev new : AgentRecord H P
-      new = discovered_emitted path mid
+      new = discovered_emitted m.class emitted path mid
 
       abbrev q : RequestRecord
       q = request_in now path m
@@ -303,7 +323,8 @@ module _ {H P : Type 0} where
         settled = λ r serving past. (
             let same_is = same_message serving.0 serving.1 serving.2 serving.3 in
             absurd (serves_none (sym (ap (λ (x : Message). x.class) same_is) ∙ serving.4) serving.5));
-        expired = λ at by n brings failure conflict. (
+        keeps = λ _. inl (ap (λ (f : Frame H). f.controlling) k.0);
+        expired = λ _ at by n brings failure conflict. (
             let same_is = same_message at by n brings in
             absurd (fails_none (sym (ap (λ (x : Message). x.class) same_is) ∙ failure) (sym (ap is_role_conflict same_is) ∙ conflict)));
       }
@@ -334,6 +355,7 @@ module _ {H P : Type 0} where
           waits = inl (ap (λ (f : Frame H). f.queue) k.0);
           role = inl (ap (λ (f : Frame H). f.controlling) k.0);
           settled = settled;
+          keeps = λ _. inl (ap (λ (f : Frame H). f.controlling) k.0);
           expired = expired;
         }
         | inr k ↦ record {
@@ -346,6 +368,7 @@ module _ {H P : Type 0} where
           waits = inl (ap (λ (f : Frame H). f.queue) k.1.0);
           role = inr (inl (q, (now, path, m, brought, is, ap is_some known, refl), k.0, ap (λ (f : Frame H). f.controlling) k.1.0));
           settled = settled;
+          keeps = λ kept. absurd (never-switches (keeps_role old) old.tie_breaker (rival old q) kept k.0);
           expired = expired;
         }
       ] where
@@ -355,8 +378,8 @@ module _ {H P : Type 0} where
             let k : IsServedPastTests old q = subst (λ x. IsServedPastTests old x) same_q past in
             subst (λ x. mid.controlling ≡ role_once (conflict_of old x) old.controlling) (sym same_q) (serves_role mac q old mid emitted k.1.0 k.0 k.1.1 h)
 
-        expired : (at : ℕ) (by : Path) (n : Message) → Brings call entry at by n → n.class ≡ class.Failure → is_role_conflict n ≡ true → IsRejectedBy old call entry new
-        expired at by n brings failure conflict =
+        expired : keeps_role old ≡ false → (at : ℕ) (by : Path) (n : Message) → Brings call entry at by n → n.class ≡ class.Failure → is_role_conflict n ≡ true → IsRejectedBy old call entry new
+        expired _ at by n brings failure conflict =
             absurd (let no : class.Request ≡ class.Failure = sym is ∙ (sym (ap (λ (x : Message). x.class) (same_message at by n brings)) ∙ failure) in cc)
 
       no_request : (c : Class) → m.class ≡ c → (c ≡ class.Request → ⊥) → (m.class ≡ class.Request) → is_some old.remote_creds ≡ true → ⊥
@@ -369,34 +392,58 @@ module _ {H P : Type 0} where
           (λ other k. still class.Failure is (but_queue (drops old mid emitted k)) (inl (ap (λ (f : Frame H). f.queue) (drops old mid emitted k).0)) (no_request class.Failure is (λ x. cc))
           (λ _ conflict. (let no : false ≡ true = sym other ∙ conflict in cc))) where
             gives : LeavesRole old path m emitted mid → is_role_conflict m ≡ true → FrameEffect old call entry new
-            gives (p, c, has, on, keeps, id_is, h) conflict = either (same c.controlling old.controlling) h
-                (λ now_is k. (
-                let f = drops (switched old) mid emitted k in
-                let role : mid.controlling ≡ not c.controlling = ap (λ (f : Frame H). f.controlling) f.0 ∙ ap not (sym (same_true c.controlling old.controlling now_is)) in
-                effect (ap (λ (x : Frame H). record x { controlling = not old.controlling }) f.0, f.1) role))
-                (λ other k. (
-                let f = drops old mid emitted k in
-                let role : mid.controlling ≡ not c.controlling = ap (λ (f : Frame H). f.controlling) f.0 ∙ same_false c.controlling old.controlling other in
-                effect (ap (λ (x : Frame H). record x { controlling = not old.controlling }) f.0, f.1) role)) where
-                  rejected_by : mid.controlling ≡ not c.controlling → IsRejectedBy old call entry new
-                  rejected_by role = (now, path, path_of old p, m, c.controlling, brought, is, conflict, (p, c, has, keeps, id_is, refl, refl), role)
+            gives (p, c, has, on, keeps, id_is, h) conflict = by_rule (keeps_role old) refl h where
+              -- a lite agent that keeps its role drops it
+              by_rule : (b : Bool) → keeps_role old ≡ b → MatchBool (same c.controlling old.controlling && not b) (Drops (switched old) emitted mid) (Drops old emitted mid) → FrameEffect old call entry new
+              by_rule true kept k = left_role kept (drops old mid emitted (subst (λ x. MatchBool x (Drops (switched old) emitted mid) (Drops old emitted mid)) (and-false (same c.controlling old.controlling)) k))
+              by_rule false unkept k = either (same c.controlling old.controlling) (subst (λ x. MatchBool x (Drops (switched old) emitted mid) (Drops old emitted mid)) (and-true (same c.controlling old.controlling)) k)
+                  (λ now_is j. (
+                  let f = drops (switched old) mid emitted j in
+                  let role : mid.controlling ≡ not c.controlling = ap (λ (f : Frame H). f.controlling) f.0 ∙ ap not (sym (same_true c.controlling old.controlling now_is)) in
+                  effect unkept (ap (λ (x : Frame H). record x { controlling = not old.controlling }) f.0, f.1) role))
+                  (λ other j. (
+                  let f = drops old mid emitted j in
+                  let role : mid.controlling ≡ not c.controlling = ap (λ (f : Frame H). f.controlling) f.0 ∙ same_false c.controlling old.controlling other in
+                  effect unkept (ap (λ (x : Frame H). record x { controlling = not old.controlling }) f.0, f.1) role))
 
-                  effect : (record (frame_of mid) { controlling = not old.controlling } ≡ record (frame_of old) { controlling = not old.controlling }) × IsQueued emitted.issued old.packets mid.packets
-                      → mid.controlling ≡ not c.controlling → FrameEffect old call entry new
-                  effect f role = record {
-                    provider = ap (λ (f : Frame H). f.provider) f.0;
-                    tie_breaker = ap (λ (f : Frame H). f.tie_breaker) f.0;
-                    lite = ap (λ (f : Frame H). f.lite) f.0;
-                    local_creds = ap (λ (f : Frame H). f.local_creds) f.0;
-                    remote_creds = ap (λ (f : Frame H). f.remote_creds) f.0;
-                    sends = f.1;
-                    waits = inl (ap (λ (f : Frame H). f.queue) f.0);
-                    role = inr (inr (inl (rejected_by role)));
-                    settled = λ r serving past. (
-                        let same_is = same_message serving.0 serving.1 serving.2 serving.3 in
-                        absurd (no_request class.Failure is (λ x. cc) (sym (ap (λ (x : Message). x.class) same_is) ∙ serving.4) serving.5));
-                    expired = λ at by n brings failure other. rejected_by role;
-                  }
+              no_serving : (r : RequestRecord) → IsServing old call entry r → IsServedPastTests old r → mid.controlling ≡ role_once (conflict_of old r) old.controlling
+              no_serving r serving past =
+                  let same_is = same_message serving.0 serving.1 serving.2 serving.3 in
+                  absurd (no_request class.Failure is (λ x. cc) (sym (ap (λ (x : Message). x.class) same_is) ∙ serving.4) serving.5)
+
+              left_role : keeps_role old ≡ true → Stays old emitted mid → FrameEffect old call entry new
+              left_role kept f = record {
+                provider = ap (λ (f : Frame H). f.provider) f.0;
+                tie_breaker = ap (λ (f : Frame H). f.tie_breaker) f.0;
+                lite = ap (λ (f : Frame H). f.lite) f.0;
+                local_creds = ap (λ (f : Frame H). f.local_creds) f.0;
+                remote_creds = ap (λ (f : Frame H). f.remote_creds) f.0;
+                sends = f.1;
+                waits = inl (ap (λ (f : Frame H). f.queue) f.0);
+                role = inl (ap (λ (f : Frame H). f.controlling) f.0);
+                settled = no_serving;
+                keeps = λ _. inl (ap (λ (f : Frame H). f.controlling) f.0);
+                expired = λ unkept at by n brings failure other. absurd (let no : true ≡ false = sym kept ∙ unkept in cc);
+              }
+
+              rejected_by : mid.controlling ≡ not c.controlling → IsRejectedBy old call entry new
+              rejected_by role = (now, path, path_of old p, m, c.controlling, brought, is, conflict, (p, c, has, keeps, id_is, refl, refl), role)
+
+              effect : keeps_role old ≡ false → (record (frame_of mid) { controlling = not old.controlling } ≡ record (frame_of old) { controlling = not old.controlling }) × IsQueued emitted.issued old.packets mid.packets
+                  → mid.controlling ≡ not c.controlling → FrameEffect old call entry new
+              effect unkept f role = record {
+                provider = ap (λ (f : Frame H). f.provider) f.0;
+                tie_breaker = ap (λ (f : Frame H). f.tie_breaker) f.0;
+                lite = ap (λ (f : Frame H). f.lite) f.0;
+                local_creds = ap (λ (f : Frame H). f.local_creds) f.0;
+                remote_creds = ap (λ (f : Frame H). f.remote_creds) f.0;
+                sends = f.1;
+                waits = inl (ap (λ (f : Frame H). f.queue) f.0);
+                role = inr (inr (inl (rejected_by role)));
+                settled = no_serving;
+                keeps = λ kept. absurd (let no : false ≡ true = sym unkept ∙ kept in cc);
+                expired = λ _ at by n brings failure other. rejected_by role;
+              }
 
       taken : (c : Class) → m.class ≡ c → Takes mac c now old path m emitted mid → FrameEffect old call entry new
       taken class.Request is h = requested_by old.remote_creds refl is h
@@ -440,7 +487,7 @@ module _ {H P : Type 0} where
         unmoved _ (quiet (Flag false)) (is ∙ ap (λ (x : Emitted). let f : Entry = record { answer = Flag false; emitted = x } in f) emitted_is) made
         (plain old old _ _ refl refl refl refl refl refl (inl refl) (inl refl) (λ q h. (let no : Flag false ≡ Flag true = h.3.3 in cc)) (λ at by n h. (let no : Flag false ≡ Flag true = h.3 in cc)))
     receives now path bytes (inr (m, reads, (Ok true, emitted, is, (accepted, (mid, takes, made))))) =
-        moved old new (discovered_emitted path mid) _ e _ is made (taken mac now old mid path bytes m emitted reads m.class refl takes)
+        moved old new (discovered_emitted m.class emitted path mid) _ e _ is made (taken mac now old mid path bytes m emitted reads m.class refl takes)
     receives now path bytes (inr (m, reads, (Err error, emitted, is, (may, emitted_is, made)))) =
         unmoved _ (quiet (Rejected error)) (is ∙ ap (λ (x : Emitted). let f : Entry = record { answer = Rejected error; emitted = x } in f) emitted_is) made
         (plain old old _ _ refl refl refl refl refl refl (inl refl) (inl refl) (λ q h. (let no : Rejected error ≡ Flag true = h.3.3 in cc)) (λ at by n h. (let no : Rejected error ≡ Flag true = h.3 in cc)))
@@ -461,7 +508,8 @@ module _ {H P : Type 0} where
           waits = rejected_waits (request_at now old);
           role = inl refl;
           settled = λ q h past. (let no : Rejected error ≡ Done = h.1 in cc);
-          expired = λ at by m h. absurd h;
+          keeps = λ _. inl refl;
+          expired = λ _ at by m h. absurd h;
         }) where
           rejected_waits : (o : Option RequestRecord) → WaitsPast o (Rejected error) old.queue old.queue
           rejected_waits None = ([], refl)
@@ -484,7 +532,10 @@ module _ {H P : Type 0} where
     framed (SetMaxStunRetransmits n) h = retransmits (n == 0) n h
     framed (SetLiteTimeout by) (is, made, drawn) = moved old new _ _ e _ is made (plain old _ _ _ refl refl refl refl refl refl (inl refl) (inl refl) (λ q h. absurd h.3) (λ at by m h. absurd h))
     framed (SetLocalPreference object) (is, made, drawn) = moved old new _ _ e _ is made (plain old _ _ _ refl refl refl refl refl refl (inl refl) (inl refl) (λ q h. absurd h.3) (λ at by m h. absurd h))
-    framed (SetControlling controlling) (is, made, drawn) = moved old new _ _ e _ is made (plain old _ _ _ refl refl refl refl refl refl (inl refl) (inr refl) (λ q h. absurd h.3) (λ at by m h. absurd h))
+    framed (SetControlling controlling) h = done_or (SetsControlling old controlling) (SetControlling controlling)
+        (λ k. moved old new _ _ _ _ refl k.1 (plain old _ _ _ refl refl refl refl refl refl (inl refl) (inr refl) (λ q h. absurd h.3) (λ at by m h. absurd h)))
+        (λ error k. controlling_kept old new controlling error k)
+        (λ error. plain old old _ _ refl refl refl refl refl refl (inl refl) (inl refl) (λ q h. absurd h.3) (λ at by m h. absurd h)) h
     framed (SetLocalCredentials creds) h = done_or (SetsLocal old creds) (SetLocalCredentials creds)
         (λ k. moved old new _ _ _ _ refl k.1 (plain old _ _ _ refl refl refl refl refl refl (inl refl) (inl refl) (λ q h. absurd h.3) (λ at by m h. absurd h)))
         (λ error k. local_kept old new creds error k)

@@ -37,7 +37,7 @@ use Rattle.is_rules.specs.Queue.{request_at}
 use Rattle.is_theorems.proofs.CallEffects.AddedCandidates.{by_adding_local, by_adding_remote, by_waking}
 use Rattle.is_theorems.proofs.RuleEffects.UnchangedSettings.{either}
 use Rattle.is_theorems.proofs.RuleEffects.NominatedPairs.{SelectsPath, selects_path}
-use Rattle.is_theorems.proofs.CallEffects.FailedCallsAndNewAgents.{mtu_kept, local_kept, remote_kept, restart_kept, recreation_kept, enrolment_kept, storing_kept}
+use Rattle.is_theorems.proofs.CallEffects.FailedCallsAndNewAgents.{mtu_kept, controlling_kept, local_kept, remote_kept, restart_kept, recreation_kept, enrolment_kept, storing_kept}
 use Rattle.is_theorems.specs.Pacing.{PacingIsSet}
 
 -- what the times of timeouts depend on, pairs aside
@@ -76,7 +76,7 @@ module _ {H P : Type 0} where
   gives-up-same : (now : ℕ) (old new : AgentRecord H P) (path : Option Path) → RemovesExpired now old path new → Same old new
   gives-up-same now old new path h = either (list_any (is_expired now old) old.pairs) h
       (λ _ k. made-of _ new k.2 ∙ nominates-same (expired_gone now old) k.0 path k.1)
-      (λ _ k. made-of old new k.1)
+      (λ _ k. made-of _ new k.1)
 
   -- ---- responses
 
@@ -210,7 +210,8 @@ module _ {H P : Type 0} where
     pacing-is-set old new s t (SetMaxStunRetransmits n) e h = retransmits (n == 0) n old new s t e h
     pacing-is-set old new s t (SetLiteTimeout by) e h = paced-of _ new h.1
     pacing-is-set old new s t (SetLocalPreference object) e h = paced-of _ new h.1
-    pacing-is-set old new s t (SetControlling controlling) e h = paced-of _ new h.1
+    pacing-is-set old new s t (SetControlling controlling) e (Ok _, reported, h, drawn) = paced-of _ new h.1
+    pacing-is-set old new s t (SetControlling controlling) e (Err error, reported, h, drawn) = paced-of old new (controlling_kept old new controlling error h)
     pacing-is-set old new s t (SetLocalCredentials creds) e (Ok _, reported, h, drawn) = paced-of _ new h.1
     pacing-is-set old new s t (SetLocalCredentials creds) e (Err error, reported, h, drawn) = paced-of old new (local_kept old new creds error h)
     pacing-is-set old new s t (SetRemoteCredentials creds) e (Ok _, reported, h, drawn) = paced-of _ new h.1

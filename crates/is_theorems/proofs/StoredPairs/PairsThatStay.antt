@@ -32,7 +32,7 @@ use Rattle.is_theorems.proofs.CallEffects.AddedCandidates.{by_waking}
 use Rattle.is_theorems.proofs.RuleEffects.UnchangedSettings.{either}
 use Rattle.is_theorems.proofs.ExecutionLogs.LogTheorems.{runs_sound}
 use Rattle.is_theorems.proofs.ExecutionLogs.LogSegments.{run-on}
-use Rattle.is_theorems.proofs.CallEffects.FailedCallsAndNewAgents.{mtu_kept, local_kept, remote_kept, restart_kept, recreation_kept, enrolment_kept, storing_kept}
+use Rattle.is_theorems.proofs.CallEffects.FailedCallsAndNewAgents.{mtu_kept, controlling_kept, local_kept, remote_kept, restart_kept, recreation_kept, enrolment_kept, storing_kept}
 use Rattle.is_theorems.proofs.StoredPairs.PairsAfterForming.{local-leaves, remote-leaves}
 use Rattle.is_rules.proofs.PairLists.RisingNumbers.{below-each, rising-each}
 use Rattle.is_theorems.proofs.StoredPairs.NumbersThatStay.{Persists, Keeps, Keep, keeps-map, keep-same, keep-as, by-class, keep-serves, maintains_pairs-leaves}
@@ -104,7 +104,7 @@ module _ {H P : Type 0} where
 
       packet : (now : ℕ) (path : Path) (bytes : List ℕ) → Receives mac answers now old path bytes e new → Persists p.number new.pairs
       packet now path bytes (inl (fault, has_fault, is, made)) = as-it-was made
-      packet now path bytes (inr (m, reads, (Ok true, emitted, is, (accepted, (mid, takes, made))))) = becomes (discovered_emitted path mid) (by-class mac m.class now old mid path m emitted takes) made
+      packet now path bytes (inr (m, reads, (Ok true, emitted, is, (accepted, (mid, takes, made))))) = becomes (discovered_emitted m.class emitted path mid) (by-class mac m.class now old mid path m emitted takes) made
       packet now path bytes (inr (m, reads, (Ok false, emitted, is, (no_one, nothing, made)))) = as-it-was made
       packet now path bytes (inr (m, reads, (Err error, emitted, is, (may, nothing, made)))) = as-it-was made
 
@@ -138,7 +138,8 @@ module _ {H P : Type 0} where
           (λ _ k. inl (becomes _ (λ n x. x) k.1))
       lasts (SetLiteTimeout by) (is, made, drawn) = inl (becomes _ (λ n x. x) made)
       lasts (SetLocalPreference object) (is, made, drawn) = inl (becomes _ (λ n x. x) made)
-      lasts (SetControlling controlling) (is, made, drawn) = inl (becomes _ (λ n x. x) made)
+      lasts (SetControlling controlling) (Ok _, is, h, drawn) = inl (becomes _ (λ n x. x) h.1)
+      lasts (SetControlling controlling) (Err error, is, h, drawn) = inl (as-it-was (controlling_kept old new controlling error h))
       lasts (SetLocalCredentials creds) (Ok _, is, h, drawn) = inl (becomes _ (λ n x. x) h.1)
       lasts (SetLocalCredentials creds) (Err error, is, h, drawn) = inl (as-it-was (local_kept old new creds error h))
       lasts (SetRemoteCredentials creds) (Ok _, is, h, drawn) = inl (becomes _ (λ n x. x) h.1)

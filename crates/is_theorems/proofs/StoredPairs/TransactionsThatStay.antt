@@ -54,7 +54,7 @@ use Rattle.is_rules.specs.Timeouts.{at_request, timeout_begun, MaintainsPairs, S
 use Rattle.is_theorems.proofs.CallEffects.PathAndTradeEffects.{path_theorem}
 use Rattle.is_theorems.proofs.CallEffects.AddedCandidates.{by_waking}
 use Rattle.is_theorems.proofs.RuleEffects.UnchangedSettings.{either}
-use Rattle.is_theorems.proofs.CallEffects.FailedCallsAndNewAgents.{mtu_kept, local_kept, remote_kept, restart_kept, recreation_kept, enrolment_kept, storing_kept}
+use Rattle.is_theorems.proofs.CallEffects.FailedCallsAndNewAgents.{mtu_kept, controlling_kept, local_kept, remote_kept, restart_kept, recreation_kept, enrolment_kept, storing_kept}
 use Rattle.is_theorems.proofs.StoredPairs.PairsAfterForming.{local-leaves, remote-leaves}
 use Rattle.is_rules.proofs.PairLists.RisingNumbers.{below-each, rising-each}
 use Rattle.is_theorems.proofs.StoredPairs.TransactionsAfterRules.{Persists, Keeps, Keep, Sends, keeps-self, keeps-map, keep-same, keep-as, by-class, keep-serves, maintains_pairs, sent-last}
@@ -130,7 +130,7 @@ module _ {H P : Type 0} where
 
       packet : (now : ℕ) (via : Path) (bytes : List ℕ) → Receives mac answers now old via bytes e new → Persists p new.pairs
       packet now via bytes (inl (fault, has_fault, is, made)) = as-it-was made
-      packet now via bytes (inr (m, reads, (Ok true, emitted, is, (accepted, (mid, takes, made))))) = becomes (discovered_emitted via mid) (by-class mac m.class now old mid via m emitted takes) made
+      packet now via bytes (inr (m, reads, (Ok true, emitted, is, (accepted, (mid, takes, made))))) = becomes (discovered_emitted m.class emitted via mid) (by-class mac m.class now old mid via m emitted takes) made
       packet now via bytes (inr (m, reads, (Ok false, emitted, is, (no_one, nothing, made)))) = as-it-was made
       packet now via bytes (inr (m, reads, (Err error, emitted, is, (may, nothing, made)))) = as-it-was made
 
@@ -171,7 +171,8 @@ module _ {H P : Type 0} where
           (λ _ k. inl (becomes _ (keeps-self old.pairs) k.1))
       lasts (SetLiteTimeout by) (is, made, drawn) = inl (becomes _ (keeps-self old.pairs) made)
       lasts (SetLocalPreference object) (is, made, drawn) = inl (becomes _ (keeps-self old.pairs) made)
-      lasts (SetControlling controlling) (is, made, drawn) = inl (becomes _ (keeps-self old.pairs) made)
+      lasts (SetControlling controlling) (Ok _, is, h, drawn) = inl (becomes _ (keeps-self old.pairs) h.1)
+      lasts (SetControlling controlling) (Err error, is, h, drawn) = inl (as-it-was (controlling_kept old new controlling error h))
       lasts (SetLocalCredentials creds) (Ok _, is, h, drawn) = inl (becomes _ (keeps-self old.pairs) h.1)
       lasts (SetLocalCredentials creds) (Err error, is, h, drawn) = inl (as-it-was (local_kept old new creds error h))
       lasts (SetRemoteCredentials creds) (Ok _, is, h, drawn) = inl (becomes _ (keeps-self old.pairs) h.1)
