@@ -178,7 +178,7 @@ class Endpoint:
             self._add(socket, Candidate.relayed(told.address, socket))
             for ip in self._peers:
                 self._permit(told.address, ip)
-        elif told.address != socket:
+        else:
             self._add(socket, Candidate.server_reflexive(told.address, socket))
         self._close(transaction)
         self.turn()

@@ -6,7 +6,6 @@ import asyncio
 import logging
 import socket
 import time
-from collections import deque
 from collections.abc import Callable
 
 from ._report import tried
@@ -15,16 +14,13 @@ from ._unique import Unique
 from .address import SocketAddress
 from .agent import IceAgent
 from .candidate import Candidate
-from .demux import is_stun, is_stun_request
+from .demux import is_stun
 from .errors import HasAgent, IceError, NoAgent, Unparsed
 from .events import IceAgentEvent
 
 _log = logging.getLogger(__name__)
 
-# The least pacing interval (RFC 8445, section 14.2): how soon after a timeout a packet of the peer may cause the next one.
-_LEAST_PACING = 5_000_000
-_WITHOUT_TIMEOUT = 50_000_000
-_EARLY_CHECKS = 16
+_AGAIN = 50_000_000  # nanoseconds until `handle_timeout` is called again if it failed, or if the agent names no time
 _RECEIVE_BUFFER = 256 * 1024
 
 EventHandler = Callable[[IceAgentEvent], None]
@@ -69,9 +65,8 @@ class IceLoop(Unique):
         self._start = time.monotonic_ns()
         self._sends: dict[SocketAddress, Send] = {}
         self._closes: list[Callable[[], None]] = []
-        self._early: deque[tuple[SocketAddress, SocketAddress, bytes]] = deque(maxlen=_EARLY_CHECKS)
         self._timer: asyncio.TimerHandle | None = None
-        self._last_timeout = 0
+        self._due: int | None = None  # the earliest time that `poll_timeout` returned since the last `handle_timeout`
         self._began = self._closed = False
 
     def now(self) -> int:
@@ -109,16 +104,23 @@ class IceLoop(Unique):
     def begin(self) -> None:
         """Starts the session: calls `handle_timeout` now, and at each later time that `poll_timeout` returns.
 
-        Checks that came before, up to 16 of them, are passed to the agent.
+        Checks that came before are with the agent: it serves them, or stores them until it has the peer's credentials.
         """
         self._began = not self._closed
         self._timed_out()
-        while self._began and self._early:
-            self._take(*self._early.popleft())
 
     def wake(self) -> None:
         """Sends packets, reports events and sets the timer. Call it after each call of yours on the agent."""
-        self._turn(soon=True)
+        try:
+            if self._began and (due := self.agent.poll_timeout()) is not None:  # before packets are polled, and before handlers run
+                self._set_timer(due)
+            while not self._closed and (packet := self.agent.poll_transmit()):
+                self.send(packet.source, packet.destination, packet.contents)
+            while not self._closed and (event := self.agent.poll_event()):
+                self.log.event(event)
+                self._report(self._on_event, event)
+        except NoAgent:
+            self.close()
 
     def send(self, source: SocketAddress, destination: SocketAddress, data: bytes) -> None:
         """Sends a datagram from the socket at a local address. Without such a socket the datagram is lost."""
@@ -129,14 +131,10 @@ class IceLoop(Unique):
         """Takes a datagram that arrived at a local address. The loop's own sockets call it themselves."""
         if self._closed:
             return
-        if not is_stun(data):
-            self._on_media(source, local, data)
-        elif self._began:
+        if is_stun(data):
             self._take(source, local, data)
-        elif is_stun_request(data):
-            self._early.append((source, local, data))
         else:
-            self._pass_on(source, local, data)
+            self._on_media(source, local, data)
 
     def tried(self) -> str:
         """Says what the session tried and what came back: candidates, pairs with their checks, counters, STUN messages that nobody took.
@@ -157,12 +155,16 @@ class IceLoop(Unique):
     def _timed_out(self) -> None:
         if not self._began:
             return
-        self._last_timeout = self.now()
+        self._due = None
         try:
-            self.agent.handle_timeout(self._last_timeout)
+            self.agent.handle_timeout(self.now())
+            self.wake()
+        except NoAgent:
+            self.close()
         except IceError:
-            pass  # as when out of memory: it is repeated at the next timeout
-        self._turn(soon=False)
+            pass  # as when out of memory: the agent is unchanged
+        if self._began and self._due is None:
+            self._set_timer(self.now() + _AGAIN)
 
     def _take(self, source: SocketAddress, local: SocketAddress, data: bytes) -> None:
         try:
@@ -175,7 +177,7 @@ class IceLoop(Unique):
         except IceError:
             return  # the agent is unchanged, as if the datagram had been lost
         if accepted:
-            self._turn(soon=True)
+            self.wake()
         else:
             self._pass_on(source, local, data)
 
@@ -183,28 +185,14 @@ class IceLoop(Unique):
         if not self._report(self._on_stun, source, local, data):
             self.log.message_discarded(source, local, data)
 
-    def _turn(self, soon: bool) -> None:
-        """`soon`: something changed, so the next timeout need not wait for the pacing interval that the agent has."""
-        if not self._began:
+    def _set_timer(self, due: int) -> None:
+        """Sets the timer, unless it is set to an earlier time."""
+        if self._due is not None and self._due <= due:
             return
-        try:
-            self._set_timer(self.agent.poll_timeout(), soon)  # before packets are polled, and before handlers run
-            while self._began and (packet := self.agent.poll_transmit()):
-                self.send(packet.source, packet.destination, packet.contents)
-            while self._began and (event := self.agent.poll_event()):
-                self.log.event(event)
-                self._report(self._on_event, event)
-        except NoAgent:
-            self.close()
-
-    def _set_timer(self, due: int | None, soon: bool) -> None:
-        now = self.now()
-        due = now + _WITHOUT_TIMEOUT if due is None else due
-        if soon:
-            due = min(due, self._last_timeout + _LEAST_PACING)
+        self._due = due
         if self._timer:
             self._timer.cancel()
-        self._timer = asyncio.get_running_loop().call_later(max(0, due - now) / 1e9, self._timed_out)
+        self._timer = asyncio.get_running_loop().call_later(max(0, due - self.now()) / 1e9, self._timed_out)
 
     def _report(self, handler: Callable[..., object] | None, *told: object) -> object:
         """Calls a handler, and returns what it returns."""

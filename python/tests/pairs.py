@@ -16,6 +16,7 @@ except ImportError:
     aioice = None
 
 LOOPBACK = ["127.0.0.1"]
+LEAST_PACING = 5_000_000  # the least pacing interval Ta, in nanoseconds (RFC 8445, section 14.2)
 NOBODY = "candidate:1 1 udp 2130706431 127.0.0.1 9 typ host"
 HIDDEN = "candidate:1 1 udp 2130706431 3f2b8c1e-5c1e-4b0a-9f5e-1f2e3d4c5b6a.local {port} typ host"
 

@@ -10,13 +10,13 @@ from collections.abc import Awaitable, Callable
 from unittest import mock
 
 import is_ice.connection
-from is_ice import BadCandidate, IceConnectionState, IceConnectionStateChange, NominatedSend, Protocol
+from is_ice import BadCandidate, IceAgent, IceConnectionState, SocketAddress
 from is_ice._inbox import Inbox
 from is_ice.attribute import CandidateAttribute
 from is_ice.connection import Connection, ConnectionClosed, TransportPolicy
 from is_ice.mdns import Mdns
 
-from pairs import HIDDEN, NOBODY, add_candidates, agent, aioice, check_soon, close, gather, join, nobody, talk
+from pairs import HIDDEN, LEAST_PACING, NOBODY, add_candidates, agent, aioice, check_soon, close, gather, join, nobody, talk
 from test_stun_client import StunServer
 
 
@@ -30,15 +30,29 @@ class Sessions(unittest.IsolatedAsyncioTestCase):
                 await talk(a, b)
                 await close(a, b)
 
-    async def test_it_connects_within_a_pacing_interval(self) -> None:
+    async def test_it_connects_at_once_with_the_least_pacing_interval(self) -> None:
         took = [1.0]
         while min(took) > 0.04 and len(took) < 10:  # the machine may be busy
             a, b = agent(True), agent(False)
+            for side in (a, b):
+                side.agent.set_timing_advance(LEAST_PACING)
             start = time.monotonic()
             await join(a, b)
             took.append(time.monotonic() - start)
             await close(a, b)
         check_soon(self, took)
+
+    async def test_checks_before_the_remote_credentials_are_served(self) -> None:
+        """The agent stores them, and serves one in each pacing interval."""
+        a, b = agent(True), agent(False)
+        await gather(a, b)
+        await add_candidates(a, b)
+        early = asyncio.ensure_future(a.connect())
+        await asyncio.sleep(0.35)
+        self.assertEqual((b.agent.stats.bind_request_recv, b.agent.state), (0, IceConnectionState.NEW))
+        await asyncio.wait_for(asyncio.gather(early, b.connect()), 2)
+        self.assertGreater(b.agent.stats.bind_request_recv, 1)
+        await close(a, b)
 
     async def test_one_side_connects_earlier(self) -> None:
         for first in (0, 1):
@@ -187,17 +201,31 @@ class Failures(unittest.IsolatedAsyncioTestCase):
         with self.assertRaises(ConnectionError):
             await a.send(b"x")
 
-    async def test_nothing_is_sent_without_consent(self) -> None:
+    async def test_media_goes_where_the_agent_says(self) -> None:
         a, b = agent(True), agent(False)
         await join(a, b)
-        path = a._path
-        assert path is not None
-        a._on_event(IceConnectionStateChange(IceConnectionState.CHECKING))
-        await a.send(b"lost")
-        a._on_event(NominatedSend(Protocol.UDP, *path))  # another path, or this one again
-        await a.send(b"sent")
-        self.assertEqual(await asyncio.wait_for(b.recv(), 1), b"sent")
+        here, there = (SocketAddress(side.local_candidates[0].host, side.local_candidates[0].port) for side in (a, b))
+        for path in (None, (here, there), None):
+            with mock.patch.object(IceAgent, "media_addresses", return_value=path):
+                await a.send(b"%d" % bool(path))
+        await a.send(b"1")
+        for _ in range(2):
+            self.assertEqual(await asyncio.wait_for(b.recv(), 1), b"1")
         await close(a, b)
+
+    async def test_nothing_is_sent_without_consent(self) -> None:
+        """The pair is removed, and a candidate that comes later keeps the agent from giving up."""
+        a, b = agent(True), agent(False)
+        await join(a, b)
+        await b.close()
+        a._loop._start -= 40_000_000_000  # 40 s pass for the agent
+        a.agent.add_remote_candidate(NOBODY)
+        a._loop.begin()
+        self.assertEqual((a.agent.state, a.agent.media_addresses()), (IceConnectionState.CHECKING, None))
+        with mock.patch.object(a._loop, "send") as sent:
+            await a.send(b"lost")
+        sent.assert_not_called()
+        await a.close()
 
     async def test_close_ends_what_other_tasks_wait_for(self) -> None:
         a, b = agent(True), agent(False)

@@ -9,14 +9,13 @@ import time
 import tracemalloc
 import unittest
 from pathlib import Path
-from unittest import mock
 
 from is_ice import Candidate, IceAgent, IceCreds, NominatedSend, SocketAddress
 from is_ice.demux import PacketKind, is_stun, packet_kind
 from is_ice.loop import IceLoop
 from is_ice.stun import StunClass, StunMethod, write_message
 
-from pairs import check_soon
+from pairs import LEAST_PACING, check_soon
 
 COOKIE = bytes.fromhex("2112a442")
 BINDING_RESPONSE = b"\x01\x01\0\0" + COOKIE + bytes(12)  # without MESSAGE-INTEGRITY
@@ -138,15 +137,31 @@ class Datagrams(unittest.IsolatedAsyncioTestCase):
         a.loop.close()
         b.loop.close()
 
-    async def test_the_last_16_early_checks_are_kept(self) -> None:
-        side = Side(False)
-        at = SocketAddress("127.0.0.1", 10)
-        for count in range(20):
-            side.loop.receive(SocketAddress("127.0.0.1", 1000 + count), at, BINDING_REQUEST)
-        with mock.patch.object(side.agent, "handle_packet", return_value=True) as taken:
-            side.loop.begin()
-        self.assertEqual([call.args[1].port for call in taken.call_args_list], list(range(1004, 1020)))
-        side.loop.close()
+    async def test_the_agent_keeps_checks_that_come_before_the_remote_credentials(self) -> None:
+        a, b = Side(True), Side(False)
+        for side in (a, b):
+            await side.loop.bind("127.0.0.1")
+        a.agent.add_remote_candidate(b.agent.local_candidates()[0])
+        a.agent.set_remote_credentials(b.agent.local_credentials)
+        a.loop.begin()
+        await asyncio.sleep(0.15)
+        self.assertEqual((b.agent.stats.bind_request_recv, str(b.agent.state)), (0, "State.New"))
+        b.agent.set_remote_credentials(a.agent.local_credentials)
+        b.loop.begin()
+        self.assertEqual(b.agent.stats.bind_request_recv, 1)
+        await asyncio.wait_for(asyncio.gather(a.path, b.path), 2)
+        a.loop.close()
+        b.loop.close()
+
+    async def test_checks_before_the_session_get_a_response(self) -> None:
+        a, b = await two_sides()
+        a.loop.begin()
+        await asyncio.wait_for(a.path, 1)
+        self.assertEqual((b.agent.stats.bind_request_recv, str(b.agent.state)), (1, "State.New"))
+        b.loop.begin()
+        await asyncio.wait_for(b.path, 1)
+        a.loop.close()
+        b.loop.close()
 
     async def test_responses_of_servers_are_reported_before_and_after_the_start(self) -> None:
         side = Side(False)
@@ -182,10 +197,12 @@ class Datagrams(unittest.IsolatedAsyncioTestCase):
         b.loop.close()
         self.assertEqual(closed, list(sides))
 
-    async def test_both_sides_have_a_path_within_a_pacing_interval(self) -> None:
+    async def test_both_sides_have_a_path_at_once_with_the_least_pacing_interval(self) -> None:
         took = [1.0]
         while min(took) > 0.04 and len(took) < 10:  # the machine may be busy
             a, b = await two_sides()
+            for side in (a, b):
+                side.agent.set_timing_advance(LEAST_PACING)
             start = time.monotonic()
             a.loop.begin()
             b.loop.begin()
