@@ -1,7 +1,7 @@
 /* The calls of is_ice.h for C++17: an agent that frees itself, texts as std::string_view and std::string, events as a
  * std::variant, and errors as exceptions. Each function makes the call whose name it has, with the prefix is_ice_,
  * whose comment in is_ice.h says what it does. What may be absent is a std::optional: IS_ICE_NOTHING is std::nullopt or
- * false.
+ * false. In C++20 a datagram may be a std::span, in place of a pointer and a length.
  *
  * The structs are those of is_ice.h under shorter names: is_ice::candidate is is_ice_candidate.
  *
@@ -35,6 +35,9 @@
 #include <utility>
 #include <variant>
 #include <vector>
+#if __cplusplus >= 202002L
+#include <span>
+#endif
 
 namespace is_ice {
 
@@ -58,6 +61,11 @@ using nanoseconds = std::chrono::nanoseconds;
 using timeout_random = std::array<uint8_t, IS_ICE_TIMEOUT_RANDOM>;
 using credentials_random = std::array<uint8_t, IS_ICE_CREDENTIALS_RANDOM>;
 
+#ifdef __cpp_lib_span
+/* A datagram or a STUN message, for the functions that take a pointer and a length, too. */
+using bytes = std::span<const uint8_t>;
+#endif
+
 /* A code below 0 that a call returned. */
 class error : public std::runtime_error {
 public:
@@ -68,6 +76,13 @@ public:
 private:
     int32_t code_;
 };
+
+/* Throws a code below 0 as an error, and returns any other: for calls of is_ice.h on agent::get(). */
+inline int32_t checked(int32_t code)
+{
+    if (code < 0) throw error(code);
+    return code;
+}
 
 struct credentials {
     std::string ufrag;
@@ -128,12 +143,6 @@ struct username {
 };
 
 namespace detail {
-
-inline int32_t checked(int32_t code)
-{
-    if (code < 0) throw error(code);
-    return code;
-}
 
 inline bool done(int32_t code) { return checked(code) == IS_ICE_OK; }
 
@@ -211,7 +220,7 @@ inline address ipv6(std::array<uint8_t, 16> bytes, uint16_t port, uint32_t scope
 inline credentials make_credentials(const credentials_random &random)
 {
     credentials made{std::string(IS_ICE_UFRAG_LENGTH, '\0'), std::string(IS_ICE_PASS_LENGTH, '\0')};
-    detail::checked(is_ice_make_credentials(
+    checked(is_ice_make_credentials(
         random.data(), random.size(), reinterpret_cast<uint8_t *>(made.ufrag.data()), made.ufrag.size(),
         reinterpret_cast<uint8_t *>(made.pass.data()), made.pass.size()));
     return made;
@@ -343,7 +352,7 @@ public:
     agent(std::string_view ufrag, std::string_view pass, uint64_t tie_breaker) : held_(new is_ice_agent{})
     {
         if (is_ice_version() != IS_ICE_VERSION) throw std::runtime_error("is_ice.h belongs to another library");
-        detail::checked(
+        checked(
             is_ice_agent_new(at(), detail::at(ufrag), ufrag.size(), detail::at(pass), pass.size(), tie_breaker));
     }
     agent(const credentials &local, uint64_t tie_breaker) : agent(local.ufrag, local.pass, tie_breaker) {}
@@ -429,6 +438,18 @@ public:
     {
         return verdict(is_ice_accepts_message(at(), detail::at(data), length));
     }
+#ifdef __cpp_lib_span
+    handled handle_packet(
+        nanoseconds now, uint8_t protocol, const address &source, const address &destination, bytes data)
+    {
+        return handle_packet(now, protocol, source, destination, data.data(), data.size());
+    }
+    handled accepts_packet(uint8_t protocol, const address &source, const address &destination, bytes data) const
+    {
+        return accepts_packet(protocol, source, destination, data.data(), data.size());
+    }
+    handled accepts_message(bytes data) const { return accepts_message(data.data(), data.size()); }
+#endif
     std::optional<nanoseconds> poll_timeout()
     {
         uint64_t time = 0;
@@ -509,7 +530,7 @@ private:
     static bool done(int32_t code) { return detail::done(code); }
     static handled verdict(int32_t code)
     {
-        return static_cast<handled>(code == IS_ICE_UNPARSED ? code : detail::checked(code));
+        return static_cast<handled>(code == IS_ICE_UNPARSED ? code : checked(code));
     }
     template <class Call, class... Arguments> std::optional<std::string> text(Call call, Arguments... arguments) const
     {
@@ -584,12 +605,27 @@ inline std::vector<uint8_t> stun_write(
 {
     std::vector<uint8_t> buffer(IS_ICE_STUN_WRITE_LENGTH + bytes.size() + 8);
     size_t length = 0;
-    detail::checked(is_ice_stun_write(
+    checked(is_ice_stun_write(
         &message, &texts, detail::at(bytes), bytes.size(), detail::at(key), key.size(), buffer.data(), buffer.size(),
         &length));
     buffer.resize(length);
     return buffer;
 }
+
+#ifdef __cpp_lib_span
+inline std::optional<stun_result> stun_response(const stun_transaction &id, bytes data)
+{
+    return stun_response(id, data.data(), data.size());
+}
+inline std::optional<std::string> stun_text(uint16_t attribute, bytes data)
+{
+    return stun_text(attribute, data.data(), data.size());
+}
+inline stun_message stun_read(bytes data) { return stun_read(data.data(), data.size()); }
+inline stun_message stun_read_strict(bytes data) { return stun_read_strict(data.data(), data.size()); }
+inline std::optional<username> stun_username(bytes data) { return stun_username(data.data(), data.size()); }
+inline bool stun_verify(bytes data, std::string_view key) { return stun_verify(data.data(), data.size(), key); }
+#endif
 
 } // namespace is_ice
 

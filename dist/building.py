@@ -211,7 +211,7 @@ def for_rust(archive):
     """The crate with the static library in lib/, the package with serde, the program that is patched, and documents.
 
     The crate and the package with serde are no workspaces of their own, so that they may be members of the user's."""
-    sources = ("README.md", "build.rs", "src/**/*.rs", "examples/*.rs", "tests/**/*.rs", "serde/Cargo.toml", "serde/tests/*.rs",
+    sources = ("README.md", "build.rs", "src/**/*.rs", "examples/**/*.rs", "tests/**/*.rs", "serde/Cargo.toml", "serde/tests/*.rs",
                "drop_in/Cargo.toml", "drop_in/src/*.rs", "drop_in/tests/*.rs")
     places = {**documents.carried("."), **documents.placed("rust", ".", *sources)}
     manifests = {name: (top / "rust" / name).read_text() for name in ("Cargo.toml", "serde/Cargo.toml")}

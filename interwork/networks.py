@@ -1,8 +1,9 @@
-"""The networks: loopback, two hosts with a cable, with a lossy wire, or with NATs between them.
+"""The networks: loopback, two hosts with a cable, with a lossy wire, with NATs, or with NATs and a distance between them.
 
 A network has for each side a namespace, or None for the machine's own, and the options that its programs need there.
 """
 import os
+import random
 import subprocess
 import sys
 import tempfile
@@ -99,6 +100,58 @@ class Wire(Network):
             self.process.wait()
             self.process.stdout.close()
         super().close()
+
+
+class Far(Network):
+    """Two hosts with NATs, delay, jitter and loss between them, all in distance.py. Each has so many addresses, of which one leads to the
+    other host.
+
+    The jitter is a fifth of the delay.
+    """
+
+    same_path = False
+
+    def __init__(self, a, b, hosts, delay, loss):
+        super().__init__()
+        self.kinds, self.hosts, self.process = (a, b), hosts, None
+        self.settings = (f"delay={delay}", f"jitter={delay / 5}", f"loss={loss}")
+
+    def build(self):
+        self.namespaces = [self.spaces.add(), self.spaces.add()]
+        self.addresses = [[f"198.51.100.{4 * side + 2}" if kind == "none" else f"10.0.{side + 1}.2",
+                           *(f"172.{16 + side}.{number}.1" for number in range(1, self.hosts))] for side, kind in enumerate(self.kinds)]
+        sides = ["/".join((*each, ",".join(addresses))) for *each, addresses in zip(self.namespaces, self.kinds, self.addresses)]
+        command = [sys.executable, here / "distance.py", *sides, *self.settings]
+        self.process = subprocess.Popen(command, stdin=subprocess.PIPE, stdout=subprocess.PIPE, text=True)
+        if self.process.stdout.readline().strip() != "ready":
+            raise RuntimeError("distance.py did not start")
+        self.options = _InAnyOrder(self.addresses, self.kinds)
+
+    def valid_at(self, username):
+        """When the sender of checks with this USERNAME got a response to one, as time.monotonic(), or None."""
+        self.process.stdin.write(f"valid {username}\n")
+        self.process.stdin.flush()
+        said = self.process.stdout.readline().strip()
+        return None if said == "never" else float(said)
+
+    def close(self):
+        if self.process:
+            self.process.stdin.close()
+            self.process.wait()
+            self.process.stdout.close()
+        super().close()
+
+
+class _InAnyOrder:
+    """The options of both sides, with the addresses in another order each time: the one that leads to the other side has any priority."""
+
+    def __init__(self, addresses, kinds):
+        self.sides = list(zip(addresses, kinds))
+
+    def __iter__(self):
+        for addresses, kind in self.sides:
+            words = [word for address in random.sample(addresses, len(addresses)) for word in ("-a", address)]
+            yield words if kind == "none" else [*words, "-s", f"{servers.ADDRESS}:{servers.PORT}"]
 
 
 class Nats(Network):

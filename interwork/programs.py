@@ -20,7 +20,7 @@ class Program:
         self.stack, self.namespace = stack, namespace
         self.command = [*(["ip", "netns", "exec", namespace] if namespace else []), *stack.command, *words]
         self.events, self.heard, self.paths = [], {}, []  # (time, line); text: time; the selected paths
-        self.state, self.path, self.connected_at, self.signal_at = None, None, None, None
+        self.state, self.path, self.connected_at, self.signal_at, self.ufrag = None, None, None, None, None
         self.other, self.tasks, self.changed = None, [], asyncio.Event()
         self.trickles = False  # whether its candidates are passed on one by one after its signal
 
@@ -35,7 +35,7 @@ class Program:
         while line := (await self.process.stdout.readline()).decode(errors="replace").rstrip("\n"):
             self.events.append((time.monotonic(), "> " + line))
             if line.startswith("signal"):
-                self.signal_at = time.monotonic()
+                self.signal_at, self.ufrag = time.monotonic(), line.split(" ", 2)[1]
             if self.trickles and line.startswith("signal"):
                 self.tasks.append(asyncio.ensure_future(self.trickle(line)))
             else:

@@ -13,6 +13,7 @@ class Result:
     fault: str | None
     seconds: float | None
     log: str
+    media: float | None = None  # seconds until both sides had a valid pair, if the network sees it
 
 
 async def play(case, network, stacks, roles):
@@ -26,9 +27,18 @@ async def play(case, network, stacks, roles):
         fault, seconds = await connect(a, b, case, network)
         if fault is None and case.restarts:
             fault, seconds = await restart(a, b, case, network)
-        return Result(fault, seconds, f"      paths {a.path} and {b.path}, states {a.state} and {b.state}\n" + programs.log(a, b))
+        log = f"      paths {a.path} and {b.path}, states {a.state} and {b.state}\n" + programs.log(a, b)
+        return Result(fault, seconds, log, media(a, b, network))
     finally:
         await asyncio.gather(a.end(), b.end())
+
+
+def media(a, b, network):
+    """The seconds from the last signal until both sides had a valid pair: until media may flow. None if that is not known."""
+    if not hasattr(network, "valid_at") or not (a.ufrag and b.ufrag):
+        return None
+    times = [network.valid_at(f"{theirs.ufrag}:{own.ufrag}") for own, theirs in ((a, b), (b, a))]
+    return None if None in times else max(times) - max(a.signal_at, b.signal_at)
 
 
 async def connect(a, b, case, network):
@@ -42,6 +52,8 @@ async def connect(a, b, case, network):
 
 async def after_path(a, b, case, network, word):
     """What both do on a path. Returns a fault or None."""
+    if not case.chat:
+        return None
     if network.same_path and case.same_path and not await settle(a, b):
         return "different paths"
     heard = await talk(a, b, word)

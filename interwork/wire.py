@@ -5,35 +5,21 @@ usage: wire.py NAMESPACE ADDRESS NAMESPACE ADDRESS [loss=0.3] [dup=0.1] [least=0
 loss and dup are probabilities in each direction. Each packet waits for `least` seconds and up to `delay` more, evenly distributed, so
 packets overtake each other. It reads lines: 'loss 0.05', 'delay 0', 'dup 0', 'cut', 'mend', and 'counts', which prints what passed so far.
 """
-import ctypes
-import fcntl
 import heapq
 import os
 import random
 import select
-import struct
 import subprocess
 import sys
 import time
 
-LIBC = ctypes.CDLL(None, use_errno=True)
-CLONE_NEWNET = 0x40000000
-TUNSETIFF, IFF_TUN, IFF_NO_PI = 0x400454CA, 1, 0x1000
-
-
-def enter(path):
-    """Enters a network namespace."""
-    fd = os.open(path, os.O_RDONLY)
-    if LIBC.setns(fd, CLONE_NEWNET) != 0:
-        raise OSError(ctypes.get_errno(), path)
-    os.close(fd)
+sys.dont_write_bytecode = True
+from tun import open_tun
 
 
 def open_device(namespace, own, other):
     """Creates a TUN device in a namespace, and returns its file descriptor. This process is in that namespace then."""
-    enter(f"/var/run/netns/{namespace}")
-    fd = os.open("/dev/net/tun", os.O_RDWR | os.O_NONBLOCK)
-    fcntl.ioctl(fd, TUNSETIFF, struct.pack("16sH22x", b"w0", IFF_TUN | IFF_NO_PI))
+    fd = open_tun(namespace)
     for words in (f"addr add {own} peer {other} dev w0", "link set w0 up"):
         subprocess.run(["ip", *words.split()], check=True)
     return fd

@@ -6,7 +6,9 @@ from collections import Counter
 from collections.abc import Callable, Iterable, Sequence
 from dataclasses import dataclass, field, replace
 
-from .clauses import both, connect, due_rounds, nomination_accepted, meet, rounds, world_rounds
+from .clauses import (
+    both, completed_nominations_are_selected, connect, connected_are_answered, connected_have_consent, consent_ends_in_time, consent_holds,
+    due_rounds, in_time, meet, nomination_accepted, nominations, of_use, one_path, rounds, successes, valid_have_consented, world_rounds)
 from .clauses.execution import Execution
 from .clauses.accepted_nominations import Network
 from .clauses.verdict import Verdict
@@ -18,12 +20,19 @@ from .pool import Fault, Portion
 from .replay import replay
 from .session import Session
 
-# The clauses of `World::run`, with its name, and those of `run`.
-WORLD: dict[str, Callable[[Network], Verdict]] = {"meet": meet.find, "rounds": world_rounds.find,
-                                                  "nomination_accepted": nomination_accepted.find,
-                                                  "connect": connect.find, "both": both.find}
-RUN: dict[str, Callable[[Execution], Verdict]] = {"run: rounds": rounds.find, "run: due_rounds": due_rounds.find}
-CLAUSES = (*WORLD, *RUN)
+# The clauses of progress of `World::run` and of `run`, and theorems of `is_theorems` on one agent.
+WORLD: dict[str, Callable[[Network], Verdict]] = {
+    "meet": meet.find, "rounds": world_rounds.find, "in_time": lambda network: in_time.find(network.x),
+    "nomination_accepted": nomination_accepted.find, "connect": connect.find, "both": both.find, "one_path": one_path.find}
+RUN: dict[str, Callable[[Execution], Verdict]] = {
+    "run: of_use": of_use.find, "run: successes": successes.find, "run: nominations": nominations.find, "run: rounds": rounds.find,
+    "run: due_rounds": due_rounds.find}
+THEOREMS: dict[str, Callable[[Execution], Verdict]] = {
+    "consent_holds": consent_holds.find, "consent_ends_in_time": consent_ends_in_time.find,
+    "valid_have_consented": valid_have_consented.find, "connected_have_consent": connected_have_consent.find,
+    "connected_are_answered": connected_are_answered.find,
+    "completed_nominations_are_selected": completed_nominations_are_selected.find}
+CLAUSES = (*WORLD, *RUN, *THEOREMS)
 
 
 @dataclass(frozen=True)
@@ -42,7 +51,7 @@ def verdicts_of(log: Log) -> tuple[dict[str, Verdict], tuple[str, ...]]:
     session = replay(log)
     execution = Execution(session)
     network = Network(execution)
-    verdicts = {name: find(network) for name, find in WORLD.items()} | {name: find(execution) for name, find in RUN.items()}
+    verdicts = {name: find(network) for name, find in WORLD.items()} | {name: find(execution) for name, find in (RUN | THEOREMS).items()}
     return verdicts, tuple(session.differences)
 
 
@@ -129,18 +138,21 @@ def gather(found: Iterable[Covered]) -> dict[str, Coverage]:
 
 
 def tables(told: Sequence[Coverage]) -> str:
-    """Returns three Markdown tables: shares, times, and the preconditions that failed first."""
-    return "\n\n".join((aligned([_SHARES, *map(_share_row, told)]), aligned([_TIMES, *(r for c in told for r in _time_rows(c))]),
-                        aligned([_FAILED, *_failed_rows(told)])))
+    """Returns Markdown tables: shares, of `World::run`, of `run` and of theorems; times; the preconditions that failed first."""
+    shares = [aligned([_head(names), *(_share_row(c, names) for c in told)]) for names in (tuple(WORLD), tuple(RUN), tuple(THEOREMS))]
+    return "\n\n".join((*shares, aligned([_TIMES, *(r for c in told for r in _time_rows(c))]), aligned([_FAILED, *_failed_rows(told)])))
 
 
-_SHARES = ["scenario", "sessions", "connected", *(f"{name} %" for name in CLAUSES), "model differs"]
+def _head(names: Sequence[str]) -> list[str]:
+    return ["scenario", "sessions", "connected", *(f"{name} %" for name in names), "model differs"]
+
+
 _TIMES = ["scenario", "clause", "covered", "since ms", "rounds", "bound ms", "happened ms", "bound / happened", "at most 2: %"]
 _FAILED = ["clause", "precondition that failed first", "sessions", "of these scenarios"]
 
 
-def _share_row(c: Coverage) -> list[str]:
-    shares = [f"{100 * c.shares[name].covered / c.connected:.1f}" if c.connected else "-" for name in CLAUSES]
+def _share_row(c: Coverage, names: Sequence[str]) -> list[str]:
+    shares = [f"{100 * c.shares[name].covered / c.connected:.1f}" if c.connected else "-" for name in names]
     return [c.scenario, str(c.sessions), str(c.connected), *shares, str(c.differing)]
 
 

@@ -33,8 +33,7 @@ def rules_by(s: AgentSettings) -> Rules:
     if s.consent_ms is not None:
         consent = Consent(nanoseconds(s.consent_ms), s.strict_consent)
         rules = replace(rules, consent=consent if s.consent_ms else None)
-    names = ("selects_at_once", "selected_first", "timeout_after_requests", "lite_keeps_role", "numbered_nominations")
-    own = {name: getattr(s, name) for name in names}
+    own = {name: getattr(s, name) for name in ("selects_at_once", "selected_first", "timeout_after_requests")}
     return replace(rules, **{name: value for name, value in own.items() if value is not None})
 
 
@@ -179,7 +178,7 @@ class Endpoint:
             self._add(socket, Candidate.relayed(told.address, socket))
             for ip in self._peers:
                 self._permit(told.address, ip)
-        elif told.address != socket:
+        else:
             self._add(socket, Candidate.server_reflexive(told.address, socket))
         self._close(transaction)
         self.turn()

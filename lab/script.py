@@ -3,10 +3,13 @@
 from __future__ import annotations
 
 import json
-from collections.abc import Iterator
 from pathlib import Path
 
 from .picture import REJECTED, UNDELIVERED, Arrow, Picture, Transactions
+
+
+# The second word of a line that a poll returned. That of each other line is the name of a call.
+POLLED = (["send"], ["event"], ["wake"])
 
 
 class BadScript(ValueError):
@@ -22,8 +25,8 @@ def of_script(lines: Path, output: Path) -> Picture:
     for call, block in zip(calls, _blocks(output, len(calls))):
         lane = call.get("on", "A")
         times[lane] = call.get("now", times[lane])
-        if not block or not block[0].startswith(f"{lane} {call['call']} "):
-            raise BadScript(f"{output}: {block[:1]} is not the output of {call}")
+        if not block[0].startswith(f"{lane} {call['call']} "):
+            raise BadScript(f"{output}: {block[0]} is not the output of {call}")
         if call["call"] == "deliver":
             _deliver(picture, again, call["packet"], times[lane], lane, block[0].split(" ", 2)[2])
         elif call["call"] == "restart":
@@ -37,17 +40,19 @@ def of_script(lines: Path, output: Path) -> Picture:
     return picture
 
 
-def _blocks(output: Path, count: int) -> Iterator[list[str]]:
-    """Returns the output of each call, whose last line is the next timeout."""
-    block: list[str] = []
-    told = 0
+def _blocks(output: Path, count: int) -> list[list[str]]:
+    """Returns the output of each call: the line with its result, and after it what was polled then. That may be nothing."""
+    blocks: list[list[str]] = []
     for line in output.read_text(encoding="utf-8").splitlines():
-        block.append(line)
-        if line.split(" ")[1:2] == ["wake"]:
-            yield block
-            block, told = [], told + 1
-    if told < count:
-        raise BadScript(f"{output}: has {told} calls, but the script has {count}")
+        if line.split(" ")[1:2] not in POLLED:
+            blocks.append([line])
+        elif blocks:
+            blocks[-1].append(line)
+        else:
+            raise BadScript(f"{output}: begins with {line}, and not with the result of a call")
+    if len(blocks) != count:
+        raise BadScript(f"{output}: has {len(blocks)} calls, but the script has {count}")
+    return blocks
 
 
 def _take(picture: Picture, transactions: Transactions, time: int, lane: str, line: str) -> None:

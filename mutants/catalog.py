@@ -1,14 +1,17 @@
 """Reads the mutants: those of CI in crates/CRATE/must-fail/*.edit, and the files mutants/bodies/CRATE.txt and
 mutants/specifications/CRATE.txt. docs/TESTING.md describes the format."""
-import collections, functools, pathlib, sys
+import collections, functools, pathlib, re, sys
 
 here = pathlib.Path(__file__).resolve().parent
 top = here.parent
 
 # rules: the guarantees that it breaks, as docs/PROMISES.md has them, or the beginnings of these. changes: pairs of an old and a new text.
-Mutant = collections.namedtuple("Mutant", "name crate kind place rules theorem file changes")
+# within: the function in which the old texts are, or None for the whole file.
+Mutant = collections.namedtuple("Mutant", "name crate kind place rules theorem file within changes")
 
 KINDS = ("ci", "bodies", "specifications")
+
+FUNCTION = re.compile(r"\s*(?:pub(?:\([^)]*\))?\s+)?(?:(?:const|unsafe|extern(?:\s+\"[^\"]*\")?)\s+)*fn\s+(\w+)")
 
 
 def stop(path, number, why):
@@ -19,7 +22,7 @@ def parse(path, crate, kind):
     """The mutants of a file, of which an edit of CI has one."""
     found, rule, theorem = [], [], None
     if kind == "ci":
-        found.append(Mutant(path.stem.rpartition(".")[2], crate, kind, (path, 1), [], None, [None], []))
+        found.append(Mutant(path.stem.rpartition(".")[2], crate, kind, (path, 1), [], None, [None], [None], []))
     old = None
     for number, line in enumerate(path.read_text().split("\n"), 1):
         key, text = line[:5], line[5:]
@@ -32,9 +35,11 @@ def parse(path, crate, kind):
         elif line.startswith("theorem: ") and kind == "specifications":
             theorem = line[9:]
         elif line.startswith("mutant: ") and kind != "ci":
-            found.append(Mutant(line[8:], crate, kind, (path, number), [*rule], theorem, [None], []))
+            found.append(Mutant(line[8:], crate, kind, (path, number), [*rule], theorem, [None], [None], []))
         elif line.startswith("file: ") and found and found[-1].file == [None]:
             found[-1].file[0] = line[6:]
+        elif line.startswith("in: ") and kind == "bodies" and found and found[-1].within == [None] and not found[-1].changes:
+            found[-1].within[0] = line[4:]
         elif key == "old: " and found and old is None:
             old = text
         elif line.startswith("new:") and old is not None:
@@ -51,7 +56,7 @@ def finished(mutant):
                                       ("theorem:", mutant.theorem or mutant.kind != "specifications")) if not has]
     if lacking:
         stop(*mutant.place, f"{mutant.name} has no {' and no '.join(lacking)}")
-    return mutant._replace(file=mutant.file[0])
+    return mutant._replace(file=mutant.file[0], within=mutant.within[0])
 
 
 def paths(kind, crate):
@@ -79,12 +84,43 @@ def text_of(crate, file):
     return path.read_text() if path.exists() else ""
 
 
+def first_line(lines, head):
+    """The first line of the function whose `fn` is in this line: that of its attributes, to which notes on it point."""
+    while lines[head - 2].lstrip().startswith("#["):
+        head -= 1
+    return head
+
+
+def functions(text):
+    """The name of each function, the line of its `fn`, and its lines, which end where the next one begins. Lines count from 1."""
+    lines = text.split("\n")
+    heads = [i for i, line in enumerate(lines, 1) if FUNCTION.match(line)]
+    ends = [first_line(lines, head) for head in heads[1:]] + [len(lines) + 1]
+    return [(FUNCTION.match(lines[head - 1])[1], head, range(first_line(lines, head), end)) for head, end in zip(heads, ends)]
+
+
+def bounds(mutant):
+    """Where in its file the old texts are looked for, from a place to one after the end; None if its function is not there once."""
+    text = text_of(mutant.crate, mutant.file)
+    if mutant.within is None:
+        return 0, len(text)
+    own = [lines for name, _, lines in functions(text) if name == mutant.within]
+    starts = [0, *(i + 1 for i, character in enumerate(text) if character == "\n"), len(text)]
+    return (starts[own[0].start - 1], starts[own[0].stop - 1]) if len(own) == 1 else None
+
+
 def stale(mutant):
     """Why the mutant can't be applied to the crate as it is, one line for each change."""
+    where = f"crates/{mutant.crate}/{mutant.file}"
+    found = bounds(mutant)
+    if found is None:
+        yield f"there is not exactly one fn {mutant.within} in {where}"
+        return
     for old, _ in mutant.changes:
-        count = text_of(mutant.crate, mutant.file).count(old)
+        count = text_of(mutant.crate, mutant.file).count(old, *found)
         if count != 1:
-            yield f"its text is {count} times in crates/{mutant.crate}/{mutant.file}: {old.strip()[:100]}"
+            inside = f"fn {mutant.within} of " if mutant.within else ""
+            yield f"its text is {count} times in {inside}{where}: {old.strip()[:100]}"
 
 
 def same_names(found):

@@ -12,10 +12,9 @@ A pass puts one mutant of each function into a copy and checks that once. The ve
 What earlier checks stored in out/ is copied too, so that a pass checks only what a mutant affects."""
 import collections, os, pathlib, re, subprocess, sys, tempfile, time
 
-from catalog import text_of
+from catalog import bounds, functions, text_of
 from common import copy_crate, copy_lower, messages
 
-FUNCTION = re.compile(r"\s*(?:pub(?:\([^)]*\))?\s+)?(?:(?:const|unsafe|extern(?:\s+\"[^\"]*\")?)\s+)*fn\s+(\w+)")
 IMPL = re.compile(r"\s*impl\b(?:<[^{]*?>)?\s+(?:.*\sfor\s+)?(\w+)")
 # The words of an unproved goal: as a note at the code, in a function's line, in an error of its stored proof.
 NOTED = "it is not proved that "
@@ -27,36 +26,27 @@ Change = collections.namedtuple("Change", "start end new line")
 Edit = collections.namedtuple("Edit", "name file function owner lines changes")
 
 
-def first_line(lines, head):
-    """The first line of the function whose `fn` is in this line: that of its attributes, to which notes on it point."""
-    while lines[head - 2].lstrip().startswith("#["):
-        head -= 1
-    return head
-
-
 def located(mutant):
     """The places of its changes."""
     text = text_of(mutant.crate, mutant.file)
     for old, new in mutant.changes:
-        start = text.index(old)
+        start = text.index(old, *bounds(mutant))
         yield Change(start, start + len(old), new, text.count("\n", 0, start) + 1)
 
 
 def edit_of(mutant):
     """The edit that it is, of the one function that it changes; or why it is none."""
     changes = list(located(mutant))
-    lines = text_of(mutant.crate, mutant.file).split("\n")
-    heads = [i for i, line in enumerate(lines, 1) if FUNCTION.match(line)]
-    homes = {max((h for h in heads if h <= change.line), default=None) for change in changes}
-    if len(homes) != 1 or None in homes:
+    text = text_of(mutant.crate, mutant.file)
+    lines = text.split("\n")
+    homes = {place for change in changes for place in functions(text) if change.line in place[2]}
+    if len(homes) != 1 or any(change.line not in own for _, _, own in homes for change in changes):
         return None, "it does not change exactly one function"
-    head = homes.pop()
-    following = min((h for h in heads if h > head), default=len(lines) + 1)
-    own = range(first_line(lines, head), first_line(lines, following))
+    function, head, own = homes.pop()
     owner = None
     if lines[head - 1].startswith(" "):
         owner = next((IMPL.match(line)[1] for line in reversed(lines[:head]) if IMPL.match(line)), None)
-    return Edit(mutant.name, mutant.file, FUNCTION.match(lines[head - 1])[1], owner, own, changes), None
+    return Edit(mutant.name, mutant.file, function, owner, own, changes), None
 
 
 def check(crate, edits, folder):

@@ -16,8 +16,6 @@
 #define _DEFAULT_SOURCE
 #include "peer.h"
 #include <errno.h>
-#include <limits.h>
-#include <poll.h>
 #include <stdio.h>
 #include <stdlib.h>
 #include <string.h>
@@ -28,7 +26,7 @@ enum { INPUT = 16384, BURST = 64, LONGEST = 86400 };
 struct options {
     const char *addresses[NET_SOCKETS], *server, *message, *capture;
     size_t address_count;
-    bool loopback, lite, renomination, controlling;
+    bool loopback, lite, controlling;
     uint64_t patience;
 };
 
@@ -146,9 +144,7 @@ static bool is_trusted(struct session *s, const is_ice_address *from)
 static void hear(struct session *s, const is_ice_address *from, uint8_t *bytes, size_t length)
 {
     if (!is_trusted(s, from)) return;
-    for (size_t i = 0; i < length; i++)
-        if (bytes[i] < ' ' || bytes[i] == 127) bytes[i] = '?';
-    fprintf(stderr, "heard %.*s\n", (int)length, (const char *)bytes);
+    fprintf(stderr, "heard %.*s\n", (int)length, net_printable(bytes, length));
     s->has_heard = true;
 }
 
@@ -239,9 +235,8 @@ static void take_command(struct session *s, const char *line)
     if (strcmp(line, "/quit") == 0) s->is_over = true;
     else if (strcmp(line, "/stats") == 0) print_stats(s);
     else if (strcmp(line, "/pairs") == 0) print_pairs(s);
-    else if (strcmp(line, "/restart") == 0) {
-        if (warn("restart", signal_restart(&s->agent)) == IS_ICE_OK) warn("signal", signal_print(&s->agent));
-    } else fprintf(stderr, "peer: %s: unknown command; there are /restart, /stats, /pairs and /quit\n", line);
+    else if (strcmp(line, "/restart") == 0) warn("restart", signal_restart(&s->agent, NULL));
+    else fprintf(stderr, "peer: %s: unknown command; there are /restart, /stats, /pairs and /quit\n", line);
 }
 
 /* Whether the line's first word, which ends with a blank or the line, is this one. */
@@ -306,27 +301,14 @@ static void say_message(struct session *s, uint64_t now)
     if (s->has_heard && s->state != IS_ICE_CHECKING && s->end > now + SECOND) s->end = now + SECOND;
 }
 
-static struct pollfd readable(int descriptor)
-{
-    struct pollfd wait = {0};
-    wait.fd = descriptor;
-    wait.events = POLLIN;
-    return wait;
-}
-
 /* Waits for a datagram or a line, until this time at the latest. */
 static void wait_until(struct session *s, uint64_t until)
 {
-    struct pollfd waits[NET_SOCKETS + 1];
-    uint64_t now = net_now(), left = until > now ? (until - now + MILLISECOND - 1) / MILLISECOND : 0;
-    for (size_t i = 0; i < s->net.count; i++) waits[i] = readable(s->net.sockets[i]);
-    waits[s->net.count] = readable(s->input_is_over ? -1 : STDIN_FILENO);
-    int ready = poll(waits, (nfds_t)s->net.count + 1, left < INT_MAX ? (int)left : INT_MAX);
-    if (ready < 0 && errno != EINTR) stop("poll", strerror(errno));
-    if (ready <= 0) return;
+    bool ready[NET_SOCKETS + 1];
+    if (!net_wait(&s->net, !s->input_is_over, until, ready)) stop("poll", strerror(errno));
     for (size_t i = 0; i < s->net.count; i++)
-        if (waits[i].revents) receive(s, i);
-    if (waits[s->net.count].revents) read_input(s);
+        if (ready[i]) receive(s, i);
+    if (ready[s->net.count]) read_input(s);
 }
 
 static void run(struct session *s)
@@ -373,21 +355,13 @@ static void begin_agent(struct session *s, const struct options *o)
     if (code == IS_ICE_OK) code = is_ice_set_controlling(&s->agent, o->controlling);
     if (code == IS_ICE_OK) code = is_ice_set_lite(&s->agent, o->lite);
     if (code == IS_ICE_OK) code = is_ice_set_lite_timeout(&s->agent, 30 * SECOND);
-    if (code == IS_ICE_OK) code = is_ice_set_renomination(&s->agent, o->renomination);
-    for (size_t i = 0; i < s->net.count && code >= 0; i++) {
-        size_t added;
-        is_ice_candidate host = {0};
-        host.kind = IS_ICE_HOST;
-        host.protocol = IS_ICE_UDP;
-        host.address = s->net.addresses[i];
-        code = is_ice_add_local(&s->agent, &host, &added);
-    }
-    if (code >= 0) code = signal_print(&s->agent);
+    if (code == IS_ICE_OK) code = signal_add_hosts(&s->agent, &s->net);
+    if (code == IS_ICE_OK) code = signal_print(&s->agent);
     if (code < 0) stop("agent", is_ice_code_text(code));
 }
 
 static const char usage[] =
-    "peer [-h] [-l] [-a ADDRESS].. [-s SERVER[:PORT]] [-L] [-r] [-m TEXT] [-t SECONDS] [-w FILE] controlling|controlled";
+    "peer [-h] [-l] [-a ADDRESS].. [-s SERVER[:PORT]] [-L] [-m TEXT] [-t SECONDS] [-w FILE] controlling|controlled";
 
 static const char help[] =
     "Connects to another peer over UDP, and lets both users chat.\n"
@@ -401,7 +375,6 @@ static const char help[] =
     "  -l                  without -a: at loopback addresses too\n"
     "  -s SERVER[:PORT]    queries this STUN server for the sockets' public addresses; port 3478\n"
     "  -L                  runs as a lite agent, which has to be controlled\n"
-    "  -r                  lets each nomination replace the ones before, if the other peer has it too\n"
     "  -m TEXT             sends TEXT until chat was received, and ends a second later\n"
     "  -t SECONDS          ends with status 1 after this time, at most %d\n"
     "  -w FILE             writes what is sent and received as a capture for Wireshark (pcap)\n"
@@ -431,7 +404,7 @@ static void read_options(struct options *o, int count, char **words)
 {
     int option;
     o->patience = UINT64_MAX;
-    while ((option = getopt(count, words, "hla:s:Lrm:t:w:")) != -1) {
+    while ((option = getopt(count, words, "hla:s:Lm:t:w:")) != -1) {
         switch (option) {
         case 'h': printf(help, usage, (int)NET_SOCKETS, (int)LONGEST); exit(0);
         case 'l': o->loopback = true; break;
@@ -441,7 +414,6 @@ static void read_options(struct options *o, int count, char **words)
             break;
         case 's': o->server = optarg; break;
         case 'L': o->lite = true; break;
-        case 'r': o->renomination = true; break;
         case 'm': o->message = optarg; break;
         case 't': o->patience = seconds(optarg); break;
         case 'w': o->capture = optarg; break;

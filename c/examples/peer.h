@@ -36,6 +36,7 @@ struct net {
     is_ice_address addresses[NET_SOCKETS];
     uint64_t lost; /* datagrams that could not be sent */
     int lost_why;  /* errno of the last one */
+    uint64_t look; /* when net_move looks at the machine's addresses next */
     struct pcap pcap; /* what was sent and received, if it is captured */
 };
 
@@ -53,6 +54,14 @@ bool net_bind(struct net *net, const char *address, const char **why);
 void net_bind_all(struct net *net, bool loopback);
 void net_close(struct net *net);
 
+/* If the machine has other addresses than the sockets, closes these, binds others there and returns true. It looks every two
+ * seconds: at those of the interfaces, or only at this address, unless it is NULL. */
+bool net_move(struct net *net, uint64_t now, const char *only);
+
+/* Waits until this time for a datagram, and for standard input if `input` is true. ready[i]: the socket i has something to read;
+ * ready[net->count]: standard input has. Returns false, with errno, if waiting fails. */
+bool net_wait(const struct net *net, bool input, uint64_t until, bool ready[NET_SOCKETS + 1]);
+
 /* Resolves a server, as "stun.example.org:3478", "192.0.2.1" or "[2001:db8::1]:3478", to at most one address of each IP
  * version. Returns their number; if it is 0, *why is a text that says why. */
 size_t net_resolve(const char *server, const char *port, is_ice_address found[2], const char **why);
@@ -64,6 +73,9 @@ void net_send(struct net *net, const is_ice_address *from, const is_ice_address 
 ssize_t net_receive(struct net *net, size_t index, void *bytes, size_t size, is_ice_address *from);
 
 bool net_equal(const is_ice_address *a, const is_ice_address *b);
+
+/* Replaces control characters, for a terminal, and returns the bytes. */
+const char *net_printable(uint8_t *bytes, size_t length);
 
 /* Writes the address as "192.0.2.1:1000" or "[2001:db8::1]:1000", and returns the text. */
 const char *net_text(const is_ice_address *address, char text[NET_TEXT]);
@@ -104,9 +116,15 @@ int32_t signal_print(is_ice_agent *agent);
 /* Prints the local candidate of this index, for one that is found after the signal was printed. */
 int32_t signal_print_candidate(is_ice_agent *agent, size_t index);
 
-/* Draws new credentials, and creates an agent with them, or makes an ICE restart. */
+/* Draws new credentials, and creates an agent with them. */
 int32_t signal_begin(is_ice_agent *agent);
-int32_t signal_restart(is_ice_agent *agent);
+
+/* Adds the address of each socket as a host candidate. */
+int32_t signal_add_hosts(is_ice_agent *agent, const struct net *net);
+
+/* Makes an ICE restart with new credentials, and prints the signal. With `net` its sockets become the only candidates; if it is
+ * NULL the candidates stay. */
+int32_t signal_restart(is_ice_agent *agent, const struct net *net);
 
 /* Takes the other peer's signal: the text after the word "signal". New credentials mean an ICE restart of the other peer;
  * then this one restarts too, and prints its new signal. A malformed signal is reported on standard error. */

@@ -5,9 +5,11 @@
 #include <errno.h>
 #include <fcntl.h>
 #include <ifaddrs.h>
+#include <limits.h>
 #include <net/if.h>
 #include <netdb.h>
 #include <netinet/in.h>
+#include <poll.h>
 #include <stdio.h>
 #include <stdlib.h>
 #include <string.h>
@@ -85,6 +87,13 @@ const char *net_text(const is_ice_address *address, char text[NET_TEXT])
     inet_ntop(address->family == 4 ? AF_INET : AF_INET6, address->bytes, ip, sizeof ip);
     snprintf(text, NET_TEXT, address->family == 4 ? "%s:%u" : "[%s]:%u", ip, (unsigned)address->port);
     return text;
+}
+
+const char *net_printable(uint8_t *bytes, size_t length)
+{
+    for (size_t i = 0; i < length; i++)
+        if (bytes[i] < ' ' || bytes[i] == 127) bytes[i] = '?';
+    return (const char *)bytes;
 }
 
 /* A port from 1 to 65535, in decimal digits. getaddrinfo would cut a greater one. */
@@ -210,6 +219,44 @@ void net_bind_all(struct net *net, bool loopback)
 void net_close(struct net *net)
 {
     while (net->count > 0) close(net->sockets[--net->count]);
+}
+
+bool net_move(struct net *net, uint64_t now, const char *only)
+{
+    struct net found = {0};
+    const char *why;
+    size_t same = 0;
+    if (now < net->look) return false;
+    net->look = now + 2 * SECOND;
+    if (!only) net_bind_all(&found, false);
+    else if (!net_bind(&found, only, &why)) fprintf(stderr, "peer: %s: %s\n", only, why);
+    while (same < found.count && same < net->count && memcmp(found.addresses[same].bytes, net->addresses[same].bytes, 16) == 0) same++;
+    bool has_moved = found.count > 0 && (same < found.count || same < net->count);
+    net_close(has_moved ? net : &found);
+    if (!has_moved) return false;
+    net->count = found.count;
+    memcpy(net->sockets, found.sockets, sizeof net->sockets);
+    memcpy(net->addresses, found.addresses, sizeof net->addresses);
+    return true;
+}
+
+static struct pollfd readable(int descriptor)
+{
+    struct pollfd wait = {0};
+    wait.fd = descriptor;
+    wait.events = POLLIN;
+    return wait;
+}
+
+bool net_wait(const struct net *net, bool input, uint64_t until, bool ready[NET_SOCKETS + 1])
+{
+    struct pollfd waits[NET_SOCKETS + 1];
+    uint64_t now = net_now(), left = until > now ? (until - now + MILLISECOND - 1) / MILLISECOND : 0;
+    for (size_t i = 0; i < net->count; i++) waits[i] = readable(net->sockets[i]);
+    waits[net->count] = readable(input ? STDIN_FILENO : -1);
+    int count = poll(waits, (nfds_t)net->count + 1, left < INT_MAX ? (int)left : INT_MAX);
+    for (size_t i = 0; i <= net->count; i++) ready[i] = count > 0 && waits[i].revents != 0;
+    return count >= 0 || errno == EINTR;
 }
 
 void net_send(struct net *net, const is_ice_address *from, const is_ice_address *to, const void *bytes, size_t length)

@@ -28,12 +28,28 @@ int32_t signal_begin(is_ice_agent *agent)
     return is_ice_agent_new(agent, creds.ufrag, sizeof creds.ufrag, creds.pass, sizeof creds.pass, tie_breaker);
 }
 
-int32_t signal_restart(is_ice_agent *agent)
+int32_t signal_add_hosts(is_ice_agent *agent, const struct net *net)
+{
+    int32_t code = IS_ICE_OK;
+    for (size_t i = 0; i < net->count && code >= 0; i++) {
+        size_t added;
+        is_ice_candidate host = {0};
+        host.kind = IS_ICE_HOST;
+        host.protocol = IS_ICE_UDP;
+        host.address = net->addresses[i];
+        code = is_ice_add_local(agent, &host, &added);
+    }
+    return code < 0 ? code : IS_ICE_OK;
+}
+
+int32_t signal_restart(is_ice_agent *agent, const struct net *net)
 {
     struct creds creds;
     int32_t code = draw(&creds);
     if (code != IS_ICE_OK) return code;
-    return is_ice_restart(agent, creds.ufrag, sizeof creds.ufrag, creds.pass, sizeof creds.pass, true);
+    code = is_ice_restart(agent, creds.ufrag, sizeof creds.ufrag, creds.pass, sizeof creds.pass, net == NULL);
+    if (code == IS_ICE_OK && net) code = signal_add_hosts(agent, net);
+    return code == IS_ICE_OK ? signal_print(agent) : code;
 }
 
 /* ---- printing */
@@ -114,10 +130,7 @@ int32_t signal_take(is_ice_agent *agent, char *text)
         return IS_ICE_NOTHING;
     }
     int32_t code = known(agent, ufrag);
-    if (code == IS_ICE_HAS_AGENT) {
-        code = signal_restart(agent);
-        if (code == IS_ICE_OK) code = signal_print(agent);
-    }
+    if (code == IS_ICE_HAS_AGENT) code = signal_restart(agent, NULL);
     if (code == IS_ICE_NOTHING)
         code = is_ice_set_remote_credentials(agent, (const uint8_t *)ufrag, strlen(ufrag), (const uint8_t *)pass, strlen(pass));
     while (code >= 0 && (line = word(&text, ",")) != NULL) code = signal_take_candidate(agent, line);

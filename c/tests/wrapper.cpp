@@ -1,6 +1,8 @@
-// Tests is_ice.hpp: an agent that is moved and freed, errors as exceptions, what may be absent, events, texts and STUN messages.
+// Tests is_ice.hpp: an agent that is moved and freed, errors as exceptions, what may be absent, events, texts and STUN messages; as C++20
+// also datagrams as spans.
 // The status is 0, or the program names the first value that is not as expected.
 #include "is_ice.hpp"
+#include <algorithm>
 #include <cstdio>
 #include <cstdlib>
 #include <type_traits>
@@ -170,6 +172,40 @@ static void has_stun_messages()
     HOLD(thrown([] { is_ice::stun_read("media", 5); }).code() == IS_ICE_UNPARSED);
 }
 
+static void passes_codes_on()
+{
+    HOLD(thrown([] { is_ice::checked(IS_ICE_NO_AGENT); }).code() == IS_ICE_NO_AGENT && is_ice::checked(IS_ICE_NOTHING) == IS_ICE_NOTHING);
+    is_ice::agent agent("ufrag", "pass", 1);
+    HOLD(is_ice::checked(is_ice_set_lite(agent.get(), true)) == IS_ICE_OK && agent.status().lite);
+}
+
+#if __cplusplus >= 202002L
+/* A span is passed on as its pointer and its length, whatever it views, and an empty one too. */
+static void takes_spans()
+{
+    is_ice::agent asks("ufrag", "password of one", 1), responds("peer", "password", 2);
+    asks.set_remote_credentials("peer", "password");
+    responds.set_remote_credentials("ufrag", "password of one");
+    HOLD(asks.add_local(host(1)) && responds.add_local(host(2)) && asks.add_remote(is_ice::candidate_line(host(2))) == is_ice::added::yes);
+    asks.handle_timeout(1s, NONE);
+    auto check = *asks.poll_transmit();
+    auto longer = check.contents;
+    longer.push_back(0);
+    is_ice::bytes all(longer), sent = all.first(check.contents.size());
+    HOLD(responds.accepts_message(sent) == is_ice::handled::accepted && responds.accepts_message(all) == is_ice::handled::unparsed);
+    HOLD(responds.accepts_packet(IS_ICE_UDP, check.source, check.destination, sent) == is_ice::handled::accepted);
+    HOLD(responds.handle_packet(1s, IS_ICE_UDP, check.source, check.destination, {}) == is_ice::handled::unparsed);
+    HOLD(responds.handle_packet(1s, IS_ICE_UDP, check.source, check.destination, check.contents) == is_ice::handled::accepted);
+    HOLD(is_ice::stun_read_strict(sent).has_fingerprint && is_ice::stun_read(sent).method == IS_ICE_STUN_BINDING);
+    HOLD(is_ice::stun_username(sent)->text == "peer:ufrag" && is_ice::stun_verify(sent, "password") && !is_ice::stun_verify(sent, "other"));
+    HOLD(!is_ice::stun_text(IS_ICE_STUN_SOFTWARE, sent) && thrown([&] { is_ice::stun_read(all); }).code() == IS_ICE_UNPARSED);
+    std::array<uint8_t, IS_ICE_STUN_REQUEST_LENGTH> query{};
+    auto written = is_ice::stun_request({{1, 2, 3}});
+    std::copy(written.begin(), written.end(), query.begin());
+    HOLD(is_ice::stun_read(query).method == IS_ICE_STUN_BINDING && !is_ice::stun_response({{1, 2, 3}}, query));
+}
+#endif
+
 int main()
 {
     owns_an_agent();
@@ -179,4 +215,8 @@ int main()
     settings_are_kept();
     has_a_session();
     has_stun_messages();
+    passes_codes_on();
+#if __cplusplus >= 202002L
+    takes_spans();
+#endif
 }

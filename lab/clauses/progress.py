@@ -105,3 +105,10 @@ def has_announced(agent: Agent) -> bool:
     """Whether the selected pair is eligible, and the chosen one or, unless the agent follows its peer, as great (`HasSelected`)."""
     top = agent.chosen()
     return top is not None and agent.remains(top) and any(p.number == agent.selected and agent.is_eligible(p) for p in agent.pairs)
+
+
+def has_selected(agent: Agent, path: Path) -> bool:
+    """Whether the path is that of an eligible pair, and of the chosen one or, unless the agent follows its peer, of one as great
+    (`HasSelected`)."""
+    top, eligible = agent.chosen(), [p for p in agent.on(path) if agent.is_eligible(p)]
+    return top is not None and any(p.number == top.number or (not agent.follows and p.priority == top.priority) for p in eligible)

@@ -2,8 +2,9 @@
 
 from __future__ import annotations
 
+from ..candidates import Joined, local_place
 from ..kinds import COUNT, kind_between, kind_of
-from ..model import Agent, Joined, local_place
+from ..model import Agent
 from ..pairs import Pair, Path
 from ..replay import Step
 from .execution import Execution, Round, any_in, is_between
@@ -52,7 +53,7 @@ def may_be_removed(agent: Agent, combinations: list[tuple[int, int]], pair: Pair
     return (are_many and is_over) or any(is_replaced_by(agent, pair, c) for c in combinations)
 
 
-def may_end_by_joining(joined: Joined | None, pair: Pair) -> bool:
+def may_end_by_joining(joined: Joined[Agent] | None, pair: Pair) -> bool:
     """Whether an added candidate may remove the pair: an ignored one does not (`MayEndByRemote`, `MayEndByLocal`)."""
     if joined is None:
         return False

@@ -47,6 +47,22 @@ def first_that_holds(choices: Iterable[C], lacking: Callable[[C], Lacks], verdic
     return Verdict(", ".join(least) if least is not None else otherwise)
 
 
+def first_of_all(choices: Iterable[C], lacking: Callable[[C], Lacks], verdict: Callable[[C], Verdict], otherwise: str) -> Verdict:
+    """Returns the same; but of all choices that lack nothing one whose conclusion did not come true, if there is one."""
+    held: Verdict | None = None
+    least: Lacks | None = None
+    for choice in choices:
+        missing = lacking(choice)
+        if missing:
+            least = missing if least is None or len(missing) < len(least) else least
+            continue
+        found = verdict(choice)
+        if found.is_broken:
+            return found
+        held = held or found
+    return held or Verdict(", ".join(least) if least is not None else otherwise)
+
+
 def first_in(indices: list[int], part: range) -> int | None:
     """Returns the first of the sorted indices that is in the range."""
     return next((at for at in indices if at in part), None)

@@ -1,5 +1,6 @@
 """Tests pictures: the height of a time, break marks, where labels are, and what a script does not deliver."""
 
+import json
 import re
 import tempfile
 import unittest
@@ -9,7 +10,7 @@ from lab import bars, scenario, svg, theme
 from lab.labels import Box, box_of
 from lab.picture import Arrow, Picture, of_session
 from lab.scale import CUT, ROW, Scale
-from lab.script import of_script
+from lab.script import BadScript, of_script
 from lab.session import Session, Trace
 
 MS = 10**6
@@ -104,6 +105,30 @@ class Words(unittest.TestCase):
         self.assertNotIn("lost", drawn)
         self.assertIn(">check 3, USE-CANDIDATE<", drawn)
         self.assertIn(">discovered 10.0.0.2:2000<", drawn)
+
+    def test_a_script_after_whose_lines_nothing_is_polled(self) -> None:
+        """Each call prints its result alone, until a poll; then the picture has the packets that it returned, at its time."""
+        calls = [dict(json.loads(line)) for line in SCRIPT.read_text(encoding="utf-8").splitlines() if line]
+        lines = SCRIPT.with_name("connect.out").read_text(encoding="utf-8").splitlines()
+        first = next(place for place, call in enumerate(calls) if call["call"] == "timeout")
+        at = next(place for place, line in enumerate(lines) if line == "A timeout ok")
+        sent, events = lines[at + 1], lines[at + 2:at + 4]
+        calls[first]["polls"] = False
+        waits = [{"call": "poll", "on": "A", "what": what} for what in ("transmit", "event", "event", "timeout", "event")]
+        printed = ["A timeout ok"] + [line for polled in (sent, *events, lines[at + 4]) for line in ("A poll ok", polled)] + ["A poll none"]
+        with tempfile.TemporaryDirectory() as folder:
+            script, output = Path(folder) / "script", Path(folder) / "out"
+            script.write_text("\n".join(json.dumps(call) for call in [*calls[:first + 1], *waits, *calls[first + 1:]]), encoding="utf-8")
+            output.write_text("\n".join([*lines[:at], *printed, *lines[at + 5:]]), encoding="utf-8")
+            drawn = of_script(script, output)
+            plain = of_script(SCRIPT, SCRIPT.with_name("connect.out"))
+            self.assertEqual((drawn.arrows, drawn.flags, drawn.states), (plain.arrows, plain.flags, plain.states))
+            output.write_text("\n".join(lines[:at]), encoding="utf-8")
+            self.assertRaisesRegex(BadScript, "calls, but the script has", of_script, script, output)
+            output.write_text("A wake none\n", encoding="utf-8")
+            self.assertRaisesRegex(BadScript, "not with the result of a call", of_script, script, output)
+            output.write_text("\n".join(["A mtu ok"] * (len(calls) + len(waits))), encoding="utf-8")
+            self.assertRaisesRegex(BadScript, "is not the output of", of_script, script, output)
 
 
 class Bars(unittest.TestCase):

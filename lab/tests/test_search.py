@@ -7,7 +7,7 @@ from random import Random
 from typing import TypeVar
 
 from is_ice import Transmit
-from lab.clauses import both, connect, due_rounds, nomination_accepted, meet, rounds, single, world_rounds
+from lab.clauses import both, connect, due_rounds, in_time, meet, nomination_accepted, rounds, single, world_rounds
 from lab.clauses.execution import Execution, Lacks
 from lab.clauses.accepted_nominations import Network
 from lab.clauses.verdict import Verdict
@@ -121,6 +121,19 @@ class Searches(unittest.TestCase):
             return earliest(n, every, lambda c: world_rounds.lacking(n, c), lambda c: c.end - 1)
 
         self.compare("rounds", world_rounds.find, found)
+
+    def test_checks_in_time(self) -> None:
+        held = 0
+        for seed in self.SEEDS:
+            n = random_story(seed).network()
+            every = (in_time.Choice(side, path, first, last + 1) for side in SIDES for path in paths_of(n, side)
+                     for place, first in enumerate(n.x.timeouts[side]) for last in n.x.timeouts[side][place:])
+            good = [c for c in every if not in_time.lacking(n.x, c)]
+            self.assertEqual([c for c in good if in_time.verdict_of(n.x, c).is_broken], [], f"seed {seed}")
+            own = in_time.find(n.x)
+            self.assertEqual((own.held, own.is_broken), (bool(good), False), f"seed {seed}: {own.failed}")
+            held += own.held
+        self.assertGreater(held, 2)
 
     def test_rounds_of_one_agent(self) -> None:
         self.compare_rounds_of_one_agent("run: rounds", rounds.find, rounds.lacking)

@@ -17,20 +17,11 @@ SECOND = 1_000_000_000                            # times are nanoseconds
 
 class Chat:
     def __init__(self, role, option=None):
-        self.agent, self.is_local = IceAgent(), option == "-l"
+        self.agent, self.is_local, self.hosts = IceAgent(), option == "-l", []
         self.agent.set_controlling(role == "controlling")
         self.agent.set_rules(replace(self.agent.rules, consent=Consent(5 * SECOND, strict=True)))  # notice a loss after 5 s, not 30:
         self.agent.set_max_stun_rto(SECOND)       # the path is checked each second
         self.loop = IceLoop(self.agent, self.note, self.hear)
-        self.hosts, self.path, self.checked = [], None, ""
-
-    async def has_moved(self):
-        """If the machine has other addresses, opens sockets there."""
-        ips = ["127.0.0.1"] if self.is_local else host_addresses()
-        if not ips or ips == [host.ip for host in self.hosts]:
-            return False
-        self.hosts = [await self.loop.open(ip) for ip in ips]
-        return True
 
     def restart(self):
         """Begins a session: prints new credentials and the candidates, for the peer."""
@@ -38,7 +29,6 @@ class Chat:
         self.agent.ice_restart(creds, keep_local_candidates=False)
         lines = [self.agent.add_local_candidate(Candidate.host(host)) for host in self.hosts]
         print("signal", creds.ufrag, creds.pass_, ",".join(lines), flush=True)
-        self.path, self.checked = None, ""
 
     def take(self, line):
         """Takes the peer's signal, /restart or chat."""
@@ -52,8 +42,8 @@ class Chat:
                 self.agent.add_remote_candidate(candidate)
         elif line == "/restart":
             self.restart()
-        elif self.path:
-            self.loop.send(*self.path, line.encode())
+        elif path := self.agent.nominated_pair:
+            self.loop.send(path.source, path.destination, line.encode())
         self.loop.wake()
 
     def hear(self, source, local, data):
@@ -62,24 +52,22 @@ class Chat:
 
     def note(self, event):
         if isinstance(event, NominatedSend):
-            self.path = event.source, event.destination
             print("path", event.source, "->", event.destination, flush=True)
         elif isinstance(event, IceConnectionStateChange):
-            is_lost = event.state.is_disconnected()
-            print("state", event.state.name.capitalize(), self.checked if is_lost else "", flush=True)
-            if is_lost and self.path:             # before the first path the peer may not have this side's line yet
-                self.restart()
+            stats, state = self.agent.stats, event.state.name.capitalize()
+            print(f"state {state}: {stats.bind_success_recv} of {stats.bind_request_sent} checks answered", flush=True)
+            if event.state.is_disconnected() and stats.nomination_send_count > 0:
+                self.restart()                    # before the first path the peer may not have this side's line yet
 
     async def watch(self):
-        """Each second looks at the addresses, and notes the pairs: one that fails is removed."""
+        """Every two seconds looks at the machine's addresses, and opens sockets if there are others."""
         while True:
-            if await self.has_moved():
+            ips = ["127.0.0.1"] if self.is_local else host_addresses()
+            if ips and ips != [host.ip for host in self.hosts]:
+                self.hosts = [await self.loop.open(ip) for ip in ips]
                 self.restart()
                 self.loop.begin()
-            to = self.agent.remote_fields()
-            pairs = [f"\n  to {to[it.remote].address}: {it.checks_sent} checks, {it.responses} responses" for it in self.agent.pairs]
-            self.checked = "".join(pairs) or self.checked
-            await asyncio.sleep(1)
+            await asyncio.sleep(2)
 
     async def run(self):
         reader = asyncio.StreamReader()
@@ -92,7 +80,6 @@ class Chat:
                 print("error", why, flush=True)   # the agent is as it was
         watch.cancel()
         self.loop.close()
-        print("ended", self.agent.state.name.capitalize(), self.checked)
 
 
 if len(sys.argv) < 2:

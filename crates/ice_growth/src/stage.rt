@@ -96,8 +96,7 @@ fn make_on(stage: &mut Stage, step: Step) -> Outcome {
         return Ok("no agent");
     };
     match step {
-        Step::Controlling => calls::lead(agent),
-        Step::Lite => Ok(make_lite(agent)),
+        Step::Controlling | Step::Lite => Ok(set(agent, step)),
         Step::CopyPair | Step::Invalidate => on_kept(agent, step, &stage.kept),
         Step::Timeout(ms) | Step::Idle(ms) => calls::pass_time(agent, ms, &mut stage.random),
         Step::Browser(_) | Step::Numbered(_) | Step::Answer(_) | Step::Stranger(_) => {
@@ -107,8 +106,11 @@ fn make_on(stage: &mut Stage, step: Step) -> Outcome {
     }
 }
 
-fn make_lite(agent: &mut Agent) -> &'static str {
-    agent.set_ice_lite(true);
+fn set(agent: &mut Agent, step: Step) -> &'static str {
+    match step {
+        Step::Controlling => agent.set_controlling(true),
+        _ => agent.set_ice_lite(true),
+    }
     "ok"
 }
 

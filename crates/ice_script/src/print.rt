@@ -11,7 +11,6 @@ fn rejection_name(error: &IceError) -> &'static str {
         IceError::MtuTooSmall => "MtuTooSmall",
         IceError::CredentialsTooLong => "CredentialsTooLong",
         IceError::PriorityTooHigh => "PriorityTooHigh",
-        IceError::LiteStaysControlled => "LiteStaysControlled",
     }
 }
 

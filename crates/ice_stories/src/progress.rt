@@ -11,4 +11,3 @@ mod rounds;
 mod seen;
 mod session;
 pub mod sessions;
-mod timed;

@@ -31,8 +31,6 @@ pub struct AgentRules {
     pub strict_consent: bool,
     pub selected_first: bool,
     pub timeout_after_requests: bool,
-    pub lite_keeps_role: bool,
-    pub numbered_nominations: bool,
 }
 
 /// How many requests trigger a check: 0 means that there are no triggered checks.
@@ -80,8 +78,6 @@ fn rules_of(rules: &AgentRules) -> Rules
         consent: consent_of(rules.consent_timeout, rules.strict_consent),
         selected_first: rules.selected_first,
         timeout_after_requests: rules.timeout_after_requests,
-        lite_keeps_role: rules.lite_keeps_role,
-        numbered_nominations: rules.numbered_nominations,
     }
 }
 
@@ -106,8 +102,6 @@ fn reported_rules(rules: Rules) -> AgentRules
         strict_consent,
         selected_first: rules.selected_first,
         timeout_after_requests: rules.timeout_after_requests,
-        lite_keeps_role: rules.lite_keeps_role,
-        numbered_nominations: rules.numbered_nominations,
     }
 }
 

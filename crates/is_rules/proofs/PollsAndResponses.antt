@@ -2,4 +2,3 @@
 pub mod NextTimeout
 pub mod AddressesInResponses
 pub mod LastTime
-pub mod CalmTimeouts

@@ -6,4 +6,3 @@ pub mod MultisetInclusion
 pub mod VacantIndices
 pub mod CandidatesByIndex
 pub mod PairsInTurn
-pub mod ServedPairs

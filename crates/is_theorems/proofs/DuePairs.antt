@@ -2,7 +2,6 @@
 pub mod AfterNominationAndRemoval
 pub mod ChecksAhead
 pub mod FirstDuePair
-pub mod PressingTimeouts
 pub mod AfterPackets
 pub mod WithoutValidPair
 pub mod PollingCycles

@@ -1,5 +1,4 @@
 -- Which path is selected, and after what.
-pub mod FirstNumbered
 pub mod GreatestEligiblePair
 pub mod SelectedPairIsNominated
 pub mod NominationPoints

@@ -2,4 +2,3 @@
 pub mod LastNominatedPair
 pub mod OnePathAtBothAgents
 pub mod LastNominatedPerAgent
-pub mod GreatestNumber

@@ -28,8 +28,6 @@ pub(super) const ORIGINAL: Rules = Rules {
     consent: None,
     selected_first: false,
     timeout_after_requests: false,
-    lite_keeps_role: false,
-    numbered_nominations: false,
 };
 
 /// What connects fastest, keeps consent, and has a next timeout after each call.
@@ -47,8 +45,6 @@ pub(super) const MODERN: Rules = Rules {
     }),
     selected_first: true,
     timeout_after_requests: true,
-    lite_keeps_role: true,
-    numbered_nominations: true,
 };
 
 const STORIES: [Story; 5] = [

@@ -2,7 +2,7 @@
 use super::history::{Does, History, Note};
 use super::seen::Seen;
 use crate::names::{back, of, other};
-use is::stun::{Class, TransId};
+use is::stun::Class;
 use is::{Instant, Side};
 
 /// What rounds lack to suffice for a pair (`HasRounds`), by name.
@@ -31,12 +31,6 @@ const INVALID: Rounds = "Invalid";
 
 /// It is not removed before its check.
 const YOUNG: Rounds = "Young";
-
-/// Consent does not end before its check (`IsLasting`).
-const LASTING: Rounds = "Lasting";
-
-/// Its nominations have no numbers.
-const UNNUMBERED: Rounds = "Unnumbered";
 
 /// Each `handle_timeout` call returns Ok.
 const DONE: Rounds = "Done";
@@ -69,9 +63,6 @@ fn lacks_in_line(seen: Seen, now: Instant) -> Result<Instant, Rounds> {
     }
     if seen.early > 0 {
         return Err(QUEUE);
-    }
-    if seen.numbered {
-        return Err(UNNUMBERED);
     }
     let Some(pair) = seen.awaited else {
         return Err(THERE);
@@ -108,7 +99,7 @@ fn does_in_round(note: &Note, side: Side) -> Result<InRound, Rounds> {
         Does::Timeout(now) if note.done => Ok(InRound::Timeout(now)),
         Does::Timeout(_) => Err(DONE),
         Does::Polls | Does::Receives(_, _) => Ok(InRound::Polls),
-        Does::Adds { .. } | Does::Sets | Does::Paces(_) => Ok(InRound::Calls),
+        Does::Adds { .. } | Does::Sets => Ok(InRound::Calls),
         Does::Clears | Does::Calls => Err(BETWEEN),
     }
 }
@@ -143,54 +134,7 @@ impl History {
             },
             None => return Err(COMES),
         };
-        let due = lacks_in_line(self.before(first, side), now)?;
-        if self.lasts(side, first, now) {
-            Ok((due, now))
-        } else {
-            Err(LASTING)
-        }
-    }
-
-    /// When the side sent the check with this id on its path.
-    fn sent_at(&self, side: Side, id: TransId) -> Option<Instant> {
-        for number in 0..self.notes.len() {
-            match self.check_at(number, side) {
-                Some(issued) if issued.id == id => return self.notes.get(number)?.time(),
-                _ => {}
-            }
-        }
-        None
-    }
-
-    /// When the last check on its path was sent that got a response before this entry.
-    fn consented_at(&self, side: Side, end: usize) -> Option<Instant> {
-        let mut last = None;
-        for note in self.notes.iter().take(end) {
-            if let Some((sender, what)) = note.packet
-                && sender == other(side)
-                && note.accepted
-                && what.class == Class::Success
-            {
-                last = match (last, self.sent_at(side, what.id)) {
-                    (Some(one), Some(two)) => Some(two.max(one)),
-                    (None, found) => found,
-                    (found, None) => found,
-                };
-            }
-        }
-        last
-    }
-
-    /// Consent of the pair, as it is before this entry, does not end before the time.
-    fn lasts(&self, side: Side, first: usize, now: Instant) -> bool {
-        let seen = self.before(first, side);
-        let (Some(pair), Some(consent)) = (seen.awaited, seen.consent) else {
-            return true;
-        };
-        match self.consented_at(side, first) {
-            Some(at) => !pair.valid || now < at + consent.timeout,
-            None => true,
-        }
+        Ok((lacks_in_line(self.before(first, side), now)?, now))
     }
 
     /// The rounds of the side from the first entry on, before the end.
@@ -211,9 +155,6 @@ impl History {
                 InRound::Timeout(now) if number > first => {
                     if now <= by {
                         return Err(LATE);
-                    }
-                    if !self.lasts(side, first, now) {
-                        return Err(LASTING);
                     }
                     kept.second = kept.second.min(number);
                     kept.later = kept.later.saturating_add(1);

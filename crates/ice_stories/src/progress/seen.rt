@@ -2,9 +2,7 @@
 //! is in at most one pair.
 use is::pair::{CandidatePair, CheckState};
 use is::stun::StunTiming;
-use is::{
-    CandidateKind, Consent, DefaultSha1HmacProvider, Duration, IceAgent, IceCreds, Instant, Path,
-};
+use is::{CandidateKind, DefaultSha1HmacProvider, Duration, IceAgent, IceCreds, Instant, Path};
 
 pub type Agent = IceAgent<DefaultSha1HmacProvider>;
 
@@ -37,12 +35,6 @@ pub struct Seen {
     pub nominated: bool,
     /// It has renomination.
     pub renominates: bool,
-    /// Its nominations have numbers.
-    pub numbered: bool,
-    /// When consent ends, by its rules.
-    pub consent: Option<Consent>,
-    /// Its pacing interval.
-    pub pace: Duration,
     /// Its checks may go ahead of pairs that are due earlier.
     pub goes_ahead: bool,
     pub awaited: Option<Awaited>,
@@ -141,9 +133,6 @@ pub fn settings(agent: &Agent, limit: usize) -> Seen {
         joined: 0,
         nominated: true,
         renominates: agent.renomination(),
-        numbered: agent.renomination() && agent.rules().numbered_nominations,
-        consent: agent.rules().consent,
-        pace: Duration(0),
         goes_ahead: agent.rules().kinds_in_turn
             || agent.rules().triggered_checks.is_some()
             || agent.rules().selected_first,

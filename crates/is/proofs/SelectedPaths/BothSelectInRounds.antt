@@ -1,6 +1,6 @@
 -- Both of two agents select a path in rounds in which the network delivers. The preconditions that mutants/specifications
 -- changes are read by tactics.
-use Rattle.std.proofs.Common.{◌≡◌, ℕ, suc, ◌<◌, Bool, true, false, List, [], ◌∷◌, ◌++◌, length, Option, Some, None, inl, inr, ◌⊎◌, refl, ap, sym, ◌∙◌, subst, arith, if◌then◌else◌, Ok}
+use Rattle.std.proofs.Common.{◌≡◌, ℕ, suc, ◌<◌, Bool, true, false, List, [], ◌∷◌, ◌++◌, length, Option, Some, None, inl, inr, ◌⊎◌, refl, ap, sym, ◌∙◌, subst, arith, if◌then◌else◌}
 use Rattle.std.specs.Prelude.{slice_get}
 use Rattle.is_proto.specs.Lists.{Has}
 use Rattle.is_proto.specs.Packets.{Packet}
@@ -23,7 +23,7 @@ use Rattle.is_theorems.specs.FirstTimeouts.{AreInRound, IsOpenRound, EndsAmong, 
 use Rattle.is_rules.specs.Sound.{FreshIsSound}
 use Rattle.is_rules.specs.Steps as agent
 use Rattle.is_rules.specs.Steps.{Answer, Entry, Done, Rejected, quiet, Step}
-use Rattle.is.specs.declared.world_events.Side.{Side}
+use Rattle.is.specs.declared.world.Side.{Side}
 use Rattle.is.specs.Connections.{HasRounds, Succeeds, BothConnect}
 use Rattle.is.specs.AcceptedNominationsIn.{Occurrence, IsAskedOver}
 use Rattle.is.specs.Deliveries.{MakesPolls}
@@ -154,7 +154,7 @@ module _ {H P : Type 0} (mac : H → List ℕ → List ℕ → List ℕ) (answer
       subst (λ i. Suffices by r.now (at side r.timeout.before) (at side c.0) (at side last) i) (sym many)
       (subst (λ (w : WorldRecord H P). Suffices by r.now (at side r.timeout.before) (at side w) (at side last) (length later)) second (search enough)) in
       elim (reach (fresh (at side first).provider n.0 n.1) (at side r.timeout.before) (at side last) ((agent.SetControlling n.2, quiet Done) ∷ xs) (round_of side r) (rounds_of side later) p by
-      (n.0, n.1, refl) (at side first, source_of side s, source_of side s, tt, (Ok _, refl, (refl, n.3), refl), led) line (let from = kept.from in omega (arith, from)) own_first.done own_first.early (is_open side r own_first)
+      (n.0, n.1, refl) (at side first, source_of side s, source_of side s, tt, (refl, n.3, refl), led) line (let from = kept.from in omega (arith, from)) own_first.done own_first.early (is_open side r own_first)
       (at side r.timeout.following, at side c.0, source_of side u, moves.0, moves.1, o.0, k.0) (are_open side by r later kept)
       (each_round (λ c. IsLasting c.now (at side r.timeout.before) p) side later (λ x has. lasting x has)) so_many) [
         | inl (x, id, has, out) ↦ (let z = back side (r ∷ later) x has in inl (z.0, z.1, (id, ap (λ (y : CourseRound P). y.timeout.emitted.issued) z.2 ∙ out)))

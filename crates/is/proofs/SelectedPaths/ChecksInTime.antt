@@ -17,8 +17,8 @@ use Rattle.is_theorems.specs.FirstTimeouts.{Suffices}
 use Rattle.is_theorems.specs.InTime as law
 use Rattle.is_theorems.specs.InTime.{CoursesReachInTime}
 use Rattle.is_theorems.specs.Reached.{IsInLine, IsLasting}
-use Rattle.is.specs.declared.world_events.Side.{Side}
-use Rattle.is.specs.declared.world_events.Side.TheVariants.{A, B}
+use Rattle.is.specs.declared.world.Side.{Side}
+use Rattle.is.specs.declared.world.Side.TheVariants.{A, B}
 use Rattle.is.specs.AcceptedNominationsIn.{Occurrence}
 use Rattle.is.specs.Connections.{Succeeds}
 use Rattle.is.specs.Punctual.{IsPrompt, IsPunctual, IsTimed, ChecksBy, ChecksComeInTime}

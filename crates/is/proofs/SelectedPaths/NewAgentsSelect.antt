@@ -14,7 +14,7 @@ use Rattle.is_rules.specs.Sending.{path_of}
 use Rattle.is_rules.specs.Sound.{FreshIsSound}
 use Rattle.is_theorems.specs.FirstChecks.{CoursesCheckFromDue}
 use Rattle.is_theorems.specs.FirstTimeouts.{CoursesReachFromDue}
-use Rattle.is.specs.declared.world_events.Side.{Side}
+use Rattle.is.specs.declared.world.Side.{Side}
 use Rattle.is.specs.Connections.{Asks, RoundIsAnswered}
 use Rattle.is.specs.Connects.{ChecksAreDelivered, BothSelect}
 use Rattle.is.specs.AcceptedNominationsIn.{Occurrence, HandedCheck, IsControlled, IsPlainTimeout, IsAskedOver, occurrences_in}

@@ -9,7 +9,7 @@ use Rattle.is_proto.specs.Times.{MAX}
 use Rattle.is_proto.specs.Packets.{Packet}
 use Rattle.is_candidate.specs.Candidates.{CandidateRecord}
 use Rattle.is_pair.specs.Checks.{unanswered_count}
-use Rattle.is_pair.specs.Pairs.{PairRecord, is_valid, is_nominated, checked, renominated}
+use Rattle.is_pair.specs.Pairs.{PairRecord, is_valid, is_nominated, checked}
 use Rattle.is_pair.specs.Due.{asked, due_time_of}
 use Rattle.is_pair.specs.Multiset.{is_numbered, change_at, change_pair}
 use Rattle.is_pair.specs.Turns.{IsPaced, is_due_by, due_by}
@@ -26,14 +26,14 @@ use Rattle.is_rules.specs.declared.rules.Rules.{Rules}
 use Rattle.is_rules.specs.Emitted.{issued_as}
 use Rattle.is_rules.specs.Agent.{AgentRecord}
 use Rattle.is_rules.specs.Sending.{path_of}
-use Rattle.is_rules.specs.Nominating.{Nominates, followed, selection_of, nominates_at_once, numbers}
+use Rattle.is_rules.specs.Nominating.{Nominates, followed, selection_of}
 use Rattle.is_rules.specs.Checking.{goes_ahead, all_asked, ChecksTop, MayCheck}
 use Rattle.is_rules.specs.Timeouts.{timeout_begun, at_timeout, is_expired, expired_gone, RemovesExpired, MaintainsPairs}
 use Rattle.is_rules.specs.States.{evaluated}
 use Rattle.is_rules.specs.Sound.{IsSound}
 use Rattle.is_rules.specs.Polls.{PollsTimeout}
 use Rattle.is_rules.specs.Steps.{Done, NextTimeout, quiet, HandleTimeout, PollTimeout}
-use Rattle.is_theorems.specs.Progress.{IsChecking, ChecksInTurn, ChecksOn, Awaits, IsUnanswered, Passes}
+use Rattle.is_theorems.specs.Progress.{IsChecking, ChecksOn, Awaits, IsUnanswered, Passes}
 use Rattle.is_theorems.proofs.CallEffects.PathAndTradeEffects.{path_theorem}
 use Rattle.is_theorems.proofs.RuleEffects.UnchangedSettings.{either}
 use Rattle.is_theorems.proofs.RuleEffects.ChangedPairs.{Has-map}
@@ -41,12 +41,11 @@ use Rattle.is_theorems.proofs.RuleEffects.EarlierAndNewPairs.{Has-filter}
 use Rattle.is_rules.proofs.PairLists.ChosenPair.{chosen-able}
 use Rattle.is_theorems.proofs.RuleEffects.NominatedPairs.{SelectsPath, selects_path}
 use Rattle.is_rules.proofs.PairLists.RisingNumbers.{AllBelow, below-each}
-use Rattle.is_theorems.proofs.DuePairs.AfterNominationAndRemoval.{Distinct, Base, base_of as agent_base, turns-by, gives-up-has, answered-if, answered_at}
+use Rattle.is_theorems.proofs.DuePairs.AfterNominationAndRemoval.{Distinct, Base, base_of as agent_base, gives-up-has, answered-if, answered_at}
 use Rattle.is_theorems.proofs.DuePairs.ChecksAhead.{calls_left, Falls, falls-from, calls-kept, calls-go-on, calls-some}
 use Rattle.is_theorems.proofs.DuePairs.FirstDuePair.{Follows, le-from, le-is, same-path, WaitsOn, next-check, check-moves, timeout-follows}
 use Rattle.is_theorems.proofs.DuePairs.PollingCycles.{none-left, maintains_pairs-from, distinct-sound}
 use Rattle.is_theorems.proofs.DuePairs.AfterPackets.{NoneValid, Held}
-use Rattle.is_theorems.proofs.BasicLemmas.PairsInTurn.{by-begins, checks-in-turn, sent_at, pairs-sent}
 
 lt-is : (n m : ℕ) → n < m → nat_lt n m ≡ true
 lt-is n m h = grind (arith, nat_tests, h)
@@ -106,38 +105,27 @@ module _ {H P : Type 0} where
           let o = Has-map (asked now old.timing) old.pairs q has in
           subst (λ (x : PairRecord). due_time_of now old.timing x ≤ by) o.2 (subst (λ (x : PairRecord). due_time_of m old.timing x ≤ by) (sym o.2) le)
 
-      begins : Bool
-      begins = nominates_at_once (all_asked now old)
-
-      change : List ℕ → PairRecord → PairRecord
-      change id x = sent_at begins now old.timing old.controlling id x
-
-      follows-check : (id : List ℕ) (x : PairRecord) (m : ℕ) → by < m → due_time_of m old.timing (checked now old.timing old.controlling id x) ≤ by → ⊥
-      follows-check id x m above le =
+      following : (id : List ℕ) (x : PairRecord) (m : ℕ) → by < m → due_time_of m old.timing (checked now old.timing old.controlling id x) ≤ by → ⊥
+      following id x m above le =
           let least : min now m < due_time_of m old.timing (checked now old.timing old.controlling id x) = checked-later now m old.timing old.controlling id x paced early in
           later (due_time_of m old.timing (checked now old.timing old.controlling id x)) least le where
             later : (d : ℕ) → min now m < d → d ≤ by → ⊥
             later d least le = omega (arith, least, le, from, above)
 
-      following : (id : List ℕ) (x : PairRecord) (m : ℕ) → by < m → due_time_of m old.timing (change id x) ≤ by → ⊥
-      following id x m above = by-begins begins (λ y. due_time_of m old.timing y ≤ by → ⊥) now old.timing old.controlling id x
-          (follows-check id (renominated x) m above) (follows-check id x m above)
-
       once : (n : ℕ) (id : List ℕ) (x : PairRecord) → Has (map (asked now old.timing) old.pairs) x → (m : ℕ) → by < m → (b : Bool)
-          → due_time_of m old.timing (if b then change id x else x) ≤ by
-          → due_time_of now old.timing (if b then change id x else x) ≤ by
+          → due_time_of m old.timing (if b then checked now old.timing old.controlling id x else x) ≤ by
+          → due_time_of now old.timing (if b then checked now old.timing old.controlling id x else x) ≤ by
       once n id x has m above true le = absurd (following id x m above le)
       once n id x has m above false le = fixed x has m above le
 
       by-next : (peer : IceCreds) (next : Option PairRecord) → ChecksTop mac now peer next (all_asked now old) s issued new t → Held by now old.timing new.pairs
       by-next peer None (is, made, drawn) = subst (λ ps. Held by now old.timing ps) (sym (ap (λ (a : AgentRecord H P). a.pairs) made)) fixed
-      by-next peer (Some q) (id, drawn, values, is, made) =
-          subst (λ ps. Held by now old.timing ps) (sym (pairs-sent mac now peer q id (all_asked now old) new made)) changed where
-            changed : Held by now old.timing (change_pair q.number (change id) (map (asked now old.timing) old.pairs))
-            changed r has m above le =
-                let o = Has-map (change_at q.number (change id)) (map (asked now old.timing) old.pairs) r has in
-                subst (λ (x : PairRecord). due_time_of now old.timing x ≤ by) o.2
-                (once q.number id o.0 o.1 m above (is_numbered q.number o.0) (subst (λ (x : PairRecord). due_time_of m old.timing x ≤ by) (sym o.2) le))
+      by-next peer (Some q) (id, drawn, values, is, made) = subst (λ ps. Held by now old.timing ps) (sym (ap (λ (a : AgentRecord H P). a.pairs) made)) changed where
+        changed : Held by now old.timing (change_pair q.number (checked now old.timing old.controlling id) (map (asked now old.timing) old.pairs))
+        changed r has m above le =
+            let o = Has-map (change_at q.number (checked now old.timing old.controlling id)) (map (asked now old.timing) old.pairs) r has in
+            subst (λ (x : PairRecord). due_time_of now old.timing x ≤ by) o.2
+            (once q.number id o.0 o.1 m above (is_numbered q.number o.0) (subst (λ (x : PairRecord). due_time_of m old.timing x ≤ by) (sym o.2) le))
 
     -- ---- the `handle_timeout` call
 
@@ -198,11 +186,11 @@ module _ {H P : Type 0} where
                     matches,
                     checks,
                     (λ at. subst (λ (x : StunTiming). due_time_of at x r ≤ by) timing (r_due at)),
-                    subst (λ (x : StunTiming). ChecksInTurn old → IsPaced x → now < MAX
+                    subst (λ (x : StunTiming). IsPaced x → now < MAX
                         → Falls (goes_ahead old.rules) old.ahead_turn new.ahead_turn (length (due_by by now old.timing old.pairs)) (length (due_by by now x new.pairs))) timing
-                        (λ turn is_paced is_early. falls-from (goes_ahead kept.rules) (goes_ahead old.rules) kept.ahead_turn old.ahead_turn new.ahead_turn
+                        (λ is_paced is_early. falls-from (goes_ahead kept.rules) (goes_ahead old.rules) kept.ahead_turn old.ahead_turn new.ahead_turn
                         (length (due_by by now old.timing old.pairs)) (length (due_by by now old.timing old.pairs)) (length (due_by by now kept.timing new.pairs))
-                        (ap (λ (x : Base). goes_ahead x.rules) (sym base)) (ap (λ (x : Base). x.ahead_turn) (sym base)) (omega arith) (fewer (turns-by (agent_base (at_timeout now old)) kept base turn) is_paced is_early)),
+                        (ap (λ (x : Base). goes_ahead x.rules) (sym base)) (ap (λ (x : Base). x.ahead_turn) (sym base)) (omega arith) (fewer is_paced is_early)),
                   ))
             ],
           )
@@ -229,7 +217,6 @@ module _ {H P : Type 0} where
     pub below : AllBelow a.next_number a.pairs
     pub invalid : NoneValid a.pairs
     pub role : a.controlling ≡ true
-    pub unnumbered : numbers a ≡ false
 
   -- A pair of the path is due by a time, computed now, and k rounds are over. One fewer than n suffice.
   pub record Persists (by n : ℕ) (path : Path) (now k : ℕ) (a : AgentRecord H P) : Type 0 where
@@ -293,7 +280,6 @@ module _ {H P : Type 0} where
         below = below-each a.next_number a.pairs sound.below;
         invalid = unanswered.invalid;
         role = role;
-        unnumbered = unanswered.unnumbered;
       };
       paced = waits.paced;
       pair = p;
@@ -341,8 +327,6 @@ module _ {H P : Type 0} where
                 omega (arith, was, same, next));
             invalid = λ q has. (let o = follows.back q has in o.2.valid ∙ calm.invalid o.0 o.1);
             role = ap (λ (x : Base). x.controlling) taken ∙ (ap (λ (x : Base). x.controlling) m.0 ∙ calm.role);
-            unnumbered = ap (λ (x : Base). x.renominates && x.rules.numbered_nominations) taken
-                ∙ (ap (λ (x : Base). x.renominates && x.rules.numbered_nominations) m.0 ∙ calm.unnumbered);
           };
           last = ap (λ (x : Base). x.last_time) taken ∙ ap (λ (x : Base). x.last_time) m.0;
           timing = ap (λ (x : Base). x.timing) taken ∙ ap (λ (x : Base). x.timing) m.0;
@@ -371,7 +355,7 @@ module _ {H P : Type 0} where
               subst (λ (b : Bool). Falls (goes_ahead old.rules) old.ahead_turn b (length (due_by by now old.timing old.pairs)) (length (due_by by now old.timing new.pairs)))
               (sym (ap (λ (a : AgentRecord H P). a.ahead_turn) pass.taken))
               (subst (λ ps. Falls (goes_ahead old.rules) old.ahead_turn pass.after.ahead_turn (length (due_by by now old.timing old.pairs)) (length (due_by by now old.timing ps)))
-              (sym pairs) (fewer (checks-in-turn old st.calm.unnumbered) st.paced early)) in
+              (sym pairs) (fewer st.paced early)) in
               inr (record {
                 calm = x.calm;
                 last = x.last;

@@ -20,8 +20,8 @@ use Rattle.is_rules.specs.declared.credentials.IceCreds.{IceCreds}
 use Rattle.is_rules.specs.declared.emitted.Issued.{Issued}
 use Rattle.is_rules.specs.declared.emitted.Path.{Path}
 use Rattle.is_rules.specs.declared.emitted.Emitted.{Emitted}
-use Rattle.is_rules.specs.Nominating.{nominated_by_self, Nominates, followed, remains, selection_of, is_eligible, nominates_at_once}
-use Rattle.is_theorems.specs.Progress.{ChecksOn, ChecksInTurn}
+use Rattle.is_rules.specs.Nominating.{nominated_by_self, Nominates, followed, remains, selection_of, is_eligible}
+use Rattle.is_theorems.specs.Progress.{ChecksOn}
 use Rattle.is_rules.specs.Sending.{path_of}
 use Rattle.is_rules.specs.Timeouts.{at_timeout, is_expired, expired_gone, RemovesExpired, MaintainsPairs}
 use Rattle.is_rules.specs.Emitted.{issued_as}
@@ -30,13 +30,13 @@ use Rattle.is_theorems.proofs.EarlierChecks.ChecksOfOtherPairs.{lead, leads, own
 use Rattle.is_theorems.proofs.EarlierChecks.ChangedPairs.{Fixed}
 use Rattle.is_theorems.proofs.EarlierChecks.BetweenTimeouts.{nominates-onward}
 use Rattle.is_theorems.proofs.RuleEffects.ChangedPairs.{Has-map}
-use Rattle.is_theorems.proofs.BasicLemmas.PairsInTurn.{next-has, none-is-due, none-at-once, next-in-turn, pairs-sent, sent_at}
+use Rattle.is_theorems.proofs.BasicLemmas.PairsInTurn.{none-is-due, next-is-due, next-in-turn}
 use Rattle.is_theorems.proofs.DuePairs.FirstDuePair.{fixed-is, same-path, next-check}
 use Rattle.is_theorems.proofs.DuePairs.ChecksAhead.{Falls, falls-from, is-turn}
 use Rattle.is_rules.proofs.PairLists.ChosenPair.{chosen-able, none_pass}
 use Rattle.is_theorems.proofs.RuleEffects.NominatedPairs.{SelectsPath, selects_path}
 use Rattle.is_theorems.proofs.CallEffects.ServedRequests.{Has-mapped}
-use Rattle.is_theorems.proofs.DuePairs.AfterNominationAndRemoval.{kept_of, alike-kept, answered-on, Distinct, Alike, Base, base_of as agent_base, turns-by, Has-kept, stays-young, thinned-filter, nominates-thins, gives-up-thins, nominates-has}
+use Rattle.is_theorems.proofs.DuePairs.AfterNominationAndRemoval.{kept_of, alike-kept, answered-on, Distinct, Alike, Base, base_of as agent_base, Has-kept, stays-young, thinned-filter, nominates-thins, gives-up-thins, nominates-has}
 
 le-is : (n m : ℕ) → n ≤ m → nat_le n m ≡ true
 le-is n m h = grind (arith, nat_tests, h)
@@ -163,7 +163,7 @@ module _ (now by : ℕ) (late : by < now) (early : now < MAX) where
     abbrev pub WaitsOn : AgentRecord H P → AgentRecord H P → PairRecord → Type 0
     WaitsOn old new p =
         (d : ℕ) × (d ≤ by) × Fixed p.number d (kept_of p) new.pairs
-        × (ChecksInTurn old → Falls (goes_ahead old.rules) old.ahead_turn new.ahead_turn (leads p.number by old.pairs) (leads p.number by new.pairs))
+        × Falls (goes_ahead old.rules) old.ahead_turn new.ahead_turn (leads p.number by old.pairs) (leads p.number by new.pairs)
 
     -- the check goes ahead, or the pair is due by the time
     abbrev Chosen : AgentRecord H P → PairRecord → Type 0
@@ -179,37 +179,25 @@ module _ (now by : ℕ) (late : by < now) (early : now < MAX) where
             in_asked : Has (map (asked now old.timing) old.pairs) (asked now old.timing p)
             in_asked = Has-mapped (asked now old.timing) old.pairs p has
 
-            begins : Bool
-            begins = nominates_at_once (all_asked now old)
-
-            whose : (peer : IceCreds) (q : PairRecord) (id : List ℕ) → new.ahead_turn ≡ not (is_ahead_turn now (all_asked now old))
-                → new.pairs ≡ change_pair q.number (sent_at begins now old.timing old.controlling id) (map (asked now old.timing) old.pairs)
+            whose : (peer : IceCreds) (q : PairRecord) (id : List ℕ) → new.ahead_turn ≡ not (is_ahead_turn now (all_asked now old)) → new.pairs ≡ change_pair q.number (checked now old.timing old.controlling id) (map (asked now old.timing) old.pairs)
                 → issued ≡ Some (issued_as (path_of old q) class.Request id) → Has (map (asked now old.timing) old.pairs) q
-                → (o : PairRecord) × Has old.pairs o × (asked now old.timing o ≡ q) → (ChecksInTurn old → Chosen old q)
+                → (o : PairRecord) × Has old.pairs o × (asked now old.timing o ≡ q) → Chosen old q
                 → (b : Bool) → (p.number == q.number) ≡ b
                 → ((id : List ℕ) × (issued ≡ Some (issued_as (path_of old p) class.Request id))) ⊎ WaitsOn old new p
-            whose peer q id turned sent is there (o, o_has, o_is) chosen true same =
+            whose peer q id turned made is there (o, o_has, o_is) chosen true same =
                 let one : o ≡ p = distinct o p o_has has (ap (λ (x : PairRecord). x.number) o_is ∙ sym (eqb-true p.number q.number same)) in
                 inl (id, is ∙ ap (λ (x : PairRecord). Some (issued_as (path_of old x) class.Request id)) (sym o_is ∙ ap (asked now old.timing) one))
-            whose peer q id turned sent is there (o, o_has, o_is) chosen false apart =
+            whose peer q id turned made is there (o, o_has, o_is) chosen false apart =
                 inr (
                   due_time_of now old.timing p,
                   due,
-                  subst (λ ps. Fixed p.number (due_time_of now old.timing p) (kept_of p) ps) (sym sent) (asked now old.timing p, stays, refl, refl, refl),
-                  λ turn. falls (plain turn) (chosen turn),
+                  subst (λ ps. Fixed p.number (due_time_of now old.timing p) (kept_of p) ps) (sym made) (asked now old.timing p, stays, refl, refl, refl),
+                  falls,
                 ) where
-                  change : PairRecord → PairRecord
-                  change x = sent_at begins now old.timing old.controlling id x
-
-                  stays : Has (change_pair q.number change (map (asked now old.timing) old.pairs)) (asked now old.timing p)
-                  stays = subst (λ b. Has (change_pair q.number change (map (asked now old.timing) old.pairs))
-                      (if b then change (asked now old.timing p) else asked now old.timing p)) apart
-                      (Has-mapped (change_at q.number change) (map (asked now old.timing) old.pairs) (asked now old.timing p) in_asked)
-
-                  -- no nomination begins
-                  plain : ChecksInTurn old → new.pairs ≡ change_pair q.number (checked now old.timing old.controlling id) (map (asked now old.timing) old.pairs)
-                  plain turn = sent ∙ ap (λ b. change_pair q.number (sent_at b now old.timing old.controlling id) (map (asked now old.timing) old.pairs))
-                      (none-at-once now (all_asked now old) turn)
+                  stays : Has (change_pair q.number (checked now old.timing old.controlling id) (map (asked now old.timing) old.pairs)) (asked now old.timing p)
+                  stays = subst (λ b. Has (change_pair q.number (checked now old.timing old.controlling id) (map (asked now old.timing) old.pairs))
+                      (if b then checked now old.timing old.controlling id (asked now old.timing p) else asked now old.timing p)) apart
+                      (Has-mapped (change_at q.number (checked now old.timing old.controlling id)) (map (asked now old.timing) old.pairs) (asked now old.timing p) in_asked)
 
                   q_fixed : q.due ≡ Some (due_time_of now old.timing o)
                   q_fixed = ap (λ (x : PairRecord). x.due) (sym o_is)
@@ -226,8 +214,8 @@ module _ (now by : ℕ) (late : by < now) (early : now < MAX) where
                   asked-less : leads p.number by (map (asked now old.timing) old.pairs) ≤ leads p.number by old.pairs
                   asked-less = leads-map p.number by (asked now old.timing) old.pairs (λ y. own-le p.number by y (asked now old.timing y) refl (lead-asked by now old.timing y late early))
 
-                  no-more : new.pairs ≡ change_pair q.number (checked now old.timing old.controlling id) (map (asked now old.timing) old.pairs) → leads p.number by new.pairs ≤ leads p.number by old.pairs
-                  no-more made =
+                  no-more : leads p.number by new.pairs ≤ leads p.number by old.pairs
+                  no-more =
                       let a : leads p.number by (change_pair q.number (checked now old.timing old.controlling id) (map (asked now old.timing) old.pairs))
                       ≤ leads p.number by (map (asked now old.timing) old.pairs) =
                       leads-map p.number by (change_at q.number (checked now old.timing old.controlling id)) (map (asked now old.timing) old.pairs)
@@ -235,9 +223,8 @@ module _ (now by : ℕ) (late : by < now) (early : now < MAX) where
                       let b = asked-less in
                       subst (λ ps. leads p.number by ps ≤ leads p.number by old.pairs) (sym made) (omega (arith, a, b))
 
-                  one-fewer : new.pairs ≡ change_pair q.number (checked now old.timing old.controlling id) (map (asked now old.timing) old.pairs) → due_time_of now old.timing q ≤ by
-                      → leads p.number by new.pairs < leads p.number by old.pairs
-                  one-fewer made q_due =
+                  one-fewer : due_time_of now old.timing q ≤ by → leads p.number by new.pairs < leads p.number by old.pairs
+                  one-fewer q_due =
                       let a : leads p.number by (change_pair q.number (checked now old.timing old.controlling id) (map (asked now old.timing) old.pairs)) + 1
                       ≤ leads p.number by (map (asked now old.timing) old.pairs) =
                       leads-less p.number by (change_at q.number (checked now old.timing old.controlling id)) (map (asked now old.timing) old.pairs) q
@@ -246,13 +233,12 @@ module _ (now by : ℕ) (late : by < now) (early : now < MAX) where
                       let b = asked-less in
                       subst (λ ps. leads p.number by ps < leads p.number by old.pairs) (sym made) (omega (arith, a, b))
 
-                  falls : new.pairs ≡ change_pair q.number (checked now old.timing old.controlling id) (map (asked now old.timing) old.pairs) → Chosen old q
-                      → Falls (goes_ahead old.rules) old.ahead_turn new.ahead_turn (leads p.number by old.pairs) (leads p.number by new.pairs)
-                  falls made which = elim which [
+                  falls : Falls (goes_ahead old.rules) old.ahead_turn new.ahead_turn (leads p.number by old.pairs) (leads p.number by new.pairs)
+                  falls = elim chosen [
                     | inl on ↦
                         (let turn = is-turn (goes_ahead old.rules) old.ahead_turn (are_kinds_in_turn (all_asked now old) || has_first now (all_asked now old)) on in
-                        inr (no-more made, turn.0, turn.1, turned ∙ ap not on))
-                    | inr q_due ↦ inl (one-fewer made q_due)
+                        inr (no-more, turn.0, turn.1, turned ∙ ap not on))
+                    | inr q_due ↦ inl (one-fewer q_due)
                   ]
 
             by-next : (peer : IceCreds) (next : Option PairRecord) → IsNextToCheck now (all_asked now old) next → ChecksTop mac now peer next (all_asked now old) s issued new u
@@ -261,13 +247,13 @@ module _ (now by : ℕ) (late : by < now) (early : now < MAX) where
                 let it : is_due now old.timing (asked now old.timing p) ≡ true = le-is (due_time_of now old.timing p) now (let d = due in omega (arith, d, late)) in
                 absurd (none_pass (is_due now old.timing) (map (asked now old.timing) old.pairs) (asked now old.timing p) (none-is-due now (all_asked now old) chosen) in_asked it)
             by-next peer (Some q) chosen (id, drawn, values, is, made) =
-                let there : Has (map (asked now old.timing) old.pairs) q = next-has now (all_asked now old) q chosen in
-                whose peer q id (ap (λ (a : AgentRecord H P). a.ahead_turn) made) (pairs-sent mac now peer q id (all_asked now old) new made) is there (Has-map (asked now old.timing) old.pairs q there)
-                (λ turn. in-turn (none-at-once now (all_asked now old) turn) (is_ahead_turn now (all_asked now old)) refl) (p.number == q.number) refl where
-                  in-turn : nominates_at_once (all_asked now old) ≡ false → (b : Bool) → is_ahead_turn now (all_asked now old) ≡ b → Chosen old q
-                  in-turn calm true on = inl on
-                  in-turn calm false off =
-                      let next = next-in-turn now (all_asked now old) (Some q) calm off chosen in
+                let there : Has (map (asked now old.timing) old.pairs) q = (next-is-due now (all_asked now old) q chosen).0 in
+                whose peer q id (ap (λ (a : AgentRecord H P). a.ahead_turn) made) (ap (λ (a : AgentRecord H P). a.pairs) made) is there (Has-map (asked now old.timing) old.pairs q there)
+                (in-turn (is_ahead_turn now (all_asked now old)) refl) (p.number == q.number) refl where
+                  in-turn : (b : Bool) → is_ahead_turn now (all_asked now old) ≡ b → Chosen old q
+                  in-turn true on = inl on
+                  in-turn false off =
+                      let next = next-in-turn now (all_asked now old) (Some q) off chosen in
                       let before : GoesBefore now old.timing q (asked now old.timing p) = next.0.1 (asked now old.timing p) in_asked in
                       inr (first-due (due_time_of now old.timing q) (due_time_of now old.timing p) p q before due)
 
@@ -303,15 +289,14 @@ module _ (now by : ℕ) (late : by < now) (early : now < MAX) where
                       (record { number = alike.number; local = alike.local; remote = alike.remote; valid = alike.valid }))),
                 )
             | inr (d, due, fixed, falls) ↦
-                (let falls_for : ChecksInTurn old → Falls (goes_ahead kept.rules) kept.ahead_turn new.ahead_turn (leads p.number by kept.pairs) (leads p.number by new.pairs) =
-                λ turn. subst (λ k. Falls (goes_ahead kept.rules) kept.ahead_turn new.ahead_turn (leads k by kept.pairs) (leads k by new.pairs)) alike.number
-                (falls (turns-by (agent_base (at_timeout now old)) kept base turn)) in
+                (let falls_for : Falls (goes_ahead kept.rules) kept.ahead_turn new.ahead_turn (leads p.number by kept.pairs) (leads p.number by new.pairs) =
+                subst (λ k. Falls (goes_ahead kept.rules) kept.ahead_turn new.ahead_turn (leads k by kept.pairs) (leads k by new.pairs)) alike.number falls in
                 inr (
                   d,
                   due,
                   subst (λ k. Fixed p.number d k new.pairs) (alike-kept p y.0 alike) (subst (λ k. Fixed k d (kept_of y.0) new.pairs) alike.number fixed),
-                  λ turn. falls-from (goes_ahead kept.rules) (goes_ahead old.rules) kept.ahead_turn old.ahead_turn new.ahead_turn
+                  falls-from (goes_ahead kept.rules) (goes_ahead old.rules) kept.ahead_turn old.ahead_turn new.ahead_turn
                       (leads p.number by kept.pairs) (leads p.number by old.pairs) (leads p.number by new.pairs)
-                      (ap (λ (z : Base). goes_ahead z.rules) (sym base)) (ap (λ (z : Base). z.ahead_turn) (sym base)) lessened (falls_for turn),
+                      (ap (λ (z : Base). goes_ahead z.rules) (sym base)) (ap (λ (z : Base). z.ahead_turn) (sym base)) lessened falls_for,
                 ))
           ]

@@ -136,7 +136,6 @@ module _ {H P : Type 0} (mac : H → List ℕ → List ℕ → List ℕ) (answer
           line = record {
             checking = waits.checking;
             queue = waits.queue;
-            unnumbered = unanswered.unnumbered;
             there = waits.there;
             due = (let due = waits.due in omega (arith, due));
             settled = inl (search (unanswered.invalid p waits.there));
@@ -170,7 +169,6 @@ module _ {H P : Type 0} (mac : H → List ℕ → List ℕ → List ℕ) (answer
       elim (reach first s log fresh before start second last r later p by one others (record {
         checking = waits.checking;
         queue = waits.queue;
-        unnumbered = unanswered.unnumbered;
         there = waits.there;
         due = (let due = waits.due in omega (arith, due));
         settled = inl (search (unanswered.invalid p waits.there));

@@ -1,6 +1,6 @@
 -- Round after round: if the checks of a pair are answered, a response is accepted within as many rounds as there are
 -- pairs that are due no later, or within twice as many if checks may go ahead.
-use Rattle.std.proofs.Common.{◌≡◌, ℕ, ◌+◌, ◌<◌, ◌≤◌, true, suc, List, [], ◌∷◌, length, map, nat_lt, Option, Some, None, is_some, unwrap_or, inl, inr, ◌⊎◌, refl, ap, sym, ◌∙◌, subst, arith, ◌&&◌}
+use Rattle.std.proofs.Common.{◌≡◌, ℕ, ◌+◌, ◌<◌, ◌≤◌, true, suc, List, [], ◌∷◌, length, map, nat_lt, Option, Some, None, is_some, unwrap_or, inl, inr, ◌⊎◌, refl, ap, sym, ◌∙◌, subst, arith}
 use Rattle.std.specs.Prelude.{IsSomeAnd}
 use Rattle.is_proto.specs.Lists.{Has}
 use Rattle.is_proto.specs.Times.{MAX}
@@ -61,7 +61,6 @@ module _ {H P : Type 0} where
         below = spares.below calm.below;
         invalid = spares.invalid calm.invalid;
         role = ap (λ (c : Core). c.controlling) core ∙ calm.role;
-        unnumbered = ap (λ (c : Core). c.renominates && c.rules.numbered_nominations) core ∙ calm.unnumbered;
       }
 
       pub waits-on : (n : ℕ) (path : Path) (k : ℕ) (old new : AgentRecord H P) → Waits by n path at k old → IsSound new → Arrived mac by at following early old new → Waits by n path at k new

@@ -1,6 +1,6 @@
 -- Rounds in a log: a pair that is due is checked in one of them, or answered, before more checks of other pairs are
 -- sent than the bound allows.
-use Rattle.std.proofs.Common.{◌≡◌, ℕ, suc, ◌+◌, ◌*◌, ◌<◌, ◌≤◌, Bool, true, false, not, List, [], ◌∷◌, ◌++◌, length, map, nat_lt, Option, Some, None, Ok, Err, is_some, unwrap_or, inl, inr, ◌⊎◌, refl, ap, sym, ◌∙◌, subst, arith, append_assoc, ◌&&◌, if◌then◌else◌}
+use Rattle.std.proofs.Common.{◌≡◌, ℕ, suc, ◌+◌, ◌*◌, ◌<◌, ◌≤◌, Bool, true, false, not, List, [], ◌∷◌, ◌++◌, length, map, nat_lt, Option, Some, None, Ok, Err, is_some, unwrap_or, inl, inr, ◌⊎◌, refl, ap, sym, ◌∙◌, subst, arith, append_assoc}
 use Rattle.std.specs.Prelude.{IsSomeAnd}
 use Rattle.std.proofs.lemmas.Bool.Decides.{nat_tests}
 use Rattle.rand_core.specs.Stream.{Stream}
@@ -37,20 +37,18 @@ use Rattle.is_theorems.proofs.EarlierChecks.ChecksOfOtherPairs.{leads, own-le, l
 use Rattle.is_theorems.proofs.ExecutionLogs.LogTheorems.{runs_sound}
 use Rattle.is_theorems.proofs.ExecutionLogs.LogSegments.{no-case, run-on, passed as passed-at}
 use Rattle.is_theorems.proofs.EarlierChecks.ChangedPairs.{onward-same}
-use Rattle.is_theorems.proofs.EarlierChecks.BetweenTimeouts.{Ground, ground_of, Goes, goes-to, goes-same, receives-goes}
+use Rattle.is_theorems.proofs.EarlierChecks.BetweenTimeouts.{Ground, Goes, goes-to, goes-same, receives-goes}
 use Rattle.is_theorems.proofs.DuePairs.FirstDuePair.{due-at, timeout-follows}
 use Rattle.is_theorems.proofs.DuePairs.ChecksAhead.{times, calls_left, Falls, calls-fall, calls-added, calls-over}
 use Rattle.is_theorems.proofs.EarlierChecks.OneCheckFewer.{Ready, timeout-goes}
 use Rattle.is_rules.proofs.PairLists.RisingNumbers.{rising-each}
 use Rattle.is_theorems.proofs.CallEffects.ServedRequests.{Has-mapped}
 use Rattle.is_theorems.proofs.DuePairs.PollingCycles.{none-left, maintains_pairs-from, distinct-sound}
-use Rattle.is_theorems.proofs.CallEffects.FailedCallsAndNewAgents.{mtu_kept, controlling_kept, local_kept, enrolment_kept, storing_kept}
+use Rattle.is_theorems.proofs.CallEffects.FailedCallsAndNewAgents.{mtu_kept, local_kept, enrolment_kept, storing_kept}
 use Rattle.is_theorems.proofs.StoredPairs.PairsThatStay.{none-entered, pairs-stay}
 use Rattle.is_theorems.proofs.RuleEffects.SelectedPaths.{one_pair}
 use Rattle.is_theorems.proofs.DuePairs.AfterNominationAndRemoval.{Base, Kept, answered-if, answered-on, answered_at, kept_of, last_time_of, stays-young}
 use Rattle.is_theorems.proofs.EarlierChecks.AddedCandidates.{local-goes, remote-goes}
-use Rattle.is_rules.specs.Nominating.{numbers}
-use Rattle.is_theorems.proofs.BasicLemmas.PairsInTurn.{checks-in-turn}
 
 lt-is : (n m : ℕ) → n < m → nat_lt n m ≡ true
 lt-is n m h = grind (arith, nat_tests, h)
@@ -110,7 +108,6 @@ module _ {H P : Type 0} where
   record Persists (by n : ℕ) (path : Path) (keeps : ℕ → Bool) (ahead : Bool) (total base now k : ℕ) (a : AgentRecord H P) : Type 0 where
     checking : IsChecking a
     queue : a.queue ≡ []
-    unnumbered : numbers a ≡ false
     pair : PairRecord
     there : Has a.pairs pair
     number : pair.number ≡ n
@@ -127,7 +124,6 @@ module _ {H P : Type 0} where
   record Waits (by n : ℕ) (path : Path) (keeps : ℕ → Bool) (ahead : Bool) (total base at k : ℕ) (a : AgentRecord H P) : Type 0 where
     checking : IsChecking a
     queue : a.queue ≡ []
-    unnumbered : numbers a ≡ false
     last : a.last_time ≡ Some at
     pair : PairRecord
     there : Has a.pairs pair
@@ -145,7 +141,6 @@ module _ {H P : Type 0} where
   persists by n path keeps ahead total base at k now a late early w = record {
     checking = w.checking;
     queue = w.queue;
-    unnumbered = w.unnumbered;
     pair = w.pair;
     there = w.there;
     number = w.number;
@@ -174,7 +169,6 @@ module _ {H P : Type 0} where
             peer = ap (λ (g : Ground). is_some g.remote_creds) ground ∙ w.checking.peer;
           };
           queue = ap (λ (g : Ground). g.queue) ground ∙ w.queue;
-          unnumbered = ap (λ (g : Ground). g.numbered) ground ∙ w.unnumbered;
           last = ap (λ (g : Ground). g.last_time) ground ∙ w.last;
           pair = f.0;
           there = f.1;
@@ -191,44 +185,41 @@ module _ {H P : Type 0} where
               (calls-added ahead old.ahead_turn (leads n by old.pairs) (leads n by new.pairs) old.next_number new.next_number k base total (goes.less (omega (arith, at_last, following))) w.count);
         }
 
-    between-goes : (at : ℕ) → by < at → at < MAX → (x : Logged P) (call : Call P) → x.call ≡ call → (old new : AgentRecord H P) (s t : Stream) → is_some old.remote_creds ≡ true → numbers old ≡ false → old.last_time ≡ Some at
+    between-goes : (at : ℕ) → by < at → at < MAX → (x : Logged P) (call : Call P) → x.call ≡ call → (old new : AgentRecord H P) (s t : Stream) → is_some old.remote_creds ≡ true → old.last_time ≡ Some at
         → (p : PairRecord) → IsSound old → Has old.pairs p → p.number ≡ n → path_of old p ≡ path → is_in_round call ≡ true → Step mac answers old s call x.entry new t
         → IsAnsweredOn x path ⊎ (MayEnd answers old call x.entry p ⊎ Goes n by old new)
-    between-goes at following early x (ReceivePacket now via bytes) called old new s t known plain last p sound has number on is (h, drawn) =
+    between-goes at following early x (ReceivePacket now via bytes) called old new s t known last p sound has number on is (h, drawn) =
         elim (receives-goes n by mac answers now old new via path bytes x.entry known
         (λ q there same. (let one : q ≡ p = one_pair old.pairs q p (rising-each old.pairs sound.rising) there has (same ∙ sym number) in ap (λ (y : PairRecord). path_of old y) one ∙ on)) h) [
           | inl (m, reads, flag, success, back) ↦ inl (now, via, m, subst (λ (c : Call P). Brings c x.entry now via m) (sym called) (refl, refl, reads, flag), success, back)
           | inr k ↦ inr (inr k)
         ]
-    between-goes at following early x PollTransmit called old new s t known plain last p sound has number on is (given, emitted, (polled, made), drawn) = inr (inr (goes-to n by old _ new (refl, onward-same n by (last_time_of old) old.pairs old.next_number) made))
-    between-goes at following early x PollTimeout called old new s t known plain last p sound has number on is (deadline, emitted, timed_out, drawn) = inr (inr (asks-goes n by at following early old new deadline last timed_out))
-    between-goes at following early x PollEvent called old new s t known plain last p sound has number on is (given, emitted, (polled, made), drawn) = inr (inr (goes-to n by old _ new (refl, onward-same n by (last_time_of old) old.pairs old.next_number) made))
-    between-goes at following early x (AddLocalCandidate c) called old new s t known plain last p sound has number on is (Ok (Some place), reported, h, drawn) = elim (local-goes n by answers old new c place p sound has number h) [
+    between-goes at following early x PollTransmit called old new s t known last p sound has number on is (given, emitted, (polled, made), drawn) = inr (inr (goes-to n by old _ new (refl, onward-same n by (last_time_of old) old.pairs old.next_number) made))
+    between-goes at following early x PollTimeout called old new s t known last p sound has number on is (deadline, emitted, timed_out, drawn) = inr (inr (asks-goes n by at following early old new deadline last timed_out))
+    between-goes at following early x PollEvent called old new s t known last p sound has number on is (given, emitted, (polled, made), drawn) = inr (inr (goes-to n by old _ new (refl, onward-same n by (last_time_of old) old.pairs old.next_number) made))
+    between-goes at following early x (AddLocalCandidate c) called old new s t known last p sound has number on is (Ok (Some place), reported, h, drawn) = elim (local-goes n by answers old new c place p sound has number h) [
       | inl ends ↦ inr (inl (ap (λ (e : Entry). e.answer) reported, ends))
       | inr k ↦ inr (inr k)
     ]
-    between-goes at following early x (AddLocalCandidate c) called old new s t known plain last p sound has number on is (Ok None, reported, h, drawn) = inr (inr (goes-same n by old new (none-entered answers old new c h)))
-    between-goes at following early x (AddLocalCandidate c) called old new s t known plain last p sound has number on is (Err error, reported, h, drawn) = inr (inr (goes-same n by old new (enrolment_kept answers old new c error h)))
-    between-goes at following early x (AddRemoteCandidate c) called old new s t known plain last p sound has number on is (Ok _, reported, h, drawn) = elim (remote-goes n by old new c p sound has number h) [
+    between-goes at following early x (AddLocalCandidate c) called old new s t known last p sound has number on is (Ok None, reported, h, drawn) = inr (inr (goes-same n by old new (none-entered answers old new c h)))
+    between-goes at following early x (AddLocalCandidate c) called old new s t known last p sound has number on is (Err error, reported, h, drawn) = inr (inr (goes-same n by old new (enrolment_kept answers old new c error h)))
+    between-goes at following early x (AddRemoteCandidate c) called old new s t known last p sound has number on is (Ok _, reported, h, drawn) = elim (remote-goes n by old new c p sound has number h) [
       | inl ends ↦ inr (inl (ap (λ (e : Entry). e.answer) reported, ends))
       | inr k ↦ inr (inr k)
     ]
-    between-goes at following early x (AddRemoteCandidate c) called old new s t known plain last p sound has number on is (Err error, reported, h, drawn) = inr (inr (goes-same n by old new (storing_kept old new c error h)))
-    between-goes at following early x (SetMtu target warn) called old new s t known plain last p sound has number on is (Ok _, reported, h, drawn) = inr (inr (goes-to n by old _ new (refl, onward-same n by (last_time_of old) old.pairs old.next_number) h.1))
-    between-goes at following early x (SetMtu target warn) called old new s t known plain last p sound has number on is (Err error, reported, h, drawn) = inr (inr (goes-same n by old new (mtu_kept old new target warn error h)))
-    between-goes at following early x (SetLocalCredentials creds) called old new s t known plain last p sound has number on is (Ok _, reported, h, drawn) = inr (inr (goes-to n by old _ new (refl, onward-same n by (last_time_of old) old.pairs old.next_number) h.1))
-    between-goes at following early x (SetLocalCredentials creds) called old new s t known plain last p sound has number on is (Err error, reported, h, drawn) = inr (inr (goes-same n by old new (local_kept old new creds error h)))
-    between-goes at following early x (SetControlTieBreaker tie) called old new s t known plain last p sound has number on is (reported, made, drawn) = inr (inr (goes-to n by old _ new (refl, onward-same n by (last_time_of old) old.pairs old.next_number) made))
-    between-goes at following early x (SetMaxCandidatePairs k) called old new s t known plain last p sound has number on is (reported, made, drawn) = inr (inr (goes-to n by old _ new (refl, onward-same n by (last_time_of old) old.pairs old.next_number) made))
-    between-goes at following early x (SetMaxDiscovered limit) called old new s t known plain last p sound has number on is (reported, made, drawn) = inr (inr (goes-to n by old _ new (refl, onward-same n by (last_time_of old) old.pairs old.next_number) made))
-    between-goes at following early x (SetRenomination true) called old new s t known plain last p sound has number on is step = no-case is
-    between-goes at following early x (SetRenomination false) called old new s t known plain last p sound has number on is (reported, made, drawn) =
-        inr (inr (goes-to n by old _ new (ap (λ b. record (ground_of old) { numbered = b }) (sym plain), onward-same n by (last_time_of old) old.pairs old.next_number) made))
-    between-goes at following early x (SetTimingAdvance advance) called old new s t known plain last p sound has number on is (reported, made, drawn) = inr (inr (goes-to n by old _ new (refl, onward-same n by (last_time_of old) old.pairs old.next_number) made))
-    between-goes at following early x (SetLocalPreference object) called old new s t known plain last p sound has number on is (reported, made, drawn) = inr (inr (goes-to n by old _ new (refl, onward-same n by (last_time_of old) old.pairs old.next_number) made))
-    between-goes at following early x (SetControlling controlling) called old new s t known plain last p sound has number on is (Ok _, reported, h, drawn) = inr (inr (goes-to n by old _ new (refl, onward-same n by (last_time_of old) old.pairs old.next_number) h.1))
-    between-goes at following early x (SetControlling controlling) called old new s t known plain last p sound has number on is (Err error, reported, h, drawn) = inr (inr (goes-same n by old new (controlling_kept old new controlling error h)))
-    between-goes at following early x _ called old new s t known plain last p sound has number on is step = no-case is
+    between-goes at following early x (AddRemoteCandidate c) called old new s t known last p sound has number on is (Err error, reported, h, drawn) = inr (inr (goes-same n by old new (storing_kept old new c error h)))
+    between-goes at following early x (SetMtu target warn) called old new s t known last p sound has number on is (Ok _, reported, h, drawn) = inr (inr (goes-to n by old _ new (refl, onward-same n by (last_time_of old) old.pairs old.next_number) h.1))
+    between-goes at following early x (SetMtu target warn) called old new s t known last p sound has number on is (Err error, reported, h, drawn) = inr (inr (goes-same n by old new (mtu_kept old new target warn error h)))
+    between-goes at following early x (SetLocalCredentials creds) called old new s t known last p sound has number on is (Ok _, reported, h, drawn) = inr (inr (goes-to n by old _ new (refl, onward-same n by (last_time_of old) old.pairs old.next_number) h.1))
+    between-goes at following early x (SetLocalCredentials creds) called old new s t known last p sound has number on is (Err error, reported, h, drawn) = inr (inr (goes-same n by old new (local_kept old new creds error h)))
+    between-goes at following early x (SetControlTieBreaker tie) called old new s t known last p sound has number on is (reported, made, drawn) = inr (inr (goes-to n by old _ new (refl, onward-same n by (last_time_of old) old.pairs old.next_number) made))
+    between-goes at following early x (SetMaxCandidatePairs k) called old new s t known last p sound has number on is (reported, made, drawn) = inr (inr (goes-to n by old _ new (refl, onward-same n by (last_time_of old) old.pairs old.next_number) made))
+    between-goes at following early x (SetMaxDiscovered limit) called old new s t known last p sound has number on is (reported, made, drawn) = inr (inr (goes-to n by old _ new (refl, onward-same n by (last_time_of old) old.pairs old.next_number) made))
+    between-goes at following early x (SetRenomination renominates) called old new s t known last p sound has number on is (reported, made, drawn) = inr (inr (goes-to n by old _ new (refl, onward-same n by (last_time_of old) old.pairs old.next_number) made))
+    between-goes at following early x (SetTimingAdvance advance) called old new s t known last p sound has number on is (reported, made, drawn) = inr (inr (goes-to n by old _ new (refl, onward-same n by (last_time_of old) old.pairs old.next_number) made))
+    between-goes at following early x (SetLocalPreference object) called old new s t known last p sound has number on is (reported, made, drawn) = inr (inr (goes-to n by old _ new (refl, onward-same n by (last_time_of old) old.pairs old.next_number) made))
+    between-goes at following early x (SetControlling controlling) called old new s t known last p sound has number on is (reported, made, drawn) = inr (inr (goes-to n by old _ new (refl, onward-same n by (last_time_of old) old.pairs old.next_number) made))
+    between-goes at following early x _ called old new s t known last p sound has number on is step = no-case is
 
     module _ (first : AgentRecord H P) (s : Stream) (fresh : IsFresh first) where
       sound-at : (log : List (Logged P)) (a : AgentRecord H P) (t : Stream) → Run mac answers first s log a t → IsSound a
@@ -247,7 +238,7 @@ module _ {H P : Type 0} where
                 let sound = sound-at (xs ++ before) mid v here in
                 let sound_last = sound-at (x ∷ (xs ++ before)) last t (mid, v, here, number, given, step) in
                 let ends-here : MayEnd answers mid x.call x.entry m.pair → Ends answers mid x.call x.entry path = λ ends. (m.pair, m.there, (ap (λ (w : Path). w.source) m.on, ap (λ (w : Path). w.destination) m.on), ends) in
-                elim (between-goes at following early x x.call refl mid last v t m.checking.peer m.unnumbered m.last m.pair sound m.there m.number m.on (fits x (inl refl)) step) [
+                elim (between-goes at following early x x.call refl mid last v t m.checking.peer m.last m.pair sound m.there m.number m.on (fits x (inl refl)) step) [
                   | inl answered ↦ inl (x, inl refl, answered)
                   | inr (inl ends) ↦ inr (inl (inl (fits x (inl refl), ends-here ends)))
                   | inr (inr goes) ↦ elim (pairs-stay mac answers mid last v t x.call x.entry m.pair sound given step m.there) [
@@ -278,14 +269,13 @@ module _ {H P : Type 0} where
               let timing : new.timing ≡ old.timing = ap (λ (b : Base). b.timing) m.0 in
               let falls_for : Falls ahead old.ahead_turn new.ahead_turn (leads n by old.pairs) (leads n by new.pairs) =
               subst (λ b. Falls b old.ahead_turn new.ahead_turn (leads n by old.pairs) (leads n by new.pairs)) st.rules
-              (subst (λ i. Falls (goes_ahead old.rules) old.ahead_turn new.ahead_turn (leads i by old.pairs) (leads i by new.pairs)) st.number (falls (checks-in-turn old st.unnumbered))) in
+              (subst (λ i. Falls (goes_ahead old.rules) old.ahead_turn new.ahead_turn (leads i by old.pairs) (leads i by new.pairs)) st.number falls) in
               inr (record {
                 checking = record {
                   full = ap (λ (b : Base). b.lite) m.0 ∙ st.checking.full;
                   peer = ap (λ (b : Base). is_some b.remote_creds) m.0 ∙ st.checking.peer;
                 };
                 queue = ap (λ (b : Base). b.queue) m.0 ∙ none-left now old.timing old.remote_creds old.queue st.queue;
-                unnumbered = ap (λ (b : Base). b.renominates && b.rules.numbered_nominations) m.0 ∙ st.unnumbered;
                 last = ap (λ (b : Base). b.last_time) m.0;
                 pair = q;
                 there = has;
@@ -416,7 +406,6 @@ module _ {H P : Type 0} where
           begin late early = record {
             checking = f.line.checking;
             queue = f.line.queue;
-            unnumbered = f.line.unnumbered;
             pair = p;
             there = f.line.there;
             number = refl;

@@ -1,6 +1,6 @@
 -- The first round leaves a pair that is due by its `handle_timeout` call, and is not checked in it, due as it was. So what holds of
 -- a pair that is due before the rounds holds of it from the second round on.
-use Rattle.std.proofs.Common.{◌≡◌, ℕ, ◌+◌, ◌*◌, ◌<◌, ◌≤◌, Bool, true, false, not, List, [], ◌∷◌, ◌++◌, length, map, nat_lt, Option, Some, None, Ok, Err, is_some, unwrap_or, inl, inr, ◌⊎◌, refl, ap, sym, ◌∙◌, subst, arith, ◌&&◌, if◌then◌else◌}
+use Rattle.std.proofs.Common.{◌≡◌, ℕ, ◌+◌, ◌*◌, ◌<◌, ◌≤◌, Bool, true, false, not, List, [], ◌∷◌, ◌++◌, length, map, nat_lt, Option, Some, None, Ok, Err, is_some, unwrap_or, inl, inr, ◌⊎◌, refl, ap, sym, ◌∙◌, subst, arith}
 use Rattle.std.specs.Prelude.{IsSomeAnd}
 use Rattle.std.proofs.lemmas.Bool.{eq-eqb}
 use Rattle.std.proofs.lemmas.Bool.Decides.{nat_tests}
@@ -37,7 +37,7 @@ use Rattle.is_theorems.proofs.EarlierChecks.BetweenTimeouts.{Ground, Goes, groun
 use Rattle.is_theorems.proofs.EarlierChecks.ChangedPairs.{Fixed}
 use Rattle.is_theorems.proofs.DuePairs.FirstDuePair.{due-at, timeout-follows}
 use Rattle.is_theorems.proofs.DuePairs.ChecksAhead.{times, none-suffices}
-use Rattle.is_theorems.proofs.CallEffects.FailedCallsAndNewAgents.{mtu_kept, controlling_kept, local_kept, enrolment_kept, storing_kept}
+use Rattle.is_theorems.proofs.CallEffects.FailedCallsAndNewAgents.{mtu_kept, local_kept, enrolment_kept, storing_kept}
 use Rattle.is_rules.proofs.PairLists.RisingNumbers.{rising-each}
 use Rattle.is_theorems.proofs.CallEffects.ServedRequests.{Has-mapped}
 use Rattle.is_theorems.proofs.DuePairs.PollingCycles.{none-left, maintains_pairs-from, distinct-sound}
@@ -47,7 +47,6 @@ use Rattle.is_theorems.proofs.DuePairs.AfterNominationAndRemoval.{Base, Kept, an
 use Rattle.is_theorems.proofs.EarlierChecks.AddedCandidates.{local-goes, remote-goes}
 use Rattle.is_theorems.specs.FirstTimeouts.{IsReachedIn, PairsAreReachedFromDue}
 use Rattle.is_theorems.proofs.EarlierChecks.FirstTimeout.{Other, timeout-goes}
-use Rattle.is_rules.specs.Nominating.{numbers}
 
 lt-is : (n m : ℕ) → n < m → nat_lt n m ≡ true
 lt-is n m h = grind (arith, nat_tests, h)
@@ -104,7 +103,6 @@ module _ {H P : Type 0} where
   pub record Waits (by n : ℕ) (path : Path) (keeps : ℕ → Bool) (at : ℕ) (a : AgentRecord H P) : Type 0 where
     pub checking : IsChecking a
     pub queue : a.queue ≡ []
-    pub unnumbered : numbers a ≡ false
     pub last : a.last_time ≡ Some at
     pub pair : PairRecord
     pub there : Has a.pairs pair
@@ -147,7 +145,6 @@ module _ {H P : Type 0} where
                     peer = ap (λ (b : Base). is_some b.remote_creds) m.0 ∙ line.checking.peer;
                   };
                   queue = ap (λ (b : Base). b.queue) m.0 ∙ none-left at old.timing old.remote_creds old.queue line.queue;
-                  unnumbered = ap (λ (b : Base). b.renominates && b.rules.numbered_nominations) m.0 ∙ line.unnumbered;
                   last = ap (λ (b : Base). b.last_time) m.0;
                   pair = q;
                   there = has;
@@ -176,7 +173,6 @@ module _ {H P : Type 0} where
             peer = ap (λ (g : Ground). is_some g.remote_creds) ground ∙ w.checking.peer;
           };
           queue = ap (λ (g : Ground). g.queue) ground ∙ w.queue;
-          unnumbered = ap (λ (g : Ground). g.numbered) ground ∙ w.unnumbered;
           last = ap (λ (g : Ground). g.last_time) ground ∙ w.last;
           pair = f.0;
           there = f.1;
@@ -189,44 +185,41 @@ module _ {H P : Type 0} where
           due = f.3;
         }
 
-    pub between-keeps : (call : Call P) (e : Entry) (old new : AgentRecord H P) (s t : Stream) → is_some old.remote_creds ≡ true → numbers old ≡ false → old.last_time ≡ Some at
+    pub between-keeps : (call : Call P) (e : Entry) (old new : AgentRecord H P) (s t : Stream) → is_some old.remote_creds ≡ true → old.last_time ≡ Some at
         → (p : PairRecord) → IsSound old → Has old.pairs p → p.number ≡ n → path_of old p ≡ path → is_in_round call ≡ true → Step mac answers old s call e new t
         → AcceptsSuccessOn call e path ⊎ (MayEnd answers old call e p ⊎ Keeps n old new)
-    between-keeps (ReceivePacket now via bytes) e old new s t known plain last p sound has number on is (h, drawn) =
+    between-keeps (ReceivePacket now via bytes) e old new s t known last p sound has number on is (h, drawn) =
         elim (receives-goes n 0 mac answers now old new via path bytes e known
         (λ q there same. (let one : q ≡ p = one_pair old.pairs q p (rising-each old.pairs sound.rising) there has (same ∙ sym number) in ap (λ (y : PairRecord). path_of old y) one ∙ on)) h) [
           | inl (m, reads, flag, success, back) ↦ inl (now, via, m, (refl, refl, reads, flag), success, back)
           | inr k ↦ inr (inr (keeps-from n old new k))
         ]
-    between-keeps PollTransmit e old new s t known plain last p sound has number on is (given, emitted, (polled, made), drawn) = inr (inr (keeps-to n old _ new (refl, λ d cs le f. f) made))
-    between-keeps PollTimeout e old new s t known plain last p sound has number on is (deadline, emitted, timed_out, drawn) = inr (inr (asks-keeps n at old new deadline last timed_out))
-    between-keeps PollEvent e old new s t known plain last p sound has number on is (given, emitted, (polled, made), drawn) = inr (inr (keeps-to n old _ new (refl, λ d cs le f. f) made))
-    between-keeps (AddLocalCandidate c) e old new s t known plain last p sound has number on is (Ok (Some place), reported, h, drawn) = elim (local-goes n 0 answers old new c place p sound has number h) [
+    between-keeps PollTransmit e old new s t known last p sound has number on is (given, emitted, (polled, made), drawn) = inr (inr (keeps-to n old _ new (refl, λ d cs le f. f) made))
+    between-keeps PollTimeout e old new s t known last p sound has number on is (deadline, emitted, timed_out, drawn) = inr (inr (asks-keeps n at old new deadline last timed_out))
+    between-keeps PollEvent e old new s t known last p sound has number on is (given, emitted, (polled, made), drawn) = inr (inr (keeps-to n old _ new (refl, λ d cs le f. f) made))
+    between-keeps (AddLocalCandidate c) e old new s t known last p sound has number on is (Ok (Some place), reported, h, drawn) = elim (local-goes n 0 answers old new c place p sound has number h) [
       | inl ends ↦ inr (inl (ap (λ (x : Entry). x.answer) reported, ends))
       | inr k ↦ inr (inr (keeps-from n old new k))
     ]
-    between-keeps (AddLocalCandidate c) e old new s t known plain last p sound has number on is (Ok None, reported, h, drawn) = inr (inr (keeps-same n old new (none-entered answers old new c h)))
-    between-keeps (AddLocalCandidate c) e old new s t known plain last p sound has number on is (Err error, reported, h, drawn) = inr (inr (keeps-same n old new (enrolment_kept answers old new c error h)))
-    between-keeps (AddRemoteCandidate c) e old new s t known plain last p sound has number on is (Ok _, reported, h, drawn) = elim (remote-goes n 0 old new c p sound has number h) [
+    between-keeps (AddLocalCandidate c) e old new s t known last p sound has number on is (Ok None, reported, h, drawn) = inr (inr (keeps-same n old new (none-entered answers old new c h)))
+    between-keeps (AddLocalCandidate c) e old new s t known last p sound has number on is (Err error, reported, h, drawn) = inr (inr (keeps-same n old new (enrolment_kept answers old new c error h)))
+    between-keeps (AddRemoteCandidate c) e old new s t known last p sound has number on is (Ok _, reported, h, drawn) = elim (remote-goes n 0 old new c p sound has number h) [
       | inl ends ↦ inr (inl (ap (λ (x : Entry). x.answer) reported, ends))
       | inr k ↦ inr (inr (keeps-from n old new k))
     ]
-    between-keeps (AddRemoteCandidate c) e old new s t known plain last p sound has number on is (Err error, reported, h, drawn) = inr (inr (keeps-same n old new (storing_kept old new c error h)))
-    between-keeps (SetMtu target warn) e old new s t known plain last p sound has number on is (Ok _, reported, h, drawn) = inr (inr (keeps-to n old _ new (refl, λ d cs le f. f) h.1))
-    between-keeps (SetMtu target warn) e old new s t known plain last p sound has number on is (Err error, reported, h, drawn) = inr (inr (keeps-same n old new (mtu_kept old new target warn error h)))
-    between-keeps (SetLocalCredentials creds) e old new s t known plain last p sound has number on is (Ok _, reported, h, drawn) = inr (inr (keeps-to n old _ new (refl, λ d cs le f. f) h.1))
-    between-keeps (SetLocalCredentials creds) e old new s t known plain last p sound has number on is (Err error, reported, h, drawn) = inr (inr (keeps-same n old new (local_kept old new creds error h)))
-    between-keeps (SetControlTieBreaker tie) e old new s t known plain last p sound has number on is (reported, made, drawn) = inr (inr (keeps-to n old _ new (refl, λ d cs le f. f) made))
-    between-keeps (SetMaxCandidatePairs k) e old new s t known plain last p sound has number on is (reported, made, drawn) = inr (inr (keeps-to n old _ new (refl, λ d cs le f. f) made))
-    between-keeps (SetMaxDiscovered limit) e old new s t known plain last p sound has number on is (reported, made, drawn) = inr (inr (keeps-to n old _ new (refl, λ d cs le f. f) made))
-    between-keeps (SetRenomination true) e old new s t known plain last p sound has number on is step = no-case is
-    between-keeps (SetRenomination false) e old new s t known plain last p sound has number on is (reported, made, drawn) =
-        inr (inr (keeps-to n old _ new (ap (λ b. record (ground_of old) { numbered = b }) (sym plain), λ d cs le f. f) made))
-    between-keeps (SetTimingAdvance advance) e old new s t known plain last p sound has number on is (reported, made, drawn) = inr (inr (keeps-to n old _ new (refl, λ d cs le f. f) made))
-    between-keeps (SetLocalPreference object) e old new s t known plain last p sound has number on is (reported, made, drawn) = inr (inr (keeps-to n old _ new (refl, λ d cs le f. f) made))
-    between-keeps (SetControlling controlling) e old new s t known plain last p sound has number on is (Ok _, reported, h, drawn) = inr (inr (keeps-to n old _ new (refl, λ d cs le f. f) h.1))
-    between-keeps (SetControlling controlling) e old new s t known plain last p sound has number on is (Err error, reported, h, drawn) = inr (inr (keeps-same n old new (controlling_kept old new controlling error h)))
-    between-keeps _ e old new s t known plain last p sound has number on is step = no-case is
+    between-keeps (AddRemoteCandidate c) e old new s t known last p sound has number on is (Err error, reported, h, drawn) = inr (inr (keeps-same n old new (storing_kept old new c error h)))
+    between-keeps (SetMtu target warn) e old new s t known last p sound has number on is (Ok _, reported, h, drawn) = inr (inr (keeps-to n old _ new (refl, λ d cs le f. f) h.1))
+    between-keeps (SetMtu target warn) e old new s t known last p sound has number on is (Err error, reported, h, drawn) = inr (inr (keeps-same n old new (mtu_kept old new target warn error h)))
+    between-keeps (SetLocalCredentials creds) e old new s t known last p sound has number on is (Ok _, reported, h, drawn) = inr (inr (keeps-to n old _ new (refl, λ d cs le f. f) h.1))
+    between-keeps (SetLocalCredentials creds) e old new s t known last p sound has number on is (Err error, reported, h, drawn) = inr (inr (keeps-same n old new (local_kept old new creds error h)))
+    between-keeps (SetControlTieBreaker tie) e old new s t known last p sound has number on is (reported, made, drawn) = inr (inr (keeps-to n old _ new (refl, λ d cs le f. f) made))
+    between-keeps (SetMaxCandidatePairs k) e old new s t known last p sound has number on is (reported, made, drawn) = inr (inr (keeps-to n old _ new (refl, λ d cs le f. f) made))
+    between-keeps (SetMaxDiscovered limit) e old new s t known last p sound has number on is (reported, made, drawn) = inr (inr (keeps-to n old _ new (refl, λ d cs le f. f) made))
+    between-keeps (SetRenomination renominates) e old new s t known last p sound has number on is (reported, made, drawn) = inr (inr (keeps-to n old _ new (refl, λ d cs le f. f) made))
+    between-keeps (SetTimingAdvance advance) e old new s t known last p sound has number on is (reported, made, drawn) = inr (inr (keeps-to n old _ new (refl, λ d cs le f. f) made))
+    between-keeps (SetLocalPreference object) e old new s t known last p sound has number on is (reported, made, drawn) = inr (inr (keeps-to n old _ new (refl, λ d cs le f. f) made))
+    between-keeps (SetControlling controlling) e old new s t known last p sound has number on is (reported, made, drawn) = inr (inr (keeps-to n old _ new (refl, λ d cs le f. f) made))
+    between-keeps _ e old new s t known last p sound has number on is step = no-case is
 
     -- ---- the first round
 
@@ -265,7 +258,7 @@ module _ {H P : Type 0} where
                 let sound = sound-at ((xs ++ timeout ∷ []) ++ before) mid v here in
                 let sound_last = sound-at (x ∷ ((xs ++ timeout ∷ []) ++ before)) last t (mid, v, here, numbered, given, step) in
                 let ends-here : MayEnd answers mid x.call x.entry w.pair → Ends answers mid x.call x.entry path = λ ends. (w.pair, w.there, (ap (λ (y : Path). y.source) w.on, ap (λ (y : Path). y.destination) w.on), ends) in
-                elim (between-keeps x.call x.entry mid last v t w.checking.peer w.unnumbered w.last w.pair sound w.there w.number w.on (fits x (inl refl)) step) [
+                elim (between-keeps x.call x.entry mid last v t w.checking.peer w.last w.pair sound w.there w.number w.on (fits x (inl refl)) step) [
                   | inl accepts ↦ inr (inl (x, inl refl, accepts))
                   | inr (inl ends) ↦ inr (inr (inl (inl (fits x (inl refl), ends-here ends))))
                   | inr (inr keeps) ↦ elim (pairs-stay mac answers mid last v t x.call x.entry w.pair sound given step w.there) [
@@ -326,7 +319,6 @@ module _ {H P : Type 0} where
                 line = record {
                   checking = v.checking;
                   queue = v.queue;
-                  unnumbered = v.unnumbered;
                   there = v.there;
                   due = subst (λ d. d ≤ by) (sym due) v.before;
                   settled = inr (ap is_some v.due);

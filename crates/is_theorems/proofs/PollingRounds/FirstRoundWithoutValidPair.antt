@@ -116,7 +116,7 @@ module _ {H P : Type 0} where
           elim (receives mac 0 1 (omega arith) (omega arith) answers (record { at = now; via = via; bytes = bytes; entry = e }) old new s t c.waits.checking.peer c.role c.waits.checking.full c.invalid role step) [
             | inl (m, reads, flag, success) ↦ inl (selects now via bytes e m old new s t zs led c.invalid step role reads flag success)
             | inr (core, grown, spares) ↦
-                elim (between-keeps mac answers by n path keeps at (ReceivePacket now via bytes) e old new s t c.waits.checking.peer c.waits.unnumbered c.waits.last c.waits.pair sound c.waits.there c.waits.number c.waits.on refl step) [
+                elim (between-keeps mac answers by n path keeps at (ReceivePacket now via bytes) e old new s t c.waits.checking.peer c.waits.last c.waits.pair sound c.waits.there c.waits.number c.waits.on refl step) [
                   | inl (when, by_path, m, (now_is, path_is, reads, flag), success, back) ↦ inl (selects now via bytes e m old new s t zs led c.invalid step role reads flag success)
                   | inr (inl ends) ↦ absurd ends
                   | inr (inr held) ↦ inr (still from (ReceivePacket now via bytes) e old new s t is given c sound sound_new step role (spares.invalid c.invalid) held)
@@ -174,7 +174,6 @@ module _ {H P : Type 0} where
       line = record {
         checking = waits.checking;
         queue = waits.queue;
-        unnumbered = unanswered.unnumbered;
         there = waits.there;
         due = (let due = waits.due in omega (arith, due));
         settled = inl (let none = unanswered.invalid in none p waits.there);
@@ -209,7 +208,7 @@ module _ {H P : Type 0} where
             there = v.there;
             due = subst (λ d. d ≤ by) (sym due) v.before;
           })
-          (record { unnumbered = v.unnumbered; invalid = c.invalid; young = lt-from (unanswered_count v.pair.checks) run.1.timing.max_retransmits v.young }) more passing (omega (arith, many, enough)))
+          (record { invalid = c.invalid; young = lt-from (unanswered_count v.pair.checks) run.1.timing.max_retransmits v.young }) more passing (omega (arith, many, enough)))
 
       from-first : (length start.pairs ≤ 1) ⊎ AreAsManyAsDue by run.1 (times_of later) → ChecksAmong (r ∷ later) path ⊎ SelectsAmong (r ∷ later)
       from-first enough = elim (timeout-on mac answers by p.number path (answered_at start p) r.now (omega (arith, from)) r.timeout start run.0 run.2 run.3 p done run.4 sound_start sound_mid line (λ m is. is) refl refl) [

@@ -1,6 +1,6 @@
 -- A pair that waits for its check is due at each `poll_timeout` call, so this returns a time at most one pacing interval after the last
 -- `handle_timeout` call.
-use Rattle.std.proofs.Common.{◌≡◌, ℕ, zero, suc, ◌+◌, ◌*◌, ◌<◌, ◌≤◌, max, Bool, true, false, List, [], ◌∷◌, ◌++◌, length, Option, Some, is_some, inl, inr, ◌⊎◌, refl, ap, sym, ◌∙◌, subst, arith, if◌then◌else◌}
+use Rattle.std.proofs.Common.{◌≡◌, ℕ, zero, suc, ◌+◌, ◌*◌, ◌<◌, ◌≤◌, max, Bool, true, false, List, [], ◌∷◌, ◌++◌, length, Option, Some, is_some, inl, inr, ◌⊎◌, refl, ap, sym, ◌∙◌, subst, arith}
 use Rattle.std.proofs.Math.Nat.{suc-mul}
 use Rattle.rand_core.specs.Stream.{Stream}
 use Rattle.is_proto.specs.Lists.{Has}
@@ -123,7 +123,7 @@ module _ {H P : Type 0} where
         let slow_mid : mid.timing_advance ≤ pace = stays-slow x.0 old.timing_advance mid.timing_advance pace (pacing-is-set mac answers old mid s t x.0 x.1 step) (omega (arith, slow)) (λ k is. keeping x k (inl refl) is) in
         let ends-here : MayEnd answers old x.0 x.1 w.pair → Ends answers old x.0 x.1 path =
         λ ends. (w.pair, w.there, (ap (λ (y : Path). y.source) w.on, ap (λ (y : Path). y.destination) w.on), ends) in
-        elim (between-keeps mac answers by n path keeps at x.0 x.1 old mid s t w.checking.peer w.unnumbered w.last w.pair sound w.there w.number w.on (fits x (inl refl)) step) [
+        elim (between-keeps mac answers by n path keeps at x.0 x.1 old mid s t w.checking.peer w.last w.pair sound w.there w.number w.on (fits x (inl refl)) step) [
           | inl accepts ↦ inl (x, inl refl, accepts)
           | inr (inl ends) ↦ inr (inl (inl (ends-here ends)))
           | inr (inr kept) ↦ elim (pairs-stay mac answers old mid s t x.0 x.1 w.pair sound given step w.there) [
@@ -156,7 +156,6 @@ module _ {H P : Type 0} where
         record {
           checking = w.checking;
           queue = w.queue;
-          unnumbered = w.unnumbered;
           there = w.there;
           due = subst (λ d. d ≤ by) (sym due) w.before;
           settled = inr (ap is_some w.due);
@@ -430,7 +429,6 @@ module _ {H P : Type 0} where
           line = record {
             checking = waits.checking;
             queue = waits.queue;
-            unnumbered = unanswered.unnumbered;
             there = waits.there;
             due = (let due = waits.due in omega (arith, due));
             settled = inl (let none = unanswered.invalid in none p waits.there);

@@ -16,5 +16,4 @@ pub invariant_of-self-clause-placed : goal.invariant_of-self-clause-placed
 invariant_of-self-clause-placed g c =
     let self = c.args.self.now in
     rw (c.new_attempt-id.ensures.sent)
-    (placed-changed self.local.items self.remote.items c.args.number _ (multiset_of c.begin_nomination.new.pairs) (checked-places c.args.now.0 self.timing self.controlling c.new_attempt-id.result.0)
-    (c.begin_nomination.ensures.placed self.local.items self.remote.items self.placed))
+    (placed-changed self.local.items self.remote.items c.args.number _ (multiset_of self.pairs) (checked-places c.args.now.0 self.timing self.controlling c.new_attempt-id.result.0) self.placed)

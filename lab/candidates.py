@@ -1,0 +1,241 @@
+"""The candidates and pairs of an agent, as a model: which there are after each call."""
+
+from __future__ import annotations
+
+from collections.abc import Iterable
+from dataclasses import dataclass, replace
+from typing import Self, TypeVar
+
+from is_ice import Candidate, CandidateKind, IceConnectionState, IceCreds, line_fields
+
+from .clock import MILLISECOND
+from .kinds import ORIGINAL, Rules, least_of_most
+from .pairs import Pair, Path, Place, Timing, pair_priority
+from .requests import Request
+from .states import CHECKING, NEW
+
+KINDS = {CandidateKind.HOST: "host", CandidateKind.SERVER_REFLEXIVE: "srflx", CandidateKind.RELAYED: "relay",
+         CandidateKind.PEER_REFLEXIVE: "prflx"}
+# How many candidates of each side packets may bring to an agent that the library makes.
+DISCOVERED_LIMIT = 32
+
+A = TypeVar("A")
+# An agent with another candidate, and the combinations of indices that it forms.
+Joined = tuple[A, list[tuple[int, int]]]
+
+
+@dataclass(frozen=True)
+class Candidates:
+    """An agent, as far as its candidates and pairs go. Candidates keep their index."""
+
+    creds: IceCreds
+    tie_breaker: int
+    controlling: bool = False
+    lite: bool = False
+    renominates: bool = False
+    rules: Rules = ORIGINAL  # `with_rules` sets them
+    peer: IceCreds | None = None
+    timing: Timing = Timing()
+    advance: int = 50 * MILLISECOND
+    max_pairs: int = 100
+    max_discovered: int | None = DISCOVERED_LIMIT
+    local: tuple[Place, ...] = ()
+    remote: tuple[Place, ...] = ()
+    pairs: tuple[Pair, ...] = ()
+    next_number: int = 0
+    selected: int | None = None
+    last_nominated: int | None = None  # by the peer
+    ahead_turn: bool = False  # the next check may go ahead of pairs that are due earlier
+    next_kind: int = 0  # from which kind on kinds take turns
+    state: IceConnectionState = NEW
+    queue: tuple[Request, ...] = ()
+    last: int | None = None
+
+    def with_rules(self, rules: Rules) -> Self:
+        """Returns the agent with these rules. Due times that are fixed stay."""
+        return replace(self, rules=rules, timing=replace(self.timing, early=rules.early_rto, consent=rules.consent))
+
+    def with_timing(self, timing: Timing) -> Self:
+        """Returns the agent with these settings. If an RTO changes, due times are computed again."""
+        is_same = (timing.initial, timing.greatest) == (self.timing.initial, self.timing.greatest)
+        return replace(self, timing=timing, pairs=self.pairs if is_same else tuple(replace(p, due=None) for p in self.pairs))
+
+    # ---- questions
+
+    def path(self, pair: Pair) -> Path:
+        """Returns the path of a pair: from its base to the remote address."""
+        return self.local[pair.local].base, self.remote[pair.remote].address
+
+    def on(self, path: Path) -> list[Pair]:
+        """Returns the pairs on a path."""
+        return [p for p in self.pairs if self.path(p) == path]
+
+    def is_eligible(self, pair: Pair) -> bool:
+        """Whether it may be selected."""
+        return pair.is_valid and (self.controlling or pair.is_nominated)
+
+    def stays_nominated(self, pair: Pair) -> bool:
+        """Whether its checks have USE-CANDIDATE if the agent is controlling."""
+        return pair.is_nominated and (not self.renominates or pair.number == self.selected)
+
+    @property
+    def follows(self) -> bool:
+        """Whether it selects the pair that its peer nominated last."""
+        return self.renominates and not self.controlling and self.last_nominated is not None
+
+    def chosen(self) -> Pair | None:
+        """Returns the pair to be selected: of an agent that follows its peer the pair that the peer nominated last, or the one that was
+        selected last; else an eligible one with the greatest priority."""
+        eligible = [p for p in self.pairs if self.is_eligible(p)]
+        favored = (self.last_nominated, self.selected) if self.follows else ()
+        best = max(eligible, key=lambda p: p.priority, default=None)
+        return next((p for number in favored for p in eligible if p.number == number), best)
+
+    def remains(self, top: Pair) -> bool:
+        """Whether the pair that was selected last stays selected, if this one is chosen."""
+        return any(p.number == self.selected and (p is top if self.follows else p.priority == top.priority) for p in self.pairs)
+
+    def request_at(self, now: int) -> Request | None:
+        """Returns the early request that a `handle_timeout` serves."""
+        return next(iter(self._current(now)), None) if self.peer is not None else None
+
+    def _current(self, now: int) -> tuple[Request, ...]:
+        queue = self.queue
+        while queue and now - queue[0].time >= self.timing.timeout():
+            queue = queue[1:]
+        return queue
+
+    def is_below(self, count: int) -> bool:
+        """Whether packets may bring one more candidate of a side to which they brought so many."""
+        return self.max_discovered is None or count < self.max_discovered
+
+    def vacant_place(self) -> int | None:
+        """Returns the first index of a candidate that a request brought, and that no pair has."""
+        used = {p.remote for p in self.pairs}
+        return next((i for i, c in enumerate(self.remote) if c.is_found and i not in used), None)
+
+    def place_to_discard(self, candidate: Place, places: tuple[Place, ...]) -> int | None:
+        """Returns the index of the first equal candidate, if that one is live."""
+        at = next((i for i, c in enumerate(places) if c.is_same_place(candidate) and c.is_same_origin(candidate)), None)
+        return None if at is None or places[at].is_discarded else at
+
+    def goes_first(self, pair: Pair) -> bool:
+        """Whether it comes before all kinds, in turn: the selected pair, and urgent ones."""
+        is_selected = self.rules.selected_first and pair.number == self.selected
+        return is_selected or (self.rules.triggered_checks is not None and pair.is_urgent)
+
+    def has_first(self, now: int) -> bool:
+        """Whether such a pair is due."""
+        return any(self.goes_first(p) and p.due_at(now, self.timing) <= now for p in self.pairs)
+
+    def is_ahead_turn(self, now: int) -> bool:
+        """Whether the next check goes ahead: every second one, to the selected pair, to an urgent pair, or to the next kind until a path is
+        selected."""
+        are_kinds_in_turn = self.rules.kinds_in_turn and not self.state.is_connected()
+        return self.rules.goes_ahead and self.ahead_turn and (are_kinds_in_turn or self.has_first(now))
+
+    # ---- forming pairs
+
+    def priority_between(self, local: int, remote: int) -> int:
+        """Returns the priority of a pair of two candidates by their indices, in the present role."""
+        own, other = self.local[local].priority, self.remote[remote].priority
+        return pair_priority(own, other) if self.controlling else pair_priority(other, own)
+
+    def _formed(self, combinations: Iterable[tuple[int, int]]) -> Self:
+        new = self
+        for local, remote in combinations:
+            new = new._tried(local, remote)
+        pairs = list(new.pairs)
+        while len(pairs) > new.max_pairs:
+            pairs.remove(new._to_evict(pairs))
+        return replace(new, pairs=tuple(pairs))
+
+    def _to_evict(self, pairs: list[Pair]) -> Pair:
+        """Returns the pair that goes at the limit."""
+        return least_of_most(self.local, self.remote, pairs) if self.rules.kinds_in_turn else min(pairs, key=lambda p: p.priority)
+
+    def _tried(self, local: int, remote: int) -> Self:
+        path = self.local[local].base, self.remote[remote].address
+        pair = Pair(self.next_number, local, remote, self.priority_between(local, remote))
+        found = max(self.on(path), key=lambda p: p.priority, default=None)
+        if found is None:
+            return replace(self, pairs=(*self.pairs, pair), next_number=self.next_number + 1)
+        if found.priority >= pair.priority:
+            return self
+        kept = tuple(p for p in self.pairs if p.number != found.number)
+        return replace(self, pairs=(*kept, pair.taking_over(found, self.lite)), next_number=self.next_number + 1)
+
+    def _partners(self, candidate: Place, places: tuple[Place, ...]) -> list[int]:
+        return [i for i, c in enumerate(places) if not c.is_discarded and c.address.version == candidate.address.version]
+
+    # ---- candidates
+
+    def with_local(self, candidate: Candidate, line: str | None) -> Joined[Self] | None:
+        """Returns the agent with a local candidate, and the combinations that it forms; None if it was redundant. `line` is what the
+        agent returned, with the priority."""
+        if line is None:
+            return None
+        base = candidate.address if candidate.kind is CandidateKind.RELAYED else candidate.base
+        new = Place(KINDS[candidate.kind], candidate.address, base, line_fields(line).priority)
+        at = next((i for i, c in enumerate(self.local) if c.is_same_place(new)), None)
+        if at is not None and self.local[at].is_discarded and self.local[at].is_same_origin(new):
+            kept = put(self.local, at, replace(self.local[at], is_discarded=False))
+            return replace(self, local=kept), [(at, r) for r in self._partners(new, self.remote)]
+        start = self if at is None else self._without_local(at)
+        place = len(start.local)
+        return replace(start, local=(*start.local, new)), [(place, r) for r in self._partners(new, self.remote)]
+
+    def add_local(self, candidate: Candidate, line: str | None) -> Self:
+        """Adds a local candidate. `line` is what the agent returned."""
+        joined = self.with_local(candidate, line)
+        return self if joined is None else joined[0]._formed(joined[1])
+
+    def with_remote(self, line: str) -> Joined[Self] | None:
+        """Returns the agent with a remote candidate by its text, and the combinations that it forms; None if it is ignored."""
+        read = line_fields(line)
+        address = read.address
+        new = Place(KINDS[read.kind], address, address, read.priority, read.related)
+        is_other = self.peer is not None and read.ufrag not in (None, self.peer.ufrag)
+        if read.component != 1 or is_other or any(_are_equal(self.remote[p.remote], new) for p in self.pairs):
+            return None
+        at = next((i for i, c in enumerate(self.remote) if c.is_found and c.address == address), len(self.remote))
+        return replace(self, remote=put(self.remote, at, new)), [(i, at) for i in self._partners(new, self.local)]
+
+    def add_remote(self, line: str) -> Self:
+        """Adds a remote candidate by its text, unless it is ignored."""
+        joined = self.with_remote(line)
+        return self if joined is None else joined[0]._formed(joined[1])
+
+    def invalidate(self, candidate: Candidate) -> Self:
+        """Discards a local candidate, and its pairs."""
+        at = self.place_to_discard(local_place(candidate), self.local)
+        return self if at is None else self._without_local(at)
+
+    def _without_local(self, at: int) -> Self:
+        places = put(self.local, at, replace(self.local[at], is_discarded=True))
+        return replace(self, local=places, pairs=tuple(p for p in self.pairs if p.local != at))
+
+    def restart(self, creds: IceCreds, keeps: bool) -> Self:
+        """Makes an ICE restart."""
+        return replace(self, creds=creds, peer=None, local=self.local if keeps else (), remote=(), pairs=(), state=CHECKING)
+
+    def recreate(self) -> Self:
+        """Forms the pairs again."""
+        live = [i for i, c in enumerate(self.local) if not c.is_discarded]
+        empty = replace(self, pairs=(), state=CHECKING)
+        return empty._formed((i, r) for i in live for r in self._partners(self.local[i], self.remote))
+
+
+def put(places: tuple[Place, ...], at: int, place: Place) -> tuple[Place, ...]:
+    """Returns the candidates with this one at an index: in the place of another one, or at the end."""
+    return (*places[:at], place, *places[at + 1:])
+
+
+def _are_equal(a: Place, b: Place) -> bool:
+    return a.is_same_place(b) and a.is_same_origin(b)
+
+
+def local_place(candidate: Candidate) -> Place:
+    """Returns a local candidate as a place, without its priority."""
+    base = candidate.address if candidate.kind is CandidateKind.RELAYED else candidate.base
+    return Place(KINDS[candidate.kind], candidate.address, base, 0)
