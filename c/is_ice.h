@@ -337,6 +337,14 @@ IS_ICE_CALL int32_t is_ice_make_credentials(
     const uint8_t *random, size_t random_length, uint8_t *ufrag, size_t ufrag_length, uint8_t *pass,
     size_t pass_length);
 
+/* is_ice_check_text - returns whether a text is in the grammar of signaling (RFC 8839, sections 5.1 and 5.4): of A to Z, a
+ * to z, 0 to 9, '+' and '/'. A username fragment has 4 to 256 of them, a password 22 to 256, and a foundation 1 to 32.
+ * Calls that take credentials or candidates do not check this: agents of other makers use further characters, as '-'.
+ *
+ * IS_ICE_OK: it is. IS_ICE_NOTHING: it is not, or there is no such kind. Does not allocate. On any thread. */
+enum { IS_ICE_TEXT_UFRAG = 0, IS_ICE_TEXT_PASS = 1, IS_ICE_TEXT_FOUNDATION = 2 };
+IS_ICE_CALL int32_t is_ice_check_text(uint8_t kind, const uint8_t *text, size_t length);
+
 /* is_ice_agent_new - creates an agent with these local credentials.
  *
  * The agent is controlled and has no candidates, and its session has not started. `tie_breaker` is a random number,
@@ -344,8 +352,8 @@ IS_ICE_CALL int32_t is_ice_make_credentials(
  * is_ice_agent refers to heap memory, until is_ice_agent_free.
  *
  * A username fragment has letters, digits, '+' and '/' (RFC 8839, section 5.4), which this call and the others that set
- * credentials do not check. Under an empty one, or one with white space, is_ice_add_remote does not take the text that
- * is_ice_local_candidate returns.
+ * credentials do not check: is_ice_check_text does. Under an empty one, or one with white space, is_ice_add_remote does
+ * not take the text that is_ice_local_candidate returns.
  *
  * IS_ICE_OK. IS_ICE_HAS_AGENT: there is one, which stays. IS_ICE_NOT_UTF8. IS_ICE_CREDENTIALS_TOO_LONG.
  * IS_ICE_OUT_OF_MEMORY. */
@@ -364,6 +372,12 @@ IS_ICE_QUIET_CALL void is_ice_agent_free(is_ice_agent *agent);
  * controlling (RFC 8445, section 6.1.1). If both agents claim one role, they resolve the role conflict. IS_ICE_OK.
  * Value: false. */
 IS_ICE_QUIET_CALL int32_t is_ice_set_controlling(is_ice_agent *agent, bool controlling);
+
+/* is_ice_role - returns which role the agent has at first (RFC 8445, section 6.1.1): for is_ice_set_controlling. A full
+ * agent is controlling if the other one is lite. Else the agent of the side that made the offer is.
+ *
+ * IS_ICE_OK: controlling. IS_ICE_NOTHING: controlled. Does not allocate. On any thread. */
+IS_ICE_CALL int32_t is_ice_role(bool made_offer, bool lite, bool other_is_lite);
 
 /* is_ice_set_lite - makes the agent a lite agent, or a full one. A lite agent has only host candidates. It responds to
  * checks and sends none. It has to be controlled, and the other agent a full one: a lite agent that stays controlling
@@ -448,6 +462,17 @@ IS_ICE_QUIET_CALL int32_t is_ice_set_max_rto(is_ice_agent *agent, uint64_t nanos
  * IS_ICE_OK. IS_ICE_BAD_LIMIT: the limit is 0. Value: 11. */
 IS_ICE_CALL int32_t is_ice_set_max_retransmits(is_ice_agent *agent, size_t limit);
 
+/* is_ice_retransmit_timeout, is_ice_retransmit_delay - return times of an agent with these settings, without an agent.
+ * The first is how long a pair's checks go on without a response: ice_timeout of is_ice_status. The second is how long
+ * the agent waits after the last of so many checks of a pair before the next one: 0 if none was sent. Early
+ * retransmissions do not count. Neither allocates. On any thread.
+ *
+ * IS_ICE_OK. IS_ICE_BAD_LIMIT (the first): max_retransmits is 0; *timeout is unchanged. */
+IS_ICE_CALL int32_t is_ice_retransmit_timeout(
+    uint64_t initial_rto, uint64_t max_rto, size_t max_retransmits, uint64_t *timeout);
+IS_ICE_QUIET_CALL int32_t is_ice_retransmit_delay(
+    uint64_t initial_rto, uint64_t max_rto, size_t max_retransmits, size_t sent, uint64_t *delay);
+
 /* is_ice_modern_rules, is_ice_original_rules - return the rules that connect sooner and end consent in time, and those of
  * the Rust crate `is` 0.12.0, of which each is off. The first are: 4 requests trigger checks; 4 early retransmissions,
  * each after 100 ms; consent for 29.6 s, not strict; and each other rule is on. On any thread. IS_ICE_OK. */
@@ -531,6 +556,15 @@ IS_ICE_CALL int32_t is_ice_set_remote_credentials(
 
 /* The index of no candidate: see is_ice_add_local and is_ice_add_remote. */
 #define IS_ICE_NO_INDEX ((size_t)-1)
+
+/* is_ice_is_host_address - returns whether a host candidate of an interface should have this address (RFC 8445, section
+ * 5.1.1.1). It should not if the address is unspecified, broadcast or multicast, of loopback or link-local. Of family 6
+ * site-local, IPv4-compatible and IPv4-mapped ones should not either. Port, flow and scope are not read.
+ * is_ice_add_local also takes addresses of loopback and link-local ones of family 6, as tests on one machine need.
+ *
+ * IS_ICE_OK: it should. IS_ICE_NOTHING: it should not. IS_ICE_BAD_ADDRESS: an unknown family. Does not allocate. On any
+ * thread. */
+IS_ICE_CALL int32_t is_ice_is_host_address(const is_ice_address *address);
 
 /* is_ice_add_local - adds a candidate that the caller gathered, and forms its pairs.
  *
@@ -632,6 +666,17 @@ IS_ICE_CALL int32_t is_ice_candidate_line(
 IS_ICE_CALL int32_t is_ice_line_fields(
     const uint8_t *line, size_t line_length, uint8_t *buffer, size_t size, size_t *length, is_ice_fields *fields);
 
+/* is_ice_fields_line - returns the text of a candidate with these fields and this foundation, as a peer signals it, and
+ * the fields that is_ice_line_fields reads from it. `local` and the two lengths of *given are not read, and neither are
+ * flow information and scope. A related address of family 0: it has none. The text has no username fragment:
+ * is_ice_line_with_ufrag sets one.
+ *
+ * IS_ICE_OK. IS_ICE_BAD_ADDRESS: an unknown family, kind, protocol or TCP type. IS_ICE_NOT_UTF8. IS_ICE_BAD_CANDIDATE: the
+ * foundation is not one word. IS_ICE_BUFFER_TOO_SHORT. IS_ICE_OUT_OF_MEMORY. After an error *fields is unchanged. */
+IS_ICE_CALL int32_t is_ice_fields_line(
+    const is_ice_fields *given, const uint8_t *foundation, size_t foundation_length, uint8_t *buffer, size_t size,
+    size_t *length, is_ice_fields *fields);
+
 /* is_ice_candidate_fields - returns the text of is_ice_candidate_line and the fields of the candidate.
  *
  * IS_ICE_OK. IS_ICE_BAD_ADDRESS, IS_ICE_BAD_CANDIDATE: see is_ice_add_local. IS_ICE_BUFFER_TOO_SHORT.
@@ -666,6 +711,17 @@ IS_ICE_CALL int32_t is_ice_line_with_ufrag(
     const uint8_t *line, size_t line_length, const uint8_t *ufrag, size_t ufrag_length, uint8_t *buffer, size_t size,
     size_t *length);
 
+/* is_ice_line_with_address_fields, is_ice_line_with_ufrag_fields - return the same texts, and the fields of the
+ * candidates.
+ *
+ * The codes are those of the calls without fields. After an error *fields is unchanged. */
+IS_ICE_CALL int32_t is_ice_line_with_address_fields(
+    const uint8_t *line, size_t line_length, const is_ice_address *address, uint8_t *buffer, size_t size,
+    size_t *length, is_ice_fields *fields);
+IS_ICE_CALL int32_t is_ice_line_with_ufrag_fields(
+    const uint8_t *line, size_t line_length, const uint8_t *ufrag, size_t ufrag_length, uint8_t *buffer, size_t size,
+    size_t *length, is_ice_fields *fields);
+
 /* is_ice_line_to_json - returns the JSON in which browsers signal a candidate, the RTCIceCandidateInit of W3C WebRTC:
  * {"candidate":"candidate:..","sdpMLineIndex":0,"sdpMid":null,"usernameFragment":..}. The last member is the username
  * fragment of the candidate, or null.
@@ -685,6 +741,12 @@ IS_ICE_CALL int32_t is_ice_line_to_json(
  * IS_ICE_OUT_OF_MEMORY. */
 IS_ICE_CALL int32_t is_ice_line_from_json(
     const uint8_t *json, size_t json_length, uint8_t *buffer, size_t size, size_t *length);
+
+/* is_ice_json_fields - returns the same text, and the fields of the candidate.
+ *
+ * The codes are those of is_ice_line_from_json. After an error *fields is unchanged. */
+IS_ICE_CALL int32_t is_ice_json_fields(
+    const uint8_t *json, size_t json_length, uint8_t *buffer, size_t size, size_t *length, is_ice_fields *fields);
 
 /* is_ice_json_refusal - says why JSON is not a candidate.
  *
@@ -846,8 +908,9 @@ IS_ICE_CALL int32_t is_ice_remote_pass(is_ice_agent *agent, uint8_t *buffer, siz
  * A server-reflexive candidate is found in three steps. Send the message of is_ice_stun_request from the socket of a
  * host candidate to a STUN server. Pass what the server returns to is_ice_stun_response. Then add a candidate of kind
  * IS_ICE_SERVER_REFLEXIVE: its address is the mapped address, its base that of the socket. Send the request again after
- * 500 ms, then after twice as long each time, 7 times at most (section 6.2.1). Check that the response came from the
- * server, to the socket that sent the request. A FINGERPRINT is read, but not verified. */
+ * 500 ms, then after twice as long each time, 7 times at most (section 6.2.1): is_ice_retransmit_delay returns these
+ * times. Check that the response came from the server, to the socket that sent the request. A FINGERPRINT is read, but
+ * not verified. */
 
 /* A transaction ID: 12 bytes from a source that nobody can predict. The response has that of its request. */
 typedef struct is_ice_stun_transaction {
@@ -942,6 +1005,12 @@ typedef struct is_ice_stun_message {
     bool has_fingerprint;              /* FINGERPRINT (RFC 8489, section 14.7); is_ice_stun_write always writes it */
 } is_ice_stun_message;
 
+/* is_ice_is_stun - returns whether a datagram begins as a STUN message, and not as media on the same socket (RFC 7983). It
+ * has 20 bytes or more, the magic cookie, and two top bits of 0 (RFC 8489, section 5).
+ *
+ * IS_ICE_OK: it does. IS_ICE_NOTHING: it does not. */
+IS_ICE_CALL int32_t is_ice_is_stun(const uint8_t *bytes, size_t length);
+
 /* is_ice_stun_read - reads a message of any method and class. Nothing is verified, and no attribute is required.
  *
  * The two top bits of a message, which are 0 (RFC 8489, section 5), are not looked at.
@@ -968,12 +1037,28 @@ IS_ICE_CALL int32_t is_ice_stun_read_strict(const uint8_t *bytes, size_t length,
 IS_ICE_CALL int32_t is_ice_stun_username(
     const uint8_t *bytes, size_t bytes_length, uint8_t *buffer, size_t size, size_t *length, size_t *receiver);
 
+/* is_ice_username_parts - returns the length of the part of a USERNAME before the first colon, as is_ice_stun_username
+ * does, for a text that is in no message.
+ *
+ * IS_ICE_OK. IS_ICE_NOTHING: nothing is after its first colon, or it has none. IS_ICE_NOT_UTF8. After these two *receiver
+ * is unchanged. */
+IS_ICE_CALL int32_t is_ice_username_parts(const uint8_t *username, size_t username_length, size_t *receiver);
+
 /* is_ice_stun_verify - returns whether the message has a MESSAGE-INTEGRITY that is the HMAC-SHA1 of the message under
  * this key (RFC 8489, section 14.5). For ICE the key of a request is the receiver's password, and that of its response
  * the same one (RFC 8445, section 7.1.2).
  *
  * IS_ICE_OK: it is. IS_ICE_NOTHING: it is not. IS_ICE_UNPARSED. */
 IS_ICE_CALL int32_t is_ice_stun_verify(const uint8_t *bytes, size_t length, const uint8_t *key, size_t key_length);
+
+/* is_ice_hmac_sha1 - returns the HMAC-SHA1 of bytes under a key (RFC 2104): IS_ICE_HMAC_LENGTH bytes. The calls of this
+ * header compute it themselves: this one is for other protocols of the program.
+ *
+ * IS_ICE_OK. IS_ICE_BUFFER_TOO_SHORT: the buffer is unchanged. Both write the length to *length. */
+enum { IS_ICE_HMAC_LENGTH = 20 };
+IS_ICE_CALL int32_t is_ice_hmac_sha1(
+    const uint8_t *key, size_t key_length, const uint8_t *bytes, size_t bytes_length, uint8_t *buffer, size_t size,
+    size_t *length);
 
 /* A text in the bytes that is_ice_stun_write gets: `length` bytes, from `start` on. */
 typedef struct is_ice_stun_span {

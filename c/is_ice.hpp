@@ -217,6 +217,8 @@ inline address ipv6(std::array<uint8_t, 16> bytes, uint16_t port, uint32_t scope
     return result;
 }
 
+inline bool is_host_address(const address &of) { return detail::done(is_ice_is_host_address(&of)); }
+
 inline credentials make_credentials(const credentials_random &random)
 {
     credentials made{std::string(IS_ICE_UFRAG_LENGTH, '\0'), std::string(IS_ICE_PASS_LENGTH, '\0')};
@@ -224,6 +226,33 @@ inline credentials make_credentials(const credentials_random &random)
         random.data(), random.size(), reinterpret_cast<uint8_t *>(made.ufrag.data()), made.ufrag.size(),
         reinterpret_cast<uint8_t *>(made.pass.data()), made.pass.size()));
     return made;
+}
+
+inline bool check_text(uint8_t kind, std::string_view text)
+{
+    return detail::done(is_ice_check_text(kind, detail::at(text), text.size()));
+}
+
+/* Whether the agent is controlling at first. */
+inline bool role(bool made_offer, bool lite, bool other_is_lite)
+{
+    return detail::done(is_ice_role(made_offer, lite, other_is_lite));
+}
+
+inline nanoseconds retransmit_timeout(nanoseconds initial_rto, nanoseconds max_rto, size_t max_retransmits)
+{
+    uint64_t timeout = 0;
+    detail::checked(is_ice_retransmit_timeout(
+        detail::count(initial_rto), detail::count(max_rto), max_retransmits, &timeout));
+    return detail::duration(timeout);
+}
+
+inline nanoseconds retransmit_delay(
+    nanoseconds initial_rto, nanoseconds max_rto, size_t max_retransmits, size_t sent)
+{
+    uint64_t delay = 0;
+    is_ice_retransmit_delay(detail::count(initial_rto), detail::count(max_rto), max_retransmits, sent, &delay);
+    return detail::duration(delay);
 }
 
 inline rules modern_rules() { return *detail::filled<rules>(is_ice_modern_rules); }
@@ -282,6 +311,14 @@ inline line_and_fields candidate_fields(const candidate &from)
     });
 }
 
+inline line_and_fields fields_line(const fields &given, std::string_view foundation)
+{
+    return *detail::line_with_fields([&](uint8_t *buffer, size_t size, size_t *length, fields *found) {
+        return is_ice_fields_line(
+            &given, detail::at(foundation), foundation.size(), buffer, size, length, found);
+    });
+}
+
 inline line_and_fields line_fields(std::string_view line)
 {
     return *detail::line_with_fields([&](uint8_t *buffer, size_t size, size_t *length, fields *found) {
@@ -312,6 +349,21 @@ inline std::string line_with_ufrag(std::string_view line, std::string_view ufrag
     });
 }
 
+inline line_and_fields line_with_address_fields(std::string_view line, const address &ip)
+{
+    return *detail::line_with_fields([&](uint8_t *buffer, size_t size, size_t *length, fields *found) {
+        return is_ice_line_with_address_fields(detail::at(line), line.size(), &ip, buffer, size, length, found);
+    });
+}
+
+inline line_and_fields line_with_ufrag_fields(std::string_view line, std::string_view ufrag)
+{
+    return *detail::line_with_fields([&](uint8_t *buffer, size_t size, size_t *length, fields *found) {
+        return is_ice_line_with_ufrag_fields(
+            detail::at(line), line.size(), detail::at(ufrag), ufrag.size(), buffer, size, length, found);
+    });
+}
+
 inline std::string line_to_json(std::string_view line)
 {
     return *detail::text([&](uint8_t *buffer, size_t size, size_t *length) {
@@ -325,6 +377,15 @@ inline std::string line_from_json(std::string_view json)
     return *detail::text([&](uint8_t *buffer, size_t size, size_t *length) {
         return detail::explained(
             is_ice_line_from_json(detail::at(json), json.size(), buffer, size, length), detail::json_refusal_of(json));
+    });
+}
+
+inline line_and_fields json_fields(std::string_view json)
+{
+    return *detail::line_with_fields([&](uint8_t *buffer, size_t size, size_t *length, fields *found) {
+        return detail::explained(
+            is_ice_json_fields(detail::at(json), json.size(), buffer, size, length, found),
+            detail::json_refusal_of(json));
     });
 }
 
@@ -572,6 +633,8 @@ inline std::optional<std::string> stun_text(uint16_t attribute, const void *data
     });
 }
 
+inline bool is_stun(const void *data, size_t length) { return detail::done(is_ice_is_stun(detail::at(data), length)); }
+
 inline stun_message stun_read(const void *data, size_t length)
 {
     return *detail::filled<stun_message>(
@@ -592,6 +655,20 @@ inline std::optional<username> stun_username(const void *data, size_t length)
     });
     if (!text) return std::nullopt;
     return username{*std::move(text), receiver};
+}
+
+/* The length of the part before the first colon. */
+inline std::optional<size_t> username_parts(std::string_view name)
+{
+    return detail::filled<size_t>(
+        [&](size_t *receiver) { return is_ice_username_parts(detail::at(name), name.size(), receiver); });
+}
+
+inline std::vector<uint8_t> hmac_sha1(std::string_view key, const void *data, size_t length)
+{
+    return *detail::written<std::vector<uint8_t>>([&](uint8_t *buffer, size_t size, size_t *written) {
+        return is_ice_hmac_sha1(detail::at(key), key.size(), detail::at(data), length, buffer, size, written);
+    });
 }
 
 inline bool stun_verify(const void *data, size_t length, std::string_view key)

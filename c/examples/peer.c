@@ -199,15 +199,13 @@ static void print_stats(struct session *s)
     fprintf(stderr, "\n");
 }
 
-/* Prints the transport address of a candidate: the fifth and sixth words of its text. A peer may send a text of any length: of one that
- * the buffer is too short for, only the length is known. */
-static void print_address(const char *what, int32_t code, const uint8_t *line, size_t length)
+/* Prints the transport address of a candidate. A peer may send a text of any length: of one that the buffer is too short for, only the
+ * length is known. */
+static void print_address(const char *what, int32_t code, const is_ice_fields *fields, size_t length)
 {
-    char text[512], address[64], port[8];
+    char text[NET_TEXT];
     if (code == IS_ICE_BUFFER_TOO_SHORT) fprintf(stderr, " %s a candidate of %llu bytes", what, (unsigned long long)length);
-    if (code != IS_ICE_OK) return;
-    snprintf(text, sizeof text, "%.*s", (int)length, (const char *)line);
-    if (sscanf(text, "%*s %*s %*s %*s %63s %7s", address, port) == 2) fprintf(stderr, " %s %s %s", what, address, port);
+    if (code == IS_ICE_OK) fprintf(stderr, " %s %s", what, net_text(&fields->address, text));
 }
 
 /* Prints each pair with its candidates. */
@@ -218,11 +216,12 @@ static void print_pairs(struct session *s)
     for (size_t i = 0; is_ice_pair_at(&s->agent, i, &pair) == IS_ICE_OK; i++) {
         uint8_t line[512];
         size_t length = 0;
-        int32_t code = is_ice_local_candidate(&s->agent, pair.local, line, sizeof line, &length);
+        is_ice_fields fields;
+        int32_t code = is_ice_local_fields(&s->agent, pair.local, line, sizeof line, &length, &fields);
         fprintf(stderr, "pair %llu", (unsigned long long)i);
-        print_address("from", code, line, length);
-        code = is_ice_remote_candidate(&s->agent, pair.remote, line, sizeof line, &length);
-        print_address("to", code, line, length);
+        print_address("from", code, &fields, length);
+        code = is_ice_remote_fields(&s->agent, pair.remote, line, sizeof line, &length, &fields);
+        print_address("to", code, &fields, length);
         fprintf(stderr, " %s%s%s answered %llu", states[pair.state], pair.nominated ? " nominated" : "",
                 pair.selected ? " selected" : "", (unsigned long long)pair.responses);
         if (pair.has_rtt) fprintf(stderr, " last round trip %llu us", (unsigned long long)(pair.rtt / 1000));

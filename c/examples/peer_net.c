@@ -192,12 +192,6 @@ bool net_bind(struct net *net, const char *address, const char **why)
     return ok;
 }
 
-/* The other peer cannot use a link-local address. */
-static bool is_link_local(const is_ice_address *a)
-{
-    return a->family == 4 ? a->bytes[0] == 169 && a->bytes[1] == 254 : a->bytes[0] == 0xfe && (a->bytes[1] & 0xc0) == 0x80;
-}
-
 void net_bind_all(struct net *net, bool loopback)
 {
     struct ifaddrs *list = NULL;
@@ -209,7 +203,7 @@ void net_bind_all(struct net *net, bool loopback)
     for (const struct ifaddrs *at = list; at; at = at->ifa_next) {
         bool is_up = (at->ifa_flags & IFF_UP) != 0, is_loopback = (at->ifa_flags & IFF_LOOPBACK) != 0;
         if (!at->ifa_addr || !is_up || (is_loopback && !loopback)) continue;
-        if (!address_of(at->ifa_addr, &own) || is_link_local(&own)) continue;
+        if (!address_of(at->ifa_addr, &own) || (!is_loopback && is_ice_is_host_address(&own) != IS_ICE_OK)) continue;
         if (bind_at(net, &own)) continue;
         fprintf(stderr, "peer: %s: %s\n", at->ifa_name, net->count == NET_SOCKETS ? "too many addresses" : strerror(errno));
     }

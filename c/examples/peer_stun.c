@@ -2,7 +2,7 @@
 #include "peer.h"
 #include <string.h>
 
-/* RFC 8489, section 6.2.1: the first RTO, which doubles after each request, and the number of requests (Rc). */
+/* RFC 8489, section 6.2.1: the RTO after the first request, and the number of requests (Rc). */
 #define FIRST_RTO (500 * MILLISECOND)
 enum { SENT_AT_MOST = 7 };
 
@@ -35,9 +35,11 @@ unsigned stun_send(struct stun *stun, struct net *net, uint64_t now)
         }
         uint8_t request[IS_ICE_STUN_REQUEST_LENGTH];
         size_t length;
+        uint64_t delay;
         if (is_ice_stun_request(&t->id, request, sizeof request, &length) == IS_ICE_OK)
             net_send(net, &net->addresses[i], &t->server, request, length);
-        t->due = now + (FIRST_RTO << t->sent++);
+        is_ice_retransmit_delay(FIRST_RTO, UINT64_MAX, SENT_AT_MOST, ++t->sent, &delay);
+        t->due = now + delay;
     }
     return closed;
 }

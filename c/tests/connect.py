@@ -302,7 +302,7 @@ def errors():
         side.hears("/stats")
         side.says("stats sent ")
         side.hears("/pairs")
-        if " nominated selected answered " not in side.says("pair 0 from 127.0.0.1 "):
+        if " nominated selected answered " not in side.says("pair 0 from 127.0.0.1:"):
             raise Failed(f"{side.told}")
     a.hears("good morning")
     if b.says("heard ") != "good morning":
@@ -326,7 +326,7 @@ def long_candidate():
         for _ in range(100):
             other.sendto(b"A" * 2048, ("127.0.0.1", port))
     a.hears("/pairs")
-    said = a.says("pair 0 from 127.0.0.1 ")
+    said = a.says("pair 0 from 127.0.0.1:")
     if not re.search(r" to a candidate of 12\d\d\d bytes ", said) or len(said) > 200:
         raise Failed(said)
     a.hears("/quit")

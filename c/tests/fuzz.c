@@ -310,6 +310,41 @@ static void line_fields(void)
         stop("the agent reads another text than is_ice_line_fields");
 }
 
+/* The text of any fields, and what is read from it. */
+static void fields_line(void)
+{
+    const is_ice_address *address = address_argument(), *related = address_argument();
+    is_ice_fields *given = argument(sizeof *given), *fields = argument(sizeof *fields);
+    struct bytes foundation = secret(ufrags);
+    struct out o = out();
+    memset(given, 0, sizeof *given);
+    given->address = *address;
+    if (one_in(2)) given->related = *related;
+    given->priority = (uint32_t)number(), given->component = (uint16_t)number();
+    given->kind = (uint8_t)below(5), given->protocol = (uint8_t)below(5), given->tcptype = (uint8_t)below(5);
+    on = AGENTS;
+    int32_t code = CALL(OK | NOT_UTF8 | BAD_ADDRESS | BAD_CANDIDATE | TOO_SHORT,
+        is_ice_fields_line(given, foundation.bytes, foundation.length, o.bytes, o.size, o.length, fields));
+    written_fields(code, o, fields);
+    if (code == IS_ICE_OK && (fields->priority != given->priority || !is_at(&fields->address, address))) stop("the fields are others");
+}
+
+/* A text with another part, and its fields. */
+static void line_with_fields(void)
+{
+    struct bytes text = line(), ufrag = secret(ufrags);
+    const is_ice_address *ip = address_argument();
+    struct out o = out();
+    is_ice_fields *fields = argument(sizeof *fields);
+    on = AGENTS;
+    int32_t code = one_in(2)
+        ? CALL(OK | NOT_UTF8 | BAD_ADDRESS | BAD_CANDIDATE | TOO_SHORT,
+              is_ice_line_with_address_fields(text.bytes, text.length, ip, o.bytes, o.size, o.length, fields))
+        : CALL(OK | NOT_UTF8 | BAD_CANDIDATE | TOO_SHORT,
+              is_ice_line_with_ufrag_fields(text.bytes, text.length, ufrag.bytes, ufrag.length, o.bytes, o.size, o.length, fields));
+    written_fields(code, o, fields);
+}
+
 static void line_parts(void)
 {
     struct bytes text = line();
@@ -336,6 +371,17 @@ static void json_texts(void)
         : CALL(OK | NOT_UTF8 | BAD_CANDIDATE | TOO_SHORT, is_ice_line_from_json(text.bytes, text.length, o.bytes, o.size, o.length));
     written(code, o, true);
     if (!is_refusal && code == IS_ICE_OK) read_again(o, &fields);
+}
+
+static void json_fields(void)
+{
+    struct bytes text = text_of(add_json);
+    struct out o = out();
+    is_ice_fields *fields = argument(sizeof *fields);
+    on = AGENTS;
+    int32_t code = CALL(OK | NOT_UTF8 | BAD_CANDIDATE | TOO_SHORT,
+        is_ice_json_fields(text.bytes, text.length, o.bytes, o.size, o.length, fields));
+    written_fields(code, o, fields);
 }
 
 static void candidate_texts(void)
@@ -375,6 +421,16 @@ static void preferences(void)
 }
 
 /* ---- packets, events and timeouts */
+
+static void times(void)
+{
+    uint64_t initial = number(), most = number(), *timeout = argument(sizeof *timeout), *delay = argument(sizeof *delay);
+    size_t limit = (size_t)number(), count = (size_t)number();
+    on = AGENTS;
+    filled(CALL((limit == 0 ? BAD_LIMIT : OK) | QUIET, is_ice_retransmit_timeout(initial, most, limit, timeout)), timeout, sizeof *timeout);
+    CALL(OK | QUIET, is_ice_retransmit_delay(initial, most, limit, count, delay));
+    if (*delay > most) stop("a delay is above the longest RTO");
+}
 
 static void timeout_of(size_t length)
 {
@@ -510,6 +566,30 @@ static void queries(void)
     filled(code, result, sizes[kind]);
 }
 
+static void host_address(void)
+{
+    const is_ice_address *address = address_argument();
+    on = AGENTS;
+    CALL(OK | NOTHING | BAD_ADDRESS | QUIET, is_ice_is_host_address(address));
+}
+
+static void role(void)
+{
+    bool made_offer = one_in(2), lite = one_in(2), other = one_in(2);
+    on = AGENTS;
+    bool here = CALL(OK | NOTHING | QUIET, is_ice_role(made_offer, lite, other)) == IS_ICE_OK;
+    bool there = CALL(OK | NOTHING | QUIET, is_ice_role(!made_offer, other, lite)) == IS_ICE_OK;
+    if (here == there) stop("both agents have one role");
+}
+
+static void grammar(void)
+{
+    struct bytes text = secret(ufrags);
+    on = AGENTS;
+    int32_t code = CALL(OK | NOTHING | QUIET, is_ice_check_text((uint8_t)below(4), text.bytes, text.length));
+    if (code == IS_ICE_OK && (text.length == 0 || text.length > 256)) stop("a text of this length is in the grammar");
+}
+
 static void credentials(void)
 {
     static int32_t (*const calls[])(is_ice_agent *, uint8_t *, size_t, size_t *) = {is_ice_local_ufrag, is_ice_local_pass,
@@ -574,12 +654,35 @@ static void stun_username(void)
     if (length != *o.length || memcmp(again, o.bytes, length) != 0) stop("the username is another one");
 }
 
+static void username_parts(void)
+{
+    struct bytes name = secret(ufrags);
+    size_t *receiver = argument(sizeof *receiver);
+    on = AGENTS;
+    int32_t code = CALL(OK | NOTHING | NOT_UTF8 | QUIET, is_ice_username_parts(name.bytes, name.length, receiver));
+    filled(code, receiver, sizeof *receiver);
+    if (code == IS_ICE_OK && (*receiver + 1 >= name.length || name.bytes[*receiver] != ':')) stop("the username is not in two parts");
+}
+
+static void hmac(void)
+{
+    struct bytes key = secret(passwords), given = raw();
+    struct out o = out();
+    on = AGENTS;
+    int32_t code = CALL(OK | TOO_SHORT | QUIET,
+        is_ice_hmac_sha1(key.bytes, key.length, given.bytes, given.length, o.bytes, o.size, o.length));
+    if (*o.length != IS_ICE_HMAC_LENGTH) stop("a MAC has not 20 bytes");
+    written(code, o, false);
+}
+
 static void stun_read(void)
 {
     struct bytes m = message(), key = secret(passwords);
     is_ice_stun_message *read = argument(sizeof *read);
     on = AGENTS;
+    int32_t begins = CALL(OK | NOTHING | QUIET, is_ice_is_stun(m.bytes, m.length));
     int32_t code = CALL(OK | UNPARSED | QUIET, is_ice_stun_read(m.bytes, m.length, read));
+    if (code == IS_ICE_OK && m.bytes[0] < 64 && begins != IS_ICE_OK) stop("a message does not begin as one");
     filled(code, read, sizeof *read);
     int32_t verified = CALL(OK | NOTHING | UNPARSED | QUIET, is_ice_stun_verify(m.bytes, m.length, key.bytes, key.length));
     if ((code == IS_ICE_UNPARSED) != (verified == IS_ICE_UNPARSED)) stop("is_ice_stun_read and is_ice_stun_verify differ");
@@ -647,7 +750,8 @@ static void (*const steps[])(void) = {
     play, handle_packet, handle_packet, add_local, add_remote, handle_timeout, poll_transmit, poll_event, poll_timeout, list, list_fields,
     line_fields, candidate_fields, line_parts, json_texts, line_texts, candidate_texts, preferences, find_pair, invalidate, queries,
     credentials, stun_read, stun_write, stun_text, stun_username, stun_response, stun_request, set_bool, set_number, set_limit, set_mtu,
-    set_preference, set_rules, set_credentials, restart, recreate, create, destroy, make_credentials, fail_next, version};
+    set_preference, set_rules, set_credentials, restart, recreate, create, destroy, make_credentials, fail_next, version,
+    fields_line, line_with_fields, json_fields, times, grammar, host_address, role, username_parts, hmac};
 
 /* Two agents that know each other's credentials and candidates. */
 static void introduce(void)

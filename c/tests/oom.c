@@ -148,6 +148,7 @@ static void write_texts(struct story *s)
 {
     static const uint8_t line[] = "candidate:1 1 udp 7 10.0.0.9 9 typ host";
     const size_t size = sizeof line - 1;
+    is_ice_fields fields;
     uint8_t text[256], again[256];
     size_t length, again_length;
     uint32_t preference = 0;
@@ -159,6 +160,10 @@ static void write_texts(struct story *s)
     add(s, text, length);
     CALL(s, IS_ICE_OK, is_ice_line_from_json(text, length, again, sizeof again, &again_length));
     add(s, again, again_length);
+    CALL(s, IS_ICE_OK, is_ice_json_fields(text, length, again, sizeof again, &again_length, &fields));
+    add(s, again, again_length);
+    CALL(s, IS_ICE_OK, is_ice_line_with_ufrag_fields(line, size, TEXT("AAAA"), text, sizeof text, &length, &fields));
+    add(s, &fields.ufrag_length, sizeof fields.ufrag_length);
     CALL(s, IS_ICE_OK, is_ice_json_refusal(TEXT("[]"), text, sizeof text, &length));
     add(s, text, length);
     CALL(s, IS_ICE_OK, is_ice_candidate_preference(&host_a, 1, &preference));
@@ -171,17 +176,21 @@ static void read_texts(struct story *s)
 {
     static const uint8_t named[] = "candidate:1 1 udp 7 3f2b8c1e.local 9 typ host";
     const size_t size = sizeof named - 1;
-    is_ice_fields fields;
+    is_ice_fields fields, again_fields;
     uint8_t text[256], again[256];
     size_t length, again_length;
     QUIET(IS_ICE_OK, is_ice_line_name(named, size, text, sizeof text, &length));
     add(s, text, length);
     CALL(s, IS_ICE_OK, is_ice_line_with_address(named, size, &host_b.address, text, sizeof text, &length));
     add(s, text, length);
+    CALL(s, IS_ICE_OK, is_ice_line_with_address_fields(named, size, &host_b.address, again, sizeof again, &again_length, &fields));
+    add(s, again, again_length);
     CALL(s, IS_ICE_OK, is_ice_line_fields(text, length, again, sizeof again, &again_length, &fields));
     add(s, &fields.priority, sizeof fields.priority);
     CALL(s, IS_ICE_OK, is_ice_candidate_fields(&host_a, text, sizeof text, &length, &fields));
     add(s, &fields.priority, sizeof fields.priority);
+    CALL(s, IS_ICE_OK, is_ice_fields_line(&fields, TEXT("1"), text, sizeof text, &length, &again_fields));
+    add(s, text, length);
 }
 
 static void list_candidates(struct story *s)
@@ -206,10 +215,14 @@ static void write_messages(void)
     is_ice_stun_result result;
     uint8_t bytes[128], text[16];
     size_t length, written, receiver;
+    uint64_t time;
     memset(&message, 0, sizeof message);
     memset(&texts, 0, sizeof texts);
     QUIET(IS_ICE_OK, is_ice_stun_request(&id, bytes, sizeof bytes, &length));
     QUIET(IS_ICE_NOTHING, is_ice_stun_response(&id, bytes, length, &result));
+    QUIET(IS_ICE_OK, is_ice_is_stun(bytes, length));
+    QUIET(IS_ICE_NOTHING, is_ice_role(false, false, false));
+    QUIET(IS_ICE_OK, is_ice_is_host_address(&host_a.address));
     QUIET(IS_ICE_OK, is_ice_stun_read(bytes, length, &message));
     message.has_integrity = message.priority.is_set = true;
     texts.username.length = 3, texts.username.is_set = true;
@@ -218,6 +231,11 @@ static void write_messages(void)
     QUIET(IS_ICE_OK, is_ice_stun_read_strict(bytes, length, &message));
     QUIET(IS_ICE_OK, is_ice_stun_username(bytes, length, text, sizeof text, &written, &receiver));
     QUIET(IS_ICE_OK, is_ice_stun_text(IS_ICE_STUN_USERNAME, bytes, length, text, sizeof text, &length));
+    QUIET(IS_ICE_OK, is_ice_username_parts(TEXT("a:b"), &receiver));
+    QUIET(IS_ICE_OK, is_ice_hmac_sha1(TEXT("key"), TEXT("text"), bytes, sizeof bytes, &length));
+    QUIET(IS_ICE_OK, is_ice_check_text(IS_ICE_TEXT_UFRAG, TEXT("EsAw")));
+    QUIET(IS_ICE_OK, is_ice_retransmit_timeout(250000000, UINT64_C(3000000000), 9, &time));
+    QUIET(IS_ICE_OK, is_ice_retransmit_delay(250000000, UINT64_C(3000000000), 9, 1, &time));
 }
 
 static int32_t next_packet(is_ice_agent *from, uint8_t *bytes, size_t size, is_ice_packet *packet)

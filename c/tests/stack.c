@@ -250,7 +250,7 @@ static void candidates(void)
         "candidate:1 1 tcp 2043278322 2001:db8:1:2:3:4:5:6 44323 typ srflx raddr 2001:db8:1:2:3:4:5:7 rport 9 tcptype passive x y",
         "candidate:1 1 udp 2043278322 3f2b8c1e.local 44323 typ host", "candidate:1 1 udp", "candidate: 1 1 1 1 1 typ \xc3\xa9", "\xff"};
     is_ice_candidate good = host(1, 1, IS_ICE_UDP), bad = good;
-    is_ice_fields fields;
+    is_ice_fields fields, given;
     uint8_t text[1024];
     size_t length;
     uint32_t preference;
@@ -263,9 +263,14 @@ static void candidates(void)
         CALL(ANY, is_ice_line_fields(TEXT(lines[i]), text, sizeof text, &length, &fields));
         CALL(ANY, is_ice_line_name(TEXT(lines[i]), text, sizeof text, &length));
         CALL(ANY, is_ice_line_with_address(TEXT(lines[i]), &good.address, text, sizeof text, &length));
+        CALL(ANY, is_ice_line_with_address_fields(TEXT(lines[i]), &good.address, text, sizeof text, &length, &fields));
+        CALL(ANY, is_ice_line_with_ufrag_fields(TEXT(lines[i]), TEXT("EsAw"), text, sizeof text, &length, &fields));
+        CALL(ANY, is_ice_check_text(IS_ICE_TEXT_UFRAG, TEXT(lines[i])));
     }
     CALL(IS_ICE_OK, is_ice_candidate_line(&good, text, sizeof text, &length));
     CALL(IS_ICE_OK, is_ice_candidate_fields(&good, text, sizeof text, &length, &fields));
+    given = fields;
+    CALL(IS_ICE_OK, is_ice_fields_line(&given, TEXT("1"), text, sizeof text, &length, &fields));
     CALL(IS_ICE_BAD_CANDIDATE, is_ice_candidate_line(&bad, text, sizeof text, &length));
     CALL(IS_ICE_NOTHING, is_ice_candidate_refusal(&good, text, sizeof text, &length));
     CALL(IS_ICE_OK, is_ice_candidate_refusal(&bad, text, sizeof text, &length));
@@ -279,8 +284,10 @@ static void candidates(void)
 static void read_json(const uint8_t *json, size_t size)
 {
     static uint8_t text[4096];
+    is_ice_fields fields;
     size_t length;
     CALL(ANY, is_ice_line_from_json(json, size, text, sizeof text, &length));
+    CALL(ANY, is_ice_json_fields(json, size, text, sizeof text, &length, &fields));
     CALL(ANY, is_ice_json_refusal(json, size, text, sizeof text, &length));
 }
 
@@ -320,6 +327,7 @@ static void messages(struct story *s)
     is_ice_stun_number *numbers[] = {&m.priority, &m.controlled, &m.controlling, &m.lifetime, &m.channel_number, &m.network_id,
         &m.network_cost};
     size_t length, receiver;
+    uint64_t time;
     memset(letters, 'e', sizeof letters);
     memset(&m, 0, sizeof m);
     for (size_t i = 0; i < sizeof numbers / sizeof *numbers; i++) numbers[i]->value = 0x4000, numbers[i]->is_set = true;
@@ -329,6 +337,9 @@ static void messages(struct story *s)
     is_ice_stun_span *spans[] = {&texts.username, &texts.reason, &texts.realm, &texts.nonce, &texts.software};
     for (size_t i = 0; i < sizeof spans / sizeof *spans; i++) spans[i]->length = i == 0 ? 508 : 128, spans[i]->is_set = true;
     CALL(IS_ICE_OK, is_ice_stun_write(&m, &texts, letters, sizeof letters, letters, sizeof letters, longest, sizeof longest, &length));
+    CALL(IS_ICE_OK, is_ice_is_stun(longest, length));
+    CALL(IS_ICE_OK, is_ice_role(true, false, false));
+    CALL(IS_ICE_OK, is_ice_is_host_address(&v6));
     CALL(IS_ICE_OK, is_ice_stun_read(longest, length, &read));
     CALL(IS_ICE_OK, is_ice_stun_verify(longest, length, letters, sizeof letters));
     CALL(IS_ICE_OK, is_ice_stun_response(&id, longest, length, &result));
@@ -336,6 +347,10 @@ static void messages(struct story *s)
     CALL(IS_ICE_OK, is_ice_stun_read(s->last.bytes, s->last.length, &read));
     CALL(ANY, is_ice_stun_read_strict(s->last.bytes, s->last.length, &read));
     CALL(ANY, is_ice_stun_username(s->last.bytes, s->last.length, text, sizeof text, &length, &receiver));
+    CALL(IS_ICE_OK, is_ice_username_parts(TEXT("evtj:h6vY"), &receiver));
+    CALL(IS_ICE_OK, is_ice_hmac_sha1(letters, sizeof letters, longest, sizeof longest, text, sizeof text, &length));
+    CALL(IS_ICE_OK, is_ice_retransmit_timeout(250 * MS, 3 * SECOND, 1000, &time));
+    CALL(IS_ICE_OK, is_ice_retransmit_delay(250 * MS, 3 * SECOND, 1000, 9, &time));
     CALL(IS_ICE_OK, is_ice_stun_request(&id, text, sizeof text, &length));
     m.cls = IS_ICE_STUN_SUCCESS, m.error_code.is_set = false;
     CALL(IS_ICE_OK, is_ice_stun_write(&m, &texts, letters, sizeof letters, letters, sizeof letters, longest, sizeof longest, &length));

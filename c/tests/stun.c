@@ -349,6 +349,50 @@ static void names_receiver_and_sender(void)
     HOLD(length == 9 && receiver == 4 && memcmp(name, "evtj:h6vY", 9) == 0);
 }
 
+static void finds_what_begins_as_stun(void)
+{
+    uint8_t bytes[128];
+    size_t size = unhex(request_hex, bytes);
+    HOLD(is_ice_is_stun(bytes, size) == IS_ICE_OK && is_ice_is_stun(bytes, 20) == IS_ICE_OK && is_ice_is_stun(bytes, 19) == IS_ICE_NOTHING);
+    for (size_t at = 4; at < 8; at++) {
+        bytes[at] ^= 1;
+        HOLD(is_ice_is_stun(bytes, size) == IS_ICE_NOTHING);
+        bytes[at] ^= 1;
+    }
+    for (int first = 0; first < 256; first++) {
+        bytes[0] = (uint8_t)first;
+        HOLD(is_ice_is_stun(bytes, size) == (first < 64 ? IS_ICE_OK : IS_ICE_NOTHING));
+    }
+}
+
+/* The same of a text that is in no message. */
+static void splits_a_username(void)
+{
+    static const char *const halves[] = {"", ":", "evtj", "evtj:"};
+    size_t receiver = 77;
+    for (size_t i = 0; i < sizeof halves / sizeof *halves; i++)
+        HOLD(is_ice_username_parts((const uint8_t *)halves[i], strlen(halves[i]), &receiver) == IS_ICE_NOTHING && receiver == 77);
+    HOLD(is_ice_username_parts((const uint8_t *)"\xff:a", 3, &receiver) == IS_ICE_NOT_UTF8 && receiver == 77);
+    HOLD(is_ice_username_parts((const uint8_t *)"evtj:h6vY", 9, &receiver) == IS_ICE_OK && receiver == 4);
+    HOLD(is_ice_username_parts((const uint8_t *)":a:b", 4, &receiver) == IS_ICE_OK && receiver == 0);
+}
+
+/* The cases of RFC 2202, section 3, with the longest and the shortest key. */
+static void computes_macs(void)
+{
+    static const char longer[] = "Test Using Larger Than Block-Size Key and Larger Than One Block-Size Data";
+    uint8_t key[80], mac[21], wanted[20];
+    size_t length = 0;
+    memset(key, 0xaa, sizeof key);
+    memset(mac, 0x77, sizeof mac);
+    HOLD(is_ice_hmac_sha1(key, sizeof key, (const uint8_t *)longer, sizeof longer - 1, mac, 19, &length) == IS_ICE_BUFFER_TOO_SHORT);
+    HOLD(length == IS_ICE_HMAC_LENGTH && mac[0] == 0x77);
+    HOLD(is_ice_hmac_sha1(key, sizeof key, (const uint8_t *)longer, sizeof longer - 1, mac, sizeof mac, &length) == IS_ICE_OK);
+    HOLD(unhex("e8e99d0f45237d786d6bbaa7965c7808bbff1a91", wanted) == 20 && memcmp(mac, wanted, 20) == 0 && mac[20] == 0x77);
+    HOLD(is_ice_hmac_sha1((const uint8_t *)"Jefe", 4, (const uint8_t *)"what do ya want for nothing?", 28, mac, 20, &length) == IS_ICE_OK);
+    HOLD(unhex("effcdf6ae5eb2fa2d27416d5f184df9c259a7c79", wanted) == 20 && memcmp(mac, wanted, 20) == 0);
+}
+
 int main(void)
 {
     offsets();
@@ -362,5 +406,8 @@ int main(void)
     reads_strictly();
     reads_whatever_the_top_bits();
     names_receiver_and_sender();
+    finds_what_begins_as_stun();
+    splits_a_username();
+    computes_macs();
     return 0;
 }

@@ -107,6 +107,104 @@ static void lines(void)
     HOLD(is_ice_line_with_ufrag(TEXT(line), TEXT("\xff"), buffer, sizeof buffer, &length) == IS_ICE_NOT_UTF8 && holds_text(named));
 }
 
+/* The texts of the calls without fields, and the fields. */
+static void fields(void)
+{
+    static const char hidden[] = "candidate:1 1 udp 2122262783 1f4712db-ea17-4bcf-a596-105139dfd8bf.local 54596 typ host";
+    is_ice_address at = {4, {192, 0, 2, 7}, 0, 0, 0};
+    is_ice_fields f;
+    memset(&f, 0xaa, sizeof f);
+    HOLD(is_ice_json_fields(TEXT(compact), buffer, sizeof buffer, &length, &f) == IS_ICE_OK && holds_text(named));
+    HOLD(f.ufrag_length == 4 && f.foundation_length == 10 && f.priority == 2043278322 && f.address.port == 44323);
+    is_ice_fields given = f;
+    HOLD(is_ice_fields_line(&given, TEXT("4234997325"), buffer, sizeof buffer, &length, &f) == IS_ICE_OK && holds_text(line));
+    HOLD(f.ufrag_length == 0 && f.foundation_length == 10 && f.priority == 2043278322 && f.address.port == 44323);
+    given.kind = IS_ICE_SERVER_REFLEXIVE, given.protocol = IS_ICE_TCP, given.tcptype = IS_ICE_TCP_PASSIVE, given.component = 2;
+    given.related = at, given.related.port = 9, given.address.scope = 7;
+    HOLD(is_ice_fields_line(&given, TEXT("a+/1"), buffer, sizeof buffer, &length, &f) == IS_ICE_OK && f.address.scope == 0);
+    HOLD(holds_text("candidate:a+/1 2 tcp 2043278322 192.0.2.172 44323 typ srflx raddr 192.0.2.7 rport 9 tcptype passive"));
+    HOLD(is_ice_fields_line(&given, TEXT("a+/1"), buffer, length - 1, &length, &f) == IS_ICE_BUFFER_TOO_SHORT);
+    HOLD(is_ice_fields_line(&given, TEXT(""), buffer, sizeof buffer, &length, &f) == IS_ICE_BAD_CANDIDATE);
+    HOLD(is_ice_fields_line(&given, TEXT("a b"), buffer, sizeof buffer, &length, &f) == IS_ICE_BAD_CANDIDATE);
+    HOLD(is_ice_fields_line(&given, TEXT("\xff"), buffer, sizeof buffer, &length, &f) == IS_ICE_NOT_UTF8);
+    given.tcptype = 4;
+    HOLD(is_ice_fields_line(&given, TEXT("1"), buffer, sizeof buffer, &length, &f) == IS_ICE_BAD_ADDRESS && f.component == 2);
+    HOLD(is_ice_line_with_ufrag_fields(TEXT(line), TEXT("EsAwE"), buffer, sizeof buffer, &length, &f) == IS_ICE_OK);
+    HOLD(f.ufrag_length == 5 && memcmp(buffer + length - 5, "EsAwE", 5) == 0);
+    HOLD(is_ice_line_with_address_fields(TEXT(hidden), &at, buffer, sizeof buffer, &length, &f) == IS_ICE_OK);
+    HOLD(holds_text("candidate:1 1 udp 2122262783 192.0.2.7 54596 typ host") && memcmp(f.address.bytes, at.bytes, 4) == 0);
+    HOLD(f.address.port == 54596 && f.ufrag_length == 0 && f.kind == IS_ICE_HOST);
+    HOLD(is_ice_line_with_address_fields(TEXT(hidden), &at, buffer, length - 1, &length, &f) == IS_ICE_BUFFER_TOO_SHORT);
+    at.family = 5;
+    HOLD(is_ice_line_with_address_fields(TEXT(hidden), &at, buffer, sizeof buffer, &length, &f) == IS_ICE_BAD_ADDRESS);
+    HOLD(is_ice_line_with_ufrag_fields(TEXT(line), TEXT("a b"), buffer, sizeof buffer, &length, &f) == IS_ICE_BAD_CANDIDATE);
+    HOLD(is_ice_json_fields(TEXT(ended), buffer, sizeof buffer, &length, &f) == IS_ICE_BAD_CANDIDATE && f.address.port == 54596);
+}
+
+/* The credentials of RFC 8839, section 5.6, and texts at the limits of sections 5.1 and 5.4. */
+static void grammar(void)
+{
+    uint8_t many[257];
+    memset(many, 'z', sizeof many);
+    HOLD(is_ice_check_text(IS_ICE_TEXT_UFRAG, TEXT("8hhY")) == IS_ICE_OK && is_ice_check_text(IS_ICE_TEXT_UFRAG, many, 256) == IS_ICE_OK);
+    HOLD(is_ice_check_text(IS_ICE_TEXT_PASS, TEXT("asd88fgpdd777uzjYhagZg")) == IS_ICE_OK);
+    HOLD(is_ice_check_text(IS_ICE_TEXT_PASS, many, 256) == IS_ICE_OK && is_ice_check_text(IS_ICE_TEXT_PASS, many, 21) == IS_ICE_NOTHING);
+    HOLD(is_ice_check_text(IS_ICE_TEXT_FOUNDATION, TEXT("1")) == IS_ICE_OK);
+    HOLD(is_ice_check_text(IS_ICE_TEXT_FOUNDATION, many, 32) == IS_ICE_OK);
+    HOLD(is_ice_check_text(IS_ICE_TEXT_FOUNDATION, many, 33) == IS_ICE_NOTHING);
+    HOLD(is_ice_check_text(IS_ICE_TEXT_FOUNDATION, many, 0) == IS_ICE_NOTHING);
+    HOLD(is_ice_check_text(IS_ICE_TEXT_UFRAG, many, 3) == IS_ICE_NOTHING);
+    HOLD(is_ice_check_text(IS_ICE_TEXT_UFRAG, many, 257) == IS_ICE_NOTHING);
+    HOLD(is_ice_check_text(IS_ICE_TEXT_PASS, many, 257) == IS_ICE_NOTHING && is_ice_check_text(3, TEXT("8hhY")) == IS_ICE_NOTHING);
+    for (int byte = 0; byte < 256; byte++) {
+        const char *chars = "ABCDEFGHIJKLMNOPQRSTUVWXYZabcdefghijklmnopqrstuvwxyz0123456789+/";
+        many[2] = (uint8_t)byte;
+        bool is_one = byte != 0 && strchr(chars, byte) != NULL;
+        HOLD(is_ice_check_text(IS_ICE_TEXT_UFRAG, many, 9) == (is_one ? IS_ICE_OK : IS_ICE_NOTHING));
+    }
+}
+
+/* RFC 8445, section 5.1.1.1, by the blocks of RFC 6890, 4291 and 3879. */
+static void hosts(void)
+{
+    static const struct { uint8_t family, bytes[16]; bool is_host; } rows[] = {
+        {4, {10, 0, 0, 1}, true}, {4, {126, 255, 255, 255}, true}, {4, {127, 0, 0, 1}, false}, {4, {128, 0, 0, 1}, true},
+        {4, {169, 254, 1, 1}, false}, {4, {169, 253, 1, 1}, true}, {4, {168, 254, 1, 1}, true}, {4, {223, 255, 255, 255}, true},
+        {4, {224, 0, 0, 1}, false}, {4, {239, 255, 255, 255}, false}, {4, {240, 0, 0, 1}, true}, {4, {255, 255, 255, 254}, true},
+        {4, {255, 255, 255, 255}, false}, {4, {0, 0, 0, 0}, false}, {4, {0, 0, 0, 1}, true},
+        {6, {0x20, 1, 0xd, 0xb8}, true}, {6, {0xfd, 0xff}, true}, {6, {0xfe, 0x7f}, true}, {6, {0xfe, 0x80}, false},
+        {6, {0xfe, 0xbf}, false}, {6, {0xfe, 0xc0}, false}, {6, {0xfe, 0xff}, false}, {6, {0xff, 2}, false}, {6, {0}, false},
+        {6, {[15] = 1}, false}, {6, {[12] = 10, [15] = 1}, false}, {6, {[10] = 255, [11] = 255, [12] = 10}, false},
+        {6, {[10] = 255, [11] = 254}, true}, {6, {[9] = 1}, true}, {6, {0, 0x64, 0xff, 0x9b, [15] = 1}, true}};
+    for (size_t i = 0; i < sizeof rows / sizeof *rows; i++) {
+        is_ice_address address = {rows[i].family, {0}, 1, 0, 0};
+        memcpy(address.bytes, rows[i].bytes, sizeof address.bytes);
+        HOLD(is_ice_is_host_address(&address) == (rows[i].is_host ? IS_ICE_OK : IS_ICE_NOTHING));
+        address.family = 5;
+        HOLD(is_ice_is_host_address(&address) == IS_ICE_BAD_ADDRESS);
+    }
+}
+
+/* RFC 8445, section 6.1.1: of two agents one is controlling. */
+static void roles(void)
+{
+    HOLD(is_ice_role(true, false, false) == IS_ICE_OK && is_ice_role(false, false, false) == IS_ICE_NOTHING);
+    HOLD(is_ice_role(true, true, true) == IS_ICE_OK && is_ice_role(false, true, true) == IS_ICE_NOTHING);
+    HOLD(is_ice_role(true, true, false) == IS_ICE_NOTHING && is_ice_role(false, false, true) == IS_ICE_OK);
+    HOLD(is_ice_role(false, true, false) == IS_ICE_NOTHING && is_ice_role(true, false, true) == IS_ICE_OK);
+}
+
+/* The RTO doubles up to the longest one (RFC 8489, section 6.2.1). */
+static void retransmits(void)
+{
+    const uint64_t ms = UINT64_C(1000000), delays[] = {0, 250, 500, 1000, 2000, 2900, 2900};
+    uint64_t time = 7;
+    for (size_t sent = 0; sent < sizeof delays / sizeof *delays; sent++)
+        HOLD(is_ice_retransmit_delay(250 * ms, 2900 * ms, 11, sent, &time) == IS_ICE_OK && time == delays[sent] * ms);
+    HOLD(is_ice_retransmit_timeout(250 * ms, 2900 * ms, 11, &time) == IS_ICE_OK && time == 26700 * ms); /* is_ice_status of a new agent */
+    HOLD(is_ice_retransmit_timeout(250 * ms, 2900 * ms, 0, &time) == IS_ICE_BAD_LIMIT && time == 26700 * ms);
+}
+
 static void preferences(void)
 {
     static const is_ice_candidate v6 = {{6, {0x20, 1, 0xd, 0xb8}, 1, 0, 0}, {6, {0x20, 1, 0xd, 0xb8}, 1, 0, 0}, IS_ICE_HOST, 0, 0};
@@ -195,6 +293,11 @@ int main(void)
     refusals();
     brackets();
     lines();
+    fields();
+    grammar();
+    roles();
+    hosts();
+    retransmits();
     preferences();
     pairs();
     limits();

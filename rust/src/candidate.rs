@@ -7,6 +7,9 @@ use std::fmt;
 use std::hash::{Hash, Hasher};
 use std::net::{IpAddr, SocketAddr};
 
+/// Where the foundation begins in the text of a candidate: after "candidate:".
+const FOUNDATION_START: usize = 10;
+
 /// The kind of a candidate (RFC 8445, section 4).
 #[derive(Clone, Copy, Debug, PartialEq, Eq, PartialOrd, Ord, Hash)]
 pub enum CandidateKind {
@@ -21,6 +24,15 @@ pub enum CandidateKind {
 }
 
 impl CandidateKind {
+    fn number(self) -> u8 {
+        match self {
+            CandidateKind::Host => 0,
+            CandidateKind::ServerReflexive => 1,
+            CandidateKind::Relayed => 2,
+            CandidateKind::PeerReflexive => 3,
+        }
+    }
+
     fn of(number: u8) -> CandidateKind {
         match number {
             0 => CandidateKind::Host,
@@ -66,22 +78,22 @@ pub struct Candidate {
 impl Candidate {
     /// Creates a host candidate: the address of a local socket.
     pub fn host(addr: SocketAddr, proto: impl TryInto<Protocol>) -> Result<Candidate, IceError> {
-        Candidate::gather(0, addr, addr, proto)
+        Candidate::gather(CandidateKind::Host, addr, addr, proto)
     }
 
     /// Creates a server-reflexive candidate: the address at which a STUN server saw the socket at `base`.
     pub fn server_reflexive(addr: SocketAddr, base: SocketAddr, proto: impl TryInto<Protocol>) -> Result<Candidate, IceError> {
-        Candidate::gather(1, addr, base, proto)
+        Candidate::gather(CandidateKind::ServerReflexive, addr, base, proto)
     }
 
     /// Creates a relayed candidate: the address that a TURN server allocated for the socket at `local`.
     pub fn relayed(addr: SocketAddr, local: SocketAddr, proto: impl TryInto<Protocol>) -> Result<Candidate, IceError> {
-        Candidate::gather(2, addr, local, proto)
+        Candidate::gather(CandidateKind::Relayed, addr, local, proto)
     }
 
-    fn gather(kind: u8, addr: SocketAddr, base: SocketAddr, proto: impl TryInto<Protocol>) -> Result<Candidate, IceError> {
+    fn gather(kind: CandidateKind, addr: SocketAddr, base: SocketAddr, proto: impl TryInto<Protocol>) -> Result<Candidate, IceError> {
         let proto = proto.try_into().map_err(|_| IceError::BadCandidate("invalid protocol".to_owned()))?;
-        Candidate::gathered(kind, addr, base, proto, None)
+        Candidate::gathered(kind.number(), addr, base, proto, None)
     }
 
     /// The candidate of this kind, with the base or the local address.
@@ -128,7 +140,7 @@ impl Candidate {
     ///
     /// `BadCandidate` says why it is not a candidate.
     pub fn from_sdp_string(line: &str) -> Result<Candidate, IceError> {
-        read(line)
+        ffi::candidate(|buffer, length, fields| ffi::line_fields(line, buffer, length, fields))
             .map(Candidate::listed_remote)
             .map_err(|code| IceError::of(code, |buffer, length| ffi::line_refusal(line, buffer, length)))
     }
@@ -180,14 +192,21 @@ impl Candidate {
         tcptype: Option<TcpType>,
         ufrag: Option<String>,
     ) -> Result<Candidate, IceError> {
-        let (ip, port) = (addr.ip(), addr.port());
-        let related = raddr.map_or(String::new(), |raddr| format!(" raddr {} rport {}", raddr.ip(), raddr.port()));
-        let role = tcptype.map_or(String::new(), |tcptype| format!(" tcptype {tcptype}"));
-        let line = format!("candidate:{foundation} {component_id} {proto} {prio} {ip} {port} typ {kind}{related}{role}");
-        let mut candidate = Candidate::from_sdp_string(&line)?;
-        if candidate.fields.foundation_length != foundation.len() {
-            return Err(IceError::BadCandidate("bad foundation".to_owned()));
-        }
+        let given = ffi::Fields {
+            address: address_of(addr),
+            related: raddr.map_or(ffi::Address::default(), address_of),
+            priority: prio,
+            component: component_id,
+            kind: kind.number(),
+            protocol: proto.number(),
+            tcptype: tcptype.map_or(0, TcpType::number),
+            ..Default::default()
+        };
+        let made = ffi::candidate(|buffer, length, fields| ffi::fields_line(&given, &foundation, buffer, length, fields));
+        let mut candidate = made.map(Candidate::listed_remote).map_err(|code| match code {
+            ffi::BAD_CANDIDATE => IceError::BadCandidate("bad foundation".to_owned()),
+            code => IceError::BadCandidate(ffi::text_of(code).to_owned()),
+        })?;
         ufrag.map_or(Ok(()), |ufrag| candidate.try_set_ufrag(&ufrag))?;
         Ok(candidate)
     }
@@ -215,10 +234,9 @@ impl Candidate {
     /// `BadCandidate` if it is not a candidate with this address.
     pub fn from_mdns(line: &str, ip: IpAddr) -> Result<Candidate, IceError> {
         let address = address_of(SocketAddr::new(ip, 0));
-        match ffi::text(|buffer, length| ffi::line_with_address(line, &address, buffer, length)) {
-            Ok(line) => Candidate::from_sdp_string(&line),
-            Err(code) => Err(IceError::of(code, |buffer, length| ffi::line_refusal(line, buffer, length))),
-        }
+        ffi::candidate(|buffer, length, fields| ffi::line_with_address_fields(line, &address, buffer, length, fields))
+            .map(Candidate::listed_remote)
+            .map_err(|code| IceError::of(code, |buffer, length| ffi::line_refusal(line, buffer, length)))
     }
 
     /// Reads the JSON in which browsers signal a candidate, the `RTCIceCandidateInit` of W3C WebRTC. A `usernameFragment` that is a
@@ -235,10 +253,9 @@ impl Candidate {
     /// `BadCandidate` says why it is not a candidate. The end of candidates, which has an empty `candidate`, is not one, and neither is
     /// one whose username fragment is empty or has white space.
     pub fn from_json(json: &str) -> Result<Candidate, IceError> {
-        match ffi::text(|buffer, length| ffi::line_from_json(json, buffer, length)) {
-            Ok(line) => Candidate::from_sdp_string(&line),
-            Err(code) => Err(IceError::of(code, |buffer, length| ffi::json_refusal(json, buffer, length))),
-        }
+        ffi::candidate(|buffer, length, fields| ffi::json_fields(json, buffer, length, fields))
+            .map(Candidate::listed_remote)
+            .map_err(|code| IceError::of(code, |buffer, length| ffi::json_refusal(json, buffer, length)))
     }
 
     /// The candidate that an agent lists as a local one, or that was gathered.
@@ -250,11 +267,6 @@ impl Candidate {
     pub(crate) fn listed_remote((text, fields): (String, ffi::Fields)) -> Candidate {
         Candidate { text, fields, is_local: false }
     }
-}
-
-/// A text, as the library reads and prints it.
-fn read(line: &str) -> Result<(String, ffi::Fields), i32> {
-    ffi::candidate(|buffer, length, fields| ffi::line_fields(line, buffer, length, fields))
 }
 
 // ---- for the library
@@ -323,7 +335,7 @@ impl Candidate {
     /// `BadCandidate` if the username fragment is empty or has white space, or that of its agent before is no word, or if out of memory.
     /// The candidate is unchanged then.
     pub fn try_set_ufrag(&mut self, ufrag: &str) -> Result<(), IceError> {
-        let named = ffi::text(|buffer, length| ffi::line_with_ufrag(&self.text, ufrag, buffer, length)).and_then(|line| read(&line));
+        let named = ffi::candidate(|buffer, length, fields| ffi::line_with_ufrag_fields(&self.text, ufrag, buffer, length, fields));
         let (text, fields) = named.map_err(|code| match code {
             ffi::BAD_CANDIDATE => IceError::BadCandidate("bad username fragment".to_owned()),
             code => IceError::BadCandidate(ffi::text_of(code).to_owned()),
@@ -333,6 +345,19 @@ impl Candidate {
         self.fields.ufrag_length = fields.ufrag_length;
         self.text = text;
         Ok(())
+    }
+
+    /// Its foundation: equal for candidates of one kind, base and server (RFC 8445, section 5.1.1.3).
+    pub fn foundation(&self) -> &str {
+        self.text.get(FOUNDATION_START..FOUNDATION_START + self.fields.foundation_length).unwrap_or_default()
+    }
+
+    /// Whether its foundation and its username fragment, if it has one, are in the grammar of signaling (RFC 8839, sections 5.1 and 5.4):
+    /// 1 to 32 and 4 to 256 characters of [`IceCreds::is_in_grammar`](crate::IceCreds::is_in_grammar). Any word is read, since candidates
+    /// of other makers have further characters.
+    pub fn is_in_grammar(&self) -> bool {
+        let is_named = self.ufrag().is_none_or(|ufrag| ffi::check_text(ffi::TEXT_UFRAG, ufrag) == ffi::OK);
+        is_named && ffi::check_text(ffi::TEXT_FOUNDATION, self.foundation()) == ffi::OK
     }
 
     /// Its transport address.

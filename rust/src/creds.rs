@@ -47,6 +47,21 @@ impl IceCreds {
     }
 }
 
+impl IceCreds {
+    /// Whether both texts are in the grammar of signaling (RFC 8839, section 5.4): `A` to `Z`, `a` to `z`, `0` to `9`, `+` and `/`, 4 to
+    /// 256 of them in the username fragment and 22 to 256 in the password. Agents take other texts too, since those of other makers use
+    /// further characters.
+    ///
+    /// ```
+    /// let creds = |ufrag: &str| is::IceCreds { ufrag: ufrag.to_owned(), pass: "asd88fgpdd777uzjYhagZg".to_owned() };
+    /// assert!(creds("8hhY").is_in_grammar() && is::IceCreds::new().is_in_grammar());
+    /// assert!(!creds("8hh").is_in_grammar() && !creds("8h Y").is_in_grammar());
+    /// ```
+    pub fn is_in_grammar(&self) -> bool {
+        ffi::check_text(ffi::TEXT_UFRAG, &self.ufrag) == ffi::OK && ffi::check_text(ffi::TEXT_PASS, &self.pass) == ffi::OK
+    }
+}
+
 impl fmt::Debug for IceCreds {
     fn fmt(&self, f: &mut fmt::Formatter<'_>) -> fmt::Result {
         f.debug_struct("IceCreds").field("ufrag", &self.ufrag).field("pass", &"..").finish()

@@ -26,6 +26,11 @@ pub(crate) const PRIORITY_TOO_HIGH: i32 = -12;
 pub(crate) const BAD_LIMIT: i32 = -13;
 pub(crate) const TOO_MANY_CANDIDATES: i32 = -17;
 
+/// The kinds of texts that `check_text` knows.
+pub(crate) const TEXT_UFRAG: u8 = 0;
+pub(crate) const TEXT_PASS: u8 = 1;
+pub(crate) const TEXT_FOUNDATION: u8 = 2;
+
 /// The text of each code, as in `is_ice_code_text` of the header.
 pub(crate) fn text_of(code: i32) -> &'static str {
     match code {
@@ -329,6 +334,8 @@ unsafe extern "C" {
     pub(crate) safe fn is_ice_pair_count(agent: &mut Agent, count: &mut usize) -> i32;
     pub(crate) safe fn is_ice_pair_at(agent: &mut Agent, index: usize, pair: &mut Pair) -> i32;
     pub(crate) safe fn is_ice_has_viable_remote(agent: &mut Agent, address: &Address) -> i32;
+    pub(crate) safe fn is_ice_retransmit_timeout(initial_rto: u64, max_rto: u64, max_retransmits: usize, timeout: &mut u64) -> i32;
+    pub(crate) safe fn is_ice_retransmit_delay(initial_rto: u64, max_rto: u64, limit: usize, sent: usize, delay: &mut u64) -> i32;
 
     fn is_ice_make_credentials(
         random: *const u8,
@@ -368,19 +375,30 @@ unsafe extern "C" {
         length: &mut usize,
         fields: &mut Fields,
     ) -> i32;
+    fn is_ice_fields_line(
+        given: &Fields,
+        foundation: *const u8,
+        foundation_length: usize,
+        buffer: *mut u8,
+        size: usize,
+        length: &mut usize,
+        fields: &mut Fields,
+    ) -> i32;
     fn is_ice_candidate_fields(candidate: &Gathered, buffer: *mut u8, size: usize, length: &mut usize, fields: &mut Fields) -> i32;
     fn is_ice_line_name(line: *const u8, line_length: usize, buffer: *mut u8, size: usize, length: &mut usize) -> i32;
-    fn is_ice_line_with_address(
+    fn is_ice_check_text(kind: u8, text: *const u8, length: usize) -> i32;
+    fn is_ice_line_with_address_fields(
         line: *const u8,
         line_length: usize,
         address: &Address,
         buffer: *mut u8,
         size: usize,
         length: &mut usize,
+        fields: &mut Fields,
     ) -> i32;
     fn is_ice_line_refusal(line: *const u8, line_length: usize, buffer: *mut u8, size: usize, length: &mut usize) -> i32;
     fn is_ice_candidate_refusal(candidate: &Gathered, buffer: *mut u8, size: usize, length: &mut usize) -> i32;
-    fn is_ice_line_with_ufrag(
+    fn is_ice_line_with_ufrag_fields(
         line: *const u8,
         line_length: usize,
         ufrag: *const u8,
@@ -388,9 +406,17 @@ unsafe extern "C" {
         buffer: *mut u8,
         size: usize,
         length: &mut usize,
+        fields: &mut Fields,
     ) -> i32;
     fn is_ice_line_to_json(line: *const u8, line_length: usize, buffer: *mut u8, size: usize, length: &mut usize) -> i32;
-    fn is_ice_line_from_json(json: *const u8, json_length: usize, buffer: *mut u8, size: usize, length: &mut usize) -> i32;
+    fn is_ice_json_fields(
+        json: *const u8,
+        json_length: usize,
+        buffer: *mut u8,
+        size: usize,
+        length: &mut usize,
+        fields: &mut Fields,
+    ) -> i32;
     fn is_ice_json_refusal(json: *const u8, json_length: usize, buffer: *mut u8, size: usize, length: &mut usize) -> i32;
     fn is_ice_line_preference(line: *const u8, line_length: usize, same_kind: usize, preference: &mut u32) -> i32;
     fn is_ice_find_pair(agent: &mut Agent, line: *const u8, length: usize, pair: &mut Pair) -> i32;
@@ -426,6 +452,16 @@ unsafe extern "C" {
         size: usize,
         length: &mut usize,
         receiver: &mut usize,
+    ) -> i32;
+    fn is_ice_username_parts(username: *const u8, username_length: usize, receiver: &mut usize) -> i32;
+    fn is_ice_hmac_sha1(
+        key: *const u8,
+        key_length: usize,
+        bytes: *const u8,
+        bytes_length: usize,
+        buffer: *mut u8,
+        size: usize,
+        length: &mut usize,
     ) -> i32;
     fn is_ice_stun_verify(bytes: *const u8, length: usize, key: *const u8, key_length: usize) -> i32;
     fn is_ice_stun_write(
@@ -600,6 +636,15 @@ pub(crate) fn candidate_fields(candidate: &Gathered, buffer: &mut [u8], length: 
     }
 }
 
+pub(crate) fn fields_line(given: &Fields, foundation: &str, buffer: &mut [u8], length: &mut usize, fields: &mut Fields) -> i32 {
+    let (at, size) = (buffer.as_mut_ptr(), buffer.len());
+    #[allow(unsafe_code)]
+    // SAFETY: the foundation is a slice that is read, the buffer one that is borrowed mutably.
+    unsafe {
+        is_ice_fields_line(given, foundation.as_ptr(), foundation.len(), at, size, length, fields)
+    }
+}
+
 pub(crate) fn line_fields(line: &str, buffer: &mut [u8], length: &mut usize, fields: &mut Fields) -> i32 {
     #[allow(unsafe_code)]
     // SAFETY: the line is a slice that is read, the buffer one that is borrowed mutably.
@@ -616,19 +661,29 @@ pub(crate) fn line_name(line: &str, buffer: &mut [u8], length: &mut usize) -> i3
     }
 }
 
-pub(crate) fn line_with_address(line: &str, address: &Address, buffer: &mut [u8], length: &mut usize) -> i32 {
+pub(crate) fn check_text(kind: u8, text: &str) -> i32 {
     #[allow(unsafe_code)]
-    // SAFETY: the line is a slice that is read, the buffer one that is borrowed mutably.
+    // SAFETY: the text is a slice that is read.
     unsafe {
-        is_ice_line_with_address(line.as_ptr(), line.len(), address, buffer.as_mut_ptr(), buffer.len(), length)
+        is_ice_check_text(kind, text.as_ptr(), text.len())
     }
 }
 
-pub(crate) fn line_with_ufrag(line: &str, ufrag: &str, buffer: &mut [u8], length: &mut usize) -> i32 {
+pub(crate) fn line_with_address_fields(line: &str, address: &Address, buffer: &mut [u8], length: &mut usize, fields: &mut Fields) -> i32 {
+    let (at, size) = (buffer.as_mut_ptr(), buffer.len());
+    #[allow(unsafe_code)]
+    // SAFETY: the line is a slice that is read, the buffer one that is borrowed mutably.
+    unsafe {
+        is_ice_line_with_address_fields(line.as_ptr(), line.len(), address, at, size, length, fields)
+    }
+}
+
+pub(crate) fn line_with_ufrag_fields(line: &str, ufrag: &str, buffer: &mut [u8], length: &mut usize, fields: &mut Fields) -> i32 {
+    let (at, size) = (buffer.as_mut_ptr(), buffer.len());
     #[allow(unsafe_code)]
     // SAFETY: both texts are slices that are read, the buffer is one that is borrowed mutably.
     unsafe {
-        is_ice_line_with_ufrag(line.as_ptr(), line.len(), ufrag.as_ptr(), ufrag.len(), buffer.as_mut_ptr(), buffer.len(), length)
+        is_ice_line_with_ufrag_fields(line.as_ptr(), line.len(), ufrag.as_ptr(), ufrag.len(), at, size, length, fields)
     }
 }
 
@@ -640,11 +695,11 @@ pub(crate) fn line_to_json(line: &str, buffer: &mut [u8], length: &mut usize) ->
     }
 }
 
-pub(crate) fn line_from_json(json: &str, buffer: &mut [u8], length: &mut usize) -> i32 {
+pub(crate) fn json_fields(json: &str, buffer: &mut [u8], length: &mut usize, fields: &mut Fields) -> i32 {
     #[allow(unsafe_code)]
     // SAFETY: the JSON is a slice that is read, the buffer one that is borrowed mutably.
     unsafe {
-        is_ice_line_from_json(json.as_ptr(), json.len(), buffer.as_mut_ptr(), buffer.len(), length)
+        is_ice_json_fields(json.as_ptr(), json.len(), buffer.as_mut_ptr(), buffer.len(), length, fields)
     }
 }
 
@@ -710,6 +765,23 @@ pub(crate) fn stun_username(bytes: &[u8], buffer: &mut [u8], length: &mut usize,
     // SAFETY: the message is a slice that is read, the buffer one that is borrowed mutably.
     unsafe {
         is_ice_stun_username(bytes.as_ptr(), bytes.len(), at, size, length, receiver)
+    }
+}
+
+pub(crate) fn username_parts(username: &str, receiver: &mut usize) -> i32 {
+    #[allow(unsafe_code)]
+    // SAFETY: the text is a slice that is read.
+    unsafe {
+        is_ice_username_parts(username.as_ptr(), username.len(), receiver)
+    }
+}
+
+pub(crate) fn hmac_sha1(key: &[u8], bytes: &[u8], buffer: &mut [u8; 20]) -> i32 {
+    let (size, mut length) = (buffer.len(), 0);
+    #[allow(unsafe_code)]
+    // SAFETY: key and bytes are slices that are read, the buffer is an array that is borrowed mutably.
+    unsafe {
+        is_ice_hmac_sha1(key.as_ptr(), key.len(), bytes.as_ptr(), bytes.len(), buffer.as_mut_ptr(), size, &mut length)
     }
 }
 

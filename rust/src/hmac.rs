@@ -1,8 +1,8 @@
 //! HMAC-SHA1 as the original has it: a trait, and a provider for programs that call it themselves.
 //!
-//! No agent and no STUN message uses any of it: they use the HMAC-SHA1 of the library, which is proved. The C interface has no
-//! function for it, so the provider here is a plain one.
+//! No agent and no STUN message calls it: the library uses its own HMAC-SHA1, which is that of the provider here too.
 
+use crate::ffi;
 use std::fmt;
 
 /// Computes HMAC-SHA1 (RFC 2104). An agent accepts a provider in [`IceAgent::with_hmac`](crate::IceAgent::with_hmac), and does not call
@@ -23,63 +23,13 @@ pub trait Sha1HmacProvider: fmt::Debug + Send + Sync {
 #[derive(Clone, Copy, Debug, Default)]
 pub struct DefaultSha1HmacProvider;
 
-const BLOCK: usize = 64;
-
 impl Sha1HmacProvider for DefaultSha1HmacProvider {
     fn sha1_hmac(&self, key: &[u8], payloads: &[&[u8]]) -> [u8; 20] {
-        let mut block = [0; BLOCK];
-        match key.len() {
-            ..=BLOCK => block[..key.len()].copy_from_slice(key),
-            _ => block[..20].copy_from_slice(&sha1(key)),
-        }
-        let padded = |pad: u8, rest: &[u8]| sha1(&[&block.map(|byte| byte ^ pad), rest].concat());
-        padded(0x5c, &padded(0x36, &payloads.concat()))
+        let mut mac = [0; 20];
+        let code = ffi::hmac_sha1(key, &payloads.concat(), &mut mac);
+        debug_assert_eq!(code, ffi::OK);
+        mac
     }
-}
-
-/// SHA-1 (RFC 3174).
-fn sha1(message: &[u8]) -> [u8; 20] {
-    let mut padded = message.to_vec();
-    padded.push(0x80);
-    padded.resize((padded.len() + 8).next_multiple_of(BLOCK) - 8, 0);
-    padded.extend((message.len() as u64 * 8).to_be_bytes());
-    let begin = [0x6745_2301, 0xefcd_ab89, 0x98ba_dcfe, 0x1032_5476, 0xc3d2_e1f0];
-    let state = padded.chunks_exact(BLOCK).fold(begin, compressed);
-    let mut digest = [0; 20];
-    for (bytes, word) in digest.chunks_exact_mut(4).zip(state) {
-        bytes.copy_from_slice(&word.to_be_bytes());
-    }
-    digest
-}
-
-/// The state after a block (RFC 3174, section 6.1).
-fn compressed(state: [u32; 5], block: &[u8]) -> [u32; 5] {
-    let words = schedule(block);
-    let [mut a, mut b, mut c, mut d, mut e] = state;
-    for (i, word) in words.into_iter().enumerate() {
-        let (mixed, constant) = match i / 20 {
-            0 => ((b & c) | (!b & d), 0x5a82_7999),
-            1 => (b ^ c ^ d, 0x6ed9_eba1),
-            2 => ((b & c) | (b & d) | (c & d), 0x8f1b_bcdc),
-            _ => (b ^ c ^ d, 0xca62_c1d6_u32),
-        };
-        let next = a.rotate_left(5).wrapping_add(mixed).wrapping_add(e).wrapping_add(word).wrapping_add(constant);
-        (e, d, c, b, a) = (d, c, b.rotate_left(30), a, next);
-    }
-    let [p, q, r, s, t] = state;
-    [a.wrapping_add(p), b.wrapping_add(q), c.wrapping_add(r), d.wrapping_add(s), e.wrapping_add(t)]
-}
-
-/// The 80 words of a block.
-fn schedule(block: &[u8]) -> [u32; 80] {
-    let mut words = [0; 80];
-    for i in 0..80 {
-        words[i] = match i {
-            0..16 => u32::from_be_bytes([block[4 * i], block[4 * i + 1], block[4 * i + 2], block[4 * i + 3]]),
-            _ => (words[i - 3] ^ words[i - 8] ^ words[i - 14] ^ words[i - 16]).rotate_left(1),
-        };
-    }
-    words
 }
 
 #[cfg(test)]

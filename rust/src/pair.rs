@@ -63,18 +63,30 @@ impl CandidatePair {
     ///
     /// # Panics
     ///
-    /// If the list is shorter.
+    /// If the list is shorter. `try_local_candidate` returns `None` then.
+    #[track_caller]
     pub fn local_candidate<'a>(&self, cs: &'a [Candidate]) -> &'a Candidate {
         &cs[self.local]
+    }
+
+    /// As `local_candidate`: `None` if the list is shorter, as that of an agent that changed since.
+    pub fn try_local_candidate<'a>(&self, cs: &'a [Candidate]) -> Option<&'a Candidate> {
+        cs.get(self.local)
     }
 
     /// Its remote candidate, in the list of [`crate::IceAgent::remote_candidates`].
     ///
     /// # Panics
     ///
-    /// If the list is shorter.
+    /// If the list is shorter. `try_remote_candidate` returns `None` then.
+    #[track_caller]
     pub fn remote_candidate<'a>(&self, cs: &'a [Candidate]) -> &'a Candidate {
         &cs[self.remote]
+    }
+
+    /// As `remote_candidate`: `None` if the list is shorter.
+    pub fn try_remote_candidate<'a>(&self, cs: &'a [Candidate]) -> Option<&'a Candidate> {
+        cs.get(self.remote)
     }
 
     /// Its priority.

@@ -22,9 +22,6 @@ const SOFTWARE: u16 = 0x0022;
 /// The length of a Binding request without credentials: header and FINGERPRINT.
 pub const QUERY_LENGTH: usize = 28;
 
-/// No message without DATA is longer.
-const LONGEST_MESSAGE: usize = 1228;
-
 /// No USERNAME that can be read is longer.
 const LONGEST_USERNAME: usize = 513;
 
@@ -364,24 +361,15 @@ impl<'a> StunMessage<'a> {
     /// ```
     pub fn split_username(&self) -> Option<(&'a str, &'a str)> {
         if self.bytes.is_empty() {
-            return self.built_parts();
+            let (username, mut receiver) = (self.texts.username?, 0);
+            let is_split = ffi::username_parts(username, &mut receiver) == ffi::OK;
+            return if is_split { parts(username, receiver) } else { None };
         }
         let (mut buffer, mut length, mut receiver) = ([0; LONGEST_USERNAME], 0, 0);
         if ffi::stun_username(self.bytes, &mut buffer, &mut length, &mut receiver) != ffi::OK {
             return None;
         }
         parts(str_of(self.borrowed(&buffer[..length])?)?, receiver)
-    }
-
-    /// The parts of the USERNAME of a built message: those of a message that has nothing else, once it is written.
-    fn built_parts(&self) -> Option<(&'a str, &'a str)> {
-        let username = self.texts.username?;
-        let named = StunMessageBuilder::new().binding().request().username(username).build(self.trans_id());
-        let mut bytes = [0; LONGEST_MESSAGE];
-        let length = named.write(None, &mut bytes).ok()?;
-        let (mut buffer, mut count, mut receiver) = ([0; LONGEST_USERNAME], 0, 0);
-        let code = ffi::stun_username(&bytes[..length], &mut buffer, &mut count, &mut receiver);
-        if code == ffi::OK { parts(username, receiver) } else { None }
     }
 
     /// XOR-MAPPED-ADDRESS (RFC 8489, section 14.2).

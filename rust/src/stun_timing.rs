@@ -43,7 +43,7 @@ impl StunTiming {
     ///
     /// # Panics
     ///
-    /// If the limit is 0, or if out of memory. `try_timeout` returns an error then.
+    /// If the limit is 0. `try_timeout` returns an error then.
     #[track_caller]
     pub fn timeout(&self) -> Duration {
         or_panic(self.try_timeout())
@@ -53,15 +53,33 @@ impl StunTiming {
     ///
     /// # Errors
     ///
-    /// [`CallError::BadLimit`], [`CallError::OutOfMemory`].
+    /// [`CallError::BadLimit`].
     pub fn try_timeout(&self) -> Result<Duration, CallError> {
-        let mut agent = ffi::Agent::new("", "", 0).map_err(CallError::of)?;
-        found(ffi::is_ice_set_initial_rto(&mut agent, nanoseconds(self.initial_rto)))?;
-        found(ffi::is_ice_set_max_rto(&mut agent, nanoseconds(self.max_rto)))?;
-        found(ffi::is_ice_set_max_retransmits(&mut agent, self.max_retransmits))?;
-        let mut status = ffi::Status::default();
-        found(ffi::is_ice_status(&mut agent, &mut status))?;
-        Ok(Duration::from_nanos(status.ice_timeout))
+        let (initial, most, mut timeout) = (nanoseconds(self.initial_rto), nanoseconds(self.max_rto), 0);
+        found(ffi::is_ice_retransmit_timeout(initial, most, self.max_retransmits, &mut timeout))?;
+        Ok(Duration::from_nanos(timeout))
+    }
+
+    /// How long to wait after the last of so many checks of a pair before the next one: nothing if none was sent.
+    ///
+    /// ```
+    /// use std::time::Duration;
+    ///
+    /// let timing = is::stun::StunTiming::default();
+    /// assert_eq!(timing.stun_resend_delay(1), Duration::from_millis(250));
+    /// assert_eq!(timing.stun_resend_delay(3), Duration::from_secs(1));
+    /// assert_eq!(timing.stun_last_resend_delay(), Duration::from_secs(3));
+    /// ```
+    pub fn stun_resend_delay(&self, send_count: usize) -> Duration {
+        let (initial, most, mut delay) = (nanoseconds(self.initial_rto), nanoseconds(self.max_rto), 0);
+        let code = ffi::is_ice_retransmit_delay(initial, most, self.max_retransmits, send_count, &mut delay);
+        debug_assert_eq!(code, ffi::OK);
+        Duration::from_nanos(delay)
+    }
+
+    /// How long to wait after the last check before the pair is removed.
+    pub fn stun_last_resend_delay(&self) -> Duration {
+        self.stun_resend_delay(self.max_retransmits)
     }
 
     /// After how many checks in a row without a response a pair is removed.

@@ -262,6 +262,8 @@ impl Session {
         let (initial_rto, max_rto) = (self.random.duration(), self.random.duration());
         let timing = StunTiming { initial_rto, max_retransmits: self.random.number(), max_rto };
         black_box((timing.try_timeout().ok(), timing.max_retransmits(), timing.max_rto(), StunTiming::default().timeout()));
+        let sent = self.random.number();
+        assert!(timing.stun_resend_delay(sent) <= timing.max_rto() && timing.stun_last_resend_delay() <= timing.max_rto());
     }
 
     fn table(&mut self) -> PreferenceTable {
@@ -475,7 +477,7 @@ impl Session {
                     self.agents[side] = agent;
                 }
             }
-            5 => _ = black_box((IceCreds::new(), IceCreds::try_new())),
+            5 => _ = black_box((IceCreds::new(), IceCreds::try_new(), IceCreds::is_in_grammar(&self.random.creds()))),
             _ => self.pass_time(),
         }
         self.poll(side);

@@ -2,7 +2,7 @@
 
 mod world;
 
-use is::{Candidate, CandidateKind, IceAgent, IceError, Protocol, TcpType, default_local_preference};
+use is::{Candidate, CandidateKind, IceAgent, IceCreds, IceError, Protocol, TcpType, default_local_preference};
 use world::{at, creds, host};
 
 /// The example of RTCIceCandidate in MDN.
@@ -158,6 +158,23 @@ fn the_pair_of_a_candidate_is_found() {
     assert_eq!((pair.local, pair.remote), (0, 1));
     assert_eq!(agent.pairs().find(|listed| listed.remote == 1), Some(pair));
     assert_eq!(agent.find_pair_for_equivalent_remote_candidate(&read(&LINE.replace("host", "srflx"))), None);
+}
+
+/// RFC 8839, sections 5.1 and 5.4; its credentials are those of section 5.6.
+#[test]
+fn texts_are_in_the_grammar_or_not() {
+    let creds = |ufrag: &str, pass: &str| IceCreds { ufrag: ufrag.to_owned(), pass: pass.to_owned() }.is_in_grammar();
+    let (pass, many) = ("asd88fgpdd777uzjYhagZg", "z".repeat(257));
+    assert!(creds("8hhY", pass) && creds(&many[..256], &many[..256]));
+    assert!(!creds("8hhY", &many) && !creds(&many, pass) && !creds("8hhY", &many[..21]) && !creds("8hh", pass) && !creds("8h Y", pass));
+    assert!(!creds("8h-Y", pass) && !creds("8h\u{e9}Y", pass));
+    let with = |foundation: &str| read(&LINE.replace("4234997325", foundation));
+    for (foundation, is_in) in [("a+/1", true), (&many[..32], true), (&many[..33], false), ("a-1", false), ("\u{e9}", false)] {
+        assert_eq!((with(foundation).foundation(), with(foundation).is_in_grammar()), (foundation, is_in));
+        let mut named = with("1");
+        named.set_ufrag(foundation);
+        assert_eq!(named.is_in_grammar(), !foundation.contains(['-', '\u{e9}']));
+    }
 }
 
 #[test]

@@ -6,8 +6,10 @@ use Rattle.is_proto.specs.declared.error.IceError.{IceError}
 use Rattle.is_candidate.specs.Candidates.{CandidateRecord}
 use Rattle.is_candidate.specs.Infos.{info_of, ReadsInfoText}
 use Rattle.is_candidate.specs.Rejections.{RejectsWith}
+use Rattle.is_c.specs.declared.fields.Fields.{Fields}
 use Rattle.is_c.specs.Candidates.{Made, ReadsBytes}
 use Rattle.is_c.specs.Codes.{NOT_UTF8, OUT_OF_MEMORY, code_of}
+use Rattle.is_c.specs.Fields.{PutsMadeFields}
 use Rattle.is_c.specs.Lines.{KeepsWord, PutsMade}
 use Rattle.is_c.specs.Rejections.{ReturnsWhy}
 use Rattle.is_c.specs.Texts.{Puts, PutsNone}
@@ -49,6 +51,11 @@ ReturnsInfo line before was code after count = (made : Made) × ReadsBytes line 
 abbrev pub ReturnsLineOf : List ℕ → List ℕ → ℕ → ℤ → List ℕ → ℕ → Type 0
 ReturnsLineOf json before was code after count =
     (made : Made) × ReadsInfoBytes json made × PutsMade NOT_UTF8 made before was code after count
+
+-- `is_ice_json_fields`
+abbrev pub ReturnsFieldsOf : List ℕ → List ℕ → ℕ → Fields → ℤ → List ℕ → ℕ → Fields → Type 0
+ReturnsFieldsOf json before was old code after count new =
+    (made : Made) × ReadsInfoBytes json made × PutsMadeFields NOT_UTF8 made before was old code after count new
 
 -- `is_ice_json_refusal`
 abbrev pub ReturnsOfInfo : List ℕ → List ℕ → ℕ → ℤ → List ℕ → ℕ → Type 0

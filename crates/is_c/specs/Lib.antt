@@ -34,3 +34,7 @@ pub mod Lines
 pub mod Fields
 pub mod Mdns
 pub mod Infos
+pub mod Grammar
+pub mod Retransmits
+pub mod FromFields
+pub mod Roles

@@ -10,8 +10,10 @@ use Rattle.is_candidate.specs.Preferences.{default_preference}
 use Rattle.is_candidate.specs.Rejections.{RejectsWith}
 use Rattle.is_candidate.specs.Words.{IsWord}
 use Rattle.is_c.specs.declared.candidate.LocalCandidate.{LocalCandidate}
+use Rattle.is_c.specs.declared.fields.Fields.{Fields}
 use Rattle.is_c.specs.Candidates.{Made, MakesCandidate, ReadsBytes}
 use Rattle.is_c.specs.Codes.{OK, BAD_ADDRESS, NOT_UTF8, code_of}
+use Rattle.is_c.specs.Fields.{PutsMadeFields}
 use Rattle.is_c.specs.Questions.{PutsLine}
 use Rattle.is_c.specs.Texts.{PutsNone}
 
@@ -55,6 +57,11 @@ NamesBytes line ufrag made =
 abbrev pub ReturnsNamed : List ℕ → List ℕ → List ℕ → ℕ → ℤ → List ℕ → ℕ → Type 0
 ReturnsNamed line ufrag before was code after count =
     (made : Made) × NamesBytes line ufrag made × PutsMade NOT_UTF8 made before was code after count
+
+-- `is_ice_line_with_ufrag_fields`
+abbrev pub ReturnsNamedFields : List ℕ → List ℕ → List ℕ → ℕ → Fields → ℤ → List ℕ → ℕ → Fields → Type 0
+ReturnsNamedFields line ufrag before was old code after count new =
+    (made : Made) × NamesBytes line ufrag made × PutsMadeFields NOT_UTF8 made before was old code after count new
 
 -- the default local preference of a candidate after so many of its kind and IP version
 abbrev pub PutsPreference : ℤ → Made → ℕ → ℕ → ℤ → ℕ → Type 0

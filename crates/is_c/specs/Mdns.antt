@@ -12,9 +12,11 @@ use Rattle.is_candidate.specs.Faults.{ReadsLine}
 use Rattle.is_candidate.specs.Lines.{HasRest}
 use Rattle.is_candidate.specs.Words.{IsGap, BeginsWithWord, HasWords}
 use Rattle.is_c.specs.declared.address.Address.{Address}
+use Rattle.is_c.specs.declared.fields.Fields.{Fields}
 use Rattle.is_c.specs.Addresses.{socket_of}
 use Rattle.is_c.specs.Candidates.{Made}
 use Rattle.is_c.specs.Codes.{NOTHING, NOT_UTF8, BAD_ADDRESS}
+use Rattle.is_c.specs.Fields.{PutsMadeFields}
 use Rattle.is_c.specs.Lines.{PutsMade}
 use Rattle.is_c.specs.Texts.{Puts, PutsNone}
 
@@ -79,3 +81,11 @@ ReturnsAddressed line address before was code after count =
     MatchOption (socket_of address)
     (PutsNone BAD_ADDRESS before was code after count)
     (λ socket. (made : Made) × AddressesBytes line (socket_ip socket) made × PutsMade NOT_UTF8 made before was code after count)
+
+-- `is_ice_line_with_address_fields`
+abbrev pub ReturnsAddressedFields : List ℕ → Address → List ℕ → ℕ → Fields → ℤ → List ℕ → ℕ → Fields → Type 0
+ReturnsAddressedFields line address before was old code after count new =
+    MatchOption (socket_of address)
+    (PutsNone BAD_ADDRESS before was code after count × (new ≡ old))
+    (λ socket. (made : Made) × AddressesBytes line (socket_ip socket) made
+    × PutsMadeFields NOT_UTF8 made before was old code after count new)

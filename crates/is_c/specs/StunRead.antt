@@ -1,5 +1,6 @@
 -- STUN messages as C reads them.
-use Rattle.std.specs.Prelude.{◌≡◌, ◌⊎◌, ◌==◌, ℕ, List, Option, Some, None, option_map, if◌then◌else◌, ℤ}
+use Rattle.std.specs.Prelude.{◌≡◌, ◌⊎◌, ◌==◌, ◌&&◌, ℕ, Bool, nat_le, nat_lt, List, length, slice_index, Option, Some, None, option_map}
+use Rattle.std.specs.Prelude.{if◌then◌else◌, ℤ}
 use Rattle.is_proto.specs.declared.error.StunError.{StunError}
 use Rattle.is_stun.specs.Form.{ReadsAny, FailsAnyBy}
 use Rattle.is_stun.specs.Reading.{Reads, FailsBy}
@@ -7,6 +8,15 @@ use Rattle.is_stun.specs.Message.{AttributesRecord, Message}
 use Rattle.is_stun.specs.Numbers.{USERNAME, ERROR_CODE, DATA, REALM, NONCE, SOFTWARE}
 use Rattle.is_c.specs.Codes.{NOTHING, UNPARSED}
 use Rattle.is_c.specs.Texts.{Puts}
+
+-- the magic cookie, in network order
+abbrev pub has_cookie : List ℕ → Bool
+has_cookie bytes =
+    slice_index bytes 4 == 0x21 && slice_index bytes 5 == 0x12 && slice_index bytes 6 == 0xa4 && slice_index bytes 7 == 0x42
+
+-- a whole header, whose two top bits are 0
+abbrev pub begins_as_stun : List ℕ → Bool
+begins_as_stun bytes = nat_le 20 (length bytes) && (nat_lt (slice_index bytes 0) 64 && has_cookie bytes)
 
 -- P holds of the message that the bytes encode; if they encode none, the code says so and all is as it was
 abbrev pub ReturnsMessage : List ℕ → (Message → ℤ → Type 0) → Type 0 → ℤ → Type 0

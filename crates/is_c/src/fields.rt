@@ -41,7 +41,7 @@ pub struct Fields {
     pub tcptype: u8,
 }
 
-fn kind_number(kind: CandidateKind) -> u8
+pub(crate) fn kind_number(kind: CandidateKind) -> u8
     ensures { result ≡ kind_number kind }
 {
     match kind {
@@ -116,7 +116,7 @@ fn put_fields(
 }
 
 /// Writes them of a candidate that was made, or returns the code of why there is none.
-fn put_made_fields(
+pub(crate) fn put_made_fields(
     alloc: Global,
     made: &Option<Result<Candidate, IceError>>,
     why: i32,

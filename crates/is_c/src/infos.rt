@@ -2,9 +2,11 @@
 ghost use Rattle.std.specs.Prelude.{◌≡◌, count_by};
 ghost use Rattle.is_candidate.specs.Infos.{ReadsInfoText};
 ghost use Rattle.is_c.specs.Infos.{is_bracket, ReadsFlat, ReadsInfoBytes, PutsInfo, ReturnsInfo, ReturnsLineOf, ReturnsOfInfo};
+ghost use Rattle.is_c.specs.Infos.{ReturnsFieldsOf};
 
 use crate::candidate::line_candidate;
 use crate::codes;
+use crate::fields::{Fields, put_made_fields};
 use crate::lines::{put_made, rejection, with_word};
 use crate::rejections::put_rejection;
 use crate::text::put;
@@ -106,6 +108,21 @@ pub extern "C" fn is_ice_line_from_json(
 {
     let made = info_candidate(alloc, json);
     put_made(alloc, &made, codes::NOT_UTF8, buffer, length)
+}
+
+/// Writes the same attribute with its fields.
+#[unsafe(no_mangle)]
+pub extern "C" fn is_ice_json_fields(
+    alloc: Global,
+    json: &[u8],
+    buffer: &mut [u8],
+    length: &mut usize,
+    fields: &mut Fields,
+) -> i32
+    ensures { ReturnsFieldsOf json.now buffer.old length.old fields.old result buffer.new length.new fields.new }
+{
+    let made = info_candidate(alloc, json);
+    put_made_fields(alloc, &made, codes::NOT_UTF8, buffer, length, fields)
 }
 
 /// Writes why a JSON text is no candidate. NOTHING: it is one.

@@ -7,10 +7,11 @@ ghost use Rattle.is_candidate.specs.Rejections.{RejectsWith};
 ghost use Rattle.is_candidate.specs.RoundTrips.{LineRoundTrips};
 ghost use Rattle.is_candidate.specs.Words.{IsWord};
 ghost use Rattle.is_c.specs.Lines.{HasWordUfrag, KeepsWord, NamesAs, NamesBytes, PutsMade, ReturnsGiven, ReturnsNamed, PutsPreference, PrefersGiven};
-ghost use Rattle.is_c.specs.Lines.{PrefersRead};
+ghost use Rattle.is_c.specs.Lines.{PrefersRead, ReturnsNamedFields};
 
 use crate::candidate::{LocalCandidate, line_candidate, local_candidate};
 use crate::codes;
+use crate::fields::{Fields, put_made_fields};
 use crate::questions::put_line;
 use is_candidate::candidate::round_trip::printed_line_round_trips;
 use is_candidate::{Candidate, default_local_preference};
@@ -52,7 +53,7 @@ pub extern "C" fn is_ice_candidate_line(
 // ---- a username fragment is one word, so that the attribute round-trips
 
 /// Whether the text has a character, and no white space.
-fn is_word(text: &str) -> bool
+pub(crate) fn is_word(text: &str) -> bool
     ensures { IsTrue result ↔ IsWord text.now }
 {
     !text.is_empty() && !text.contains(char::is_whitespace)
@@ -126,6 +127,22 @@ pub extern "C" fn is_ice_line_with_ufrag(
 {
     let made = named(alloc, line, ufrag);
     put_made(alloc, &made, codes::NOT_UTF8, buffer, length)
+}
+
+/// Writes the same attribute with its fields.
+#[unsafe(no_mangle)]
+pub extern "C" fn is_ice_line_with_ufrag_fields(
+    alloc: Global,
+    line: &[u8],
+    ufrag: &[u8],
+    buffer: &mut [u8],
+    length: &mut usize,
+    fields: &mut Fields,
+) -> i32
+    ensures { ReturnsNamedFields line.now ufrag.now buffer.old length.old fields.old result buffer.new length.new fields.new }
+{
+    let made = named(alloc, line, ufrag);
+    put_made_fields(alloc, &made, codes::NOT_UTF8, buffer, length, fields)
 }
 
 fn put_preference(

@@ -4,9 +4,11 @@ ghost use Rattle.std.specs.Option.{option_copied};
 ghost use Rattle.std.specs.Net.Text.{ip_text};
 ghost use Rattle.is_candidate.specs.Words.{HasWords};
 ghost use Rattle.is_c.specs.Mdns.{spaced, with_nth, HasNth, IsLocalName, HasName, Addresses, AddressesBytes, ReturnsName, ReturnsAddressed};
+ghost use Rattle.is_c.specs.Mdns.{ReturnsAddressedFields};
 
 use crate::address::{Address, socket_of};
 use crate::codes;
+use crate::fields::{Fields, put_made_fields};
 use crate::lines::put_made;
 use crate::text::put;
 use is_candidate::Candidate;
@@ -129,4 +131,23 @@ pub extern "C" fn is_ice_line_with_address(
     };
     let made = addressed_line(alloc, line, socket.ip());
     put_made(alloc, &made, codes::NOT_UTF8, buffer, length)
+}
+
+/// Writes the same attribute with its fields.
+#[unsafe(no_mangle)]
+pub extern "C" fn is_ice_line_with_address_fields(
+    alloc: Global,
+    line: &[u8],
+    address: &Address,
+    buffer: &mut [u8],
+    length: &mut usize,
+    fields: &mut Fields,
+) -> i32
+    ensures { ReturnsAddressedFields line.now address.now buffer.old length.old fields.old result buffer.new length.new fields.new }
+{
+    let Some(socket) = socket_of(address) else {
+        return codes::BAD_ADDRESS;
+    };
+    let made = addressed_line(alloc, line, socket.ip());
+    put_made_fields(alloc, &made, codes::NOT_UTF8, buffer, length, fields)
 }

@@ -3,8 +3,9 @@
 ghost use Rattle.std.specs.Prelude.{◌≡◌, ◌==◌, Some, MatchBool};
 ghost use Rattle.is_rules.specs.Settings.{SetsMtu, with_rtos, with_retransmits, with_lite_timeout, numbers_skipped};
 ghost use Rattle.is_c.specs.Adding.{SetsMaxCandidates};
-ghost use Rattle.is_c.specs.Codes.{BAD_LIMIT, done_code};
+ghost use Rattle.is_c.specs.Codes.{BAD_LIMIT, done_code, found_code};
 ghost use Rattle.is_c.specs.Limits.{limit_of};
+ghost use Rattle.is_c.specs.Roles.{is_controlling};
 ghost use Rattle.is_c.specs.Held.{held_by, At, AgentBecomes, Calls, Rejects};
 ghost use Rattle.is_c.specs.declared.preference.Preference.TheVariants.{ByDefault, Fixed, ByTable};
 
@@ -24,6 +25,24 @@ pub extern "C" fn is_ice_set_controlling(alloc: Global, slot: &mut Slot, control
     };
     home.agent.set_controlling(controlling);
     codes::OK
+}
+
+fn is_controlling(made_offer: bool, lite: bool, other_is_lite: bool) -> bool
+    ensures { result ≡ is_controlling made_offer lite other_is_lite }
+{
+    match (lite, other_is_lite) {
+        (true, false) => false,
+        (false, true) => true,
+        _ => made_offer,
+    }
+}
+
+/// Whether the agent is controlling at first (RFC 8445, section 6.1.1). NOTHING: it is controlled.
+#[unsafe(no_mangle)]
+pub extern "C" fn is_ice_role(made_offer: bool, lite: bool, other_is_lite: bool) -> i32
+    ensures { result ≡ found_code (is_controlling made_offer lite other_is_lite) }
+{
+    codes::found_code(is_controlling(made_offer, lite, other_is_lite))
 }
 
 /// Makes the agent a lite agent, or a full one.

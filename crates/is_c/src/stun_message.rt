@@ -7,11 +7,13 @@ ghost use Rattle.is_stun.specs.Header.{method_bits};
 ghost use Rattle.is_stun.specs.MessageView.{message_view};
 ghost use Rattle.is_c.specs.StunMessage.{class_number, number_of, IsAddress, IsFlat, IsFlatOf, AnswersSigned};
 ghost use Rattle.is_c.specs.StunRead.{ReturnsMessage, ReturnsStrict};
+ghost use Rattle.is_c.specs.Texts.{Puts};
 
 use crate::address::{Address, address_of};
 use crate::codes;
 use crate::stun_client::Transaction;
-use is_proto::DefaultSha1HmacProvider;
+use crate::text::put;
+use is_proto::{DefaultSha1HmacProvider, Sha1HmacProvider};
 use is_stun::stun::{Class, Method, StunMessage};
 use std::net::SocketAddr;
 
@@ -209,4 +211,18 @@ pub extern "C" fn is_ice_stun_verify(bytes: &[u8], key: &[u8]) -> i32
         Ok(message) => codes::found_code(message.verify(key, &DefaultSha1HmacProvider)),
         Err(_) => codes::UNPARSED,
     }
+}
+
+/// Writes the HMAC-SHA1 of the bytes under the key (RFC 2104), 20 bytes, to the front of the buffer.
+#[unsafe(no_mangle)]
+pub extern "C" fn is_ice_hmac_sha1(
+    key: &[u8],
+    bytes: &[u8],
+    buffer: &mut [u8],
+    length: &mut usize,
+) -> i32
+    ensures { Puts (hmac_sha1 key.now bytes.now) buffer.old result buffer.new length.new }
+{
+    let mac = DefaultSha1HmacProvider.sha1_hmac(key, &[bytes]);
+    put(&mac, buffer, length)
 }

@@ -1,14 +1,46 @@
 //! STUN messages as C reads them (RFC 8489; RFC 8656 for TURN).
 
-ghost use Rattle.std.specs.Prelude.{◌≡◌};
+ghost use Rattle.std.specs.Prelude.{◌≡◌, ◌≤◌, length};
 ghost use Rattle.std.specs.Option.{option_copied, option_map};
 ghost use Rattle.is_stun.specs.ErrorCodeView.{error_view};
 ghost use Rattle.is_stun.specs.MessageView.{message_view};
-ghost use Rattle.is_c.specs.StunRead.{text_of, PutsText, ReturnsMessage};
+ghost use Rattle.is_c.specs.Codes.{found_code};
+ghost use Rattle.is_c.specs.StunRead.{has_cookie, begins_as_stun, text_of, PutsText, ReturnsMessage};
 
 use crate::codes;
 use crate::text::put;
 use is_stun::stun::StunMessage;
+
+// ---- which datagrams are STUN, and not media on the same socket (RFC 7983)
+
+/// The length of a header.
+const HEADER_LEN: usize = 20;
+
+/// The bytes that have one of the two top bits are from here on.
+const TOP_BITS: u8 = 64;
+
+/// Whether the fifth to eighth bytes are the magic cookie.
+fn has_cookie(bytes: &[u8]) -> bool
+    requires { 20 ≤ length bytes.now }
+    ensures { result ≡ has_cookie bytes.now }
+{
+    bytes[4] == 0x21 && bytes[5] == 0x12 && bytes[6] == 0xa4 && bytes[7] == 0x42
+}
+
+fn begins_as_stun(bytes: &[u8]) -> bool
+    ensures { result ≡ begins_as_stun bytes.now }
+{
+    bytes.len() >= HEADER_LEN && bytes[0] < TOP_BITS && has_cookie(bytes)
+}
+
+/// Whether a datagram begins as a STUN message (RFC 8489, section 5): the two top bits are 0, and the magic cookie is there. NOTHING: it
+/// does not.
+#[unsafe(no_mangle)]
+pub extern "C" fn is_ice_is_stun(bytes: &[u8]) -> i32
+    ensures { result ≡ found_code (begins_as_stun bytes.now) }
+{
+    codes::found_code(begins_as_stun(bytes))
+}
 
 // ---- texts, by the type of their attribute
 

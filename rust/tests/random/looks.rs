@@ -20,6 +20,8 @@ pub fn is_named_by_a_word(c: &Candidate) -> bool {
 
 pub fn look_at_candidate(c: &Candidate, random: &mut Random) {
     black_box((c.addr(), c.local(), c.prio(), c.proto(), c.kind(), c.tcptype(), c.ufrag(), format!("{c} {c:?} {}", c.kind())));
+    assert!(c.to_sdp_string().starts_with(&format!("candidate:{} ", c.foundation())));
+    assert!(!c.is_in_grammar() || c.foundation().len() <= 32);
     let (same_kind, read) = (random.number(), Candidate::from_sdp_string(&c.to_sdp_string()));
     let (json, preference) = (c.try_to_json(), try_default_local_preference(c, same_kind));
     if is_named_by_a_word(c) {
@@ -32,6 +34,7 @@ pub fn look_at_candidate(c: &Candidate, random: &mut Random) {
 pub fn look_at_pair(pair: &CandidatePair, local: &[Candidate], remote: &[Candidate]) {
     assert_eq!(pair.local_candidate(local), &local[pair.local_idx()]);
     assert_eq!(pair.remote_candidate(remote), &remote[pair.remote_idx()]);
+    assert_eq!((pair.try_local_candidate(local), pair.try_remote_candidate(&[])), (local.get(pair.local_idx()), None));
     black_box((pair.prio(), pair.state(), pair.is_nominated(), pair.remote_binding_request_time(), pair.last_successful_rtt()));
     black_box((pair.responses_received(), pair.total_round_trip_time(), format!("{pair:?}")));
 }

@@ -20,15 +20,15 @@ const REFLEXIVE: &[u8] =
 const PRINTED: &[u8] =
     b"candidate:2 1 udp 1694498815 192.0.2.3 45664 typ srflx raddr 203.0.113.141 rport 8998 ufrag EsAw";
 
-const HOST: &[u8] = b"candidate:4234997325 1 udp 2043278322 192.0.2.172 44323 typ host";
+pub(super) const HOST: &[u8] = b"candidate:4234997325 1 udp 2043278322 192.0.2.172 44323 typ host";
 
 // A host candidate of draft-ietf-mmusic-mdns-ice-candidates, section 3.
-const HIDDEN: &[u8] =
+pub(super) const HIDDEN: &[u8] =
     b"candidate:1 1 udp 2122262783 1f4712db-ea17-4bcf-a596-105139dfd8bf.local 54596 typ host generation 0";
 
 const NAME: &[u8] = b"1f4712db-ea17-4bcf-a596-105139dfd8bf.local";
 
-fn no_fields() -> Fields {
+pub(super) fn no_fields() -> Fields {
     Fields {
         address: address(0, 0),
         local: address(0, 0),
@@ -43,7 +43,7 @@ fn no_fields() -> Fields {
     }
 }
 
-fn starts_with(address: &Address, octets: [u8; 4]) -> bool {
+pub(super) fn starts_with(address: &Address, octets: [u8; 4]) -> bool {
     address.bytes[..4] == octets[..]
 }
 
