@@ -89,14 +89,15 @@ enum {
     IS_ICE_OUT_OF_MEMORY = -7,         /* malloc or realloc failed */
     IS_ICE_BAD_CANDIDATE = -8,         /* an address that no candidate may have, or a text that is not a candidate */
     IS_ICE_PAIR_IDS_EXHAUSTED = -9,    /* the call may form more pairs than there are pair numbers left */
-    IS_ICE_MTU_TOO_SMALL = -10,        /* below 588 bytes, the length of the longest connectivity check */
+    IS_ICE_MTU_TOO_SMALL = -10,        /* below 588 bytes, the longest connectivity check without NOMINATION */
     IS_ICE_CREDENTIALS_TOO_LONG = -11, /* both username fragments and a colon are longer than 508 bytes */
     IS_ICE_PRIORITY_TOO_HIGH = -12,    /* a local candidate of priority 4294967295 */
     IS_ICE_BAD_LIMIT = -13,            /* a limit of 0 retransmits */
     IS_ICE_TOO_FEW_RANDOM_BYTES = -14, /* see the call */
     IS_ICE_BAD_MESSAGE = -15,          /* see is_ice_stun_write, for this and the next */
     IS_ICE_MESSAGE_TOO_LONG = -16,
-    IS_ICE_TOO_MANY_CANDIDATES = -17   /* as many candidates of the side are listed as is_ice_set_max_candidates allows */
+    IS_ICE_TOO_MANY_CANDIDATES = -17,  /* as many candidates of the side are listed as is_ice_set_max_candidates allows */
+    IS_ICE_LITE_STAYS_CONTROLLED = -18 /* a lite agent that keeps its role was to be controlling: see is_ice_set_rules */
 };
 
 /* is_ice_code_text - describes a code for a message: a zero-terminated text with static lifetime. */
@@ -124,6 +125,7 @@ static inline const char *is_ice_code_text(int32_t code)
     case IS_ICE_BAD_MESSAGE: return "STUN message that cannot be written";
     case IS_ICE_MESSAGE_TOO_LONG: return "STUN message or one of its texts too long";
     case IS_ICE_TOO_MANY_CANDIDATES: return "too many candidates";
+    case IS_ICE_LITE_STAYS_CONTROLLED: return "lite agent stays controlled";
     default: return "unknown code";
     }
 }
@@ -131,7 +133,7 @@ static inline const char *is_ice_code_text(int32_t code)
 /* is_ice_version - returns the version of the library's interface. It equals IS_ICE_VERSION if this header belongs to
  * the library. It increases when a name, an argument, a struct or a code changes or goes. A call that is added leaves it,
  * since programs that were built before still run. Does not allocate. */
-#define IS_ICE_VERSION 5
+#define IS_ICE_VERSION 6
 uint32_t is_ice_version(void);
 
 /* The version of the release that this header is of: 0.12 is that of the Rust crate `is` whose API it has. */
@@ -320,6 +322,8 @@ typedef struct is_ice_agent_rules {
     bool strict_consent;       /* the other agent's checks do not keep a pair */
     bool selected_first;       /* every second check goes to the selected pair if it is due */
     bool timeout_after_requests; /* is_ice_poll_timeout returns a time after an early request was served, too */
+    bool lite_keeps_role;      /* a lite agent never changes its role */
+    bool numbered_nominations; /* with renomination, nominations have numbers, and the greatest one counts */
 } is_ice_agent_rules;
 
 /* ---- creating */
@@ -369,9 +373,11 @@ IS_ICE_QUIET_CALL void is_ice_agent_free(is_ice_agent *agent);
  * allocate. */
 
 /* is_ice_set_controlling - makes the agent controlling or controlled. The agent of the side that made the offer is
- * controlling (RFC 8445, section 6.1.1). If both agents claim one role, they resolve the role conflict. IS_ICE_OK.
- * Value: false. */
-IS_ICE_QUIET_CALL int32_t is_ice_set_controlling(is_ice_agent *agent, bool controlling);
+ * controlling (RFC 8445, section 6.1.1). If both agents claim one role, they resolve the role conflict.
+ *
+ * IS_ICE_OK. IS_ICE_LITE_STAYS_CONTROLLED: the agent is lite, `controlling` is true, and is_ice_rules returns
+ * lite_keeps_role; the role is unchanged. Value: false. */
+IS_ICE_CALL int32_t is_ice_set_controlling(is_ice_agent *agent, bool controlling);
 
 /* is_ice_role - returns which role the agent has at first (RFC 8445, section 6.1.1): for is_ice_set_controlling. A full
  * agent is controlling if the other one is lite. Else the agent of the side that made the offer is.
@@ -380,8 +386,9 @@ IS_ICE_QUIET_CALL int32_t is_ice_set_controlling(is_ice_agent *agent, bool contr
 IS_ICE_CALL int32_t is_ice_role(bool made_offer, bool lite, bool other_is_lite);
 
 /* is_ice_set_lite - makes the agent a lite agent, or a full one. A lite agent has only host candidates. It responds to
- * checks and sends none. It has to be controlled, and the other agent a full one: a lite agent that stays controlling
- * never finds a path, and no call reports it. IS_ICE_OK. Value: false. */
+ * checks and sends none. It has to be controlled, and the other agent a full one: a lite agent that is controlling
+ * never finds a path, and no call reports it. So make it lite while it is controlled: by the rule lite_keeps_role it
+ * then stays controlled. IS_ICE_OK. Value: false. */
 IS_ICE_QUIET_CALL int32_t is_ice_set_lite(is_ice_agent *agent, bool lite);
 
 /* is_ice_set_renomination - lets each nomination replace the ones before, so that both agents select the same path
@@ -389,7 +396,8 @@ IS_ICE_QUIET_CALL int32_t is_ice_set_lite(is_ice_agent *agent, bool lite);
  * `a=ice-options:renomination`. A controlling agent then puts USE-CANDIDATE only on checks of the pair that it selected
  * last. A controlled one selects the pair on which it received the last request with USE-CANDIDATE, once a check of its
  * own was answered on it; until then it keeps its path. If only the controlled agent has it, its path may change at each
- * check of the other. IS_ICE_OK. Value: false. */
+ * check of the other. By the rule numbered_nominations nominations have numbers besides, as browsers send them, and the
+ * greatest one counts in place of the last one. IS_ICE_OK. Value: false. */
 IS_ICE_QUIET_CALL int32_t is_ice_set_renomination(is_ice_agent *agent, bool enabled);
 
 /* is_ice_set_lite_timeout - sets how long a lite agent keeps a pair after the last check of the other agent on it. A
@@ -513,11 +521,23 @@ IS_ICE_QUIET_CALL int32_t is_ice_original_rules(is_ice_agent_rules *rules);
  * renewed in time, however many pairs there are.
  *
  * timeout_after_requests: is_ice_poll_timeout returns a time after each is_ice_handle_timeout call that returned
- * IS_ICE_OK. Without this rule it returns IS_ICE_NOTHING until one of these has served no early request. */
+ * IS_ICE_OK. Without this rule it returns IS_ICE_NOTHING until one of these has served no early request.
+ *
+ * lite_keeps_role: a lite agent keeps its role, since only full agents repair roles (RFC 8445, sections 6.1.1 and
+ * 7.3.1.1). It sends a 487 to each sender that claims the same role, whatever the tie-breakers are, and a 487 that it
+ * receives has no effect. is_ice_set_controlling does not make it controlling.
+ *
+ * numbered_nominations: with is_ice_set_renomination, nominations have numbers by the attribute NOMINATION (0xC001) of
+ * draft-thatcher-ice-renomination, which browsers call `renomination`. A controlling agent numbers the paths that it
+ * selects, from 1, also over restarts, and sends the number on each check of its selected pair, next to USE-CANDIDATE. It
+ * nominates a path in the next is_ice_handle_timeout call after it selected it. A controlled or lite one selects the
+ * valid pair with the greatest number, so a late or repeated check does not turn it back. USE-CANDIDATE without a number
+ * counts as 1, once a number came since the last restart. */
 IS_ICE_QUIET_CALL int32_t is_ice_set_rules(is_ice_agent *agent, const is_ice_agent_rules *rules);
 
 /* is_ice_set_mtu - stores how long a packet may be, and the length to warn about; is_ice_status returns both.
- * IS_ICE_OK. IS_ICE_MTU_TOO_SMALL: `mtu` is below 588. Values: 1150 and 1280. */
+ * IS_ICE_OK. IS_ICE_MTU_TOO_SMALL: `mtu` is below 588. A check with NOMINATION has at most 596 bytes. Values: 1150 and
+ * 1280. */
 IS_ICE_CALL int32_t is_ice_set_mtu(is_ice_agent *agent, size_t mtu, size_t warn);
 
 /* is_ice_skip_pair_ids - gives no further pair a number below this one. For tests of IS_ICE_PAIR_IDS_EXHAUSTED.
@@ -813,8 +833,10 @@ IS_ICE_CALL int32_t is_ice_accepts_message(is_ice_agent *agent, const uint8_t *b
  *
  * Call it before packets are polled. While a packet or an early request is queued, the time is one Ta after the last
  * is_ice_handle_timeout call. At that call the state follows, and without the rule selects_at_once a controlled agent
- * selects its pair. After packets were polled, it is the time of the next check, or of the end of consent, if that is
- * sooner. A packet for which the buffer was too short does not count as queued here. Does not allocate.
+ * selects its pair. So it is, with numbered_nominations, while a selected path is still to be nominated, or its pair is
+ * gone and another one may be selected. After packets were polled, it is the time of the next check, or of the end of
+ * consent, if that is sooner. A packet for which the buffer was too short does not count as queued here. Does not
+ * allocate.
  *
  * IS_ICE_OK: *at is the time. IS_ICE_NOTHING: no is_ice_handle_timeout call has returned IS_ICE_OK yet (see also
  * timeout_after_requests of is_ice_set_rules); *at is unchanged. */
@@ -825,7 +847,7 @@ IS_ICE_CALL int32_t is_ice_poll_timeout(is_ice_agent *agent, uint64_t *at);
  *
  * IS_ICE_OK: a packet. IS_ICE_NOTHING: there is none; buffer and *packet are unchanged. IS_ICE_BUFFER_TOO_SHORT: the
  * packet stays the next one, the buffer is unchanged, and packet->length is the required length; is_ice_poll_timeout no
- * longer counts it as queued. No packet is longer than 588 bytes. */
+ * longer counts it as queued. No packet is longer than 588 bytes, or 596 with NOMINATION. */
 IS_ICE_CALL int32_t is_ice_poll_transmit(is_ice_agent *agent, uint8_t *buffer, size_t size, is_ice_packet *packet);
 
 /* is_ice_poll_event - returns the next event and removes it from the agent. Does not allocate.

@@ -242,7 +242,7 @@ inline bool role(bool made_offer, bool lite, bool other_is_lite)
 inline nanoseconds retransmit_timeout(nanoseconds initial_rto, nanoseconds max_rto, size_t max_retransmits)
 {
     uint64_t timeout = 0;
-    detail::checked(is_ice_retransmit_timeout(
+    checked(is_ice_retransmit_timeout(
         detail::count(initial_rto), detail::count(max_rto), max_retransmits, &timeout));
     return detail::duration(timeout);
 }

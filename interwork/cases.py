@@ -161,15 +161,12 @@ def over_hosts(name):
 def lite_with_server(name):
     """Lite sessions. A server that answers begins as controlled, also with a lite peer, so nobody controls until a 487 arrives.
 
-    A lite agent of ours that gets a check of a controlled peer of greater tie-breaker takes the controlling role, as a full one would. It
-    sends no checks, so it nominates nothing. It should keep its role (RFC 8445, section 6.1.1: the full agent controls).
+    A lite agent of ours keeps its role, whatever the tie-breakers are (RFC 8445, section 6.1.1: the full agent controls).
     """
     yield with_server(name, "ours is lite, theirs controls", (ED, ING), ours=("-L",), theirs=("-l",))
     for word, number in (("greatest", GREATEST), ("least", "0")):
-        none = word == "least"
         yield with_server(name, f"both begin controlled, ours lite, our tie-breaker {word}", (ED, ED), ours=("-L", "-t", number),
-                          theirs=("-l",), by="Connection", none=none, seconds=10 if none else 20,
-                          why="a fault of ours: a lite agent may become controlling" if none else "")
+                          theirs=("-l",), by="Connection")
     yield with_server(name, "theirs is lite, ours controls", (ING, ED), theirs=("-L",))
     yield with_server(name, "both begin controlled, theirs lite", (ED, ED), ours=("-l",), theirs=("-L",), by="Connection")
 

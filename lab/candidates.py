@@ -10,6 +10,7 @@ from is_ice import Candidate, CandidateKind, IceConnectionState, IceCreds, line_
 
 from .clock import MILLISECOND
 from .kinds import ORIGINAL, Rules, least_of_most
+from .numbers import first_numbered
 from .pairs import Pair, Path, Place, Timing, pair_priority
 from .requests import Request
 from .states import CHECKING, NEW
@@ -45,6 +46,9 @@ class Candidates:
     next_number: int = 0
     selected: int | None = None
     last_nominated: int | None = None  # by the peer
+    nominations: int = 0  # how many paths were selected, which numbers the nominations
+    nomination_due: bool = False  # a path was selected, and its pair was not checked since
+    numbers_seen: bool = False  # a nomination with a number was served since the last restart
     ahead_turn: bool = False  # the next check may go ahead of pairs that are due earlier
     next_kind: int = 0  # from which kind on kinds take turns
     state: IceConnectionState = NEW
@@ -79,15 +83,49 @@ class Candidates:
         return pair.is_nominated and (not self.renominates or pair.number == self.selected)
 
     @property
+    def numbers(self) -> bool:
+        """Whether nominations have numbers."""
+        return self.renominates and self.rules.numbered_nominations
+
+    @property
+    def keeps_role(self) -> bool:
+        """Whether it never changes its role."""
+        return self.lite and self.rules.lite_keeps_role
+
+    @property
+    def followed(self) -> int | None:
+        """The number of the pair that it follows: the one that its peer nominated last or, once a number came, by the greatest one."""
+        if not self.renominates or self.controlling:
+            return None
+        if not (self.numbers and self.numbers_seen):
+            return self.last_nominated
+        return first_numbered((p for p in self.pairs if self.is_eligible(p)), self.selected)
+
+    @property
     def follows(self) -> bool:
-        """Whether it selects the pair that its peer nominated last."""
-        return self.renominates and not self.controlling and self.last_nominated is not None
+        """Whether it selects a pair that its peer nominated, whatever the priorities."""
+        return self.followed is not None
+
+    @property
+    def has_selected(self) -> bool:
+        """Whether the pair that was selected last is still there."""
+        return any(p.number == self.selected for p in self.pairs)
+
+    @property
+    def nominates_at_once(self) -> bool:
+        """Whether the nomination of the selected path is still to be sent: its pair is checked first."""
+        return self.controlling and not self.lite and self.numbers and self.nomination_due and self.has_selected
+
+    @property
+    def is_pressing(self) -> bool:
+        """Whether that is so, or the selected pair is gone and another one may be selected."""
+        return self.nominates_at_once or (self.numbers and not self.has_selected and any(self.is_eligible(p) for p in self.pairs))
 
     def chosen(self) -> Pair | None:
-        """Returns the pair to be selected: of an agent that follows its peer the pair that the peer nominated last, or the one that was
-        selected last; else an eligible one with the greatest priority."""
+        """Returns the pair to be selected: of an agent that follows its peer the followed pair, or the one that was selected last; else an
+        eligible one with the greatest priority."""
         eligible = [p for p in self.pairs if self.is_eligible(p)]
-        favored = (self.last_nominated, self.selected) if self.follows else ()
+        favored = (self.followed, self.selected) if self.follows else ()
         best = max(eligible, key=lambda p: p.priority, default=None)
         return next((p for number in favored for p in eligible if p.number == number), best)
 
@@ -217,7 +255,8 @@ class Candidates:
 
     def restart(self, creds: IceCreds, keeps: bool) -> Self:
         """Makes an ICE restart."""
-        return replace(self, creds=creds, peer=None, local=self.local if keeps else (), remote=(), pairs=(), state=CHECKING)
+        local = self.local if keeps else ()
+        return replace(self, creds=creds, peer=None, local=local, remote=(), pairs=(), numbers_seen=False, state=CHECKING)
 
     def recreate(self) -> Self:
         """Forms the pairs again."""

@@ -33,7 +33,8 @@ def rules_by(s: AgentSettings) -> Rules:
     if s.consent_ms is not None:
         consent = Consent(nanoseconds(s.consent_ms), s.strict_consent)
         rules = replace(rules, consent=consent if s.consent_ms else None)
-    own = {name: getattr(s, name) for name in ("selects_at_once", "selected_first", "timeout_after_requests")}
+    names = ("selects_at_once", "selected_first", "timeout_after_requests", "lite_keeps_role", "numbered_nominations")
+    own = {name: getattr(s, name) for name in names}
     return replace(rules, **{name: value for name, value in own.items() if value is not None})
 
 

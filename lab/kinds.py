@@ -29,6 +29,8 @@ class Rules:
     consent: Consent | None = None
     selected_first: bool = False
     timeout_after_requests: bool = False
+    lite_keeps_role: bool = False
+    numbered_nominations: bool = False
 
     @property
     def goes_ahead(self) -> bool:
@@ -38,7 +40,7 @@ class Rules:
 
 ORIGINAL = Rules()
 # With these an agent that the library makes begins.
-MODERN = Rules(True, 4, EarlyRto(4, 100 * MILLISECOND), True, Consent(29600 * MILLISECOND), True, True)
+MODERN = Rules(True, 4, EarlyRto(4, 100 * MILLISECOND), True, Consent(29600 * MILLISECOND), True, True, True, True)
 
 
 def rules_of(given: Any) -> Rules:
@@ -48,7 +50,7 @@ def rules_of(given: Any) -> Rules:
     consent = given.consent
     kept = Consent(consent.timeout, consent.strict) if consent is not None and consent.timeout else None
     return Rules(given.kinds_in_turn, given.triggered_checks or None, own, given.selects_at_once, kept, given.selected_first,
-                 given.timeout_after_requests)
+                 given.timeout_after_requests, given.lite_keeps_role, given.numbered_nominations)
 
 
 def reaches_out(local: Sequence[Place], base: SocketAddress) -> bool:

@@ -13,6 +13,7 @@ from is_ice.stun import StunMessage
 from .candidates import Candidates, put
 from .clock import SECOND
 from .kinds import is_brought, kind_of, turn_of
+from .numbers import LAST_NUMBER, as_taken
 from .pairs import Pair, Path, Place
 from .requests import Request, request_of
 from .states import has_nominated, has_possible, next_state
@@ -47,7 +48,7 @@ class Agent(Candidates):
         top = self.chosen()
         if top is None or self.remains(top):
             return self, ()
-        new = replace(self, selected=top.number)
+        new = replace(self, selected=top.number, nominations=min(self.nominations + 1, LAST_NUMBER), nomination_due=True)
         if not top.is_nominated and (self.controlling or self.lite):
             new = new._changed(top.number, lambda p: replace(p, nomination="success" if self.lite else "nominated"))
         return new, (self.path(top),)
@@ -66,7 +67,7 @@ class Agent(Candidates):
         if self.peer is None or q.ufrag != self.peer.ufrag or at is None:
             return self, None, ()
         rival = q.controlling if self.controlling else q.controlled
-        if rival is not None and rival <= self.tie_breaker:
+        if rival is not None and (self.keeps_role or rival <= self.tie_breaker):
             return self, Issued("failure", (q.local, q.source), q.id), ()
         new = self if rival is None else self.switched()
         return (new, None, ()) if new.controlling and q.use_candidate else new._serve_at(q, at)
@@ -89,10 +90,10 @@ class Agent(Candidates):
                 return new, None, ()
             pair = Pair(new.next_number, local, remote, new.priority_between(local, remote))
             new = replace(new, pairs=(*new.pairs, pair), next_number=new.next_number + 1)
-        was_valid = pair.is_valid
-        if not new.controlling and q.use_candidate:
-            new = replace(new, last_nominated=pair.number)
-        new = new._changed(pair.number, lambda p: self._served(new, p, q))
+        was_valid, taken = pair.is_valid, as_taken(q, new.numbers)
+        if not new.controlling and taken.use_candidate:
+            new = replace(new, last_nominated=pair.number, numbers_seen=new.numbers_seen or bool(taken.nomination))
+        new = new._changed(pair.number, lambda p: self._served(new, p, taken))
         selects = new.controlling or new.rules.selects_at_once
         new, told = new._nominate() if selects and was_valid else (new, ())
         return new, Issued("success", (new.local[local].base, q.source), q.id), told
@@ -113,7 +114,8 @@ class Agent(Candidates):
         state = "succeeded" if agent.lite and not agent.controlling else pair.state
         asks = not agent.controlling and q.use_candidate and not pair.is_nominated
         nomination = ("success" if agent.lite else "nominated") if asks else pair.nomination
-        return replace(new, state=state, nomination=nomination)
+        greatest = pair.greatest if agent.controlling else max(pair.greatest, q.nomination or 0)
+        return replace(new, state=state, nomination=nomination, greatest=greatest)
 
     # ---- packets
 
@@ -130,7 +132,8 @@ class Agent(Candidates):
             return self, None, ()
         if message.kind == "failure":
             sent = next(c for c in pair.checks if c.id == message.transaction)
-            return (self.switched() if message.code == 487 and sent.controlling == self.controlling else self), None, ()
+            is_rejected = message.code == 487 and sent.controlling == self.controlling and not self.keeps_role
+            return (self.switched() if is_rejected else self), None, ()
         new = self._mapped(pair, contents)._changed(pair.number, lambda p: p.answered(now, message.transaction))
         chosen, told = new._nominate()
         return chosen._evaluated(now), None, told
@@ -167,15 +170,22 @@ class Agent(Candidates):
             return replace(self, pairs=tuple(p if p.last_request is not None else p.asked(now) for p in self.pairs)), None
         new = replace(self, pairs=tuple(p.fixed(now, self.timing) for p in self.pairs))
         is_ahead = new.is_ahead_turn(now)
-        order = {p.number: new._place_in_order(p, now, is_ahead) for p in new.pairs if p.due_at(now, self.timing) <= now}
-        if not order:
+        first = new._first_to_check(now, is_ahead)
+        if not first:
             return new, None
-        least = min(order.values())
-        first = [p for p in new.pairs if order.get(p.number) == least]
         pair = next((p for p in first if new.path(p) == seen), first[0])
-        checked = new._changed(pair.number, lambda p: p.checked(now, self.timing, self.controlling, id))
+        begun = new._changed(pair.number, Pair.renominated) if new.nominates_at_once else new
+        checked = begun._changed(pair.number, lambda p: p.checked(now, self.timing, self.controlling, id))
         following = kind_of(self.local, self.remote, pair) + 1 if is_ahead else self.next_kind
-        return replace(checked, ahead_turn=not is_ahead, next_kind=following), Issued("request", new.path(pair), id)
+        due = self.nomination_due and pair.number != self.selected
+        return replace(checked, ahead_turn=not is_ahead, next_kind=following, nomination_due=due), Issued("request", new.path(pair), id)
+
+    def _first_to_check(self, now: int, is_ahead: bool) -> list[Pair]:
+        """Returns the pairs of which one is checked: the selected one, if its nomination is to be sent, else those that come first."""
+        if self.nominates_at_once:
+            return [p for p in self.pairs if p.number == self.selected]
+        order = {p.number: self._place_in_order(p, now, is_ahead) for p in self.pairs if p.due_at(now, self.timing) <= now}
+        return [p for p in self.pairs if order.get(p.number) == min(order.values())] if order else []
 
     def _place_in_order(self, pair: Pair, now: int, is_ahead: bool) -> tuple[int, int, int]:
         """Returns what decides which of the due pairs is checked: if the check goes ahead its turn, then its due time and its priority."""
@@ -195,7 +205,7 @@ class Agent(Candidates):
         if self.last is None:
             return self, None
         soon = self.last + self.advance
-        if is_waiting or self.queue:
+        if is_waiting or self.queue or self.is_pressing:
             return self, soon
         if self.lite or not self.pairs:
             return self, self.last + 3 * SECOND

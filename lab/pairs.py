@@ -114,7 +114,8 @@ def unanswered(checks: tuple[Check, ...]) -> int:
 @dataclass(frozen=True)
 class Pair:
     """A pair. `nomination` is none, nominated, attempt or success; `state` is waiting, progress or succeeded. `sent`, `requests` and
-    `answers` count checks, checks of the peer, and responses. `consented` is when the last check that got a response was sent."""
+    `answers` count checks, checks of the peer, and responses. `consented` is when the last check that got a response was sent, and
+    `greatest` the greatest number by which the peer nominated it."""
 
     number: int
     local: int
@@ -129,6 +130,7 @@ class Pair:
     requests: int = 0
     answers: int = 0
     consented: int | None = None
+    greatest: int = 0
 
     @property
     def is_valid(self) -> bool:
@@ -234,6 +236,10 @@ class Pair:
 
     # ---- what happens to it
 
+    def renominated(self) -> Pair:
+        """Returns it with its nomination begun again, if it is nominated."""
+        return replace(self, nomination="nominated") if self.is_nominated else self
+
     def checked(self, now: int, timing: Timing, controlling: bool, id: bytes) -> Pair:
         """Returns it after a check: only the last ones are stored."""
         checks = (*self.checks, Check(id, now, self.is_nominated, controlling))[-timing.retransmits:]
@@ -262,7 +268,7 @@ class Pair:
         """Returns it with what it copies from the pair that it replaces."""
         nomination = {"none": self.nomination, "attempt": "nominated"}.get(other.nomination, other.nomination)
         state, consented = "succeeded" if other.is_valid else self.state, _later(other.consented, self.consented)
-        new = replace(self, nomination=nomination, state=state, consented=consented)
+        new = replace(self, nomination=nomination, state=state, consented=consented, greatest=max(other.greatest, self.greatest))
         return replace(new, requests=other.requests, last_request=other.last_request) if lite else new
 
 

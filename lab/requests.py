@@ -7,6 +7,8 @@ from dataclasses import dataclass
 from is_ice import SocketAddress
 from is_ice.stun import StunMessage
 
+from .stun import nomination_of
+
 
 @dataclass(frozen=True)
 class Request:
@@ -21,6 +23,7 @@ class Request:
     ufrag: str
     controlling: int | None
     controlled: int | None
+    nomination: int | None = None  # the number of its nomination (NOMINATION)
 
 
 def request_of(now: int, source: SocketAddress, local: SocketAddress, contents: bytes) -> Request:
@@ -28,4 +31,4 @@ def request_of(now: int, source: SocketAddress, local: SocketAddress, contents: 
     message = StunMessage(contents)
     ufrag = (message.username or ":").partition(":")[2]
     return Request(now, source, local, message.transaction, message.priority or 0, message.use_candidate, ufrag, message.ice_controlling,
-                   message.ice_controlled)
+                   message.ice_controlled, nomination_of(contents))

@@ -57,6 +57,8 @@ class AgentSettings:
     strict_consent: bool = False  # if `consent_ms` is set
     selected_first: bool | None = None
     timeout_after_requests: bool | None = None
+    lite_keeps_role: bool | None = None
+    numbered_nominations: bool | None = None
     shuffled: bool = False  # gathers from its interfaces in random order
     stun: bool = True  # gathers server-reflexive candidates
     relay: bool = False  # gathers relayed candidates

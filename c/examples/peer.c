@@ -26,7 +26,7 @@ enum { INPUT = 16384, BURST = 64, LONGEST = 86400 };
 struct options {
     const char *addresses[NET_SOCKETS], *server, *message, *capture;
     size_t address_count;
-    bool loopback, lite, controlling;
+    bool loopback, lite, renomination, controlling;
     uint64_t patience;
 };
 
@@ -354,13 +354,14 @@ static void begin_agent(struct session *s, const struct options *o)
     if (code == IS_ICE_OK) code = is_ice_set_controlling(&s->agent, o->controlling);
     if (code == IS_ICE_OK) code = is_ice_set_lite(&s->agent, o->lite);
     if (code == IS_ICE_OK) code = is_ice_set_lite_timeout(&s->agent, 30 * SECOND);
+    if (code == IS_ICE_OK) code = is_ice_set_renomination(&s->agent, o->renomination);
     if (code == IS_ICE_OK) code = signal_add_hosts(&s->agent, &s->net);
     if (code == IS_ICE_OK) code = signal_print(&s->agent);
     if (code < 0) stop("agent", is_ice_code_text(code));
 }
 
 static const char usage[] =
-    "peer [-h] [-l] [-a ADDRESS].. [-s SERVER[:PORT]] [-L] [-m TEXT] [-t SECONDS] [-w FILE] controlling|controlled";
+    "peer [-h] [-l] [-a ADDRESS].. [-s SERVER[:PORT]] [-L] [-r] [-m TEXT] [-t SECONDS] [-w FILE] controlling|controlled";
 
 static const char help[] =
     "Connects to another peer over UDP, and lets both users chat.\n"
@@ -374,6 +375,7 @@ static const char help[] =
     "  -l                  without -a: at loopback addresses too\n"
     "  -s SERVER[:PORT]    queries this STUN server for the sockets' public addresses; port 3478\n"
     "  -L                  runs as a lite agent, which has to be controlled\n"
+    "  -r                  lets each nomination replace the ones before, if the other peer has it too\n"
     "  -m TEXT             sends TEXT until chat was received, and ends a second later\n"
     "  -t SECONDS          ends with status 1 after this time, at most %d\n"
     "  -w FILE             writes what is sent and received as a capture for Wireshark (pcap)\n"
@@ -403,7 +405,7 @@ static void read_options(struct options *o, int count, char **words)
 {
     int option;
     o->patience = UINT64_MAX;
-    while ((option = getopt(count, words, "hla:s:Lm:t:w:")) != -1) {
+    while ((option = getopt(count, words, "hla:s:Lrm:t:w:")) != -1) {
         switch (option) {
         case 'h': printf(help, usage, (int)NET_SOCKETS, (int)LONGEST); exit(0);
         case 'l': o->loopback = true; break;
@@ -413,6 +415,7 @@ static void read_options(struct options *o, int count, char **words)
             break;
         case 's': o->server = optarg; break;
         case 'L': o->lite = true; break;
+        case 'r': o->renomination = true; break;
         case 'm': o->message = optarg; break;
         case 't': o->patience = seconds(optarg); break;
         case 'w': o->capture = optarg; break;

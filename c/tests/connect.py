@@ -167,8 +167,17 @@ def restart():
 
 
 def lite():
-    """A lite agent, which is controlled, with a full one."""
-    a, b = Peer("-t", "30", "-a", "127.0.0.1", "controlling"), Peer("-t", "30", "-a", "127.0.0.1", "-L", "controlled")
+    """A lite agent, which is controlled, with a full one in either role: if both are controlled, the full one switches."""
+    for role in ROLES:
+        a, b = Peer("-t", "30", "-a", "127.0.0.1", role), Peer("-t", "30", "-a", "127.0.0.1", "-L", "controlled")
+        introduce(a, b)
+        connected(a, b)
+        talk(a, b)
+
+
+def renomination():
+    """Both have the option."""
+    a, b = pair("-a", "127.0.0.1", "-r")
     introduce(a, b)
     connected(a, b)
     talk(a, b)
@@ -259,7 +268,7 @@ def replay():
     talk(a, b)
 
 
-HELP = ("-h", "-a ADDRESS", "-l", "-s SERVER[:PORT]", "-L", "-m TEXT", "-t SECONDS", "-w FILE", "controlling", "controlled")
+HELP = ("-h", "-a ADDRESS", "-l", "-s SERVER[:PORT]", "-L", "-r", "-m TEXT", "-t SECONDS", "-w FILE", "controlling", "controlled")
 BAD_OPTIONS = (
     ("nobody", "usage"), ("-a example controlled", "-a example: not an IP address"),
     ("-a localhost controlled", "-a localhost: not an IP address"), ("-a 0.0.0.0 controlled", "-a 0.0.0.0: the unspecified address"),
@@ -341,7 +350,8 @@ def late():
     a.ends(1)
 
 
-CASES = [roles, families, interfaces, trickle, restart, lite, reflexive, silent_server, mdns, replay, options, errors, long_candidate, late]
+CASES = [roles, families, interfaces, trickle, restart, lite, renomination, reflexive, silent_server, mdns, replay, options, errors,
+         long_candidate, late]
 
 
 def main():

@@ -49,12 +49,22 @@ static void destroy(void)
     CALL(0, is_ice_pair_count(agents[on], argument(sizeof(size_t))));
 }
 
+/* How the agent of the call may end one that gives it this role. */
+static unsigned role_codes(bool controlling)
+{
+    is_ice_agent_status status;
+    is_ice_agent_rules rules;
+    bool is_kept = controlling && is_ice_status(agents[on], &status) == IS_ICE_OK && status.lite
+        && is_ice_rules(agents[on], &rules) == IS_ICE_OK && rules.lite_keeps_role;
+    return is_kept ? LITE_STAYS : OK;
+}
+
 static void set_bool(void)
 {
     static int32_t (*const calls[])(is_ice_agent *, bool) = {is_ice_set_controlling, is_ice_set_lite, is_ice_set_renomination};
     uint8_t kind = take();
     which = kind / 2 % COUNT(calls);
-    CALL(OK | QUIET, calls[which](agents[on], kind & 1));
+    CALL((which == 0 ? role_codes(kind & 1) : OK) | QUIET, calls[which](agents[on], kind & 1));
 }
 
 static void set_number(void)
@@ -78,7 +88,7 @@ static void set_limit(void)
 static void set_mtu(void)
 {
     size_t mtu = (size_t)number(), warn = (size_t)number();
-    CALL((mtu < LONGEST ? MTU_TOO_SMALL : OK) | QUIET, is_ice_set_mtu(agents[on], mtu, warn));
+    CALL((mtu < MTU_FLOOR ? MTU_TOO_SMALL : OK) | QUIET, is_ice_set_mtu(agents[on], mtu, warn));
 }
 
 static void set_preference(void)
@@ -102,7 +112,8 @@ static bool is_read(const is_ice_agent_rules *given, const is_ice_agent_rules *t
     return told->kinds_in_turn == given->kinds_in_turn && told->selects_at_once == given->selects_at_once
         && told->triggered_checks == given->triggered_checks && told->early_retransmits == given->early_retransmits
         && told->early_interval == interval && told->consent_timeout == given->consent_timeout && told->strict_consent == strict
-        && told->selected_first == given->selected_first && told->timeout_after_requests == given->timeout_after_requests;
+        && told->selected_first == given->selected_first && told->timeout_after_requests == given->timeout_after_requests
+        && told->lite_keeps_role == given->lite_keeps_role && told->numbered_nominations == given->numbered_nominations;
 }
 
 /* Sets the rules of the original, those of a new agent, or each rule to a value of its own, and reads them. */
@@ -118,6 +129,7 @@ static void set_rules(void)
         given->triggered_checks = number(), given->early_retransmits = (size_t)number(), given->early_interval = number();
         given->consent_timeout = number(), given->kinds_in_turn = one_in(2), given->selects_at_once = one_in(2);
         given->strict_consent = one_in(2), given->selected_first = one_in(2), given->timeout_after_requests = one_in(2);
+        given->lite_keeps_role = one_in(2), given->numbered_nominations = one_in(2);
     }
     on = agent;
     if (CALL(OK | QUIET, is_ice_set_rules(agents[on], given)) != IS_ICE_OK) return;
@@ -488,7 +500,7 @@ static bool transmit(void)
     is_ice_packet *packet = argument(sizeof *packet);
     int32_t code = CALL(OK | NOTHING | TOO_SHORT | QUIET | MOVES, is_ice_poll_transmit(agents[on], o.bytes, o.size, packet));
     size_t length = packet->length;
-    if (code == IS_ICE_OK && length > LONGEST) stop("a packet has more than 588 bytes");
+    if (code == IS_ICE_OK && length > LONGEST) stop("a packet has more than 596 bytes");
     if (code == IS_ICE_BUFFER_TOO_SHORT && length <= o.size) stop("the buffer is long enough");
     if (code == IS_ICE_NOTHING || code == IS_ICE_NO_AGENT) filled(code, packet, sizeof *packet);
     size_t kept = code == IS_ICE_OK ? length : 0;

@@ -10,7 +10,7 @@
 #define SECOND (1000 * MS)
 #define COUNT(array) (sizeof(array) / sizeof *(array))
 
-enum { AGENTS = 3, WIRE = 16, LONGEST = 588, TEXT_SIZE = 2048, SUBJECTS = 512 };
+enum { AGENTS = 3, WIRE = 16, MTU_FLOOR = 588, LONGEST = 596, TEXT_SIZE = 2048, SUBJECTS = 512 };
 
 /* ---- coverage: what a run saw */
 
@@ -84,14 +84,14 @@ static const char *const passwords[AGENTS] = {"password of the left one", "passw
 
 /* What queries say of an agent. */
 struct view {
-    uint64_t values[30];
+    uint64_t values[31];
 };
 
 /* A code as the number of a bit. */
 static unsigned bit_of(int32_t code)
 {
-    if (code > IS_ICE_OTHER_UFRAG || code < IS_ICE_TOO_MANY_CANDIDATES) stop("there is no such code");
-    return code > IS_ICE_OK ? 17 + (unsigned)code : (unsigned)-code;
+    if (code > IS_ICE_OTHER_UFRAG || code < IS_ICE_LITE_STAYS_CONTROLLED) stop("there is no such code");
+    return code > IS_ICE_OK ? 18 + (unsigned)code : (unsigned)-code;
 }
 
 static void view(is_ice_agent *agent, struct view *v)
@@ -111,6 +111,7 @@ static void view(is_ice_agent *agent, struct view *v)
         *to++ = rules.triggered_checks, *to++ = rules.early_retransmits, *to++ = rules.early_interval;
         *to++ = (uint64_t)rules.kinds_in_turn * 2 + rules.selects_at_once, *to++ = rules.consent_timeout;
         *to++ = (uint64_t)rules.strict_consent * 4 + (uint64_t)rules.selected_first * 2 + rules.timeout_after_requests;
+        *to++ = (uint64_t)rules.lite_keeps_role * 2 + rules.numbered_nominations;
     }
     if (is_ice_stats(agent, &stats) == IS_ICE_OK) {
         *to++ = stats.bind_request_sent, *to++ = stats.bind_success_recv, *to++ = stats.bind_request_recv;
@@ -141,8 +142,8 @@ static bool is_utf8(const uint8_t *text, size_t length)
 
 enum {
     OK = 1u << 0,
-    NOTHING = 1u << 18,
-    OTHER = 1u << 19 | 1u << 20, /* of another component, or of another username fragment */
+    NOTHING = 1u << 19,
+    OTHER = 1u << 20 | 1u << 21, /* of another component, or of another username fragment */
     HAS_AGENT = 1u << 2,
     NOT_UTF8 = 1u << 3,
     BAD_ADDRESS = 1u << 4,
@@ -158,9 +159,10 @@ enum {
     BAD_MESSAGE = 1u << 15,
     TOO_LONG = 1u << 16,
     TOO_MANY = 1u << 17,
-    QUIET = 1u << 21, /* the call does not allocate */
-    QUERY = 1u << 22, /* nor change the agent */
-    MOVES = 1u << 23  /* IS_ICE_BUFFER_TOO_SHORT takes the packet out of those for which is_ice_poll_timeout returns an early time */
+    LITE_STAYS = 1u << 18,
+    QUIET = 1u << 22, /* the call does not allocate */
+    QUERY = 1u << 23, /* nor change the agent */
+    MOVES = 1u << 24  /* IS_ICE_BUFFER_TOO_SHORT takes the packet out of those for which is_ice_poll_timeout returns an early time */
 };
 
 static struct view before;

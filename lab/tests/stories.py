@@ -14,6 +14,7 @@ from lab.log import Beginning, Entry, Log
 from lab.model import Agent, Issued
 from lab.pairs import Path
 from lab.replay import Replay, after_setting, other, replay
+from lab.stun import NOMINATION
 
 A, B = SocketAddress("10.0.0.1", 1000), SocketAddress("10.0.0.2", 2000)
 COOKIE = bytes.fromhex("2112a442")
@@ -177,7 +178,10 @@ class Story:
         found = {USERNAME: f"{old.peer.ufrag}:{old.creds.ufrag}".encode(),
                  PRIORITY: new.local[pair.local].check_priority.to_bytes(4, "big"),
                  ICE_CONTROLLING if old.controlling else ICE_CONTROLLED: old.tie_breaker.to_bytes(8, "big")}
-        return {**found, USE_CANDIDATE: b""} if old.controlling and pair.is_nominated else found
+        if not (old.controlling and new.stays_nominated(pair)):
+            return found
+        number = {NOMINATION: new.nominations.to_bytes(4, "big")} if new.numbers else {}
+        return {**found, USE_CANDIDATE: b"", **number}
 
     # ---- several at once
 

@@ -7,7 +7,7 @@ import os
 from ctypes import POINTER, c_bool, c_char_p, c_int32, c_size_t, c_uint8, c_uint16, c_uint32, c_uint64, c_void_p
 from pathlib import Path
 
-VERSION = 5
+VERSION = 6
 NAME = "libis_ice.so"
 CREDENTIALS_RANDOM = 38
 TIMEOUT_RANDOM = 12
@@ -159,6 +159,8 @@ class AgentRules(ctypes.Structure):
         ("strict_consent", c_bool),
         ("selected_first", c_bool),
         ("timeout_after_requests", c_bool),
+        ("lite_keeps_role", c_bool),
+        ("numbered_nominations", c_bool),
     ]
 
 

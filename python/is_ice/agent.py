@@ -99,14 +99,17 @@ class IceAgent(Unique):
     # ---- settings: at any time
 
     def set_controlling(self, controlling: bool) -> None:
-        """Makes the agent controlling or controlled: controlling on the side that made the offer."""
+        """Makes the agent controlling or controlled: controlling on the side that made the offer.
+
+        LiteStaysControlled if a lite agent is to be controlling, and its rules have `lite_keeps_role`.
+        """
         done(self._c.is_ice_set_controlling(self._at, controlling))
 
     def set_ice_lite(self, enabled: bool) -> None:
         """Makes the agent a lite agent, which has only host candidates and sends no checks, or a full one (RFC 8445, section 2.5).
 
-        A lite agent has to be controlled, and its peer a full agent. One that stays controlling never finds a path, and no call
-        reports it.
+        A lite agent has to be controlled, and its peer a full agent. One that is controlling never finds a path, and no call reports
+        it. So make it lite while it is controlled: by `Rules.lite_keeps_role` it then stays controlled.
         """
         done(self._c.is_ice_set_lite(self._at, enabled))
 
@@ -116,7 +119,8 @@ class IceAgent(Unique):
         Set it at both agents or at none, and before the first packet: agree on it in signaling, by `a=ice-options:renomination`. A
         controlling agent then puts USE-CANDIDATE only on checks of the pair that it selected last. A controlled agent selects the
         pair on which it received the last request with USE-CANDIDATE, once a check of its own was answered on it; until then it
-        keeps its path. If only the controlled agent has it, its path may change at each check of the peer.
+        keeps its path. If only the controlled agent has it, its path may change at each check of the peer. By
+        `Rules.numbered_nominations` nominations have numbers besides, as browsers send them, and the greatest one counts.
         """
         done(self._c.is_ice_set_renomination(self._at, enabled))
 
@@ -185,7 +189,10 @@ class IceAgent(Unique):
         done(self._c.is_ice_set_max_retransmits(self._at, in_range(limit, 64, "a limit")))
 
     def set_mtu(self, mtu: int, warn: int) -> None:
-        """Stores how long a packet may be, and the length to warn about. MtuTooSmall below 588 bytes. Default: 1150 and 1280."""
+        """Stores how long a packet may be, and the length to warn about. MtuTooSmall below 588 bytes. Default: 1150 and 1280.
+
+        Checks have at most 588 bytes, or 596 with NOMINATION (`Rules.numbered_nominations`).
+        """
         done(self._c.is_ice_set_mtu(self._at, in_range(mtu, 64, "an MTU"), in_range(warn, 64, "an MTU")))
 
     def set_local_preference(self, preference: int | None) -> None:

@@ -73,7 +73,7 @@ class PairIdsExhausted(IceError):
 
 
 class MtuTooSmall(IceError):
-    """An MTU below 588 bytes, the length of the longest connectivity check."""
+    """An MTU below 588 bytes, the length of the longest connectivity check without NOMINATION."""
 
     code, text = -10, "MTU target too small"
 
@@ -118,6 +118,12 @@ class TooManyCandidates(IceError):
     """There are as many candidates of the side as `IceAgent.set_max_candidates` allows."""
 
     code, text = -17, "too many candidates"
+
+
+class LiteStaysControlled(IceError):
+    """A lite agent that keeps its role (`Rules.lite_keeps_role`) was to be controlling."""
+
+    code, text = -18, "lite agent stays controlled"
 
 
 _BY_CODE: dict[int, type[IceError]] = {kind.code: kind for kind in IceError.__subclasses__()}

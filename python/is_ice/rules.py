@@ -67,6 +67,16 @@ class Rules:
     time, however many pairs there are.
 
     `timeout_after_requests`: `poll_timeout` returns a time after each `handle_timeout` call, also after one that serves an early request.
+
+    `lite_keeps_role`: a lite agent keeps its role, since only full agents repair roles (RFC 8445, sections 6.1.1 and 7.3.1.1). It sends
+    a 487 to each sender that claims the same role, whatever the tie-breakers are, and a 487 that it receives has no effect.
+    `set_controlling(True)` raises LiteStaysControlled.
+
+    `numbered_nominations`: with `set_renomination`, nominations have numbers by the attribute NOMINATION (0xC001) of
+    draft-thatcher-ice-renomination, which browsers call `renomination`. A controlling agent numbers the paths that it selects, from 1,
+    also over restarts, and sends the number on each check of its selected pair, next to USE-CANDIDATE. It nominates a path in the next
+    `handle_timeout` call after it selected it. A controlled or lite agent selects the valid pair with the greatest number, so a late or
+    repeated check does not turn it back. USE-CANDIDATE without a number counts as 1, once a number came since the last restart.
     """
 
     kinds_in_turn: bool
@@ -76,6 +86,8 @@ class Rules:
     consent: Consent | None
     selected_first: bool
     timeout_after_requests: bool
+    lite_keeps_role: bool
+    numbered_nominations: bool
 
     @staticmethod
     def original() -> Rules:
@@ -96,7 +108,7 @@ def rules_from(call: Callable[..., int], *arguments: Any) -> Rules:
     consent = Consent(rules.consent_timeout, rules.strict_consent) if rules.consent_timeout else None
     return Rules(
         rules.kinds_in_turn, rules.triggered_checks or None, early, rules.selects_at_once, consent, rules.selected_first,
-        rules.timeout_after_requests,
+        rules.timeout_after_requests, rules.lite_keeps_role, rules.numbered_nominations,
     )
 
 
@@ -113,4 +125,6 @@ def struct_of_rules(rules: Rules) -> _abi.AgentRules:
         strict_consent=consent.strict,
         selected_first=rules.selected_first,
         timeout_after_requests=rules.timeout_after_requests,
+        lite_keeps_role=rules.lite_keeps_role,
+        numbered_nominations=rules.numbered_nominations,
     )

@@ -6,6 +6,7 @@ import dataclasses
 import inspect
 import os
 import pickle
+import re
 import tempfile
 import threading
 import unittest
@@ -37,6 +38,7 @@ from is_ice import (
     IceCreds,
     IceRestart,
     KindPreferences,
+    LiteStaysControlled,
     MediaPath,
     MtuTooSmall,
     NoAgent,
@@ -57,6 +59,7 @@ THERE = SocketAddress("10.0.0.2", 2000)
 SECOND = 1_000_000_000
 BEGINNING = 60 * SECOND
 LINE_OF_THERE = "candidate:1 1 udp 2130706175 10.0.0.2 2000 typ host"
+NOMINATION = re.compile(rb"\xc0\x01\x00\x04(.{4})", re.DOTALL)
 
 
 def two_agents() -> tuple[IceAgent, IceAgent]:
@@ -97,16 +100,19 @@ def play(agents: tuple[IceAgent, IceAgent], rounds: int = 10) -> tuple[list[obje
     return events
 
 
-def last_paths(renomination: bool) -> tuple[SocketAddress | None, SocketAddress | None]:
+def last_paths(
+    renomination: bool, numbered: bool = True, sent: list[bytes] | None = None,
+) -> tuple[SocketAddress | None, SocketAddress | None]:
     """Plays two agents that rank two paths differently. Returns the address of the first one on the path that each selected last.
 
-    The path that the first agent prefers begins to work after half a second.
+    The path that the first agent prefers begins to work after half a second. Packets of the first agent are put into `sent`.
     """
     other_here = SocketAddress("10.0.0.3", 1000)
     a, b = IceAgent(IceCreds("AAAA", "P" * 22), tie_breaker=10), IceAgent(IceCreds("BBBB", "Q" * 22), tie_breaker=5)
     a.set_controlling(True)
     for agent, other, addresses in ((a, b, (HERE, other_here)), (b, a, (THERE,))):
         agent.set_renomination(renomination)
+        agent.set_rules(dataclasses.replace(agent.rules, numbered_nominations=numbered))
         agent.set_remote_credentials(other.local_credentials)
         for preference, address in zip((2000, 1000), addresses, strict=False):
             agent.set_local_preference(preference)
@@ -122,6 +128,8 @@ def last_paths(renomination: bool) -> tuple[SocketAddress | None, SocketAddress 
         for _ in range(4):
             for agent, other in ((a, b), (b, a)):
                 while packet := agent.poll_transmit():
+                    if sent is not None and agent is a:
+                        sent.append(packet.contents)
                     if ms >= 500 or HERE not in (packet.source, packet.destination):
                         other.handle_packet(now, packet.source, packet.destination, packet.contents)
                 while event := agent.poll_event():
@@ -471,10 +479,15 @@ class Errors(unittest.TestCase):
         self.assertEqual((rules.triggered_checks, rules.early_rto), (4, EarlyRto(4, 100_000_000)))
         self.assertEqual(rules.consent, Consent(29_600_000_000, strict=False))
         self.assertTrue(rules.kinds_in_turn and rules.selects_at_once and rules.selected_first and rules.timeout_after_requests)
+        self.assertTrue(rules.lite_keeps_role and rules.numbered_nominations)
 
     def test_settings(self) -> None:
         self.assertRaises(MtuTooSmall, self.agent.set_mtu, 587, 1280)
         self.assertRaises(BadLimit, self.agent.set_max_stun_retransmits, 0)
+        lite = IceAgent()
+        lite.set_ice_lite(True)
+        self.assertRaises(LiteStaysControlled, lite.set_controlling, True)
+        self.assertFalse(lite.controlling)
         self.assertRaises(CredentialsTooLong, self.agent.set_remote_credentials, IceCreds("x" * 600, "p"))
         self.assertRaises(TooFewRandomBytes, self.agent.handle_timeout, BEGINNING, b"short")
         self.assertRaises(ValueError, self.agent.set_initial_stun_rto, -1)
@@ -483,21 +496,30 @@ class Errors(unittest.TestCase):
     def test_renomination(self) -> None:
         self.assertEqual(last_paths(False), (HERE, SocketAddress("10.0.0.3", 1000)))
         self.assertEqual(last_paths(True), (HERE, HERE))
+        self.assertEqual(last_paths(True, numbered=False), (HERE, HERE))
+
+    def test_nominations_have_numbers(self) -> None:
+        """NOMINATION of draft-thatcher-ice-renomination: type 0xC001, four bytes. The agent selects two paths."""
+        for renomination, numbered, expected in ((True, True, {1, 2}), (True, False, set()), (False, True, set())):
+            sent: list[bytes] = []
+            last_paths(renomination, numbered, sent)
+            self.assertEqual({int.from_bytes(number) for packet in sent for number in NOMINATION.findall(packet)}, expected)
 
     def test_rules(self) -> None:
         early = EarlyRto(retransmits=4, interval=SECOND // 10)
         self.assertEqual(self.agent.rules, Rules.modern())
         self.assertEqual(Rules.modern(), Rules(
             kinds_in_turn=True, triggered_checks=4, early_rto=early, selects_at_once=True, consent=Consent(29_600_000_000, strict=False),
-            selected_first=True, timeout_after_requests=True))
+            selected_first=True, timeout_after_requests=True, lite_keeps_role=True, numbered_nominations=True))
         self.assertEqual(Rules.original(), Rules(
             kinds_in_turn=False, triggered_checks=None, early_rto=None, selects_at_once=False, consent=None, selected_first=False,
-            timeout_after_requests=False))
+            timeout_after_requests=False, lite_keeps_role=False, numbered_nominations=False))
         most = (1 << 64) - 1
         changes: tuple[dict[str, Any], ...] = (
             {"kinds_in_turn": False}, {"triggered_checks": None}, {"triggered_checks": most}, {"early_rto": None},
             {"early_rto": EarlyRto(most, most)}, {"early_rto": EarlyRto(1, 0)}, {"selects_at_once": False}, {"consent": None},
             {"consent": Consent(most, strict=True)}, {"consent": Consent(1)}, {"selected_first": False}, {"timeout_after_requests": False},
+            {"lite_keeps_role": False}, {"numbered_nominations": False},
         )
         for change in changes:
             for rules in (Rules.modern(), Rules.original()):

@@ -56,18 +56,20 @@ pub enum CallError {
     /// The candidate is one that an agent lists as a local one, and its text cannot be read, since the username fragment of the agent is
     /// no word: it is empty, for example.
     BadCandidate,
-    /// An MTU below 588 bytes, the length of the longest connectivity check.
+    /// An MTU below 588 bytes, the length of the longest connectivity check without NOMINATION.
     MtuTooSmall,
     /// A limit of 0 retransmits.
     BadLimit,
     /// There are as many candidates of the side as [`IceAgent::set_max_candidates`](crate::IceAgent::set_max_candidates) allows.
     TooManyCandidates,
+    /// A lite agent that keeps its role ([`Rules::lite_keeps_role`](crate::Rules::lite_keeps_role)) was to be controlling.
+    LiteStaysControlled,
     /// Another code of `c/is_ice.h`, which no call of this crate returns.
     Other(i32),
 }
 
 impl CallError {
-    const CODES: [(i32, CallError); 8] = [
+    const CODES: [(i32, CallError); 9] = [
         (ffi::CREDENTIALS_TOO_LONG, CallError::CredentialsTooLong),
         (ffi::OUT_OF_MEMORY, CallError::OutOfMemory),
         (ffi::PAIR_IDS_EXHAUSTED, CallError::PairIdsExhausted),
@@ -76,6 +78,7 @@ impl CallError {
         (ffi::MTU_TOO_SMALL, CallError::MtuTooSmall),
         (ffi::BAD_LIMIT, CallError::BadLimit),
         (ffi::TOO_MANY_CANDIDATES, CallError::TooManyCandidates),
+        (ffi::LITE_STAYS_CONTROLLED, CallError::LiteStaysControlled),
     ];
 
     pub(crate) fn of(code: i32) -> CallError {
@@ -157,7 +160,7 @@ mod tests {
 
     #[test]
     fn each_code_keeps_its_text() {
-        for code in -17..0 {
+        for code in -18..0 {
             assert_eq!((CallError::of(code).to_string().as_str(), found(code)), (ffi::text_of(code), Err(CallError::of(code))));
         }
         assert_eq!((found(ffi::OK), found(ffi::NOTHING), found(3)), (Ok(true), Ok(false), Ok(false)));

@@ -25,6 +25,7 @@ pub(crate) const CREDENTIALS_TOO_LONG: i32 = -11;
 pub(crate) const PRIORITY_TOO_HIGH: i32 = -12;
 pub(crate) const BAD_LIMIT: i32 = -13;
 pub(crate) const TOO_MANY_CANDIDATES: i32 = -17;
+pub(crate) const LITE_STAYS_CONTROLLED: i32 = -18;
 
 /// The kinds of texts that `check_text` knows.
 pub(crate) const TEXT_UFRAG: u8 = 0;
@@ -51,6 +52,7 @@ pub(crate) fn text_of(code: i32) -> &'static str {
         -15 => "STUN message that cannot be written",
         -16 => "STUN message or one of its texts too long",
         -17 => "too many candidates",
+        -18 => "lite agent stays controlled",
         _ => "unknown code",
     }
 }
@@ -215,6 +217,8 @@ pub(crate) struct AgentRules {
     pub(crate) strict_consent: bool,
     pub(crate) selected_first: bool,
     pub(crate) timeout_after_requests: bool,
+    pub(crate) lite_keeps_role: bool,
+    pub(crate) numbered_nominations: bool,
 }
 
 #[repr(C)]
@@ -485,7 +489,7 @@ unsafe extern "C" {
 impl Agent {
     /// Creates an agent with these credentials.
     pub(crate) fn new(ufrag: &str, pass: &str, tie_breaker: u64) -> Result<Box<Agent>, i32> {
-        assert_eq!(is_ice_version(), 5, "is_ice.h belongs to another library");
+        assert_eq!(is_ice_version(), 6, "is_ice.h belongs to another library");
         let mut agent = Box::new(Agent { is_held: false, at: ptr::null_mut() });
         #[allow(unsafe_code)]
         // SAFETY: both texts are slices that are read. The agent is zeroed, and stays in its box.

@@ -50,6 +50,18 @@ pub struct Rules {
     /// [`IceAgent::poll_timeout`] returns a time after each [`IceAgent::handle_timeout`] call, also after one that serves an early
     /// request.
     pub timeout_after_requests: bool,
+    /// A lite agent keeps its role, since only full agents repair roles (RFC 8445, sections 6.1.1 and 7.3.1.1). It sends a 487 to each
+    /// sender that claims the same role, whatever the tie-breakers are, and a 487 that it receives has no effect.
+    /// [`IceAgent::set_controlling`] does not make it controlling.
+    pub lite_keeps_role: bool,
+    /// With [`IceAgent::set_renomination`], nominations have numbers by the attribute NOMINATION (0xC001) of
+    /// draft-thatcher-ice-renomination, which browsers call `renomination`.
+    ///
+    /// A controlling agent numbers the paths that it selects, from 1, also over restarts, and sends the number on each check of its
+    /// selected pair, next to USE-CANDIDATE. It nominates a path in the next [`IceAgent::handle_timeout`] call after it selected it. A
+    /// controlled or lite agent selects the valid pair with the greatest number, so a late or repeated check does not turn it back.
+    /// USE-CANDIDATE without a number counts as 1, once a number came since the last restart.
+    pub numbered_nominations: bool,
 }
 
 /// How long the response to a check keeps a pair: see [`Rules::consent`].
@@ -96,6 +108,8 @@ impl Rules {
             consent: (rules.consent_timeout > 0).then_some(Consent { timeout, strict }),
             selected_first: rules.selected_first,
             timeout_after_requests: rules.timeout_after_requests,
+            lite_keeps_role: rules.lite_keeps_role,
+            numbered_nominations: rules.numbered_nominations,
         }
     }
 
@@ -110,6 +124,8 @@ impl Rules {
             strict_consent: self.consent.is_some_and(|consent| consent.strict),
             selected_first: self.selected_first,
             timeout_after_requests: self.timeout_after_requests,
+            lite_keeps_role: self.lite_keeps_role,
+            numbered_nominations: self.numbered_nominations,
         }
     }
 }

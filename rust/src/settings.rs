@@ -14,7 +14,8 @@ impl IceAgent {
     ///
     /// # Panics
     ///
-    /// If the first is below 588 bytes, the length of the longest connectivity check. `try_set_mtu` returns an error then.
+    /// If the first is below 588 bytes, the length of the longest connectivity check without NOMINATION. `try_set_mtu` returns an error
+    /// then.
     #[track_caller]
     pub fn set_mtu(&mut self, mtu: RangeInclusive<usize>) {
         or_panic(self.try_set_mtu(mtu));
@@ -81,8 +82,8 @@ impl IceAgent {
 
     /// Makes the agent a lite agent, which has only host candidates and sends no checks, or a full one.
     ///
-    /// A lite agent has to be controlled, and its peer a full agent. One that stays controlling never finds a path, and no call
-    /// reports it.
+    /// A lite agent has to be controlled, and its peer a full agent. One that is controlling never finds a path, and no call reports it.
+    /// So make it lite while it is controlled: by [`Rules::lite_keeps_role`](crate::Rules::lite_keeps_role) it then stays controlled.
     pub fn set_ice_lite(&mut self, enabled: bool) {
         self.set(|agent| ffi::is_ice_set_lite(agent, enabled));
     }
@@ -94,6 +95,9 @@ impl IceAgent {
     /// A controlling agent then puts USE-CANDIDATE only on checks of the pair that it selected last. A controlled agent selects the
     /// pair on which it received the last request with USE-CANDIDATE, once a check of its own was answered on it; until then it
     /// keeps its path. If only the controlled agent has it, its path may change at each check of the peer.
+    ///
+    /// By [`Rules::numbered_nominations`](crate::Rules::numbered_nominations) nominations have numbers besides, as browsers send them, and
+    /// the greatest one counts.
     pub fn set_renomination(&mut self, enabled: bool) {
         self.set(|agent| ffi::is_ice_set_renomination(agent, enabled));
     }
@@ -174,8 +178,23 @@ impl IceAgent {
     }
 
     /// Makes the agent controlling or controlled: controlling on the side that made the offer.
+    ///
+    /// # Panics
+    ///
+    /// If a lite agent is to be controlling, and its rules have [`Rules::lite_keeps_role`](crate::Rules::lite_keeps_role).
+    /// `try_set_controlling` returns an error then.
+    #[track_caller]
     pub fn set_controlling(&mut self, controlling: bool) {
-        self.set(|agent| ffi::is_ice_set_controlling(agent, controlling));
+        or_panic(self.try_set_controlling(controlling));
+    }
+
+    /// As `set_controlling`.
+    ///
+    /// # Errors
+    ///
+    /// [`CallError::LiteStaysControlled`].
+    pub fn try_set_controlling(&mut self, controlling: bool) -> Result<(), CallError> {
+        self.tell(|agent| ffi::is_ice_set_controlling(agent, controlling)).map(drop)
     }
 
     /// The local credentials.

@@ -215,6 +215,8 @@ impl Session {
         rules.selects_at_once = self.random.once_in(2);
         rules.selected_first = self.random.once_in(2);
         rules.timeout_after_requests = self.random.once_in(2);
+        rules.lite_keeps_role = self.random.once_in(2);
+        rules.numbered_nominations = self.random.once_in(2);
         rules.triggered_checks = self.random.once_in(2).then_some(count as u64);
         rules.early_rto = self.random.once_in(2).then_some(EarlyRto { retransmits, interval });
         let (timeout, strict) = (self.random.duration(), self.random.once_in(2));
@@ -245,6 +247,7 @@ impl Session {
             13 if flag => agent.set_preference_table(table),
             13 if number > 99 => agent.set_local_preference(move |_: &Candidate, _: usize| u32::from(number as u16)),
             13 => agent.reset_local_preference(),
+            14 if agent.ice_lite() => _ = black_box(agent.try_set_controlling(flag)),
             14 => agent.set_controlling(flag),
             15 => _ = black_box(agent.try_set_local_credentials(creds)),
             16 => _ = black_box(agent.try_set_remote_credentials(creds)),
@@ -329,7 +332,7 @@ impl Session {
         let agent = &mut self.agents[side];
         black_box(agent.poll_timeout());
         while let Some(sent) = agent.poll_transmit() {
-            assert!(sent.contents.len() <= 588 && StunMessage::parse_any(&sent.contents).is_ok());
+            assert!(sent.contents.len() <= 596 && StunMessage::parse_any(&sent.contents).is_ok());
             self.wire.push((1 - side, sent.proto, sent.source, sent.destination, sent.contents));
         }
         while let Some(event) = agent.poll_event() {

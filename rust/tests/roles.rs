@@ -2,7 +2,7 @@
 
 mod world;
 
-use is::IceConnectionState;
+use is::{CallError, IceConnectionState};
 use std::time::Duration;
 use world::{World, at, host, ms};
 
@@ -76,6 +76,44 @@ fn a_lite_agent_that_stays_controlling_finds_no_path() {
     world.pass(Duration::from_secs(60));
     assert!(world.left().controlling() && world.right().stats().bind_success_recv > 0);
     assert_eq!((world.sides[0].path(), world.sides[1].path()), (None, None));
+}
+
+/// A full agent and a lite one, both controlled; the full one has the greater tie-breaker. By the rule the lite one `keeps` its role.
+fn controlled_beside_lite(keeps: bool) -> World {
+    let mut world = claim([false, false]);
+    let lite = &mut world.sides[1].agent;
+    let mut rules = lite.rules();
+    rules.lite_keeps_role = keeps;
+    lite.set_rules(rules);
+    lite.set_ice_lite(true);
+    world
+}
+
+#[test]
+fn a_lite_agent_keeps_its_role() {
+    // RFC 8445, section 7.3.1.1: the full agent gets a 487, and switches
+    let mut world = controlled_beside_lite(true);
+    world.connect();
+    world.pass(Duration::from_secs(5));
+    assert!(world.left().controlling() && !world.right().controlling());
+    assert_eq!(world.sides[0].path(), Some((at("10.0.0.1:1000"), at("10.0.0.2:2000"))));
+    assert_eq!(world.sides[1].path(), Some((at("10.0.0.2:2000"), at("10.0.0.1:1000"))));
+}
+
+#[test]
+fn without_the_rule_the_tie_breaker_makes_it_controlling() {
+    let mut world = controlled_beside_lite(false);
+    world.pass(Duration::from_secs(60));
+    assert!(!world.left().controlling() && world.right().controlling());
+    assert_eq!((world.sides[0].path(), world.sides[1].path()), (None, None));
+}
+
+#[test]
+fn a_lite_agent_is_not_made_controlling() {
+    let mut world = controlled_beside_lite(true);
+    assert_eq!(world.sides[1].agent.try_set_controlling(true), Err(CallError::LiteStaysControlled));
+    assert_eq!(world.sides[1].agent.try_set_controlling(false), Ok(()));
+    assert!(!world.right().controlling());
 }
 
 #[test]

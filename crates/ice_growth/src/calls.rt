@@ -42,6 +42,11 @@ pub fn name_own(agent: &mut Agent, alloc: Global, ufrag: &str, pass: &str) -> Ou
     Ok("ok")
 }
 
+pub fn lead(agent: &mut Agent) -> Outcome {
+    agent.set_controlling(true)?;
+    Ok("ok")
+}
+
 pub fn add_host(agent: &mut Agent, alloc: Global) -> Outcome {
     let host = Candidate::host(alloc, at(1, 1000), Protocol::Udp)?;
     match agent.add_local_candidate(host)? {

@@ -17,6 +17,7 @@ pub fn rejection_name(error: &IceError) -> &'static str {
         IceError::MtuTooSmall => "MtuTooSmall",
         IceError::CredentialsTooLong => "CredentialsTooLong",
         IceError::PriorityTooHigh => "PriorityTooHigh",
+        IceError::LiteStaysControlled => "LiteStaysControlled",
     }
 }
 

@@ -96,7 +96,8 @@ fn make_on(stage: &mut Stage, step: Step) -> Outcome {
         return Ok("no agent");
     };
     match step {
-        Step::Controlling | Step::Lite => Ok(set(agent, step)),
+        Step::Controlling => calls::lead(agent),
+        Step::Lite => Ok(make_lite(agent)),
         Step::CopyPair | Step::Invalidate => on_kept(agent, step, &stage.kept),
         Step::Timeout(ms) | Step::Idle(ms) => calls::pass_time(agent, ms, &mut stage.random),
         Step::Browser(_) | Step::Numbered(_) | Step::Answer(_) | Step::Stranger(_) => {
@@ -106,11 +107,8 @@ fn make_on(stage: &mut Stage, step: Step) -> Outcome {
     }
 }
 
-fn set(agent: &mut Agent, step: Step) -> &'static str {
-    match step {
-        Step::Controlling => agent.set_controlling(true),
-        _ => agent.set_ice_lite(true),
-    }
+fn make_lite(agent: &mut Agent) -> &'static str {
+    agent.set_ice_lite(true);
     "ok"
 }
 

@@ -118,7 +118,8 @@ pub fn renew_paired(agent: &mut Agent, alloc: Global) -> Result<(), Broken> {
 }
 
 pub fn take_role(agent: &mut Agent, controlling: bool) {
-    agent.set_controlling(controlling);
+    // it fails only for a lite agent
+    let _ = agent.set_controlling(controlling);
 }
 
 /// Passes the bytes to the agent, as a UDP packet between the addresses.

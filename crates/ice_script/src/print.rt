@@ -11,6 +11,7 @@ fn rejection_name(error: &IceError) -> &'static str {
         IceError::MtuTooSmall => "MtuTooSmall",
         IceError::CredentialsTooLong => "CredentialsTooLong",
         IceError::PriorityTooHigh => "PriorityTooHigh",
+        IceError::LiteStaysControlled => "LiteStaysControlled",
     }
 }
 

@@ -2,8 +2,9 @@
 use crate::fault::Stop;
 use crate::fields::Fields;
 use crate::table::{
-    CONSENT, EARLY_RTO, INTERVAL, KINDS_IN_TURN, NAME, RETRANSMITS, SELECTED_FIRST,
-    SELECTS_AT_ONCE, STRICT, TIMEOUT, TIMEOUT_AFTER_REQUESTS, TRIGGERED_CHECKS,
+    CONSENT, EARLY_RTO, INTERVAL, KINDS_IN_TURN, LITE_KEEPS_ROLE, NAME, NUMBERED_NOMINATIONS,
+    RETRANSMITS, SELECTED_FIRST, SELECTS_AT_ONCE, STRICT, TIMEOUT, TIMEOUT_AFTER_REQUESTS,
+    TRIGGERED_CHECKS,
 };
 use is::{Consent, EarlyRto, Rules};
 
@@ -21,6 +22,8 @@ pub fn rules_of(fields: Fields<'_>) -> Result<Rules, Stop> {
             TIMEOUT_AFTER_REQUESTS,
             named.timeout_after_requests,
         )?,
+        lite_keeps_role: fields.flag_or(LITE_KEEPS_ROLE, named.lite_keeps_role)?,
+        numbered_nominations: fields.flag_or(NUMBERED_NOMINATIONS, named.numbered_nominations)?,
     })
 }
 

@@ -119,6 +119,10 @@ pub const SELECTED_FIRST: Field = Field("selected_first", Kind::Flag);
 
 pub const TIMEOUT_AFTER_REQUESTS: Field = Field("timeout_after_requests", Kind::Flag);
 
+pub const LITE_KEEPS_ROLE: Field = Field("lite_keeps_role", Kind::Flag);
+
+pub const NUMBERED_NOMINATIONS: Field = Field("numbered_nominations", Kind::Flag);
+
 /// The name of a call.
 #[derive(Clone, Copy, PartialEq, Eq)]
 pub enum CallName {

@@ -11,3 +11,4 @@ mod rounds;
 mod seen;
 mod session;
 pub mod sessions;
+mod timed;

@@ -1,7 +1,7 @@
 //! The words of a story. Each is one event: a call of an agent, or a packet that is sent or received. docs/SCRIPTS.md lists them.
 use crate::messages::packet;
-use crate::names::{address_of, back, creds, home, other, path_of, side_of, time, ufrag};
-use is::{AgentCall, Call, Candidate, Path, Protocol, Rules, Side, WorldEvent};
+use crate::names::{MS, address_of, back, creds, home, other, path_of, side_of, time, ufrag};
+use is::{AgentCall, Call, Candidate, Duration, Path, Protocol, Rules, Side, WorldEvent};
 use std::alloc::Global;
 use std::net::SocketAddr;
 
@@ -111,6 +111,9 @@ fn call_with(alloc: Global, side: Side, name: &str, value: &str) -> Option<Call>
         "tie" => Some(AgentCall::SetControlTieBreaker(value.parse::<u64>().ok()?)),
         "renomination" => Some(AgentCall::SetRenomination(value == "on")),
         "rules" => Some(AgentCall::SetRules(rules(value)?)),
+        "advance" => Some(AgentCall::SetTimingAdvance(Duration(
+            value.parse::<u64>().ok()?.saturating_mul(MS),
+        ))),
         "pairs" => Some(AgentCall::SetMaxCandidatePairs(count(value)?)),
         "discovered" => Some(AgentCall::SetMaxDiscovered(Some(count(value)?))),
         "retransmits" => Some(AgentCall::SetMaxStunRetransmits(count(value)?)),

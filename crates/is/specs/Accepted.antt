@@ -10,7 +10,7 @@ use Rattle.is_rules.specs.declared.emitted.Path.{Path}
 use Rattle.is_rules.specs.Agent.{AgentRecord}
 use Rattle.is_rules.specs.Accepting.{IsAcceptedOn}
 use Rattle.is_rules.specs.Emitted.{nothing_emitted}
-use Rattle.is_rules.specs.Steps.{ReceivePacket, Answer, Flag, Unparsed, Rejected, NotInWorld, Entry}
+use Rattle.is_rules.specs.Steps.{ReceivePacket, Answer, Flag, Unparsed, Rejected, NotInWorld, Entry, quiet, Receives}
 use Rattle.is_theorems.specs.Logs.{Logged}
 use Rattle.is_theorems.specs.Runs.{AtEach}
 
@@ -33,10 +33,11 @@ module _ {H P : Type 0} (mac : H → List ℕ → List ℕ → List ℕ) where
   abbrev pub AcceptsOnPath : AgentRecord H P → Path → List ℕ → Type 0
   AcceptsOnPath a path bytes = (m : Message) × Reads bytes m × IsAcceptedOn mac a path m
 
-  -- The agent receives bytes that it does not accept, and says so; it does not receive bytes that it would accept.
-  abbrev pub LeavesOut : AgentRecord H P → Path → List ℕ → Answer → Type 0
-  LeavesOut a path bytes answer =
-      (SaysNo answer × ¬ AcceptsOnPath a path bytes) ⊎ ((answer ≡ NotInWorld) × AcceptsOnPath a path bytes)
+  -- The agent receives bytes that it does not accept: it does nothing, and returns what it returns for such a packet. It does not receive
+  -- bytes that it would accept.
+  abbrev pub LeavesOut : (P → CandidateRecord → ℕ → ℕ → Type 0) → ℕ → AgentRecord H P → Path → List ℕ → Answer → Type 0
+  LeavesOut answers now a path bytes answer =
+      (Receives mac answers now a path bytes (quiet answer) a × ¬ AcceptsOnPath a path bytes) ⊎ ((answer ≡ NotInWorld) × AcceptsOnPath a path bytes)
 
   -- Bytes that are not accepted change nothing. For accepted bytes the call returns true, or it fails.
   pub record IsSettled (old : AgentRecord H P) (path : Path) (bytes : List ℕ) (e : Entry) (new : AgentRecord H P) : Type 0 where

@@ -5,7 +5,7 @@ use Rattle.is_candidate.specs.Candidates.{CandidateRecord}
 use Rattle.is_rules.specs.declared.emitted.Path.{Path}
 use Rattle.is_theorems.specs.Asked.{IsOnlyPair}
 use Rattle.is_theorems.specs.Runs.{IsTopPath}
-use Rattle.is.specs.declared.world.Side.{Side}
+use Rattle.is.specs.declared.world_events.Side.{Side}
 use Rattle.is.specs.Deliveries.{SelectsPath}
 use Rattle.is.specs.AcceptedNominationsIn.{Occurrence, IsControlled, IsPlainTimeout, IsAskedOver, IsExchangedOver, MayEndAt, occurrences_in}
 use Rattle.is.specs.Sides.{own_log}

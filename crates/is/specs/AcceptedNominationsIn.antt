@@ -15,8 +15,8 @@ use Rattle.is_rules.specs.Queue.{request_at}
 use Rattle.is_theorems.specs.Pending.{is_check_on}
 use Rattle.is_rules.specs.Steps as agent
 use Rattle.is_rules.specs.Emitted.{reversed}
-use Rattle.is.specs.declared.world.Side.{Side}
-use Rattle.is.specs.declared.world.Side.TheVariants.{A, B}
+use Rattle.is.specs.declared.world_events.Side.{Side}
+use Rattle.is.specs.declared.world_events.Side.TheVariants.{A, B}
 use Rattle.is.specs.Deliveries.{Hands}
 use Rattle.is.specs.World.{WorldRecord, Call, Outcome, LoggedEvent, WorldRun, at, other, Streams}
 

@@ -9,7 +9,7 @@ use Rattle.is_theorems.specs.AskedCourses.{AcceptsSuccessOn}
 use Rattle.is_theorems.specs.Reached.{IsInLine, IsLasting}
 use Rattle.is_rules.specs.Sending.{path_of}
 use Rattle.is_rules.specs.Steps as agent
-use Rattle.is.specs.declared.world.Side.{Side}
+use Rattle.is.specs.declared.world_events.Side.{Side}
 use Rattle.is.specs.AcceptedNominationsIn.{Occurrence, IsAskedOver, IsExchangedOver, occurrences_in}
 use Rattle.is.specs.AcceptedNominations.{IsControlledSegment, MayEndIn, SelectsTop}
 use Rattle.is.specs.Selections.{SideRound, all_of, AreKept, MayEndInRounds, SideRoundsSuffice, RoundChecks}

@@ -13,7 +13,7 @@ use Rattle.is_theorems.specs.Delivery.{Sends}
 use Rattle.is_rules.specs.Emitted.{reversed}
 use Rattle.is_theorems.specs.Progress.{Awaits, IsUnanswered}
 use Rattle.is_rules.specs.Sending.{path_of}
-use Rattle.is.specs.declared.world.Side.{Side}
+use Rattle.is.specs.declared.world_events.Side.{Side}
 use Rattle.is.specs.Connections.{HasRounds, Succeeds}
 use Rattle.is.specs.AcceptedNominationsIn.{Occurrence, HandedCheck, IsReturnedInTime, IsPlainTimeout, occurrences_in}
 use Rattle.is.specs.AcceptedNominations.{MayEndIn, SelectsIn, SelectsTop}

@@ -6,7 +6,7 @@ use Rattle.is_rules.specs.Effects.{last_of}
 use Rattle.is_theorems.specs.Reached.{is_in_round}
 use Rattle.is_theorems.specs.Rounds.{is_poll}
 use Rattle.is_rules.specs.Steps.{is_rejection}
-use Rattle.is.specs.declared.world.Side.{Side}
+use Rattle.is.specs.declared.world_events.Side.{Side}
 use Rattle.is.specs.World.{WorldRecord, Event, Call, Deliver, LoggedEvent, other}
 
 -- The side makes only polls, whatever it receives and whatever the other side does.

@@ -9,7 +9,7 @@ use Rattle.is_theorems.specs.Logs as agent
 use Rattle.is_theorems.specs.Runs.{AtEach}
 use Rattle.is_theorems.specs.Limited.{FormsFewAt, IsLimitedAt}
 use Rattle.is_theorems.specs.Waiting.{IsShort, discovery_count}
-use Rattle.is.specs.declared.world.Side.{Side}
+use Rattle.is.specs.declared.world_events.Side.{Side}
 use Rattle.is.specs.AcceptedNominationsIn.{Occurrence, occurrences_in}
 use Rattle.is.specs.Sides.{own_at, own_log}
 use Rattle.is.specs.World.{WorldRecord, LoggedEvent, WorldRun, at, Streams}

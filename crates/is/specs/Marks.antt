@@ -3,8 +3,8 @@ use Rattle.std.specs.Prelude.{◌≡◌, ℕ, ◌<◌, ◌≤◌, true, List, Op
 use Rattle.is_stun.specs.declared.header.Class.TheVariants as class
 use Rattle.is_stun.specs.declared.trans_id.TransId.{TransId}
 use Rattle.is_rules.specs.declared.emitted.Path.{Path}
-use Rattle.is.specs.declared.world.Side.{Side}
-use Rattle.is.specs.declared.world.WorldEntry.{WorldEntry}
+use Rattle.is.specs.declared.world_events.Side.{Side}
+use Rattle.is.specs.declared.world_events.WorldEntry.{WorldEntry}
 use Rattle.is.specs.declared.traces.Mark.{Mark}
 use Rattle.is.specs.declared.traces.Mark.TheVariants.{Taken, Issued, Cleared}
 use Rattle.is.specs.declared.traces.Trace.{Trace}

@@ -6,7 +6,7 @@ use Rattle.is_pair.specs.Pairs.{PairRecord}
 use Rattle.is_rules.specs.declared.emitted.Path.{Path}
 use Rattle.is_rules.specs.Sending.{path_of}
 use Rattle.is_rules.specs.Emitted.{reversed}
-use Rattle.is.specs.declared.world.Side.{Side}
+use Rattle.is.specs.declared.world_events.Side.{Side}
 use Rattle.is.specs.AcceptedNominationsIn.{Occurrence, occurrences_in}
 use Rattle.is.specs.World.{WorldRecord, LoggedEvent, WorldRun, at, other, Streams}
 use Rattle.is.specs.WorldRoles.{IsNewAgent}

@@ -15,7 +15,7 @@ use Rattle.is_rules.specs.Sending.{path_of}
 use Rattle.is_rules.specs.Steps as agent
 use Rattle.is_theorems.specs.FirstChecks.{SufficeForDue}
 use Rattle.is_theorems.specs.FirstTimeouts.{Suffices}
-use Rattle.is.specs.declared.world.Side.{Side}
+use Rattle.is.specs.declared.world_events.Side.{Side}
 use Rattle.is.specs.Deliveries.{MakesPolls, MakesInRound, SelectsPath}
 use Rattle.is.specs.AcceptedNominationsIn.{Occurrence, HandedCheck, IsReturnedInTime, MayEndAt, occurrences_in}
 use Rattle.is.specs.World.{WorldRecord, Call, LoggedEvent, WorldRun, at, other, Streams}

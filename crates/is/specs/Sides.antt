@@ -5,8 +5,8 @@ use Rattle.is_rules.specs.declared.emitted.Path.{Path}
 use Rattle.is_theorems.specs.Logs as agent_log
 use Rattle.is_rules.specs.Steps as agent
 use Rattle.is_rules.specs.Steps.{Answer, Entry, Polled, Rejected, quiet}
-use Rattle.is.specs.declared.world.Side.{Side}
-use Rattle.is.specs.declared.world.Side.TheVariants.{A, B}
+use Rattle.is.specs.declared.world_events.Side.{Side}
+use Rattle.is.specs.declared.world_events.Side.TheVariants.{A, B}
 use Rattle.is.specs.AcceptedNominationsIn.{Occurrence}
 use Rattle.is.specs.World.{WorldRecord, InFlightRecord, Event, Call, Poll, Deliver, Stray, at, other, in_world}
 

@@ -1,18 +1,16 @@
 -- The causal chain of each selected path, through the log to the other agent and back.
 use Rattle.std.specs.Prelude.{◌≡◌, ℕ, suc, ◌<◌, ◌≤◌, true, false, List, Option, Some, ◌⊎◌, MatchOption, slice_get}
-use Rattle.std.specs.List.{AllByRecursion}
 use Rattle.is_stun.specs.declared.header.Class.{Class}
 use Rattle.is_stun.specs.declared.header.Class.TheVariants as class
 use Rattle.is_stun.specs.declared.trans_id.TransId.{TransId}
 use Rattle.is_rules.specs.declared.emitted.Path.{Path}
-use Rattle.is_rules.specs.Steps as agent
 use Rattle.is.specs.declared.calls.Answer.TheVariants as answer
-use Rattle.is.specs.declared.world.Side.{Side}
+use Rattle.is.specs.declared.world_events.Side.{Side}
 use Rattle.is.specs.declared.traces.Trace.{Trace}
-use Rattle.is.specs.declared.world.WorldEntry.{WorldEntry}
+use Rattle.is.specs.declared.world_events.WorldEntry.{WorldEntry}
 use Rattle.is.specs.World as world
 use Rattle.is.specs.World.{WorldRecord, LoggedEvent, Event, other}
-use Rattle.is.specs.WorldRoles.{IsFairWorld}
+use Rattle.is.specs.WorldRoles.{IsFairWorld, IsNeverLite}
 
 -- ---- what an entry records
 
@@ -72,14 +70,6 @@ IsFirstTrace es n place result =
     (λ first. IsTraceOf es n place first × ((t : Trace) → IsTraceOf es n place t → IsNoLater first t))
 
 -- ---- the theorem
-
--- The side is not made lite.
-abbrev pub StaysFull : {P : Type 0} → Side → Event P → Type 0
-StaysFull side (world.Call s (agent.SetIceLite lite)) = s ≡ side → lite ≡ false
-StaysFull side _ = Unit {0}
-
-abbrev pub IsNeverLite : {P : Type 0} → Side → List (LoggedEvent P) → Type 0
-IsNeverLite side log = AllByRecursion (λ x. StaysFull side x.event) log
 
 -- The event is a delivery from the path's remote address to its base.
 abbrev pub ComesBack : {P : Type 0} → Path → Event P → Type 0

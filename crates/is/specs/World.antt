@@ -21,15 +21,15 @@ use Rattle.is_rules.specs.Polls.{PollsTransmit}
 use Rattle.is_rules.specs.Steps.{Step}
 use Rattle.is_rules.specs.Sound.{GivesBased}
 use Rattle.is_rules.specs.Effects.{clears}
-use Rattle.is.specs.declared.world.Side.{Side}
-use Rattle.is.specs.declared.world.Side.TheVariants.{A, B}
+use Rattle.is.specs.declared.world_events.Side.{Side}
+use Rattle.is.specs.declared.world_events.Side.TheVariants.{A, B}
 use Rattle.is.specs.declared.world.AgentSpec.{AgentSpec}
-use Rattle.is.specs.declared.world.InFlight as code
+use Rattle.is.specs.declared.world_events.InFlight as code
 use Rattle.is.specs.declared.world.TwoAgents.{TwoAgents}
-use Rattle.is.specs.declared.world.TwoAgentsEvent.{TwoAgentsEvent}
-use Rattle.is.specs.declared.world.TwoAgentsEvent.TheVariants as event
-use Rattle.is.specs.declared.world.WorldEntry.{WorldEntry}
-use Rattle.is.specs.declared.world.WorldLog.{WorldLog}
+use Rattle.is.specs.declared.world_events.TwoAgentsEvent.{TwoAgentsEvent}
+use Rattle.is.specs.declared.world_events.TwoAgentsEvent.TheVariants as event
+use Rattle.is.specs.declared.world_events.WorldEntry.{WorldEntry}
+use Rattle.is.specs.declared.world_events.WorldLog.{WorldLog}
 use Rattle.is.specs.Views.{call_view, answer_view}
 use Rattle.is.specs.Accepted.{LeavesOut}
 
@@ -201,15 +201,16 @@ module _ {H P : Type 0} (mac : H → List ℕ → List ℕ → List ℕ) (answer
   Delivers w s (Some l) now path e w' t = TakesTurn w s (other l.sender) (agent.ReceivePacket now path l.packet.contents) e w' t
 
   -- Nothing happens at bytes that the other agent did not send. If they are accepted, they are no event of the network model.
-  abbrev pub IgnoresStray : WorldRecord H P → Streams → Side → Path → List ℕ → Outcome → WorldRecord H P → Streams → Type 0
-  IgnoresStray w s side path bytes e w' t = (answer : Answer) × LeavesOut mac (at side w) path bytes answer × Persists w s answer (Some side) e w' t
+  abbrev pub IgnoresStray : WorldRecord H P → Streams → Side → ℕ → Path → List ℕ → Outcome → WorldRecord H P → Streams → Type 0
+  IgnoresStray w s side now path bytes e w' t =
+      (answer : Answer) × LeavesOut mac answers now (at side w) path bytes answer × Persists w s answer (Some side) e w' t
 
   -- one event
   abbrev pub Happens : WorldRecord H P → Streams → Event P → Outcome → WorldRecord H P → Streams → Type 0
   Happens w s (Call side c) e w' t = MatchBool (in_world c) (TakesTurn w s side c e w' t) (Persists w s NotInWorld (Some side) e w' t)
   Happens w s (Poll side) e w' t = Polls w s side e w' t
   Happens w s (Deliver place now path) e w' t = Delivers w s (slice_get w.network place) now path e w' t
-  Happens w s (Stray side now path bytes) e w' t = IgnoresStray w s side path bytes e w' t
+  Happens w s (Stray side now path bytes) e w' t = IgnoresStray w s side now path bytes e w' t
 
 -- ---- the log
 

@@ -13,8 +13,8 @@ use Rattle.is_rules.specs.Answers.{is_role_conflict}
 use Rattle.is_rules.specs.Steps as agent
 use Rattle.is_rules.specs.Brought.{Brings, IsServing, IsServedPastTests}
 use Rattle.is_rules.specs.Emitted.{issued_as}
-use Rattle.is.specs.declared.world.Side.{Side}
-use Rattle.is.specs.declared.world.Side.TheVariants.{A, B}
+use Rattle.is.specs.declared.world_events.Side.{Side}
+use Rattle.is.specs.declared.world_events.Side.TheVariants.{A, B}
 use Rattle.is.specs.World as world
 use Rattle.is.specs.World.{WorldRecord, InFlightRecord, LoggedEvent, Event, at, other, in_world, Streams}
 
@@ -32,13 +32,31 @@ HaveDistinctIds log =
     (i j : ℕ) (id : List ℕ) (p q : Path) (x y : LoggedEvent _) → slice_get log i ≡ Some x → slice_get log j ≡ Some y
     → x.outcome.entry.emitted.issued ≡ Some (issued_as p class.Request id) → y.outcome.entry.emitted.issued ≡ Some (issued_as q class.Request id) → i ≡ j
 
--- Both agents are newly created, no packet is in flight, `greater` has the greater tie-breaker, and no two checks have the same
--- ID.
+-- The side is not made lite.
+abbrev pub StaysFull : {P : Type 0} → Side → Event P → Type 0
+StaysFull side (world.Call s (agent.SetIceLite lite)) = s ≡ side → lite ≡ false
+StaysFull side _ = Unit {0}
+
+abbrev pub IsNeverLite : {P : Type 0} → Side → List (LoggedEvent P) → Type 0
+IsNeverLite side log = AllByRecursion (λ x. StaysFull side x.event) log
+
+-- The side does not get the rule by which a lite agent keeps its role.
+abbrev pub LeavesRule : {P : Type 0} → Side → Event P → Type 0
+LeavesRule side (world.Call s (agent.SetRules rules)) = s ≡ side → rules.lite_keeps_role ≡ false
+LeavesRule side _ = Unit {0}
+
+-- The side is never made lite, or never gets that rule. So it keeps its role only by its tie-breaker.
+abbrev pub ComparesTies : {P : Type 0} → Side → List (LoggedEvent P) → Type 0
+ComparesTies side log = IsNeverLite side log ⊎ AllByRecursion (λ x. LeavesRule side x.event) log
+
+-- Both agents are newly created, no packet is in flight, `greater` has the greater tie-breaker, no two checks have the same ID, and
+-- neither agent is a lite one that keeps its role.
 pub record IsFairWorld {H P : Type 0} (first : WorldRecord H P) (greater : Side) (log : List (LoggedEvent P)) : Type 0 where
   pub new : (side : Side) → IsNewAgent (at side first)
   pub empty : first.network ≡ []
   pub tie : (at (other greater) first).tie_breaker < (at greater first).tie_breaker
   pub distinct : HaveDistinctIds log
+  pub compares : (side : Side) → ComparesTies side log
 
 -- ---- roles in the log
 

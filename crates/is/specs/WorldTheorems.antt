@@ -1,8 +1,8 @@
 -- The theorems of two agents, for every log of the network model.
 use Rattle.std.specs.Prelude.{ℕ, List}
 use Rattle.is_candidate.specs.Candidates.{CandidateRecord}
-use Rattle.is.specs.declared.world.TwoAgentsEvent.{TwoAgentsEvent}
-use Rattle.is.specs.declared.world.WorldLog.{WorldLog}
+use Rattle.is.specs.declared.world_events.TwoAgentsEvent.{TwoAgentsEvent}
+use Rattle.is.specs.declared.world_events.WorldLog.{WorldLog}
 use Rattle.is.specs.World.{WorldRecord, LoggedEvent, logged, IsWorldLog, Streams}
 use Rattle.is.specs.WorldRoles.{GreaterKeeps, LesserSwitchesOnce, RolesDifferOnceMet}
 use Rattle.is.specs.Traces.{SelectedAreTraced}
@@ -13,7 +13,7 @@ use Rattle.is.specs.Connects.{BothSelect}
 use Rattle.is.specs.Punctual.{ChecksComeInTime}
 use Rattle.is.specs.Meetings.{RolesMeet}
 use Rattle.is.specs.Mirrors.{LonePathsMirror}
-use Rattle.is.specs.Renominations.{OnePathIsSelected}
+use Rattle.is.specs.Renominations.{LeadingPathIsSelected, OnePathIsSelected}
 
 module _ {H P : Type 0} (mac : H → List ℕ → List ℕ → List ℕ) (answers : P → CandidateRecord → ℕ → ℕ → Type 0) where
   abbrev pub KeepsTheorem : Type 0
@@ -60,3 +60,6 @@ module _ {H P : Type 0} (mac : H → List ℕ → List ℕ → List ℕ) (answer
 
   abbrev pub RenominationsTheorem : Type 0
   RenominationsTheorem = (first : WorldRecord H P) (s : Streams) (log : List (LoggedEvent P)) → OnePathIsSelected mac answers first s log
+
+  abbrev pub NumbersTheorem : Type 0
+  NumbersTheorem = (first : WorldRecord H P) (s : Streams) (log : List (LoggedEvent P)) → LeadingPathIsSelected mac answers first s log

@@ -13,6 +13,8 @@ mod runs;
 mod steps;
 mod traces;
 mod world;
+mod world_events;
+mod world_steps;
 mod world_theorems;
 
 pub use calls::{AgentCall, Answer, Call, Entry};
@@ -33,9 +35,8 @@ pub use is_rules::rules::Rules;
 pub use is_stun::stun::{Consent, EarlyRto};
 pub use runs::{RunLog, run};
 pub use traces::Trace;
-pub use world::{
-    AgentSpec, InFlight, Side, TwoAgents, TwoAgentsEvent, World, WorldEntry, WorldEvent, WorldLog,
-};
+pub use world::{AgentSpec, TwoAgents, World};
+pub use world_events::{InFlight, Side, TwoAgentsEvent, WorldEntry, WorldEvent, WorldLog};
 
 /// The type states of `CandidateBuilder`.
 pub mod candidate {

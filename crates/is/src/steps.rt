@@ -130,7 +130,7 @@ pub(crate) fn take_stray<H: Sha1HmacProvider + Drop, P: LocalPreference>(
     bytes: &[u8],
 ) -> Entry
     ensures same { record_of agent.new ≡ record_of agent.old }
-    ensures said { (answer : steps.Answer) × LeavesOut H.mac (record_of agent.old) path bytes.now answer × (entry_view result ≡ steps.quiet answer) }
+    ensures said { (answer : steps.Answer) × LeavesOut H.mac P.answers now.0 (record_of agent.old) path bytes.now answer × (entry_view result ≡ steps.quiet answer) }
     ensures numbered { result.number ≡ number }
 {
     if accepts_bytes(agent, path, bytes) {
@@ -191,7 +191,6 @@ fn take_setting<H: Sha1HmacProvider + Drop, P: LocalPreference>(
         AgentCall::SetMaxStunRto(rto) => agent.set_max_stun_rto(rto),
         AgentCall::SetLiteTimeout(timeout) => agent.set_lite_timeout(timeout),
         AgentCall::SetLocalPreference(object) => agent.set_local_preference(object),
-        AgentCall::SetControlling(controlling) => agent.set_controlling(controlling),
         AgentCall::SkipPairIds(least) => agent.skip_pair_ids(least),
         _ => unreachable!(),
     }
@@ -209,6 +208,7 @@ fn take_quiet<H: Sha1HmacProvider + Drop, P: LocalPreference>(
 {
     match call {
         AgentCall::SetMtu(mtu) => done_or_rejected(agent.set_mtu(mtu)),
+        AgentCall::SetControlling(role) => done_or_rejected(agent.set_controlling(role)),
         AgentCall::SetMaxStunRetransmits(limit) => take_limit(agent, limit),
         AgentCall::SetLocalCredentials(own) => done_or_rejected(agent.set_local_credentials(own)),
         AgentCall::SetRemoteCredentials(far) => done_or_rejected(agent.set_remote_credentials(far)),

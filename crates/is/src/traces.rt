@@ -8,7 +8,7 @@ ghost use Rattle.is.specs.Traces.{IsFirstTrace, HasAnswer, IsTrace};
 ghost use Rattle.is.specs.Marks.{IsMarked, IsFirstMarked, IsSelectedIn, IsCheckOfEntry, IsFirstFrom, IsFirst};
 
 use crate::calls::Answer;
-use crate::world::{Side, WorldEntry, WorldLog};
+use crate::world_events::{Side, WorldEntry, WorldLog};
 use is_candidate::candidate::address::same_address;
 use is_rules::emitted::{Issued, Path};
 use is_stun::stun::{Class, TransId};

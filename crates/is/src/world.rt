@@ -1,17 +1,8 @@
 //! The two-agent network model: two agents and the in-flight packets between them. The caller decides which packets arrive, when,
 //! how often and from where.
 
-ghost use Rattle.std.specs.Prelude.{◌≡◌, Some, None, true, false, MatchOption, map, slice_get, if◌then◌else◌};
-ghost use Rattle.is_stun.specs.Reading.{fault_of, message_of};
-ghost use Rattle.is_agent.specs.View.{record_of};
-ghost use Rattle.is_rules.specs.Steps as steps;
-ghost use Rattle.is_rules.specs.Steps.{is_done};
-ghost use Rattle.is_rules.specs.Effects.{is_clearing};
-ghost use Rattle.is.specs.Views.{call_view, answer_view, entry_view};
-ghost use Rattle.is.specs.World as world;
-ghost use Rattle.is.specs.World.{Streams, sources, world_of, in_flight_of, event_view, outcome_of, read_unless, roles_of, Happens, TakesTurn};
-ghost use Rattle.is.specs.World.{PolledInto, MakesMember, MakesWorld, made_world, logged, IsWorldLog};
 ghost use Rattle.is_agent.specs.View.{made};
+ghost use Rattle.is.specs.World.{sources, world_of, MakesMember, MakesWorld, made_world, logged, IsWorldLog};
 ghost use Rattle.is.specs.WorldRoles.{GreaterKeeps, LesserSwitchesOnce, RolesDifferOnceMet};
 ghost use Rattle.is.specs.Traces.{SelectedAreTraced};
 ghost use Rattle.is.specs.Selections.{DeliveredRoundsSelect};
@@ -21,112 +12,24 @@ ghost use Rattle.is.specs.Connects.{BothSelect};
 ghost use Rattle.is.specs.Punctual.{ChecksComeInTime};
 ghost use Rattle.is.specs.Meetings.{RolesMeet};
 ghost use Rattle.is.specs.Mirrors.{LonePathsMirror};
-ghost use Rattle.is.specs.Renominations.{OnePathIsSelected};
+ghost use Rattle.is.specs.Renominations.{LeadingPathIsSelected, OnePathIsSelected};
 ghost use Rattle.is.specs.Floods.{BothAreBounded, BothHaveFewPairs, BothAreShort, BothDiscoverFew};
 
-use crate::calls::{AgentCall, Answer, Entry};
-use crate::steps::{quiet, step, take_packet, take_stray};
+use crate::world_events::{InFlight, TwoAgentsEvent, WorldLog};
 use crate::world_theorems::{
     accepted_nominations_select, both_connect, both_select, checks_come_in_time,
-    delivered_rounds_select, greater_keeps, lesser_switches_once, lone_paths_mirror,
-    one_path_is_selected, roles_differ_once_met, roles_meet, selected_are_traced,
+    delivered_rounds_select, greater_keeps, leading_path_is_selected, lesser_switches_once,
+    lone_paths_mirror, one_path_is_selected, roles_differ_once_met, roles_meet,
+    selected_are_traced,
 };
 use is_agent::{Agent, IceCreds};
 use is_candidate::LocalPreference;
-use is_proto::{IceError, Instant, Protocol, Sha1HmacProvider, Transmit};
-use is_rules::emitted::{Issued, Path};
-use is_stun::stun::{Class, StunMessage, TransId};
+use is_proto::{IceError, Sha1HmacProvider};
 use is_theorems::flooding::{
     discoveries_stay_few, lists_stay_bounded, pairs_stay_few, queues_are_short,
 };
 use rand_core::Rng;
 use std::alloc::Global;
-use std::net::SocketAddr;
-
-/// One of the two agents of the network model.
-#[derive(Clone, Copy, Debug, PartialEq, Eq)]
-pub enum Side {
-    A,
-    B,
-}
-
-/// An in-flight packet, and its sender.
-#[derive(Debug, Drop)]
-pub struct InFlight {
-    pub(crate) sender: Side,
-    pub(crate) packet: Transmit,
-}
-
-/// An event of two agents whose local preferences may come from boxed objects.
-pub type WorldEvent = TwoAgentsEvent<Box<dyn LocalPreference>>;
-
-/// An event of two agents whose local preferences may come from an object of `P`.
-#[derive(Drop)]
-pub enum TwoAgentsEvent<P> {
-    /// An agent is called. `Packet`, `SetControlling` and `SetControlTieBreaker` are not calls of the network model.
-    Call(Side, AgentCall<P>),
-    /// The next packet of the agent, if there is one, is sent: it becomes an in-flight packet.
-    Poll(Side),
-    /// An in-flight packet is delivered to the agent that did not send it, on any path. It can be delivered again.
-    Deliver {
-        /// The number of the packet, in the order in which packets were sent.
-        packet: usize,
-        /// When it is delivered.
-        now: Instant,
-        /// The protocol over which it is delivered.
-        proto: Protocol,
-        /// Where it comes from.
-        source: SocketAddr,
-        /// The local address to which it is delivered.
-        destination: SocketAddr,
-    },
-    /// Bytes arrive that the other agent did not send: media, responses of other servers, an attacker's packets. An agent that
-    /// would accept them does not receive them, and the answer is `NotInWorld`.
-    Stray {
-        /// The agent at which they arrive.
-        side: Side,
-        /// When they arrive.
-        now: Instant,
-        /// The protocol over which they arrive.
-        proto: Protocol,
-        /// Where they come from.
-        source: SocketAddr,
-        /// The local address at which they arrive.
-        destination: SocketAddr,
-        /// The whole packet.
-        bytes: Vec<u8>,
-    },
-}
-
-/// A log entry: the result of one event.
-#[derive(Debug, PartialEq, Eq, Drop)]
-pub struct WorldEntry {
-    /// The index of the event in the list, from 0.
-    pub number: usize,
-    /// What the call returned.
-    pub answer: Answer,
-    /// The packet that the event made an agent issue.
-    pub issued: Option<Issued>,
-    /// The paths that it made an agent select, in order.
-    pub announced: [Option<Path>; 2],
-    /// Which agents are controlling after it, A first.
-    pub controlling: [bool; 2],
-    /// The agent that was called, polled or delivered to. None if there was no such packet.
-    pub side: Option<Side>,
-    /// The event was an `ice_restart` or a `recreate_candidate_pairs` that returned Ok: the agent's pairs were cleared.
-    pub clear: bool,
-    /// What a delivered packet encodes. None if its bytes are not a STUN message, and for all other events.
-    pub moved: Option<(Class, TransId)>,
-}
-
-/// The results of the events of an execution.
-#[derive(Debug, PartialEq, Eq, Drop)]
-pub struct WorldLog {
-    /// One entry for each event, in order.
-    pub entries: Vec<WorldEntry>,
-    /// The allocation of the entries failed: nothing happened, and there is no entry.
-    pub stopped: bool,
-}
 
 /// Two agents whose local preferences may come from boxed objects.
 pub type World<H> = TwoAgents<H, Box<dyn LocalPreference>>;
@@ -152,97 +55,6 @@ pub struct AgentSpec<H> {
     pub controlling: bool,
 }
 
-fn in_world<P>(call: &AgentCall<P>) -> bool
-    ensures { result ≡ world.in_world (call_view call.now) }
-{
-    !matches!(
-        call,
-        AgentCall::Packet { .. } | AgentCall::SetControlling(_) | AgentCall::SetControlTieBreaker(_)
-    )
-}
-
-fn is_clearing<P>(call: &AgentCall<P>) -> bool
-    ensures { result ≡ is_clearing (call_view call.now) }
-{
-    matches!(
-        call,
-        AgentCall::RestartIce { .. } | AgentCall::RecreateCandidatePairs
-    )
-}
-
-fn is_done(answer: &Answer) -> bool
-    ensures { result ≡ is_done (answer_view answer.now) }
-{
-    matches!(answer, Answer::Done)
-}
-
-/// What bytes encode.
-fn read_as(bytes: &[u8]) -> Option<(Class, TransId)>
-    ensures { result ≡ read_unless (fault_of bytes.now) (message_of bytes.now) }
-{
-    match StunMessage::parse(bytes) {
-        Ok(message) => Some((message.class(), message.trans_id())),
-        Err(_) => None,
-    }
-}
-
-/// The log entry of what an agent did.
-fn emitted_as(
-    entry: Entry,
-    controlling: [bool; 2],
-    side: Option<Side>,
-    clear: bool,
-    moved: Option<(Class, TransId)>,
-) -> WorldEntry
-    ensures emitted { outcome_of result ≡ record { entry = entry_view entry; controlling = controlling; side = side; clear = clear; moved = moved } }
-    ensures numbered { result.number ≡ entry.number }
-{
-    let Entry {
-        number,
-        answer,
-        issued,
-        announced,
-    } = entry;
-    WorldEntry {
-        number,
-        answer,
-        issued,
-        announced,
-        controlling,
-        side,
-        clear,
-        moved,
-    }
-}
-
-/// Moves an agent's packet, if there is one, to the in-flight packets, and returns whether there was one. Fails with
-/// `OutOfMemory` if the list can't grow.
-fn poll_into<H: Sha1HmacProvider + Drop, P: LocalPreference>(
-    agent: &mut Agent<H, P>,
-    network: &mut Vec<InFlight>,
-    sender: Side,
-) -> Answer
-    ensures { PolledInto (record_of agent.old) (map in_flight_of network.old.items) sender (answer_view result) (record_of agent.new)
-        (map in_flight_of network.new.items) }
-{
-    if network.reserve(1).is_err() {
-        return Answer::Refused(IceError::OutOfMemory);
-    }
-    match agent.poll_transmit() {
-        Some(packet) => {
-            network.push_reserved(InFlight { sender, packet });
-            Answer::Flag(true)
-        }
-        None => Answer::Flag(false),
-    }
-}
-
-fn in_flight_at(network: &[InFlight], place: usize) -> Option<&InFlight>
-    ensures { MatchOption result (slice_get network.now place ≡ None) (λ l. slice_get network.now place ≡ Some l.now) }
-{
-    network.get(place)
-}
-
 /// A newly created agent, in its role.
 fn member<H: Sha1HmacProvider + Drop, P: LocalPreference>(
     alloc: Global,
@@ -251,7 +63,7 @@ fn member<H: Sha1HmacProvider + Drop, P: LocalPreference>(
     ensures { MakesMember spec (made result) }
 {
     let mut agent = Agent::with_hmac(alloc, spec.creds, spec.provider, spec.tie_breaker)?;
-    agent.set_controlling(spec.controlling);
+    agent.set_controlling(spec.controlling)?;
     Ok(agent)
 }
 
@@ -269,202 +81,6 @@ impl<H: Sha1HmacProvider + Drop, P: LocalPreference> TwoAgents<H, P> {
             b,
             network: Vec::new(alloc),
         })
-    }
-
-    fn roles(&self) -> [bool; 2]
-        ensures { result ≡ roles_of (world_of self.now) }
-    {
-        [self.a.controlling(), self.b.controlling()]
-    }
-
-    /// The log entry of what an agent did.
-    fn emitted(
-        &self,
-        entry: Entry,
-        side: Option<Side>,
-        clear: bool,
-        moved: Option<(Class, TransId)>,
-    ) -> WorldEntry
-        ensures emitted { outcome_of result ≡ record {
-          entry = entry_view entry;
-          controlling = roles_of (world_of self.now);
-          side = side;
-          clear = clear;
-          moved = moved;
-        } }
-        ensures numbered { result.number ≡ entry.number }
-    {
-        emitted_as(entry, self.roles(), side, clear, moved)
-    }
-
-    /// The log entry of a call that an agent made.
-    fn emitted_call(&self, entry: Entry, side: Side, clearing: bool) -> WorldEntry
-        ensures emitted { outcome_of result ≡ record {
-          entry = entry_view entry;
-          controlling = roles_of (world_of self.now);
-          side = Some side;
-          clear = if clearing then is_done (answer_view entry.answer) else false;
-          moved = None;
-        } }
-        ensures numbered { result.number ≡ entry.number }
-    {
-        let clear = clearing && is_done(&entry.answer);
-        self.emitted(entry, Some(side), clear, None)
-    }
-
-    /// One agent makes a call, with its own random source.
-    fn turn<R: Rng, S: Rng>(
-        &mut self,
-        side: Side,
-        number: usize,
-        call: AgentCall<P>,
-        rng_a: &mut R,
-        rng_b: &mut S,
-    ) -> WorldEntry
-        requires { world.in_world (call_view call) ≡ true }
-        ensures did { TakesTurn H.mac P.answers (world_of self.old) (sources (R.stream rng_a.old) (S.stream rng_b.old)) side (call_view call)
-            (outcome_of result) (world_of self.new) (sources (R.stream rng_a.new) (S.stream rng_b.new)) }
-        ensures numbered { result.number ≡ number }
-    {
-        let clearing = is_clearing(&call);
-        match side {
-            Side::A => {
-                let entry = step(&mut self.a, number, call, rng_a);
-                self.emitted_call(entry, Side::A, clearing)
-            }
-            Side::B => {
-                let entry = step(&mut self.b, number, call, rng_b);
-                self.emitted_call(entry, Side::B, clearing)
-            }
-        }
-    }
-
-    /// Nothing happens.
-    fn unchanged_step(&self, number: usize, answer: Answer, side: Option<Side>) -> WorldEntry
-        ensures emitted { outcome_of result ≡ world.plain (answer_view answer) side (roles_of (world_of self.now)) }
-        ensures numbered { result.number ≡ number }
-    {
-        self.emitted(quiet(number, answer), side, false, None)
-    }
-
-    /// An agent's packet becomes an in-flight packet.
-    fn poll(&mut self, side: Side, number: usize) -> WorldEntry
-        ensures did { (s : Streams) → Happens H.mac P.answers (world_of self.old) s (world.Poll side) (outcome_of result) (world_of self.new) s }
-        ensures numbered { result.number ≡ number }
-    {
-        match side {
-            Side::A => {
-                let polled = poll_into(&mut self.a, &mut self.network, Side::A);
-                self.unchanged_step(number, polled, Some(Side::A))
-            }
-            Side::B => {
-                let polled = poll_into(&mut self.b, &mut self.network, Side::B);
-                self.unchanged_step(number, polled, Some(Side::B))
-            }
-        }
-    }
-
-    /// An in-flight packet is delivered to the agent that did not send it.
-    fn deliver(&mut self, number: usize, place: usize, now: Instant, path: Path) -> WorldEntry
-        ensures did { (s : Streams) → Happens H.mac P.answers (world_of self.old) s (world.Deliver place now.0 path) (outcome_of result)
-            (world_of self.new) s }
-        ensures numbered { result.number ≡ number }
-    {
-        match in_flight_at(&self.network, place) {
-            Some(in_flight) => {
-                let bytes = &in_flight.packet.contents;
-                let moved = read_as(bytes);
-                match in_flight.sender {
-                    Side::B => {
-                        let entry = take_packet(&mut self.a, number, now, path, bytes);
-                        self.emitted(entry, Some(Side::A), false, moved)
-                    }
-                    Side::A => {
-                        let entry = take_packet(&mut self.b, number, now, path, bytes);
-                        self.emitted(entry, Some(Side::B), false, moved)
-                    }
-                }
-            }
-            None => self.unchanged_step(number, Answer::NoSuchPacket, None),
-        }
-    }
-
-    /// Bytes that the other agent did not send arrive.
-    fn stray(
-        &mut self,
-        number: usize,
-        side: Side,
-        now: Instant,
-        path: Path,
-        bytes: &[u8],
-    ) -> WorldEntry
-        ensures did { (s : Streams) → Happens H.mac P.answers (world_of self.old) s (world.Stray side now.0 path bytes.now) (outcome_of result)
-            (world_of self.new) s }
-        ensures numbered { result.number ≡ number }
-    {
-        match side {
-            Side::A => {
-                let entry = take_stray(&mut self.a, number, now, path, bytes);
-                self.emitted(entry, Some(Side::A), false, None)
-            }
-            Side::B => {
-                let entry = take_stray(&mut self.b, number, now, path, bytes);
-                self.emitted(entry, Some(Side::B), false, None)
-            }
-        }
-    }
-
-    /// One event.
-    fn happen<R: Rng, S: Rng>(
-        &mut self,
-        number: usize,
-        event: TwoAgentsEvent<P>,
-        rng_a: &mut R,
-        rng_b: &mut S,
-    ) -> WorldEntry
-        ensures did { Happens H.mac P.answers (world_of self.old) (sources (R.stream rng_a.old) (S.stream rng_b.old)) (event_view event)
-            (outcome_of result) (world_of self.new) (sources (R.stream rng_a.new) (S.stream rng_b.new)) }
-        ensures numbered { result.number ≡ number }
-    {
-        match event {
-            TwoAgentsEvent::Call(side, call) => {
-                if in_world(&call) {
-                    self.turn(side, number, call, rng_a, rng_b)
-                } else {
-                    self.unchanged_step(number, Answer::NotInWorld, Some(side))
-                }
-            }
-            TwoAgentsEvent::Poll(side) => self.poll(side, number),
-            TwoAgentsEvent::Deliver {
-                packet,
-                now,
-                proto,
-                source,
-                destination,
-            } => {
-                let path = Path {
-                    proto,
-                    source,
-                    destination,
-                };
-                self.deliver(number, packet, now, path)
-            }
-            TwoAgentsEvent::Stray {
-                side,
-                now,
-                proto,
-                source,
-                destination,
-                bytes,
-            } => {
-                let path = Path {
-                    proto,
-                    source,
-                    destination,
-                };
-                self.stray(number, side, now, path, &bytes)
-            }
-        }
     }
 
     /// Memory for all entries is allocated before the first event.
@@ -570,6 +186,11 @@ impl<H: Sha1HmacProvider + Drop, P: LocalPreference> TwoAgents<H, P> {
         // on that serves no early request. Preconditions on its pairs of the path are those of `nomination_accepted`.
         ensures one_path { OnePathIsSelected H.mac P.answers (world_of self.old) (sources (R.stream rng_a.old) (S.stream rng_b.old)) (logged events.items result.entries.items) }
 
+        // With numbers it needs less: the controlling agent nominates a path, and this check is delivered. At the end the controlled agent goes
+        // by numbers, and a pair on the path is eligible and was nominated by a greater number than all others. Then each selected
+        // this path last, whatever other nominations are delivered, late or repeatedly.
+        ensures by_number { LeadingPathIsSelected H.mac P.answers (world_of self.old) (sources (R.stream rng_a.old) (S.stream rng_b.old)) (logged events.items result.entries.items) }
+
         // Each agent stores what `run` bounds, whatever the network delivers. With a limit on what packets bring, whenever it receives
         // one or a timeout comes: at most as many local candidates as the limit and its own `add_local_candidate` calls together, as
         // many remote ones as the limit and its `add_remote_candidate` calls, and as many sources as the limit.
@@ -594,6 +215,7 @@ impl<H: Sha1HmacProvider + Drop, P: LocalPreference> TwoAgents<H, P> {
         both_select::<H, P>();
         lone_paths_mirror::<H, P>();
         one_path_is_selected::<H, P>();
+        leading_path_is_selected::<H, P>();
         roles_meet::<H, P>();
         lists_stay_bounded::<H, P>();
         pairs_stay_few::<H, P>();

@@ -1,12 +1,16 @@
 //! The theorems of each execution of the two-agent network model. Each is the contract of a function that does nothing.
 
-ghost use Rattle.is.specs.WorldTheorems.{KeepsTheorem, SwitchesOnceTheorem, DiffersTheorem, TracedTheorem, DeliveriesTheorem, AcceptedNominationsTheorem, ConnectionsTheorem, ConnectsTheorem, InTimeTheorem, MeetingsTheorem, MirrorsTheorem, RenominationsTheorem};
+ghost use Rattle.is.specs.WorldTheorems.{KeepsTheorem, SwitchesOnceTheorem, DiffersTheorem, TracedTheorem, DeliveriesTheorem, AcceptedNominationsTheorem, ConnectionsTheorem, ConnectsTheorem, InTimeTheorem, MeetingsTheorem, MirrorsTheorem, RenominationsTheorem, NumbersTheorem};
 
 use is_candidate::LocalPreference;
 use is_proto::Sha1HmacProvider;
 use is_theorems::exchanging::{checks_ask, exchanges_succeed_later};
-use is_theorems::reaching::{courses_check_from_due, courses_reach_from_due};
-use is_theorems::renominating::{last_accepted_nominations_are_last, nominated_are_last};
+use is_theorems::reaching::{
+    courses_check_from_due, courses_reach_from_due, courses_reach_unanswered,
+};
+use is_theorems::renominating::{
+    greatest_are_last, last_accepted_nominations_are_last, nominated_are_last,
+};
 use is_theorems::roles::conflicts_settle;
 use is_theorems::selecting::{accepted_nominations_are_selected, successes_select};
 use is_theorems::timing::courses_reach_in_time;
@@ -59,7 +63,7 @@ pub(crate) fn delivered_rounds_select<H: Sha1HmacProvider, P: LocalPreference>()
     fresh_is_sound::<H, P>();
     exchanges_succeed_later::<H, P>();
     courses_check_from_due::<H, P>();
-    courses_reach_from_due::<H, P>();
+    courses_reach_unanswered::<H, P>();
     successes_select::<H, P>();
 }
 
@@ -111,6 +115,7 @@ pub(crate) fn both_select<H: Sha1HmacProvider, P: LocalPreference>()
     accepted_nominations_are_selected::<H, P>();
     courses_check_from_due::<H, P>();
     courses_reach_from_due::<H, P>();
+    courses_reach_unanswered::<H, P>();
     successes_select::<H, P>();
 }
 
@@ -144,4 +149,17 @@ pub(crate) fn one_path_is_selected<H: Sha1HmacProvider, P: LocalPreference>()
     exchanges_succeed_later::<H, P>();
     nominated_are_last::<H, P>();
     last_accepted_nominations_are_last::<H, P>();
+}
+
+/// With numbered nominations at both agents: if the controlling one nominates a path, and a pair on it was nominated by the greatest number
+/// at the controlled one, both selected this path last.
+pub(crate) fn leading_path_is_selected<H: Sha1HmacProvider, P: LocalPreference>()
+    ensures { NumbersTheorem H.mac P.answers }
+{
+    path_effect::<H, P>();
+    fresh_is_sound::<H, P>();
+    checks_ask::<H, P>();
+    nominated_are_last::<H, P>();
+    last_accepted_nominations_are_last::<H, P>();
+    greatest_are_last::<H, P>();
 }

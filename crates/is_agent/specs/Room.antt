@@ -4,7 +4,7 @@ use Rattle.std.specs.VecDeque.{deque_len, deque_capacity}
 use Rattle.is_pair.specs.Checklists as checklists
 use Rattle.is_pair.specs.Checklists.{HasRoom}
 use Rattle.is_agent.specs.declared.agent.Agent.{Agent}
-use Rattle.is_rules.specs.Fitting.{MTU_FLOOR}
+use Rattle.is_rules.specs.Fitting.{CHECK_ROOM}
 use Rattle.is_rules.specs.Checking.{username_between}
 use Rattle.is_rules.specs.Due.{may_fall_due}
 use Rattle.is_agent.specs.View.{record_of}
@@ -56,7 +56,7 @@ module _ {H P : Type 0} where
 
   -- and a buffer for the longest one
   abbrev pub HasContents : Agent H P → Type 0
-  HasContents a = IfSome a.remote_creds (λ _. length a.contents.items ≡ MTU_FLOOR)
+  HasContents a = IfSome a.remote_creds (λ _. length a.contents.items ≡ CHECK_ROOM)
 
   abbrev pub IsPrepared : Agent H P → Type 0
   IsPrepared a = HasUsername a × HasContents a

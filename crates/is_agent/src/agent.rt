@@ -65,7 +65,7 @@ pub struct Agent<H, P> {
     pub(crate) lite: bool,
     /// Each nomination replaces the ones before.
     pub(crate) renominates: bool,
-    /// What the agent does beyond the original's behaviour.
+    /// What the agent does beyond the original's behavior.
     pub(crate) rules: Rules,
     /// The greatest length of a packet in bytes.
     pub(crate) mtu: usize,
@@ -92,6 +92,12 @@ pub struct Agent<H, P> {
     pub(crate) selected_pair: Option<u64>,
     /// The number of the pair that the peer nominated last.
     pub(crate) last_nominated: Option<u64>,
+    /// How many paths were selected, which numbers the nominations.
+    pub(crate) nominations: u32,
+    /// A path was selected, and no check was sent on its pair since.
+    pub(crate) nomination_due: bool,
+    /// In this session a nomination of the peer with a number was served.
+    pub(crate) numbers_seen: bool,
     /// The next check may go ahead of pairs that are due earlier.
     pub(crate) ahead_turn: bool,
     /// The kind from which on the kinds of pairs take turns.
@@ -194,6 +200,9 @@ impl<H: Sha1HmacProvider + Drop, P: LocalPreference> Agent<H, P> {
             next_number: 0,
             selected_pair: None,
             last_nominated: None,
+            nominations: 0,
+            nomination_due: false,
+            numbers_seen: false,
             ahead_turn: false,
             next_kind: 0,
             queue: VecDeque::new(alloc),

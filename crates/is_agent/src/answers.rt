@@ -196,13 +196,16 @@ impl<H: Sha1HmacProvider + Drop, P: LocalPreference> Agent<H, P> {
         }
     }
 
-    /// Switches the role if the check of the pair with this number was sent in the current role (RFC 8445, section 7.2.5.1).
+    /// Switches the role if the check of the pair with this number was sent in the current role (RFC 8445, section 7.2.5.1), unless the
+    /// agent keeps its role.
     fn leave_role(&mut self, number: u64, path: &Path, message: &StunMessage<'_>)
         requires kept { KeepsCheckOn (record_of self.old) path.now (message_view message.now).id number }
         ensures removes_expired { LeavesRole (record_of self.old) path.now (message_view message.now) nothing_emitted (record_of self.new) }
         ensures news { UsesNews 0 self.old self.new }
     {
-        if self.is_of_present_role(number, message.trans_id()) {
+        let present = self.is_of_present_role(number, message.trans_id());
+        let keeps = self.keeps_role();
+        if present && !keeps {
             self.switch_role();
         }
     }

@@ -6,7 +6,7 @@ ghost use Rattle.is_stun.specs.MessageView.{message_view};
 ghost use Rattle.is_stun.specs.Writing.{written, rejection};
 ghost use Rattle.is_pair.specs.Pairs.{PairRecord};
 ghost use Rattle.is_rules.specs.declared.credentials.IceCreds as model;
-ghost use Rattle.is_rules.specs.Fitting.{MTU_FLOOR};
+ghost use Rattle.is_rules.specs.Fitting.{CHECK_ROOM};
 ghost use Rattle.is_agent.specs.View.{record_of};
 ghost use Rattle.is_rules.specs.Due.{Drafts};
 ghost use Rattle.is_agent.specs.Room.{HasUsername};
@@ -56,6 +56,7 @@ impl<H: Sha1HmacProvider + Drop, P: LocalPreference> Agent<H, P> {
             path: self.path_of(pair),
             priority: check_priority_at(&self.local, pair.local_idx()),
             nominated: self.stays_nominated(pair),
+            nomination: self.nomination_of(pair),
         }
     }
 
@@ -73,7 +74,7 @@ impl<H: Sha1HmacProvider + Drop, P: LocalPreference> Agent<H, P> {
     /// The bytes of the check, written to this buffer.
     pub(crate) fn check_bytes(&self, mut contents: Vec<u8>, id: TransId, draft: Draft) -> Vec<u8>
         requires username { HasUsername self.now }
-        requires contents { IfSome self.now.remote_creds (λ _. length contents.items ≡ MTU_FLOOR) }
+        requires contents { IfSome self.now.remote_creds (λ _. length contents.items ≡ CHECK_ROOM) }
         ensures put { (peer : model.IceCreds) (p : PairRecord) → self.now.remote_creds ≡ Some peer → Drafts (record_of self.now) p draft
             → IsPut (written (H.mac self.now.provider) (Some peer.pass) (check_message (record_of self.now) peer p id.0))
             (check_message (record_of self.now) peer p id.0) }
@@ -91,7 +92,8 @@ impl<H: Sha1HmacProvider + Drop, P: LocalPreference> Agent<H, P> {
                 self.tie_breaker,
                 draft.priority,
                 nominates,
-            );
+            )
+            .with_nomination(draft.nomination);
             self.write_check(&mut contents, request, peer.pass.as_str());
         }
         contents

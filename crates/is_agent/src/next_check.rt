@@ -13,6 +13,7 @@ use is_candidate::LocalPreference;
 use is_pair::pair::CandidatePair;
 use is_proto::{Instant, Sha1HmacProvider};
 use is_rules::kinds::{Precedence, has_first_due, kind_of, next_ahead};
+use is_rules::nomination::pair_selected;
 use is_rules::rules::goes_ahead;
 
 impl<H: Sha1HmacProvider + Drop, P: LocalPreference> Agent<H, P> {
@@ -77,12 +78,14 @@ impl<H: Sha1HmacProvider + Drop, P: LocalPreference> Agent<H, P> {
         )
     }
 
-    /// The pair that is checked next, by whether the check goes ahead.
+    /// The pair that is checked next: the one whose nomination is due, or else by whether the check goes ahead.
     fn next_to_check(&self, ahead: bool, now: Instant) -> Option<&CandidatePair>
         requires { ahead ≡ is_ahead_turn now.0 (record_of self.now) }
         ensures { IsNextToCheck now.0 (record_of self.now) (option_copied result) }
     {
-        if ahead {
+        if self.nominates_at_once() {
+            pair_selected(self.selected_pair, &self.pairs)
+        } else if ahead {
             self.next_ahead(now)
         } else {
             self.pairs.next_due(now, &self.timing)

@@ -3,10 +3,11 @@
 //! Of the eligible pairs, one with the greatest priority is selected. An agent that follows its peer selects the pair that the peer
 //! nominated last.
 
-ghost use Rattle.std.specs.Prelude.{◌≡◌, ℕ};
+ghost use Rattle.std.specs.Prelude.{◌≡◌, ℕ, is_some};
 ghost use Rattle.is_agent.specs.View.{record_of};
 ghost use Rattle.is_agent.specs.Room.{HasEventRoom, HasPacketRoom, HasCheckRoomAt, UsesNews};
-ghost use Rattle.is_rules.specs.Nominating.{followed, nominated_emitted, stays_nominated, Nominates, NominatesWhere};
+ghost use Rattle.is_rules.specs.Nominating.{nominates_at_once, followed, is_pressing, nomination_of, numbers, nominated_emitted, pair_selected, stays_nominated};
+ghost use Rattle.is_rules.specs.Nominating.{Nominates, NominatesWhere};
 ghost use Rattle.is_pair.specs.Pairs.{PairRecord};
 
 use crate::agent::{Agent, sides};
@@ -15,7 +16,9 @@ use is_pair::pair::CandidatePair;
 use is_proto::Sha1HmacProvider;
 use is_rules::emitted::Path;
 use is_rules::event::IceAgentEvent;
-use is_rules::nomination::{is_named_by, select_pair};
+use is_rules::nomination::{
+    followed_by_number, has_eligible, is_named_by, pair_selected, select_pair,
+};
 use is_rules::sides::Sides;
 
 impl<H: Sha1HmacProvider + Drop, P: LocalPreference> Agent<H, P> {
@@ -35,16 +38,71 @@ impl<H: Sha1HmacProvider + Drop, P: LocalPreference> Agent<H, P> {
                 destination: path.destination,
             });
         self.stats.nomination_send_count = self.stats.nomination_send_count.saturating_add(1);
+        self.nominations = self.nominations.saturating_add(1);
+        self.nomination_due = true;
     }
 
-    /// The number of the pair that the agent follows: the one that the peer nominated last.
+    /// Nominations have numbers: with renomination, by the agent's rules.
+    pub(crate) fn numbers(&self) -> bool
+        ensures { result ≡ numbers (record_of self.now) }
+    {
+        self.renominates && self.rules.numbered_nominations
+    }
+
+    /// The number of the pair that the agent follows: the one that the peer nominated last or, once it served a nomination with a
+    /// number, by the greatest one.
     fn followed(&self) -> Option<u64>
         ensures { result ≡ followed (record_of self.now) }
     {
-        if self.renominates && !self.controlling {
+        if !self.renominates || self.controlling {
+            None
+        } else if self.numbers() && self.numbers_seen {
+            followed_by_number(&self.pairs, self.controlling, self.selected_pair)
+        } else {
             self.last_nominated
+        }
+    }
+
+    /// NOMINATION of a check of the pair.
+    pub(crate) fn nomination_of(&self, pair: &CandidatePair) -> Option<u32>
+        ensures { result ≡ nomination_of (record_of self.now) pair.now }
+    {
+        if self.controlling && self.numbers() && self.stays_nominated(pair) {
+            Some(self.nominations.max(1))
         } else {
             None
+        }
+    }
+
+    /// The pair that was selected last still exists.
+    fn has_selected(&self) -> bool
+        ensures { result ≡ is_some (pair_selected (record_of self.now).selected_pair (record_of self.now).pairs) }
+    {
+        pair_selected(self.selected_pair, &self.pairs).is_some()
+    }
+
+    /// A path was selected, and its nomination is still to be sent.
+    pub(crate) fn nominates_at_once(&self) -> bool
+        ensures { result ≡ nominates_at_once (record_of self.now) }
+    {
+        self.controlling
+            && !self.lite
+            && self.numbers()
+            && self.nomination_due
+            && self.has_selected()
+    }
+
+    /// The same, or the selected pair is gone, and another one may be selected.
+    pub(crate) fn is_pressing(&self) -> bool
+        ensures { result ≡ is_pressing (record_of self.now) }
+    {
+        if !self.numbers() {
+            return false;
+        }
+        if self.has_selected() {
+            self.controlling && !self.lite && self.nomination_due
+        } else {
+            has_eligible(&self.pairs, self.controlling)
         }
     }
 

@@ -64,6 +64,7 @@ impl<H: Sha1HmacProvider + Drop, P: LocalPreference> Agent<H, P> {
         self.local = local;
         self.remote.clear();
         self.pairs.clear();
+        self.numbers_seen = false;
         self.packets.clear();
         self.discovered_sources.clear();
         self.stats = IceAgentStats::default();
@@ -79,7 +80,8 @@ impl<H: Sha1HmacProvider + Drop, P: LocalPreference> Agent<H, P> {
 
     /// Restarts the session with new credentials (RFC 8445, section 9). Remote credentials, remote candidates, pairs,
     /// packets, events, sources and statistics are removed. Local candidates stay, with the new username fragment, if `keep`
-    /// is true; else they are removed too. Role, early requests, and the number of the next pair stay.
+    /// is true; else they are removed too. Role, early requests, the number of the next pair and that of the agent's last
+    /// nomination stay.
     ///
     /// Fails with `CredentialsTooLong` if the username fragment and a colon are longer than 508 bytes, and with
     /// `OutOfMemory`. The agent is then unchanged.

@@ -4,7 +4,7 @@ ghost use Rattle.std.specs.Prelude.{◌≡◌};
 ghost use Rattle.is_agent.specs.View.{record_of};
 ghost use Rattle.is_rules.specs.RequestView.{request_view};
 ghost use Rattle.is_agent.specs.Room.{HasServingRoom, UsesNews};
-ghost use Rattle.is_rules.specs.Roles.{conflict_by, conflict_of, rival, switched};
+ghost use Rattle.is_rules.specs.Roles.{conflict_by, conflict_of, keeps_role, rival, switched};
 
 use crate::agent::{Agent, sides};
 use is_candidate::LocalPreference;
@@ -25,10 +25,17 @@ impl<H: Sha1HmacProvider + Drop, P: LocalPreference> Agent<H, P> {
         }
     }
 
+    /// The agent never changes its role: it is lite, and its rules say so.
+    pub(crate) fn keeps_role(&self) -> bool
+        ensures { result ≡ keeps_role (record_of self.now) }
+    {
+        self.lite && self.rules.lite_keeps_role
+    }
+
     pub(crate) fn conflict(&self, request: &Request<'_>) -> Conflict
         ensures { result ≡ conflict_of (record_of self.now) (request_view request.now) }
     {
-        conflict_by(self.tie_breaker, self.rival(request))
+        conflict_by(self.keeps_role(), self.tie_breaker, self.rival(request))
     }
 
     /// The agent switches to the other role, and all priorities are computed again.

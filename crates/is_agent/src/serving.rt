@@ -19,7 +19,7 @@ ghost use Rattle.is_stun.specs.Writing.{written};
 ghost use Rattle.is_rules.specs.Sending.{carried, with_packet};
 ghost use Rattle.is_rules.specs.Roles.{switched};
 ghost use Rattle.is_agent.specs.Ready.{IsPlan, IsReady};
-ghost use Rattle.is_rules.specs.Serving.{names_another, is_misled, is_admitted, sender_at, nominated_last, pair_served, replied, RecordsAndResponds};
+ghost use Rattle.is_rules.specs.Serving.{names_another, is_misled, is_admitted, sender_at, nominated_last, pair_served, replied, sees_number, RecordsAndResponds};
 ghost use Rattle.is_rules.specs.Serving.{AddsPairAndResponds, FindsOrAddsPair, AddsUnknownSender, CountsAndServes, SendsRoleConflict, ResolvesRoleConflict, Serves, Chooses};
 ghost use Rattle.is_rules.specs.Serving.{selects_at_requests, trigger_time, needs_pair_at, needs_pair, lacks_number, MayFailAtRequest};
 
@@ -218,6 +218,16 @@ impl<H: Sha1HmacProvider + Drop, P: LocalPreference> Agent<H, P> {
         }
     }
 
+    /// Whether a nomination with a number was served, after this request.
+    fn sees_number(&self, request: &Request<'_>) -> bool
+        ensures { result ≡ sees_number self.now.controlling (request_view request.now).nomination self.now.numbers_seen }
+    {
+        match request.nomination {
+            Some(number) if !self.controlling && number != 0 => true,
+            _ => self.numbers_seen,
+        }
+    }
+
     /// Whether, and when, the request triggers a check: at once, and not before the last `handle_timeout` call.
     fn trigger(&self, request: &Request<'_>) -> Trigger
         ensures most { result.most ≡ (record_of self.now).rules.triggered_checks }
@@ -245,8 +255,10 @@ impl<H: Sha1HmacProvider + Drop, P: LocalPreference> Agent<H, P> {
             lite: self.lite,
         };
         let trigger = self.trigger(request);
-        self.last_nominated = self.nominated_last(request, number);
-        serve_pair(&mut self.pairs, number, request, role, trigger);
+        let taken = request.as_taken(self.numbers());
+        self.last_nominated = self.nominated_last(&taken, number);
+        self.numbers_seen = self.sees_number(&taken);
+        serve_pair(&mut self.pairs, number, &taken, role, trigger);
     }
 
     /// The pair records the request, nomination is evaluated if the pair is valid, and the response is sent. A controlled agent

@@ -3,7 +3,7 @@
 ghost use Rattle.std.specs.Prelude.{◌≡◌, ◌<◌, Some};
 ghost use Rattle.std.specs.Range.{range_inclusive_start, range_inclusive_end};
 ghost use Rattle.is_agent.specs.View.{record_of};
-ghost use Rattle.is_rules.specs.Settings.{SetsMtu, with_rtos, with_rules, with_retransmits, with_lite_timeout, numbers_skipped};
+ghost use Rattle.is_rules.specs.Settings.{SetsControlling, SetsMtu, with_rtos, with_rules, with_retransmits, with_lite_timeout, numbers_skipped};
 ghost use Rattle.is_rules.specs.Questions.{ice_timeout};
 
 use crate::agent::Agent;
@@ -13,15 +13,18 @@ use is_rules::credentials::USERNAME_LIMIT;
 use is_rules::rules::Rules;
 use std::ops::RangeInclusive;
 
-/// The length of the longest check in bytes: the header, the attributes with the longest USERNAME, MESSAGE-INTEGRITY and
-/// FINGERPRINT.
-pub(crate) const MTU_FLOOR: usize = 20 + (4 + USERNAME_LIMIT) + 12 + 8 + 4 + 24 + 8;
+/// The length of the longest check without NOMINATION in bytes: the header, the attributes with the longest USERNAME, MESSAGE-INTEGRITY
+/// and FINGERPRINT.
+const MTU_FLOOR: usize = 20 + (4 + USERNAME_LIMIT) + 12 + 8 + 4 + 24 + 8;
+
+/// The same with NOMINATION.
+pub(crate) const CHECK_ROOM: usize = MTU_FLOOR + 8;
 
 impl<H: Sha1HmacProvider + Drop, P: LocalPreference> Agent<H, P> {
     /// Sets how long packets may be, in bytes. The start of the range is the target, which `mtu` returns. Its end is the
     /// length from which packets cause a warning, which `mtu_warn` returns. A packet is as long as its message.
     ///
-    /// Fails with `MtuTooSmall` if the target is below 588 bytes, the length of the longest check.
+    /// Fails with `MtuTooSmall` if the target is below 588 bytes, the length of the longest check. With NOMINATION it is 8 bytes longer.
     pub fn set_mtu(&mut self, mtu: RangeInclusive<usize>) -> Result<(), IceError>
         ensures { SetsMtu (record_of self.old) (range_inclusive_start mtu) (range_inclusive_end mtu) result (record_of self.new) }
     {
@@ -105,20 +108,22 @@ impl<H: Sha1HmacProvider + Drop, P: LocalPreference> Agent<H, P> {
     /// the pair on which it received the last request with USE-CANDIDATE, once a check of its own was answered on it. Until
     /// then it keeps the pair that it selected last. With a controlling peer that nominates several pairs and repeats
     /// USE-CANDIDATE on each, a controlled agent would change its path at each of these checks.
+    ///
+    /// With the rule `numbered_nominations` each nomination has a number besides, and a controlled agent goes by the greatest one.
     pub fn set_renomination(&mut self, renominates: bool)
         ensures { record_of self.new ≡ record (record_of self.old) { renominates = renominates } }
     {
         self.renominates = renominates;
     }
 
-    /// What the agent does beyond the original's behaviour: `Rules::original()`, nothing, until it is set.
+    /// What the agent does beyond the original's behavior: `Rules::original()`, nothing, until it is set.
     pub fn rules(&self) -> Rules
         ensures { result ≡ (record_of self.now).rules }
     {
         self.rules
     }
 
-    /// Sets what the agent does beyond the original's behaviour. Set it before the session. The peer need not have the same
+    /// Sets what the agent does beyond the original's behavior. Set it before the session. The peer need not have the same
     /// rules.
     pub fn set_rules(&mut self, rules: Rules)
         ensures { record_of self.new ≡ with_rules rules (record_of self.old) }
@@ -201,10 +206,16 @@ impl<H: Sha1HmacProvider + Drop, P: LocalPreference> Agent<H, P> {
     }
 
     /// Gives the agent the controlling or the controlled role. Existing pairs keep their priorities.
-    pub fn set_controlling(&mut self, controlling: bool)
-        ensures { record_of self.new ≡ record (record_of self.old) { controlling = controlling } }
+    ///
+    /// Fails with `LiteStaysControlled` if a lite agent is to be controlling, and its rules have `lite_keeps_role`.
+    pub fn set_controlling(&mut self, controlling: bool) -> Result<(), IceError>
+        ensures { SetsControlling (record_of self.old) controlling result (record_of self.new) }
     {
+        if self.keeps_role() && controlling {
+            return Err(IceError::LiteStaysControlled);
+        }
         self.controlling = controlling;
+        Ok(())
     }
 
     /// Makes the number of the next pair at least this one.

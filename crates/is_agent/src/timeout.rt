@@ -2,7 +2,7 @@
 //!
 //! Capacity for all of it is reserved before the agent changes; what follows can't fail.
 
-ghost use Rattle.std.specs.Prelude.{◌≡◌, ℕ, Option, Some, true, IsSome, None, IfOk, IfErr, OnOk, MatchOption};
+ghost use Rattle.std.specs.Prelude.{◌≡◌, ℕ, ◌||◌, Option, Some, true, IsSome, None, IfOk, IfErr, OnOk, MatchOption};
 ghost use Rattle.std.specs.List.{list_any};
 ghost use Rattle.is_stun.specs.Theorems.{IsPut};
 ghost use Rattle.is_stun.specs.Writing.{written};
@@ -10,12 +10,12 @@ ghost use Rattle.is_stun.specs.declared.header.Class.TheVariants as classes;
 ghost use Rattle.is_rules.specs.declared.credentials.IceCreds as model;
 ghost use Rattle.is_agent.specs.View.{record_of, emitted_of};
 ghost use Rattle.is_agent.specs.Room.{HasPacketRoom, HasEventRoom, HasCheckRoom, HasCheckRoomAt, IsPrepared, UsesEvents};
-ghost use Rattle.is_rules.specs.Checking.{check_message, is_ahead_turn, ChecksPair, ChecksNext, MayCheck};
+ghost use Rattle.is_rules.specs.Checking.{check_message, is_ahead_turn, is_selected_number, ChecksPair, ChecksNext, MayCheck};
 ghost use Rattle.is_pair.specs.Multiset.{has_number, pair_numbered};
 ghost use Rattle.is_pair.specs.Due.{is_due};
 ghost use Rattle.is_rules.specs.Agent.{AgentRecord};
-ghost use Rattle.is_rules.specs.Due.{may_fall_due, Drafts, check_counted};
-ghost use Rattle.is_rules.specs.Nominating.{Nominates};
+ghost use Rattle.is_rules.specs.Due.{may_nominate, may_fall_due, Drafts, check_counted};
+ghost use Rattle.is_rules.specs.Nominating.{nominates_at_once, Nominates};
 ghost use Rattle.is_pair.specs.Pairs.{PairRecord};
 ghost use Rattle.is_rules.specs.Queue.{request_at};
 ghost use Rattle.is_rules.specs.Sending.{with_packet};
@@ -27,12 +27,13 @@ ghost use Rattle.is_rules.specs.TimeoutStart.{outdated};
 ghost use Rattle.is_rules.specs.Timeouts.{at_request, timeout_begun, is_expired, expired_gone, RemovesExpired, MayFailAtTimeout, ServesQueued, MaintainsPairs, TimesOut};
 
 use crate::agent::Agent;
-use crate::settings::MTU_FLOOR;
+use crate::settings::CHECK_ROOM;
 use is_candidate::LocalPreference;
 use is_pair::checklist::Expired;
 use is_proto::{IceError, Instant, Sha1HmacProvider, Transmit};
 use is_rules::checking::{Draft, write_username};
 use is_rules::emitted::{Emitted, Issued, Path};
+use is_rules::nomination::begin_nomination;
 use is_rules::queue::count_outdated;
 use is_rules::theorems;
 use is_rules::timeout::FallsDue;
@@ -126,6 +127,16 @@ impl<H: Sha1HmacProvider + Drop, P: LocalPreference> Agent<H, P> {
         Issued::new(path, Class::Request, id)
     }
 
+    /// The number is that of the pair that was selected last.
+    fn is_selected_number(&self, number: u64) -> bool
+        ensures { result ≡ is_selected_number (record_of self.now) number }
+    {
+        match self.selected_pair {
+            Some(selected) => selected == number,
+            None => false,
+        }
+    }
+
     /// Checks the pair with this number, with the content of its draft. The next check may go ahead unless this one does.
     fn check<R: Rng>(
         &mut self,
@@ -145,6 +156,9 @@ impl<H: Sha1HmacProvider + Drop, P: LocalPreference> Agent<H, P> {
     {
         self.next_kind = self.next_kind_after(number, ahead);
         self.ahead_turn = !ahead;
+        let begins = self.nominates_at_once();
+        self.nomination_due = self.nomination_due && !self.is_selected_number(number);
+        begin_nomination(&mut self.pairs, number, begins);
         let controlling = self.controlling;
         let id = self
             .pairs
@@ -182,7 +196,7 @@ impl<H: Sha1HmacProvider + Drop, P: LocalPreference> Agent<H, P> {
 
     /// Checks the pair that is next, if one is due, and records the packet.
     fn check_next<R: Rng>(&mut self, now: Instant, rng: &mut R)
-        requires room { list_any (is_due now.0 self.old.timing) (record_of self.old).pairs ≡ true → HasCheckRoom self.old }
+        requires room { (nominates_at_once (record_of self.old) || list_any (is_due now.0 self.old.timing) (record_of self.old).pairs) ≡ true → HasCheckRoom self.old }
         ensures { (peer : model.IceCreds) (first second : Option Path) → self.old.remote_creds ≡ Some peer
             → emitted_of self.old ≡ emitted_by None first second → (issued : Option Issued)
             × ChecksNext H.mac now.0 peer (record_of self.old) (R.stream rng.old) issued (record_of self.new) (R.stream rng.new)
@@ -218,17 +232,25 @@ impl<H: Sha1HmacProvider + Drop, P: LocalPreference> Agent<H, P> {
 // ---- capacity
 
 impl<H: Sha1HmacProvider + Drop, P: LocalPreference> Agent<H, P> {
+    /// The nomination of a selected path may be due.
+    fn may_nominate(&self) -> bool
+        ensures { result ≡ may_nominate (record_of self.now) }
+    {
+        self.controlling && !self.lite && self.numbers()
+    }
+
     /// A check may be due at time `now`.
     fn may_fall_due(&self, now: Instant) -> bool
         ensures { result ≡ may_fall_due now.0 (record_of self.now) }
     {
         !self.lite
             && self.remote_creds.is_some()
-            && self.pairs.any(&FallsDue {
-                controlling: self.controlling,
-                now,
-                timing: &self.timing,
-            })
+            && (self.may_nominate()
+                || self.pairs.any(&FallsDue {
+                    controlling: self.controlling,
+                    now,
+                    timing: &self.timing,
+                }))
     }
 
     /// Prepares the USERNAME and the buffer of a check, once the peer is known.
@@ -240,7 +262,7 @@ impl<H: Sha1HmacProvider + Drop, P: LocalPreference> Agent<H, P> {
             return Ok(());
         };
         write_username(&mut self.username, peer, &self.local_creds)?;
-        self.contents.resize(MTU_FLOOR, 0)
+        self.contents.resize(CHECK_ROOM, 0)
     }
 
     /// Reserves capacity for a packet, and for one more check of any pair. It is a separate function, so that calls without a
@@ -354,8 +376,9 @@ impl<H: Sha1HmacProvider + Drop, P: LocalPreference> Agent<H, P> {
     /// Runs the agent's timers at time `now`. In New it first emits the start event. It evaluates the state. It serves an
     /// early request, once the remote credentials are known. If there is none, it nominates a pair, removes pairs that are no
     /// longer possible or whose consent ended, and checks the pair that is due first, or in turn the selected one, an urgent one or
-    /// one of the next kind (`Rules`; RFC 8445, sections 6.1.4.2, 7.2.4, 7.3.1.4 and 8.1.1; RFC 7675). It allocates what the events and the packet that it issues need. If a
-    /// pair may be nominated and its due time is not fixed, it reserves capacity for its check too.
+    /// one of the next kind (`Rules`; RFC 8445, sections 6.1.4.2, 7.2.4, 7.3.1.4 and 8.1.1; RFC 7675). With numbered nominations it first
+    /// checks a selected pair whose nomination was not sent yet. It allocates what the events and the packet that it issues need. If a
+    /// pair may be nominated and its due time is not fixed, or nominations have numbers, it reserves capacity for a check too.
     ///
     /// Fails with `PairIdsExhausted` if a request is served, a pair must be added and no number is left, and with
     /// `OutOfMemory`. The agent is then unchanged, and no random words were drawn.

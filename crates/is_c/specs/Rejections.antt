@@ -16,6 +16,7 @@ message_of errors.PairIdsExhausted = None
 message_of errors.MtuTooSmall = None
 message_of errors.CredentialsTooLong = None
 message_of errors.PriorityTooHigh = None
+message_of errors.LiteStaysControlled = None
 
 abbrev pub PutsMessage : IceError → List ℕ → ℕ → ℤ → List ℕ → ℕ → Type 0
 PutsMessage e before was code after count =

@@ -29,6 +29,8 @@ rules_of r = record {
   consent = consent_of r.consent_timeout r.strict_consent;
   selected_first = r.selected_first;
   timeout_after_requests = r.timeout_after_requests;
+  lite_keeps_role = r.lite_keeps_role;
+  numbered_nominations = r.numbered_nominations;
 }
 
 -- the struct of C that is written for rules
@@ -43,6 +45,8 @@ reported_rules rules = record {
   strict_consent = option_map_or (λ c. c.strict) rules.consent false;
   selected_first = rules.selected_first;
   timeout_after_requests = rules.timeout_after_requests;
+  lite_keeps_role = rules.lite_keeps_role;
+  numbered_nominations = rules.numbered_nominations;
 }
 
 -- what C reads after it set this struct: without early retransmissions the interval is 0, and without a timeout consent is not strict

@@ -101,6 +101,7 @@ attributes_in f t bytes =
       ice_controlled = number_in f.controlled;
       ice_controlling = number_in f.controlling;
       network_cost = cost_in f;
+      nomination = None;
       fingerprint = None;
     }
 

@@ -47,6 +47,8 @@ pub const BAD_MESSAGE: i32 = -15;
 pub const MESSAGE_TOO_LONG: i32 = -16;
 /// As many candidates of the side are listed as its limit allows.
 pub const TOO_MANY_CANDIDATES: i32 = -17;
+/// See `IceError`.
+pub const LITE_STAYS_CONTROLLED: i32 = -18;
 
 pub(crate) fn code_of(error: &IceError) -> i32
     ensures { result ≡ code.code_of error.now }
@@ -58,6 +60,7 @@ pub(crate) fn code_of(error: &IceError) -> i32
         IceError::MtuTooSmall => MTU_TOO_SMALL,
         IceError::CredentialsTooLong => CREDENTIALS_TOO_LONG,
         IceError::PriorityTooHigh => PRIORITY_TOO_HIGH,
+        IceError::LiteStaysControlled => LITE_STAYS_CONTROLLED,
     }
 }
 

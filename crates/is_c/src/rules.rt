@@ -1,4 +1,4 @@
-//! What an agent does beyond the original's behaviour, as C sets and reads it.
+//! What an agent does beyond the original's behavior, as C sets and reads it.
 
 ghost use Rattle.std.specs.Prelude.{◌≡◌, None};
 ghost use Rattle.is_rules.specs.Agent.{original_rules, modern_rules};
@@ -31,6 +31,8 @@ pub struct AgentRules {
     pub strict_consent: bool,
     pub selected_first: bool,
     pub timeout_after_requests: bool,
+    pub lite_keeps_role: bool,
+    pub numbered_nominations: bool,
 }
 
 /// How many requests trigger a check: 0 means that there are no triggered checks.
@@ -78,6 +80,8 @@ fn rules_of(rules: &AgentRules) -> Rules
         consent: consent_of(rules.consent_timeout, rules.strict_consent),
         selected_first: rules.selected_first,
         timeout_after_requests: rules.timeout_after_requests,
+        lite_keeps_role: rules.lite_keeps_role,
+        numbered_nominations: rules.numbered_nominations,
     }
 }
 
@@ -102,6 +106,8 @@ fn reported_rules(rules: Rules) -> AgentRules
         strict_consent,
         selected_first: rules.selected_first,
         timeout_after_requests: rules.timeout_after_requests,
+        lite_keeps_role: rules.lite_keeps_role,
+        numbered_nominations: rules.numbered_nominations,
     }
 }
 
@@ -123,7 +129,7 @@ pub extern "C" fn is_ice_modern_rules(rules: &mut AgentRules) -> i32
     codes::OK
 }
 
-/// Sets what the agent does beyond the original's behaviour. What is set is what `is_ice_rules` returns; without early retransmissions it
+/// Sets what the agent does beyond the original's behavior. What is set is what `is_ice_rules` returns; without early retransmissions it
 /// returns 0 as their interval, and without a timeout of consent false for strict consent.
 #[unsafe(no_mangle)]
 pub extern "C" fn is_ice_set_rules(alloc: Global, slot: &mut Slot, rules: &AgentRules) -> i32

@@ -1,7 +1,7 @@
 //! Settings that the caller may change.
 
 ghost use Rattle.std.specs.Prelude.{◌≡◌, ◌==◌, Some, MatchBool};
-ghost use Rattle.is_rules.specs.Settings.{SetsMtu, with_rtos, with_retransmits, with_lite_timeout, numbers_skipped};
+ghost use Rattle.is_rules.specs.Settings.{SetsControlling, SetsMtu, with_rtos, with_retransmits, with_lite_timeout, numbers_skipped};
 ghost use Rattle.is_c.specs.Adding.{SetsMaxCandidates};
 ghost use Rattle.is_c.specs.Codes.{BAD_LIMIT, done_code, found_code};
 ghost use Rattle.is_c.specs.Limits.{limit_of};
@@ -15,16 +15,15 @@ use crate::slot::Slot;
 use is_proto::Duration;
 use std::alloc::Global;
 
-/// Gives the agent the controlling or the controlled role.
+/// Gives the agent the controlling or the controlled role. Fails for a lite agent that keeps its role.
 #[unsafe(no_mangle)]
 pub extern "C" fn is_ice_set_controlling(alloc: Global, slot: &mut Slot, controlling: bool) -> i32
-    ensures { At (AgentBecomes (λ a. record a { controlling = controlling })) (held_by slot.old) result (held_by slot.new) }
+    ensures { At (Calls (λ old outcome new. SetsControlling old controlling outcome new) done_code) (held_by slot.old) result (held_by slot.new) }
 {
     let Some(home) = slot.home() else {
         return codes::NO_AGENT;
     };
-    home.agent.set_controlling(controlling);
-    codes::OK
+    codes::done_code(home.agent.set_controlling(controlling))
 }
 
 fn is_controlling(made_offer: bool, lite: bool, other_is_lite: bool) -> bool

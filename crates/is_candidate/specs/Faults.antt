@@ -2,7 +2,7 @@
 use Rattle.std.specs.Prelude.{◌≡◌, ℕ, List, ◌++◌, codes, Result, Ok, Err, string_bytes}
 use Rattle.is_proto.specs.declared.error.IceError.{IceError}
 use Rattle.is_proto.specs.declared.error.IceError.TheVariants.{BadCandidate, OutOfMemory, PairIdsExhausted, MtuTooSmall, CredentialsTooLong}
-use Rattle.is_proto.specs.declared.error.IceError.TheVariants.{PriorityTooHigh}
+use Rattle.is_proto.specs.declared.error.IceError.TheVariants.{PriorityTooHigh, LiteStaysControlled}
 use Rattle.is_candidate.specs.declared.parse.fault.Fault.{Fault}
 use Rattle.is_candidate.specs.declared.parse.fault.Fault.TheVariants.{MissingPrefix, MissingFoundation, MissingComponent, BadComponent}
 use Rattle.is_candidate.specs.declared.parse.fault.Fault.TheVariants.{MissingProtocol, InvalidProtocol, MissingPriority, BadPriority}
@@ -45,6 +45,7 @@ RejectsText text PairIdsExhausted = ⊥
 RejectsText text MtuTooSmall = ⊥
 RejectsText text CredentialsTooLong = ⊥
 RejectsText text PriorityTooHigh = ⊥
+RejectsText text LiteStaysControlled = ⊥
 
 -- the candidate of the line, or the error
 abbrev pub ReadsLine : List ℕ → Result CandidateRecord IceError → Type 0

@@ -6,7 +6,7 @@ use Rattle.serde_json.specs.Read.{read}
 use Rattle.serde_json.specs.Written.{has_float}
 use Rattle.is_proto.specs.declared.error.IceError.{IceError}
 use Rattle.is_proto.specs.declared.error.IceError.TheVariants.{BadCandidate, OutOfMemory, PairIdsExhausted, MtuTooSmall, CredentialsTooLong}
-use Rattle.is_proto.specs.declared.error.IceError.TheVariants.{PriorityTooHigh}
+use Rattle.is_proto.specs.declared.error.IceError.TheVariants.{PriorityTooHigh, LiteStaysControlled}
 use Rattle.is_candidate.specs.Candidates.{CandidateRecord}
 use Rattle.is_candidate.specs.Faults.{RejectsText}
 use Rattle.is_candidate.specs.Lines.{Answer, IsLineOf}
@@ -92,6 +92,7 @@ RejectsInfo d PairIdsExhausted = ⊥
 RejectsInfo d MtuTooSmall = ⊥
 RejectsInfo d CredentialsTooLong = ⊥
 RejectsInfo d PriorityTooHigh = ⊥
+RejectsInfo d LiteStaysControlled = ⊥
 
 -- the candidate of the value, or the error
 abbrev pub ReadsInfo : Data → Result CandidateRecord IceError → Type 0

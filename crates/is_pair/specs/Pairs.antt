@@ -8,7 +8,7 @@ use Rattle.is_pair.specs.declared.pair.states.CheckState.{CheckState}
 use Rattle.is_pair.specs.declared.pair.states.CheckState.TheVariants.{Waiting, Succeeded}
 use Rattle.is_pair.specs.declared.pair.states.NominationState.{NominationState}
 use Rattle.is_pair.specs.declared.pair.states.NominationState.TheVariants.{None as Unnominated, Nominated, Success}
-use Rattle.is_pair.specs.States.{is_valid_state, is_nominated_state, state_once_sent, state_once_answered, state_from, nomination_once_sent}
+use Rattle.is_pair.specs.States.{is_valid_state, is_nominated_state, state_once_sent, state_once_answered, state_from, nomination_once_sent, nomination_again}
 use Rattle.is_pair.specs.States.{nomination_once_answered, nomination_from}
 use Rattle.is_pair.specs.Checks.{Check, IsCheckAt, answered_at, last_checks}
 
@@ -23,6 +23,8 @@ pub record PairRecord : Type 0 where
   -- how many checks were sent, also those that it no longer stores
   pub checks_sent : ℕ
   pub nomination : NominationState
+  -- the greatest number by which the peer nominated it (NOMINATION); 0: none
+  pub greatest_number : ℕ
   pub state : CheckState
   -- the checks from the peer: how many arrived, and when the last one did
   pub requests : ℕ
@@ -45,6 +47,7 @@ new_pair number local remote priority = record {
   checks = [];
   checks_sent = 0;
   nomination = Unnominated;
+  greatest_number = 0;
   state = Waiting;
   requests = 0;
   last_request = None;
@@ -69,6 +72,14 @@ abbrev pub nominated : Bool → PairRecord → PairRecord
 nominated true p = record p { nomination = Success }
 nominated false p = record p { nomination = Nominated }
 
+-- its nomination begins again: no check was sent since, so early retransmissions begin again
+abbrev pub renominated : PairRecord → PairRecord
+renominated p = record p { nomination = nomination_again p.nomination }
+
+-- after a nomination by the peer with this number: only the greatest one is kept
+abbrev pub numbered : ℕ → PairRecord → PairRecord
+numbered n p = record p { greatest_number = max p.greatest_number n }
+
 -- valid without a check of its own, on an ICE-lite agent
 abbrev pub validated : PairRecord → PairRecord
 validated p = record p { state = Succeeded }
@@ -82,6 +93,7 @@ last_of (Some a) b = Some (option_map_or (max a) b a)
 abbrev pub with_success_of : PairRecord → PairRecord → PairRecord
 with_success_of other p = record p {
   nomination = nomination_from other.nomination p.nomination;
+  greatest_number = max other.greatest_number p.greatest_number;
   state = state_from other.state p.state;
   consented = last_of other.consented p.consented;
 }

@@ -37,6 +37,13 @@ nomination_once_sent Nominated = Attempt
 nomination_once_sent Attempt = Attempt
 nomination_once_sent Success = Success
 
+-- after a nomination that begins again: no check was sent since
+abbrev pub nomination_again : NominationState → NominationState
+nomination_again Unnominated = Unnominated
+nomination_again Nominated = Nominated
+nomination_again Attempt = Nominated
+nomination_again Success = Nominated
+
 -- after a response, depending on whether the check was sent nominated
 
 abbrev pub state_once_answered : CheckState → CheckState

@@ -1,7 +1,7 @@
 //! A candidate pair.
 
 ghost use Rattle.std.specs.Prelude.{◌≡◌, ◌<◌, IfErr, IfOk, Some, length, option_map, slice_get};
-ghost use Rattle.is_pair.specs.Pairs.{new_pair, is_nominated, nominated};
+ghost use Rattle.is_pair.specs.Pairs.{new_pair, is_nominated, nominated, numbered, renominated};
 
 mod attempt;
 pub(crate) mod attempts;
@@ -39,6 +39,8 @@ pub struct CandidatePair {
     binding_attempts: VecDeque<BindingAttempt>,
     checks_sent: u64,
     nomination_state: NominationState,
+    /// The greatest number by which the peer nominated it; 0 if there is none.
+    greatest_number: u32,
     state: CheckState,
     remote_binding_requests: u64,
     remote_binding_request_time: Option<Instant>,
@@ -64,6 +66,7 @@ impl Model for CandidatePair {
       checks = p.binding_attempts.items;
       checks_sent = p.checks_sent;
       nomination = p.nomination_state;
+      greatest_number = p.greatest_number;
       state = p.state;
       requests = p.remote_binding_requests;
       last_request = option_map (λ at. at.0) p.remote_binding_request_time;
@@ -96,6 +99,7 @@ impl CandidatePair {
             binding_attempts: VecDeque::new(alloc),
             checks_sent: 0,
             nomination_state: NominationState::default(),
+            greatest_number: 0,
             state: CheckState::default(),
             remote_binding_requests: 0,
             remote_binding_request_time: None,
@@ -184,6 +188,14 @@ impl CandidatePair {
         };
     }
 
+    /// Returns the greatest number by which the peer nominated the pair (NOMINATION of draft-thatcher-ice-renomination), or 0 if there
+    /// is none.
+    pub fn greatest_number(&self) -> u32
+        ensures { result ≡ self.now.greatest_number }
+    {
+        self.greatest_number
+    }
+
     /// Copies the pair. The copy is equal in every part, including the fixed due time of the next check.
     ///
     /// Fails with `OutOfMemory` if there is no memory for the pending transactions.
@@ -199,6 +211,7 @@ impl CandidatePair {
             binding_attempts: self.binding_attempts.clone()?,
             checks_sent: self.checks_sent,
             nomination_state: self.nomination_state,
+            greatest_number: self.greatest_number,
             state: self.state,
             remote_binding_requests: self.remote_binding_requests,
             remote_binding_request_time: self.remote_binding_request_time,
@@ -208,4 +221,21 @@ impl CandidatePair {
             cached_next_attempt_time: self.cached_next_attempt_time,
         })
     }
+}
+
+// ---- for the agent, but not for its users
+
+/// The nomination of a pair begins again: its next check is a nominating one, and early retransmissions begin again. A pair that is not
+/// nominated stays so.
+pub fn renominate(pair: &mut CandidatePair)
+    ensures { pair.new ≡ renominated pair.old }
+{
+    pair.nomination_state = pair.nomination_state.again();
+}
+
+/// Keeps the number by which the peer nominated the pair, if it is the greatest one.
+pub fn keep_number(pair: &mut CandidatePair, number: u32)
+    ensures { pair.new ≡ numbered number pair.old }
+{
+    pair.greatest_number = pair.greatest_number.max(number);
 }

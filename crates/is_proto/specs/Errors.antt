@@ -12,7 +12,7 @@ use Rattle.is_proto.specs.declared.error.StunError.{StunError}
 use Rattle.is_proto.specs.declared.error.StunError.TheVariants.{Parse, BufferTooShort, ValueTooLong, MessageTooLong, BadErrorCode, UnknownMethod}
 use Rattle.is_proto.specs.declared.error.IceError.{IceError}
 use Rattle.is_proto.specs.declared.error.IceError.TheVariants.{BadCandidate, OutOfMemory, PairIdsExhausted, MtuTooSmall, CredentialsTooLong}
-use Rattle.is_proto.specs.declared.error.IceError.TheVariants.{PriorityTooHigh}
+use Rattle.is_proto.specs.declared.error.IceError.TheVariants.{PriorityTooHigh, LiteStaysControlled}
 
 -- what is wrong with the bytes of a message
 abbrev pub parse_fault_text : ParseFault → List ℕ
@@ -59,3 +59,4 @@ ice_error_text PairIdsExhausted = codes "pair ids exhausted"
 ice_error_text MtuTooSmall = codes "MTU target too small"
 ice_error_text CredentialsTooLong = codes "ICE credentials too long"
 ice_error_text PriorityTooHigh = codes "candidate priority too high"
+ice_error_text LiteStaysControlled = codes "lite agent stays controlled"

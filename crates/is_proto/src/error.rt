@@ -143,12 +143,14 @@ pub enum IceError {
     OutOfMemory,
     /// There are fewer unused pair numbers than combinations that the call has to try.
     PairIdsExhausted,
-    /// The target MTU is smaller than the longest check.
+    /// The target MTU is smaller than the longest check without NOMINATION.
     MtuTooSmall,
     /// The local username fragment, a colon and the remote username fragment are longer than a USERNAME may be.
     CredentialsTooLong,
     /// The local candidate has priority 4294967295, for which no pair priority fits 64 bits.
     PriorityTooHigh,
+    /// A lite agent that keeps its role can't be made controlling.
+    LiteStaysControlled,
 }
 
 impl fmt::Display for IceError {
@@ -162,6 +164,7 @@ impl fmt::Display for IceError {
             IceError::MtuTooSmall => f.write_str("MTU target too small"),
             IceError::CredentialsTooLong => f.write_str("ICE credentials too long"),
             IceError::PriorityTooHigh => f.write_str("candidate priority too high"),
+            IceError::LiteStaysControlled => f.write_str("lite agent stays controlled"),
         }
     }
 }

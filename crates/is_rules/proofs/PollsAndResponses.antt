@@ -2,3 +2,4 @@
 pub mod NextTimeout
 pub mod AddressesInResponses
 pub mod LastTime
+pub mod CalmTimeouts

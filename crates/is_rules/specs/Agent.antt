@@ -49,6 +49,12 @@ pub record AgentRecord (H P : Type 0) : Type 0 where
   pub selected_pair : Option ℕ
   -- the number of the pair that the peer nominated last, as of the last request with USE-CANDIDATE that was served
   pub last_nominated : Option ℕ
+  -- how many paths were selected, which numbers the nominations; past 2^32 - 1 it stays
+  pub nominations : ℕ
+  -- a path was selected, and no check was sent on its pair since
+  pub nomination_due : Bool
+  -- in this session a nomination of the peer with a number was served (NOMINATION)
+  pub numbers_seen : Bool
   -- whether the next check may go ahead of pairs that are due earlier, and from which kind on the kinds take turns (`Checking`, `Kinds`)
   pub ahead_turn : Bool
   pub next_kind : ℕ
@@ -74,6 +80,8 @@ original_rules = record {
   consent = None;
   selected_first = false;
   timeout_after_requests = false;
+  lite_keeps_role = false;
+  numbered_nominations = false;
 }
 
 -- what connects fastest, and ends consent in time: within the 30 s of RFC 7675, section 5.1
@@ -86,6 +94,8 @@ modern_rules = record {
   consent = Some (record { timeout = record { 0 = 29600 * MILLISECOND }; strict = false });
   selected_first = true;
   timeout_after_requests = true;
+  lite_keeps_role = true;
+  numbered_nominations = true;
 }
 
 abbrev pub no_stats : IceAgentStats
@@ -133,6 +143,9 @@ module _ {H P : Type 0} where
     next_number = 0;
     selected_pair = None;
     last_nominated = None;
+    nominations = 0;
+    nomination_due = false;
+    numbers_seen = false;
     ahead_turn = false;
     next_kind = 0;
     queue = [];

@@ -23,7 +23,7 @@ use Rattle.is_rules.specs.Sending.{path_of}
 use Rattle.is_rules.specs.Limit.{has_local_room}
 use Rattle.is_rules.specs.Nominating.{Nominates}
 use Rattle.is_rules.specs.States.{evaluated}
-use Rattle.is_rules.specs.Roles.{switched}
+use Rattle.is_rules.specs.Roles.{keeps_role, switched}
 use Rattle.is_rules.specs.Serving.{Drops}
 
 -- A local candidate has this address, possibly a discarded one.
@@ -87,13 +87,14 @@ module _ {H P : Type 0} where
   TakesSuccess now old via m emitted new =
       (recorded : AgentRecord H P) × Records now old via m recorded × Concludes now recorded emitted new
 
-  -- ---- errors: a 487 (RFC 8445, section 7.2.5.1) has an effect only if its check was sent in the present role
+  -- ---- errors: a 487 (RFC 8445, section 7.2.5.1) has an effect only if its check was sent in the present role, and the agent does not
+  -- keep its role
 
   -- Nomination and state are not evaluated, and the check is not marked as answered.
   abbrev pub LeavesRole : AgentRecord H P → Path → Message → Emitted → AgentRecord H P → Type 0
   LeavesRole old via m emitted new =
       (p : PairRecord) × (c : Check) × Has old.pairs p × (keeps_check_on old via m.id p ≡ true) × Has p.checks c × (c.id ≡ m.id)
-      × MatchBool (same c.controlling old.controlling) (Drops (switched old) emitted new) (Drops old emitted new)
+      × MatchBool (same c.controlling old.controlling && not (keeps_role old)) (Drops (switched old) emitted new) (Drops old emitted new)
 
   abbrev pub TakesFailure : AgentRecord H P → Path → Message → Emitted → AgentRecord H P → Type 0
   TakesFailure old via m emitted new = MatchBool (is_role_conflict m) (LeavesRole old via m emitted new) (Drops old emitted new)

@@ -18,7 +18,7 @@ use Rattle.is_rules.specs.Emitted.{reversed}
 use Rattle.is_rules.specs.Agent.{AgentRecord}
 use Rattle.is_rules.specs.Sending.{path_of}
 use Rattle.is_rules.specs.Roles.{conflict_of}
-use Rattle.is_rules.specs.Serving.{names_another}
+use Rattle.is_rules.specs.Serving.{names_another, nominates}
 use Rattle.is_rules.specs.Queue.{request_at}
 use Rattle.is_rules.specs.Answers.{is_role_conflict, goes_back}
 use Rattle.is_rules.specs.Steps.{Call, SetControlling, ReceivePacket, HandleTimeout}
@@ -69,7 +69,7 @@ module _ {H P : Type 0} where
 
   -- The peer nominates the path.
   abbrev pub IsNominatedByPeer : AgentRecord H P → Call P → Entry → Path → Type 0
-  IsNominatedByPeer old call e path = (q : RequestRecord) × IsServing old call e q × (q.use_candidate ≡ true) × (reversed q.path ≡ path)
+  IsNominatedByPeer old call e path = (q : RequestRecord) × IsServing old call e q × (nominates old q ≡ true) × (reversed q.path ≡ path)
 
   -- ----
 

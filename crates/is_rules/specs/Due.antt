@@ -15,7 +15,7 @@ use Rattle.is_rules.specs.declared.checking.Draft.{Draft}
 use Rattle.is_rules.specs.declared.emitted.Path.{Path}
 use Rattle.is_rules.specs.Agent.{AgentRecord}
 use Rattle.is_rules.specs.Answers.{keeps_check_on, success_counted}
-use Rattle.is_rules.specs.Nominating.{stays_nominated}
+use Rattle.is_rules.specs.Nominating.{nomination_of, numbers, stays_nominated}
 use Rattle.is_rules.specs.Sending.{path_of}
 
 -- The agent may nominate the pair itself.
@@ -36,10 +36,15 @@ module _ {H P : Type 0} where
   abbrev pub Drafts : AgentRecord H P → PairRecord → Draft → Type 0
   Drafts a p d =
       (d.path ≡ path_of a p) × (d.priority ≡ check_priority (candidate_at a.local p.local)) × (d.nominated ≡ stays_nominated a p)
+      × (d.nomination ≡ nomination_of a p)
+
+  -- The nomination of a selected path may be due.
+  abbrev pub may_nominate : AgentRecord H P → Bool
+  may_nominate a = a.controlling && not a.lite && numbers a
 
   -- The agent may send a check at this time.
   abbrev pub may_fall_due : ℕ → AgentRecord H P → Bool
-  may_fall_due now a = not a.lite && is_some a.remote_creds && list_any (falls_due a.controlling now a.timing) a.pairs
+  may_fall_due now a = not a.lite && is_some a.remote_creds && (may_nominate a || list_any (falls_due a.controlling now a.timing) a.pairs)
 
   abbrev pub check_counted : AgentRecord H P → AgentRecord H P
   check_counted a = record a { stats = record a.stats { bind_request_sent = counted a.stats.bind_request_sent } }

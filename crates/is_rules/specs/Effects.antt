@@ -18,12 +18,13 @@ use Rattle.is_rules.specs.Steps.{Answer, Entry, is_done, is_rejection, is_not_ac
 use Rattle.is_rules.specs.Emitted.{nothing_emitted, issued_as, reversed}
 use Rattle.is_rules.specs.Agent.{AgentRecord}
 use Rattle.is_rules.specs.Sending.{path_of}
-use Rattle.is_rules.specs.Roles.{conflict_of}
+use Rattle.is_rules.specs.Roles.{conflict_of, keeps_role}
 use Rattle.is_rules.specs.Accepting.{IsAcceptedOn}
 use Rattle.is_rules.specs.Answers.{is_role_conflict}
-use Rattle.is_rules.specs.Steps.{Call, SetControlTieBreaker, SetIceLite, SetLocalCredentials, SetRemoteCredentials, RestartIce}
+use Rattle.is_rules.specs.Steps.{Call, SetControlTieBreaker, SetIceLite, SetRules, SetLocalCredentials, SetRemoteCredentials, RestartIce}
 use Rattle.is_rules.specs.Steps.{RecreateCandidatePairs, ReceivePacket, Step}
 use Rattle.is_rules.specs.Sound.{IsSound, GivesBased}
+use Rattle.is_rules.specs.Serving.{nominates}
 use Rattle.is_rules.specs.Brought.{role_once, Brings, IsBrought, IsKept, IsValidOn, IsNominatedOn, Continues, IsServing, IsNominatedByPeer}
 use Rattle.is_rules.specs.Brought.{IsServedPastTests, IsAnswered, SwitchesRoleFor, IsRejectedBy, IsRoleSet}
 use Rattle.is_rules.specs.Owed.{Owes}
@@ -39,6 +40,11 @@ tie_set_by _ old = old
 abbrev pub lite_set_by : {P : Type 0} → Call P → Bool → Bool
 lite_set_by (SetIceLite lite) old = lite
 lite_set_by _ old = old
+
+-- the rule by which a lite agent keeps its role
+abbrev pub keeping_set_by : {P : Type 0} → Call P → Bool → Bool
+keeping_set_by (SetRules rules) old = rules.lite_keeps_role
+keeping_set_by _ old = old
 
 abbrev pub remote_set_by : {P : Type 0} → Call P → Option IceCreds → Option IceCreds
 remote_set_by (SetRemoteCredentials creds) remote = Some creds
@@ -82,6 +88,7 @@ module _ {H P : Type 0} where
     pub record PathEffect (old : AgentRecord H P) (call : Call P) (e : Entry) (new : AgentRecord H P) : Type 0 where
       pub provider : new.provider ≡ old.provider
       pub lite : new.lite ≡ lite_set_by call old.lite
+      pub keeping : new.rules.lite_keeps_role ≡ keeping_set_by call old.rules.lite_keeps_role
       pub remote_creds : new.remote_creds ≡ remote_after call e.answer old.remote_creds
       -- A message in `Brings` was accepted. So it is a Binding message, and signed.
       pub accepted : (at : ℕ) (by : Path) (m : Message) → Brings call e at by m → IsAcceptedOn mac old by m
@@ -101,11 +108,11 @@ module _ {H P : Type 0} where
       -- While the agent is controlled, each nominated path was nominated before, or the peer nominates it now.
       pub nominated : old.lite ≡ false → old.controlling ≡ false → new.controlling ≡ false
           → (path : Path) → IsNominatedOn new path → IsNominatedOn old path ⊎ IsNominatedByPeer old call e path
-      -- A success response replies to the request that is served. If that has USE-CANDIDATE and the agent is controlled, the path
-      -- is nominated.
+      -- A success response replies to the request that is served. If that nominates and the agent is controlled, the path is
+      -- nominated.
       pub replied : (issued : Issued) → e.emitted.issued ≡ Some issued → issued.class ≡ class.Success
           → (q : RequestRecord) × IsServing old call e q × (issued ≡ issued_as (reversed q.path) class.Success q.id)
-          × (q.use_candidate ≡ true → new.controlling ≡ false → IsNominatedOn new (reversed q.path))
+          × (nominates old q ≡ true → new.controlling ≡ false → IsNominatedOn new (reversed q.path))
       -- Each selected path was valid before, or its success response is received now. While the agent is controlled, it was
       -- nominated before, or the peer nominates it now.
       pub selected_paths : old.lite ≡ false → (path : Path) → Has e.emitted.selected_paths (Some path)
@@ -148,12 +155,14 @@ module _ {H P : Type 0} where
       -- The role does not change, or it switches because of a request or of a 487, or the user sets it.
       pub role : (new.controlling ≡ old.controlling)
           ⊎ (SwitchesRoleFor old call e new ⊎ (IsRejectedBy old call e new ⊎ IsRoleSet call new.controlling))
-      -- A served request that passes the tests determines the role (`role_once`). After an accepted 487 the agent has the role
+      -- A lite agent that keeps its role changes it at no request and at no response: only the user sets it.
+      pub keeps : keeps_role old ≡ true → (new.controlling ≡ old.controlling) ⊎ IsRoleSet call new.controlling
+      -- A served request that passes the tests determines the role (`role_once`). After an accepted 487 any other agent has the role
       -- that its check was not sent in.
       pub settled : (q : RequestRecord) → IsServing old call e q → IsServedPastTests old q
           → new.controlling ≡ role_once (conflict_of old q) old.controlling
-      pub expired : (at : ℕ) (by : Path) (m : Message) → Brings call e at by m → m.class ≡ class.Failure → is_role_conflict m ≡ true
-          → IsRejectedBy old call e new
+      pub expired : keeps_role old ≡ false → (at : ℕ) (by : Path) (m : Message) → Brings call e at by m → m.class ≡ class.Failure
+          → is_role_conflict m ≡ true → IsRejectedBy old call e new
 
     -- the lemmas that the theorems use
     abbrev pub PathTheorem : (P → CandidateRecord → ℕ → ℕ → Type 0) → Type 0

@@ -6,10 +6,14 @@ use Rattle.is_rules.specs.declared.credentials.IceCreds.{IceCreds}
 abbrev pub USERNAME_LIMIT : ℕ
 USERNAME_LIMIT = 508
 
--- the length of the longest check: header, USERNAME, role, PRIORITY, USE-CANDIDATE, MESSAGE-INTEGRITY and FINGERPRINT (RFC 8445,
--- section 7.1)
+-- the length of the longest check without NOMINATION: header, USERNAME, role, PRIORITY, USE-CANDIDATE, MESSAGE-INTEGRITY and FINGERPRINT
+-- (RFC 8445, section 7.1)
 abbrev pub MTU_FLOOR : ℕ
 MTU_FLOOR = 20 + (4 + USERNAME_LIMIT) + 12 + 8 + 4 + 24 + 8
+
+-- the same with NOMINATION
+abbrev pub CHECK_ROOM : ℕ
+CHECK_ROOM = MTU_FLOOR + 8
 
 abbrev pub ufrag_len : Option IceCreds → ℕ
 ufrag_len None = 0

@@ -1,5 +1,5 @@
 -- What a transition issues, and how it changes the queues.
-use Rattle.std.specs.Prelude.{◌≡◌, ℕ, Bool, true, List, [], ◌∷◌, ◌++◌, Option, Some, None, ◌⊎◌, if◌then◌else◌}
+use Rattle.std.specs.Prelude.{◌≡◌, ℕ, Bool, true, List, [], ◌∷◌, ◌++◌, Option, Some, None, is_some, ◌⊎◌, if◌then◌else◌}
 use Rattle.is_proto.specs.Lists.{Has}
 use Rattle.is_proto.specs.Packets.{Packet}
 use Rattle.is_candidate.specs.Candidates.{CandidateRecord}
@@ -7,7 +7,7 @@ use Rattle.is_candidate.specs.Priorities.{check_priority}
 use Rattle.is_stun.specs.declared.header.Class.{Class}
 use Rattle.is_stun.specs.declared.header.Class.TheVariants as class
 use Rattle.is_stun.specs.Message.{Message}
-use Rattle.is_stun.specs.Checks.{binding_request, binding_reply, binding_role_conflict_reply}
+use Rattle.is_stun.specs.Checks.{binding_request, binding_reply, binding_role_conflict_reply, with_nomination}
 use Rattle.is_stun.specs.Writing.{written}
 use Rattle.is_stun.specs.Theorems.{IsPut}
 use Rattle.is_rules.specs.declared.credentials.IceCreds.{IceCreds}
@@ -77,12 +77,14 @@ module _ {H P : Type 0} where
 
   -- What the bytes of an issued message say, by its class. `controlling` is the role after the transition.
   abbrev pub Says : Class → AgentRecord H P → Call P → Entry → List ℕ → Message → Path → Bool → Type 0
-  -- A check claims the agent's role, which does not change. It has USE-CANDIDATE only if the agent is controlling.
+  -- A check claims the agent's role, which does not change. It has USE-CANDIDATE only if the agent is controlling, and
+  -- NOMINATION only with it.
   Says class.Request old call e bytes m path controlling =
-      (peer : IceCreds) × (c : CandidateRecord) × (use_candidate : Bool)
+      (peer : IceCreds) × (c : CandidateRecord) × (use_candidate : Bool) × (number : Option ℕ)
       × (old.remote_creds ≡ Some peer) × Has old.local c
-      × (m ≡ binding_request (username_between peer old.local_creds) m.id old.controlling old.tie_breaker (check_priority c) use_candidate)
+      × (m ≡ with_nomination number (binding_request (username_between peer old.local_creds) m.id old.controlling old.tie_breaker (check_priority c) use_candidate))
       × IsPut bytes m × (controlling ≡ old.controlling) × (use_candidate ≡ true → old.controlling ≡ true)
+      × (is_some number ≡ true → use_candidate ≡ true)
   -- A success response replies to the request that is served, on its reverse path.
   Says class.Success old call e bytes m path controlling =
       (q : RequestRecord) × IsServing old call e q × (m ≡ binding_reply q.id q.path.source) × (path ≡ reversed q.path)

@@ -6,6 +6,7 @@ use Rattle.is_pair.specs.Due.{call_time_of, asked}
 use Rattle.is_proto.specs.Packets.{Packet}
 use Rattle.is_rules.specs.declared.event.IceAgentEvent.{IceAgentEvent}
 use Rattle.is_rules.specs.Agent.{AgentRecord}
+use Rattle.is_rules.specs.Nominating.{is_pressing}
 
 -- A poll removes the first element of a queue and returns it.
 abbrev pub IsPolled : {X : Type 0} → List X → Option X → List X → Type 0
@@ -21,9 +22,9 @@ module _ {H P : Type 0} where
   abbrev pub PollsEvent : AgentRecord H P → Option IceAgentEvent → AgentRecord H P → Type 0
   PollsEvent old given new = IsPolled old.events given new.events × (new ≡ record old { events = new.events })
 
-  -- A packet is to be sent, or an early request is to be served.
+  -- A packet is to be sent, an early request is to be served, or a path is to be selected or nominated at once.
   abbrev pub is_waiting : AgentRecord H P → Bool
-  is_waiting a = not (is_empty a.packets) || not (is_empty a.queue)
+  is_waiting a = not (is_empty a.packets) || not (is_empty a.queue) || is_pressing a
 
   -- one pacing interval Ta after the last call (RFC 8445, section 14.2)
   abbrev pub soon : AgentRecord H P → ℕ → ℕ

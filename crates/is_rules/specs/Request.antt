@@ -12,6 +12,8 @@ pub record RequestRecord : Type 0 where
   pub id : List ℕ
   pub priority : ℕ
   pub use_candidate : Bool
+  -- the number of its nomination (NOMINATION)
+  pub nomination : Option ℕ
   -- the sender's username fragment
   pub ufrag : List ℕ
   -- the tie-breaker in each role attribute (ICE-CONTROLLING, ICE-CONTROLLED)
@@ -30,6 +32,7 @@ request_in now path m = record {
   id = m.id;
   priority = unwrap_or m.attributes.priority 0;
   use_candidate = m.attributes.use_candidate;
+  nomination = m.attributes.nomination;
   ufrag = sender_ufrag m;
   ice_controlling = m.attributes.ice_controlling;
   ice_controlled = m.attributes.ice_controlled;

@@ -20,7 +20,8 @@ kept_local true ufrag cs = map (with_ufrag ufrag) cs
 kept_local false ufrag cs = []
 
 module _ {H P : Type 0} where
-  -- These do not change: the role, the early requests, the selected number, that of the peer's last nomination, the turns of kinds,
+  -- These do not change: the role, the early requests, the selected number, that of the peer's last nomination, the number of the agent's
+  -- last nomination, the turns of kinds,
   -- the next pair number, the settings and the time of the last call.
   abbrev pub cleared : IceCreds → Bool → AgentRecord H P → AgentRecord H P
   cleared creds keep a = record a {
@@ -29,6 +30,7 @@ module _ {H P : Type 0} where
     local = kept_local keep creds.ufrag a.local;
     remote = [];
     pairs = [];
+    numbers_seen = false;
     packets = [];
     events = [];
     discovered_sources = [];

@@ -1,6 +1,6 @@
 -- Serving a Binding request (RFC 8445, section 7.3). There is one definition for each rule, in the order in which they act; each
 -- ends in the next one. `s` is the state before the rule. `emitted` and `new` are what serving emits, and the state after it.
-use Rattle.std.specs.Prelude.{◌≡◌, ℕ, ◌==◌, ◌&&◌, Bool, true, false, not, List, [], ◌∷◌, ◌++◌, length, slice_set, bytes_eq, max, unwrap_or, Option, Some, None}
+use Rattle.std.specs.Prelude.{◌≡◌, ℕ, ◌==◌, ◌&&◌, ◌||◌, Bool, true, false, not, List, [], ◌∷◌, ◌++◌, length, slice_set, bytes_eq, max, unwrap_or, Option, Some, None}
 use Rattle.std.specs.Prelude.{is_some, MatchBool, MatchOption, if◌then◌else◌}
 use Rattle.std.specs.Option.{option_map_or}
 use Rattle.is_proto.specs.Times.{MAX, counted}
@@ -9,7 +9,7 @@ use Rattle.is_proto.specs.declared.error.IceError.TheVariants.{OutOfMemory, Pair
 use Rattle.is_candidate.specs.Candidates.{CandidateRecord, candidate_at}
 use Rattle.is_candidate.specs.Making.{peer_reflexive_candidate}
 use Rattle.is_candidate.specs.Equality.{TEMPORARY}
-use Rattle.is_pair.specs.Pairs.{PairRecord, is_nominated, with_request, validated, nominated}
+use Rattle.is_pair.specs.Pairs.{PairRecord, is_nominated, with_request, validated, nominated, numbered}
 use Rattle.is_pair.specs.Due.{triggered}
 use Rattle.is_stun.specs.declared.header.Class.TheVariants.{Success, Failure}
 use Rattle.is_stun.specs.Checks.{binding_reply, binding_role_conflict_reply}
@@ -32,7 +32,7 @@ use Rattle.is_rules.specs.Limit.{IsSenderPlace}
 use Rattle.is_rules.specs.Forming.{formed, with_pair}
 use Rattle.is_rules.specs.Queue.{queued}
 use Rattle.is_rules.specs.Sending.{carried, path_between, with_packet}
-use Rattle.is_rules.specs.Nominating.{NominatesWhere}
+use Rattle.is_rules.specs.Nominating.{numbers, NominatesWhere}
 use Rattle.is_rules.specs.Roles.{conflict_of, switched}
 
 -- A lite agent sends no checks of its own: while it is controlled, each request makes the pair valid.
@@ -44,13 +44,30 @@ validated_by_peer controlling lite p = if lite && not controlling then validated
 abbrev pub nominated_by_peer : Bool → Bool → RequestRecord → PairRecord → PairRecord
 nominated_by_peer controlling lite q p = if not controlling && q.use_candidate && not (is_nominated p) then nominated lite p else p
 
+-- What a request says of nomination, as the agent takes it. If nominations have numbers, NOMINATION decides, where it is present: 0 is
+-- none. Otherwise it is ignored.
+abbrev pub as_taken : Bool → RequestRecord → RequestRecord
+as_taken false q = record q { nomination = None }
+as_taken true q = record q { use_candidate = option_map_or (λ n. not (n == 0)) q.nomination q.use_candidate }
+
+-- On a controlled agent the pair keeps the greatest number of its nominations.
+abbrev pub numbered_by_peer : Bool → Option ℕ → PairRecord → PairRecord
+numbered_by_peer controlling None p = p
+numbered_by_peer controlling (Some n) p = if controlling then p else numbered n p
+
+-- A nomination with a number was served, now or before.
+abbrev pub sees_number : Bool → Option ℕ → Bool → Bool
+sees_number controlling None seen = seen
+sees_number controlling (Some n) seen = if controlling || n == 0 then seen else true
+
 -- the pair that the peer nominated last, after a request at the pair with this number
 abbrev pub nominated_last : Bool → RequestRecord → ℕ → Option ℕ → Option ℕ
 nominated_last controlling q number last = if not controlling && q.use_candidate then Some number else last
 
--- the pair records the peer's check, and may become valid and nominated
+-- the pair records the peer's check, and may become valid and nominated, with a number
 abbrev pub served : Bool → Bool → RequestRecord → PairRecord → PairRecord
-served controlling lite q p = nominated_by_peer controlling lite q (validated_by_peer controlling lite (with_request q.time p))
+served controlling lite q p =
+    numbered_by_peer controlling q.nomination (nominated_by_peer controlling lite q (validated_by_peer controlling lite (with_request q.time p)))
 
 -- The peer sends USE-CANDIDATE while the agent is controlling.
 abbrev pub is_misled : Bool → RequestRecord → Bool
@@ -86,6 +103,10 @@ module _ {H P : Type 0} where
   abbrev pub names_another : AgentRecord H P → RequestRecord → Bool
   names_another s q = option_map_or (λ (peer : IceCreds). not (bytes_eq q.ufrag peer.ufrag)) s.remote_creds true
 
+  -- The request nominates its pair, if the agent is controlled: by USE-CANDIDATE, or by NOMINATION if nominations have numbers.
+  abbrev pub nominates : AgentRecord H P → RequestRecord → Bool
+  nominates s q = (as_taken (numbers s) q).use_candidate
+
   abbrev pub request_counted : AgentRecord H P → AgentRecord H P
   request_counted s = record s { stats = record s.stats { bind_request_recv = counted s.stats.bind_request_recv } }
 
@@ -106,12 +127,13 @@ module _ {H P : Type 0} where
 
   -- the pair after the request
   abbrev pub after_request : RequestRecord → AgentRecord H P → PairRecord → PairRecord
-  after_request q s p = served s.controlling s.lite q (triggered s.rules.triggered_checks (trigger_time q s) p)
+  after_request q s p = served s.controlling s.lite (as_taken (numbers s) q) (triggered s.rules.triggered_checks (trigger_time q s) p)
 
   abbrev pub pair_served : RequestRecord → ℕ → AgentRecord H P → AgentRecord H P
   pair_served q number s = record s {
     pairs = change_pair number (after_request q s) s.pairs;
-    last_nominated = nominated_last s.controlling q number s.last_nominated;
+    last_nominated = nominated_last s.controlling (as_taken (numbers s) q) number s.last_nominated;
+    numbers_seen = sees_number s.controlling (as_taken (numbers s) q).nomination s.numbers_seen;
   }
 
   -- Nomination is evaluated when a request arrives on a valid pair (RFC 8445, sections 7.3.1.5 and 8.1.1).

@@ -1,11 +1,12 @@
 -- What the user of an agent may set.
-use Rattle.std.specs.Prelude.{◌≡◌, ℕ, ◌==◌, ◌&&◌, true, false, nat_lt, max, map, Result, Ok, Err, if◌then◌else◌}
+use Rattle.std.specs.Prelude.{◌≡◌, ℕ, ◌==◌, ◌&&◌, Bool, true, false, nat_lt, max, map, Result, Ok, Err, if◌then◌else◌}
 use Rattle.is_proto.specs.declared.error.IceError.{IceError}
-use Rattle.is_proto.specs.declared.error.IceError.TheVariants.{MtuTooSmall}
+use Rattle.is_proto.specs.declared.error.IceError.TheVariants.{LiteStaysControlled, MtuTooSmall}
 use Rattle.is_pair.specs.Pairs.{undue}
 use Rattle.is_rules.specs.declared.rules.Rules.{Rules}
 use Rattle.is_rules.specs.Fitting.{MTU_FLOOR}
 use Rattle.is_rules.specs.Agent.{AgentRecord}
+use Rattle.is_rules.specs.Roles.{keeps_role}
 
 module _ {H P : Type 0} where
   -- `set_mtu`: the longest check must fit into the target MTU.
@@ -13,6 +14,12 @@ module _ {H P : Type 0} where
   SetsMtu old target warn (Ok _) new = (nat_lt target MTU_FLOOR ≡ false) × (new ≡ record old { mtu = target; mtu_warn = warn })
   SetsMtu old target warn (Err MtuTooSmall) new = (nat_lt target MTU_FLOOR ≡ true) × (new ≡ old)
   SetsMtu old target warn (Err _) new = ⊥
+
+  -- `set_controlling`: existing pairs keep their priorities. A lite agent that keeps its role can't be made controlling.
+  abbrev pub SetsControlling : AgentRecord H P → Bool → Result (Unit {0}) IceError → AgentRecord H P → Type 0
+  SetsControlling old controlling (Ok _) new = ((keeps_role old && controlling) ≡ false) × (new ≡ record old { controlling = controlling })
+  SetsControlling old controlling (Err LiteStaysControlled) new = ((keeps_role old && controlling) ≡ true) × (new ≡ old)
+  SetsControlling old controlling (Err _) new = ⊥
 
   -- `set_initial_stun_rto` and `set_max_stun_rto`: if one of the two changes, the due time of each pair is computed again.
   abbrev pub with_rtos : ℕ → ℕ → AgentRecord H P → AgentRecord H P

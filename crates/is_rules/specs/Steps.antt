@@ -15,7 +15,7 @@ use Rattle.is_rules.specs.declared.emitted.Emitted.{Emitted}
 use Rattle.is_rules.specs.declared.rules.Rules.{Rules}
 use Rattle.is_rules.specs.Emitted.{nothing_emitted}
 use Rattle.is_rules.specs.Agent.{AgentRecord}
-use Rattle.is_rules.specs.Settings.{SetsMtu, with_rtos, with_rules, with_retransmits, with_lite_timeout, numbers_skipped}
+use Rattle.is_rules.specs.Settings.{SetsControlling, SetsMtu, with_rtos, with_rules, with_retransmits, with_lite_timeout, numbers_skipped}
 use Rattle.is_rules.specs.Credentials.{SetsLocal, SetsRemote}
 use Rattle.is_rules.specs.Discarding.{Invalidates}
 use Rattle.is_rules.specs.Local.{AddsLocal}
@@ -151,7 +151,7 @@ module _ {H P : Type 0} (mac : H → List ℕ → List ℕ → List ℕ) (answer
   Step old s (SetMaxStunRetransmits n) e new t = SetsRetransmits n old s e new t
   Step old s (SetLiteTimeout by) e new t = Becomes (with_lite_timeout by old) s e new t
   Step old s (SetLocalPreference object) e new t = Becomes (record old { preference = Some object }) s e new t
-  Step old s (SetControlling controlling) e new t = Becomes (record old { controlling = controlling }) s e new t
+  Step old s (SetControlling controlling) e new t = MayDo (SetsControlling old controlling) s e new t
   Step old s (SetLocalCredentials creds) e new t = MayDo (SetsLocal old creds) s e new t
   Step old s (SetRemoteCredentials creds) e new t = MayDo (SetsRemote old creds) s e new t
   Step old s (SkipPairIds n) e new t = Becomes (numbers_skipped n old) s e new t

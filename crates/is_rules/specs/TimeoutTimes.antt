@@ -1,12 +1,14 @@
 -- The time that `poll_timeout` returns: later than the last `handle_timeout` call, and not late.
-use Rattle.std.specs.Prelude.{◌≡◌, ℕ, ◌*◌, ◌<◌, ◌≤◌, min, max, true, false, is_some, List, Option, Some, IfSome, IsSomeAnd, Ok, if◌then◌else◌}
+use Rattle.std.specs.Prelude.{◌≡◌, ℕ, ◌*◌, ◌<◌, ◌≤◌, min, max, true, false, is_some, List, Option, Some, None, IfSome, IsSomeAnd, Ok, if◌then◌else◌}
 use Rattle.rand_core.specs.Stream.{Stream}
 use Rattle.is_proto.specs.Lists.{Has}
 use Rattle.is_proto.specs.Times.{MAX, SECOND, later}
 use Rattle.is_pair.specs.Pairs.{PairRecord}
 use Rattle.is_pair.specs.Due.{call_time_of}
 use Rattle.is_rules.specs.Agent.{AgentRecord}
+use Rattle.is_rules.specs.Nominating.{is_pressing}
 use Rattle.is_rules.specs.Polls.{PollsTimeout, is_idle, soon}
+use Rattle.is_rules.specs.Queue.{request_at}
 use Rattle.is_rules.specs.Timeouts.{TimesOut}
 use Rattle.is_rules.specs.declared.emitted.Emitted.{Emitted}
 
@@ -19,6 +21,11 @@ abbrev pub ComesInTime : {H P : Type 0} → AgentRecord H P → Option ℕ → T
 ComesInTime old deadline =
     IfSome deadline (λ at. (last : ℕ) → old.last_time ≡ Some last → old.lite ≡ false
     → (p : PairRecord) → Has old.pairs p → at ≤ max (call_time_of last old.timing p) (soon old last))
+
+-- While a selected path is still to be nominated, or its pair is gone and another one may be selected, the next timeout is one pacing
+-- interval Ta after the last call.
+abbrev pub ComesSoon : {H P : Type 0} → AgentRecord H P → Option ℕ → Type 0
+ComesSoon old deadline = IfSome deadline (λ at. (last : ℕ) → old.last_time ≡ Some last → is_pressing old ≡ true → at ≡ soon old last)
 
 -- There is a next timeout if there was a last `handle_timeout` call.
 abbrev pub IsGiven : {H P : Type 0} → AgentRecord H P → Option ℕ → Type 0
@@ -34,6 +41,9 @@ TimeoutIsAhead H P = (old new : AgentRecord H P) (deadline : Option ℕ) → Pol
 abbrev pub TimeoutIsInTime : Type 0 → Type 0 → Type 0
 TimeoutIsInTime H P = (old new : AgentRecord H P) (deadline : Option ℕ) → PollsTimeout old deadline new → ComesInTime old deadline
 
+abbrev pub TimeoutIsSoon : Type 0 → Type 0 → Type 0
+TimeoutIsSoon H P = (old new : AgentRecord H P) (deadline : Option ℕ) → PollsTimeout old deadline new → ComesSoon old deadline
+
 abbrev pub TimeoutIsGiven : Type 0 → Type 0 → Type 0
 TimeoutIsGiven H P = (old new : AgentRecord H P) (deadline : Option ℕ) → PollsTimeout old deadline new → IsGiven old deadline
 
@@ -41,6 +51,13 @@ module _ {H P : Type 0} (mac : H → List ℕ → List ℕ → List ℕ) where
   -- By the rule `timeout_after_requests`, a `handle_timeout` call returns `Ok` at this time.
   pub record IsNotedCall (old : AgentRecord H P) (now : ℕ) (s : Stream) (emitted : Emitted) (new : AgentRecord H P) (t : Stream) : Type 0 where
     pub by_rule : old.rules.timeout_after_requests ≡ true
+    pub call : TimesOut mac now old s (Ok tt) emitted new t
+
+  -- A `handle_timeout` call of a full agent that knows the peer returns `Ok`, and serves no early request.
+  pub record IsFullCall (old : AgentRecord H P) (now : ℕ) (s : Stream) (emitted : Emitted) (new : AgentRecord H P) (t : Stream) : Type 0 where
+    pub full : old.lite ≡ false
+    pub known : is_some old.remote_creds ≡ true
+    pub no_request : request_at now old ≡ None
     pub call : TimesOut mac now old s (Ok tt) emitted new t
 
 module _ (P : Type 0) {H : Type 0} (mac : H → List ℕ → List ℕ → List ℕ) where
@@ -53,3 +70,8 @@ module _ (P : Type 0) {H : Type 0} (mac : H → List ℕ → List ℕ → List �
   CallsAreFollowed =
       (old new polled : AgentRecord H P) (now : ℕ) (s t : Stream) (emitted : Emitted) → IsNotedCall mac old now s emitted new t
       → (deadline : Option ℕ) → PollsTimeout new deadline polled → IsSomeAnd deadline (λ at. soonest new now ≤ at)
+
+  -- After such a call no path is left to be selected or nominated at once.
+  abbrev pub NominationsAreSent : Type 0
+  NominationsAreSent =
+      (old new : AgentRecord H P) (now : ℕ) (s t : Stream) (emitted : Emitted) → IsFullCall mac old now s emitted new t → is_pressing new ≡ false

@@ -26,4 +26,6 @@ pub struct Draft {
     pub priority: u32,
     /// The pair is nominated, and its nomination is not replaced by a later one.
     pub nominated: bool,
+    /// The value of its NOMINATION.
+    pub nomination: Option<u32>,
 }

@@ -1,26 +1,30 @@
 //! Nomination (RFC 8445, section 8.1.1): which pair is selected; the agent's part: `is_agent::nomination`.
 //!
 //! Of the eligible pairs, one with the greatest priority is selected. An agent that follows its peer selects the pair that the peer
-//! nominated last.
+//! nominated last, or the one that it nominated by the greatest number.
 
-ghost use Rattle.std.specs.Prelude.{◌≡◌, ℕ, true};
+ghost use Rattle.std.specs.Prelude.{◌≡◌, ℕ, List, true, option_map, if◌then◌else◌};
 ghost use Rattle.std.specs.Option.{option_and_then, option_copied};
 ghost use Rattle.std.specs.List.{list_any};
 ghost use Rattle.is_stun.specs.declared.timing.StunTiming.{StunTiming};
 ghost use Rattle.is_rules.specs.Due.{falls_due};
 ghost use Rattle.is_rules.specs.FormingView.{sides_view};
 ghost use Rattle.is_rules.specs.Kept.{is_placed, are_placed};
-ghost use Rattle.is_pair.specs.Multiset.{are_below, change_pair, IsGreatest, is_named_by};
+ghost use Rattle.is_candidate.specs.Candidates.{CandidateRecord};
+ghost use Rattle.is_pair.specs.Multiset.{are_below, change_pair, has_number, IsGreatest, is_named_by};
+ghost use Rattle.is_pair.specs.Pairs.{renominated};
 ghost use Rattle.is_pair.specs.Checklists as checklists;
 ghost use Rattle.is_pair.specs.Checklists.{multiset_of, HasRoom};
 ghost use Rattle.is_rules.specs.Nominating.{eligible_numbered, favored, is_eligible, nominated_by_self, pair_selected, remains, persists_at};
 ghost use Rattle.is_rules.specs.Nominating.{selection, path_in, IsChosen, Names};
+ghost use Rattle.is_rules.specs.Nominating.{first_numbered, first_with, number_of, outnumbers};
 
 use crate::emitted::Path;
 use crate::places::{address_at, base_at, proto_at};
 use crate::sides::Sides;
 use is_pair::checklist::{Checklist, PairChange, PairTest};
 use is_pair::pair::{CandidatePair, CheckState};
+use is_pair::renominate;
 
 /// The pair may be selected.
 fn is_eligible(pair: &CandidatePair, controlling: bool) -> bool
@@ -187,6 +191,97 @@ fn nominate_pair(pairs: &mut Checklist, number: u64, controlling: bool, lite: bo
     ensures below { (n : ℕ) → are_below n (multiset_of pairs.old) ≡ true → are_below n (multiset_of pairs.new) ≡ true }
 {
     pairs.change(number, &NominatesBySelf { controlling, lite });
+}
+
+// ---- nominations with numbers (draft-thatcher-ice-renomination)
+
+/// The number of a nominated pair: USE-CANDIDATE without NOMINATION counts as 1.
+fn number_of(pair: &CandidatePair) -> u32
+    ensures { result ≡ number_of pair.now }
+{
+    pair.greatest_number().max(1)
+}
+
+/// Whether the pair `p` goes before `q`, which comes before it in the list: by its number, of equal numbers as the pair that was
+/// selected last, and then by its priority.
+fn outnumbers(selected: Option<u64>, p: &CandidatePair, q: &CandidatePair) -> bool
+    ensures { result ≡ outnumbers selected p.now q.now }
+{
+    let (ours, theirs) = (number_of(p), number_of(q));
+    theirs < ours
+        || (ours == theirs
+            && !is_named_by(selected, q)
+            && (is_named_by(selected, p) || q.prio() < p.prio()))
+}
+
+/// The first one so far, or the next pair, if it may be selected and goes before.
+fn first_with<'a>(
+    controlling: bool,
+    selected: Option<u64>,
+    first: Option<&'a CandidatePair>,
+    pair: &'a CandidatePair,
+) -> Option<&'a CandidatePair>
+    ensures { option_copied result ≡ first_with controlling selected (option_copied first.entry) pair.now }
+{
+    match first {
+        None if is_eligible(pair, controlling) => Some(pair),
+        Some(first) if is_eligible(pair, controlling) && outnumbers(selected, pair, first) => {
+            Some(pair)
+        }
+        _ => first,
+    }
+}
+
+/// The number of the eligible pair that the peer nominated by the greatest number.
+pub fn followed_by_number(
+    pairs: &Checklist,
+    controlling: bool,
+    selected: Option<u64>,
+) -> Option<u64>
+    ensures { result ≡ option_map (λ p. p.number) (first_numbered controlling selected (multiset_of pairs.now)) }
+{
+    let mut first = None;
+    for pair in pairs.iter() {
+        first = first_with(controlling, selected, first, pair);
+    }
+    match first {
+        Some(pair) => Some(pair.id().0),
+        None => None,
+    }
+}
+
+/// The agent may select a pair.
+pub fn has_eligible(pairs: &Checklist, controlling: bool) -> bool
+    ensures { result ≡ list_any (is_eligible controlling) (multiset_of pairs.now) }
+{
+    pairs.any(&Eligible { controlling })
+}
+
+/// Nominates a pair again.
+#[derive(Clone, Copy)]
+struct Renominates;
+
+impl PairChange for Renominates {
+    ghost use Rattle.is_pair.specs.Pairs.{renominated};
+
+    ghost makes = { λ t p. renominated p };
+
+    fn change(&self, pair: &mut CandidatePair) {
+        renominate(pair);
+    }
+}
+
+/// Before a check of the pair with this number: a new nomination of it begins, if `begins` is true.
+pub fn begin_nomination(pairs: &mut Checklist, number: u64, begins: bool)
+    ensures begun { multiset_of pairs.new ≡ (if begins then change_pair number renominated (multiset_of pairs.old) else multiset_of pairs.old) }
+    ensures has { has_number number (multiset_of pairs.old) ≡ true → has_number number (multiset_of pairs.new) ≡ true }
+    ensures placed { (local remote : List CandidateRecord) → are_placed local remote (multiset_of pairs.old) ≡ true → are_placed local remote (multiset_of pairs.new) ≡ true }
+    ensures check_room { checklists.HasCheckRoom pairs.old → checklists.HasCheckRoom pairs.new }
+    ensures below { (n : ℕ) → are_below n (multiset_of pairs.old) ≡ true → are_below n (multiset_of pairs.new) ≡ true }
+{
+    if begins {
+        pairs.change(number, &Renominates);
+    }
 }
 
 pub(crate) fn path_in(sides: Sides<'_>, pair: &CandidatePair) -> Path

@@ -7,12 +7,12 @@ ghost use Rattle.is_pair.specs.Checklists.{multiset_of, HasRoom};
 ghost use Rattle.is_pair.specs.Due.{triggered};
 ghost use Rattle.is_rules.specs.Kept.{are_placed};
 ghost use Rattle.is_rules.specs.RequestView.{request_view};
-ghost use Rattle.is_rules.specs.Serving.{served, validated_by_peer, nominated_by_peer};
+ghost use Rattle.is_rules.specs.Serving.{served, validated_by_peer, nominated_by_peer, numbered_by_peer};
 
 use crate::request::Request;
 use is_pair::checklist::{Checklist, PairChange, PairTest};
 use is_pair::pair::{CandidatePair, CheckState};
-use is_pair::trigger;
+use is_pair::{keep_number, trigger};
 use is_proto::Instant;
 
 /// Whether a pair has these two candidates.
@@ -99,6 +99,16 @@ fn nominate_by_peer(pair: &mut CandidatePair, request: &Request<'_>, role: Servi
     }
 }
 
+/// On a controlled agent the pair keeps the greatest number of its nominations.
+fn number_by_peer(pair: &mut CandidatePair, request: &Request<'_>, role: ServingRole)
+    ensures { pair.new ≡ numbered_by_peer role.controlling (request_view request.now).nomination pair.old }
+{
+    match request.nomination {
+        Some(number) if !role.controlling => keep_number(pair, number),
+        _ => {}
+    }
+}
+
 /// The pair records the peer's check.
 #[derive(Clone, Copy)]
 struct Serves<'a> {
@@ -119,6 +129,7 @@ impl PairChange for Serves<'_> {
         pair.increase_remote_binding_requests(self.request.time);
         validate_by_peer(pair, self.role);
         nominate_by_peer(pair, &self.request, self.role);
+        number_by_peer(pair, &self.request, self.role);
     }
 }
 

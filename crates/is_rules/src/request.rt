@@ -4,6 +4,7 @@ ghost use Rattle.std.specs.Prelude.{◌≡◌, IfOk};
 ghost use Rattle.is_stun.specs.MessageView.{message_view};
 ghost use Rattle.is_rules.specs.Request.{request_in, sender_ufrag};
 ghost use Rattle.is_rules.specs.RequestView.{request_view, waiting_view, packet_path};
+ghost use Rattle.is_rules.specs.Serving.{as_taken};
 
 use crate::emitted::Path;
 use is_proto::{Instant, Text};
@@ -23,6 +24,8 @@ pub struct Request<'a> {
     pub priority: u32,
     /// It has USE-CANDIDATE.
     pub use_candidate: bool,
+    /// The value of its NOMINATION.
+    pub nomination: Option<u32>,
     /// The sender's username fragment.
     pub ufrag: &'a str,
     /// The sender's tie-breaker, if it claims to be controlling.
@@ -64,9 +67,33 @@ impl<'a> Request<'a> {
             id: message.trans_id(),
             priority: message.prio().unwrap_or(0),
             use_candidate: message.use_candidate(),
+            nomination: message.nomination(),
             ufrag: sender_ufrag(message),
             ice_controlling: message.ice_controlling(),
             ice_controlled: message.ice_controlled(),
+        }
+    }
+}
+
+impl<'a> Request<'a> {
+    /// The request as an agent takes it: with numbers NOMINATION decides, where it is present, and 0 is no nomination. Without numbers it
+    /// is ignored.
+    pub fn as_taken(self, numbers: bool) -> Request<'a>
+        ensures { request_view result ≡ as_taken numbers (request_view self.entry) }
+    {
+        if !numbers {
+            return Request {
+                nomination: None,
+                ..self
+            };
+        }
+        let use_candidate = match self.nomination {
+            Some(number) => number != 0,
+            None => self.use_candidate,
+        };
+        Request {
+            use_candidate,
+            ..self
         }
     }
 }
@@ -84,6 +111,8 @@ pub struct Waiting {
     pub priority: u32,
     /// It has USE-CANDIDATE.
     pub use_candidate: bool,
+    /// The value of its NOMINATION.
+    pub nomination: Option<u32>,
     /// The sender's username fragment.
     pub ufrag: Text,
     /// The sender's tie-breaker, if it claims to be controlling.
@@ -103,6 +132,7 @@ impl Waiting {
             id: request.id,
             priority: request.priority,
             use_candidate: request.use_candidate,
+            nomination: request.nomination,
             ufrag: Text::from_str(alloc, request.ufrag)?,
             ice_controlling: request.ice_controlling,
             ice_controlled: request.ice_controlled,
@@ -119,6 +149,7 @@ impl Waiting {
             id: self.id,
             priority: self.priority,
             use_candidate: self.use_candidate,
+            nomination: self.nomination,
             ufrag: self.ufrag.as_str(),
             ice_controlling: self.ice_controlling,
             ice_controlled: self.ice_controlled,

@@ -18,19 +18,20 @@ use is_pair::pair::CandidatePair;
 pub enum Conflict {
     /// The sender does not claim the agent's role.
     Absent,
-    /// It does, with no greater tie-breaker: the agent keeps its role and sends a 487.
+    /// It does, with no greater tie-breaker, or the agent keeps its role in any case: the agent sends a 487.
     Send487,
     /// It does, with a greater tie-breaker: the agent switches its role.
     SwitchRole,
 }
 
-/// The conflict, by the agent's own tie-breaker and that of a sender that claims the same role.
-pub fn conflict_by(own: u64, rival: Option<u64>) -> Conflict
-    ensures { result ≡ conflict_by own rival }
+/// The conflict, by the agent's own tie-breaker and that of a sender that claims the same role. An agent that `keeps` its role sends a
+/// 487 whatever the tie-breakers are.
+pub fn conflict_by(keeps: bool, own: u64, rival: Option<u64>) -> Conflict
+    ensures { result ≡ conflict_by keeps own rival }
 {
     match rival {
         None => Conflict::Absent,
-        Some(rival) if rival <= own => Conflict::Send487,
+        Some(rival) if keeps || rival <= own => Conflict::Send487,
         Some(_) => Conflict::SwitchRole,
     }
 }

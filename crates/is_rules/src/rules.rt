@@ -36,6 +36,14 @@ pub struct Rules {
     pub selected_first: bool,
     /// `poll_timeout` returns a time after each successful `handle_timeout` call, also after one that serves an early request.
     pub timeout_after_requests: bool,
+    /// A lite agent keeps its role: it sends a 487 to each sender that claims the same role, whatever the tie-breakers are, and a
+    /// 487 that it receives has no effect (RFC 8445, sections 6.1.1 and 7.3.1.1: only full agents repair roles). It can't be made
+    /// controlling.
+    pub lite_keeps_role: bool,
+    /// With renomination, nominations are numbered by the attribute NOMINATION (draft-thatcher-ice-renomination), which browsers agree on as
+    /// `renomination`. A controlling agent numbers the paths that it selects, and nominates each at once. A controlled agent selects the
+    /// valid pair with the greatest number, whatever is lost, late or replayed.
+    pub numbered_nominations: bool,
 }
 
 /// How often, and how far apart.
@@ -63,10 +71,13 @@ impl Rules {
             consent: None,
             selected_first: false,
             timeout_after_requests: false,
+            lite_keeps_role: false,
+            numbered_nominations: false,
         }
     }
 
-    /// All rules: agents connect sooner, consent ends in time, and `poll_timeout` returns a time after each successful `handle_timeout`.
+    /// All rules: agents connect sooner, consent ends in time, `poll_timeout` returns a time after each successful `handle_timeout`, and
+    /// lite agents keep their role. With renomination, nominations are numbered.
     pub fn modern() -> Rules
         ensures { result ≡ modern_rules }
     {
@@ -78,6 +89,8 @@ impl Rules {
             consent: Some(MODERN_CONSENT),
             selected_first: true,
             timeout_after_requests: true,
+            lite_keeps_role: true,
+            numbered_nominations: true,
         }
     }
 }

@@ -1,5 +1,5 @@
 -- The messages of connectivity checks (RFC 8445, section 7).
-use Rattle.std.specs.Prelude.{ℕ, Bool, List, Some, None, codes, if◌then◌else◌}
+use Rattle.std.specs.Prelude.{ℕ, Bool, List, Option, Some, None, codes, if◌then◌else◌}
 use Rattle.std.specs.declared.net.socket_addr.SocketAddr.{SocketAddr}
 use Rattle.is_stun.specs.declared.header.Class.TheVariants.{Request, Success, Failure}
 use Rattle.is_stun.specs.declared.header.Method.TheVariants.{Binding}
@@ -16,6 +16,10 @@ binding_request username id is_controlling tie_breaker priority use_candidate =
       priority = Some priority;
       use_candidate = use_candidate;
     })
+
+-- the check with the number of its nomination, if there is one (draft-thatcher-ice-renomination)
+abbrev pub with_nomination : Option ℕ → Message → Message
+with_nomination number m = record m { attributes = record m.attributes { nomination = number } }
 
 -- its success response, with the source address of the request (RFC 8445, section 7.3.1.2)
 abbrev pub binding_reply : List ℕ → SocketAddr → Message

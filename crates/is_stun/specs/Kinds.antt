@@ -56,6 +56,10 @@ network_cost value =
     if length value == 4 then Some (u16_of (slice_index value 0) (slice_index value 1), u16_of (slice_index value 2) (slice_index value 3))
     else None
 
+-- the number of a nomination, in four bytes
+unfoldable pub nomination : List ℕ → Option ℕ
+nomination value = if length value == 4 then Some (from_be_bytes w32 value) else None
+
 -- ---- the table
 
 abbrev pub fault_in : {A : Type 0} → Result A ParseFault → Option ParseFault

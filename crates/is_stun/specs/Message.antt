@@ -27,6 +27,8 @@ pub record AttributesRecord : Type 0 where
   pub ice_controlling : Option ℕ
   -- the network's ID and its cost
   pub network_cost : Option (ℕ × ℕ)
+  -- the number of a nomination
+  pub nomination : Option ℕ
   pub fingerprint : Option ℕ
 
 abbrev pub no_attributes : AttributesRecord
@@ -47,6 +49,7 @@ no_attributes = record {
   ice_controlled = None;
   ice_controlling = None;
   network_cost = None;
+  nomination = None;
   fingerprint = None;
 }
 

@@ -26,6 +26,7 @@ attributes_view a =
       ice_controlled = a.ice_controlled;
       ice_controlling = a.ice_controlling;
       network_cost = a.network_cost;
+      nomination = a.nomination;
       fingerprint = a.fingerprint;
     }
 

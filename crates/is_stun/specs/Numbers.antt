@@ -75,6 +75,10 @@ ICE_CONTROLLING = 0x802A
 abbrev pub NETWORK_COST : ℕ
 NETWORK_COST = 0xC057
 
+-- the number of a nomination, as WebRTC sends it (draft-thatcher-ice-renomination)
+abbrev pub NOMINATION : ℕ
+NOMINATION = 0xC001
+
 -- the longest USERNAME and the longest other text that are read, in bytes
 abbrev pub USERNAME_LIMIT : ℕ
 USERNAME_LIMIT = 513

@@ -1,5 +1,5 @@
 -- The message that bytes encode, or their first fault (RFC 8489, sections 5, 6.3 and 14).
-use Rattle.std.specs.Prelude.{◌≡◌, ℕ, Bool, true, false, not, ◌&&◌, List, [], ◌∷◌, length, take, drop, Option, Some, None, is_some, is_none}
+use Rattle.std.specs.Prelude.{◌≡◌, ℕ, Bool, true, false, not, ◌&&◌, ◌||◌, List, [], ◌∷◌, length, take, drop, Option, Some, None, is_some, is_none}
 use Rattle.std.specs.Prelude.{Result, nat_lt, ◌==◌, if◌then◌else◌, option_and_then}
 use Rattle.std.specs.Option.{option_or, option_map}
 use Rattle.std.specs.Result.{result_ok}
@@ -12,23 +12,23 @@ use Rattle.is_proto.specs.declared.error.StunError.{StunError}
 use Rattle.is_proto.specs.declared.error.StunError.TheVariants as errors
 use Rattle.is_stun.specs.Numbers.{USERNAME, ERROR_CODE, CHANNEL_NUMBER, LIFETIME, XOR_PEER_ADDRESS, DATA, REALM, NONCE, XOR_RELAYED_ADDRESS}
 use Rattle.is_stun.specs.Numbers.{XOR_MAPPED_ADDRESS, SOFTWARE, PRIORITY, USE_CANDIDATE, FINGERPRINT, ICE_CONTROLLED, ICE_CONTROLLING}
-use Rattle.is_stun.specs.Numbers.{NETWORK_COST, USERNAME_LIMIT, TEXT_LIMIT}
+use Rattle.is_stun.specs.Numbers.{NETWORK_COST, NOMINATION, USERNAME_LIMIT, TEXT_LIMIT}
 use Rattle.is_stun.specs.declared.header.Class.{Class}
 use Rattle.is_stun.specs.declared.header.Class.TheVariants.{Request, Success}
 use Rattle.is_stun.specs.declared.header.Method.{Method}
 use Rattle.is_stun.specs.declared.header.Method.TheVariants.{Binding}
 use Rattle.is_stun.specs.Tlv.{Tlv, tlvs_of}
 use Rattle.is_stun.specs.Header.{type_of, class_of, method_of, body_of, header_fault}
-use Rattle.is_stun.specs.Kinds.{text, number, bytes_of_len, error_code, channel_number, network_cost, value_fault}
+use Rattle.is_stun.specs.Kinds.{text, number, bytes_of_len, error_code, channel_number, network_cost, nomination, value_fault}
 use Rattle.is_stun.specs.Address.{address_in}
 use Rattle.is_stun.specs.Integrity.{before_integrity, first_integrity, up_to_integrity, after_integrity, integrity_of}
 use Rattle.is_stun.specs.Message.{AttributesRecord, Message, split_username}
 
 -- ---- the attributes
 
--- a network cost that is not four bytes long counts as absent
+-- a network cost, or the number of a nomination, that is not four bytes long counts as absent
 abbrev pub is_skipped : Tlv → Bool
-is_skipped c = c.code == NETWORK_COST && not (length c.value == 4)
+is_skipped c = (c.code == NETWORK_COST || c.code == NOMINATION) && not (length c.value == 4)
 
 -- the attribute has this type, and is read
 abbrev pub counts : ℕ → Tlv → Bool
@@ -81,6 +81,7 @@ attributes_of id cs =
       ice_controlled = value_in (number w64 ControlledLength) (last_of ICE_CONTROLLED first);
       ice_controlling = value_in (number w64 ControllingLength) (last_of ICE_CONTROLLING first);
       network_cost = option_and_then network_cost (last_of NETWORK_COST first);
+      nomination = option_and_then nomination (last_of NOMINATION first);
       fingerprint = value_in (number w32 FingerprintLength) (last_of FINGERPRINT cs);
     }
 

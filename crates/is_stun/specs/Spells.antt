@@ -11,12 +11,12 @@ use Rattle.is_proto.specs.declared.error.ParseFault.TheVariants.{LifetimeLength,
 use Rattle.is_proto.specs.declared.error.ParseFault.TheVariants.{ControllingLength}
 use Rattle.is_stun.specs.Numbers.{USERNAME, ERROR_CODE, CHANNEL_NUMBER, LIFETIME, XOR_PEER_ADDRESS, DATA, REALM, NONCE, XOR_RELAYED_ADDRESS}
 use Rattle.is_stun.specs.Numbers.{XOR_MAPPED_ADDRESS, SOFTWARE, PRIORITY, USE_CANDIDATE, FINGERPRINT, ICE_CONTROLLED, ICE_CONTROLLING}
-use Rattle.is_stun.specs.Numbers.{NETWORK_COST, USERNAME_LIMIT, TEXT_LIMIT, HEADER_LEN, MAGIC}
+use Rattle.is_stun.specs.Numbers.{NETWORK_COST, NOMINATION, USERNAME_LIMIT, TEXT_LIMIT, HEADER_LEN, MAGIC}
 use Rattle.is_stun.specs.declared.header.Class.TheVariants.{Request, Success}
 use Rattle.is_stun.specs.declared.header.Method.TheVariants.{Binding}
 use Rattle.is_stun.specs.Tlv.{Tlv, tlvs_of}
 use Rattle.is_stun.specs.Header.{type_of, length_field, magic_of, class_of, method_of, body_of}
-use Rattle.is_stun.specs.Kinds.{text, number, error_code, channel_number, network_cost, value_fault}
+use Rattle.is_stun.specs.Kinds.{text, number, error_code, channel_number, network_cost, nomination, value_fault}
 use Rattle.is_stun.specs.Address.{address_in}
 use Rattle.is_stun.specs.Integrity.{before_integrity, first_integrity, up_to_integrity, after_integrity, integrity_of}
 use Rattle.is_stun.specs.Message.{AttributesRecord, Message, split_username}
@@ -57,6 +57,7 @@ pub record AreSpelled (id : List ℕ) (cs : List Tlv) (a : AttributesRecord) : T
   pub ice_controlled : IsReading (number w64 ControlledLength) (last_of ICE_CONTROLLED (before_integrity cs)) a.ice_controlled
   pub ice_controlling : IsReading (number w64 ControllingLength) (last_of ICE_CONTROLLING (before_integrity cs)) a.ice_controlling
   pub network_cost : a.network_cost ≡ option_and_then network_cost (last_of NETWORK_COST (before_integrity cs))
+  pub nomination : a.nomination ≡ option_and_then nomination (last_of NOMINATION (before_integrity cs))
   pub fingerprint : IsReading (number w32 FingerprintLength) (last_of FINGERPRINT cs) a.fingerprint
 
 -- the attributes that a Binding success response and a Binding request require (RFC 8445, sections 7.1 and 7.2.5)

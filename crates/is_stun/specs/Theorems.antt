@@ -57,6 +57,7 @@ pub record HasReadableValues (a : AttributesRecord) : Type 0 where
   pub ice_controlled : IfSome a.ice_controlled (λ n. n < 2 ^ 64)
   pub ice_controlling : IfSome a.ice_controlling (λ n. n < 2 ^ 64)
   pub network_cost : IfSome a.network_cost (λ c. (c.0 < 2 ^ 16) × (c.1 < 2 ^ 16))
+  pub nomination : IfSome a.nomination (λ n. n < 2 ^ 32)
 
 abbrev pub IsClass : Class → Type 0
 IsClass Unknown = ⊥
@@ -163,9 +164,12 @@ LONGEST_REPLY = 76
 abbrev pub check_len : List ℕ → Bool → ℕ
 check_len username nominates = 76 + padded_len (length username) + (if nominates then 4 else 0)
 
--- a size that fits each check
+-- a size that fits each check, without NOMINATION and with it
 abbrev pub LONGEST_CHECK : ℕ
 LONGEST_CHECK = 76 + WRITTEN_USERNAME_LIMIT + 4
+
+abbrev pub LONGEST_NUMBERED_CHECK : ℕ
+LONGEST_NUMBERED_CHECK = LONGEST_CHECK + 8
 
 abbrev pub CheckTakes : List ℕ → List ℕ → List ℕ → Bool → ℕ → ℕ → Bool → Type 0
 CheckTakes key id username controlling tie_breaker priority nominates =

@@ -6,7 +6,7 @@ use Rattle.std.specs.Option.{option_map, option_or}
 use Rattle.std.specs.Int.{w16, w32, w64, to_be_bytes}
 use Rattle.is_stun.specs.Numbers.{USERNAME, ICE_CONTROLLED, ICE_CONTROLLING, PRIORITY, XOR_MAPPED_ADDRESS, USE_CANDIDATE, DATA}
 use Rattle.is_stun.specs.Numbers.{XOR_RELAYED_ADDRESS, XOR_PEER_ADDRESS, CHANNEL_NUMBER, LIFETIME, REALM, NONCE, ERROR_CODE, SOFTWARE}
-use Rattle.is_stun.specs.Numbers.{NETWORK_COST, MESSAGE_INTEGRITY, FINGERPRINT, WRITTEN_USERNAME_LIMIT, WRITTEN_TEXT_LIMIT, DATA_LIMIT}
+use Rattle.is_stun.specs.Numbers.{NETWORK_COST, NOMINATION, MESSAGE_INTEGRITY, FINGERPRINT, WRITTEN_USERNAME_LIMIT, WRITTEN_TEXT_LIMIT, DATA_LIMIT}
 use Rattle.is_stun.specs.Numbers.{FINGERPRINT_MASK, HEADER_LEN, INTEGRITY_LEN}
 use Rattle.is_proto.specs.declared.error.StunError.{StunError}
 use Rattle.is_proto.specs.declared.error.StunError.TheVariants.{UnknownMethod, ValueTooLong, BadErrorCode, MessageTooLong, BufferTooShort}
@@ -83,6 +83,7 @@ rows_of id attributes =
     ∷ row ERROR_CODE (option_map error_value attributes.error_code)
     ∷ row SOFTWARE attributes.software
     ∷ row NETWORK_COST (option_map network_cost_value attributes.network_cost)
+    ∷ row NOMINATION (option_map (to_be_bytes w32) attributes.nomination)
     ∷ []
 
 unfoldable pub rows_text : List Row → List ℕ

@@ -182,6 +182,13 @@ impl<'a> StunMessage<'a> {
         self.attrs.network_cost
     }
 
+    /// NOMINATION: the number of a nomination (draft-thatcher-ice-renomination).
+    pub fn nomination(&self) -> Option<u32>
+        ensures { result ≡ (message_view self.now).attributes.nomination }
+    {
+        self.attrs.nomination
+    }
+
     /// ERROR-CODE (RFC 8489, section 14.8): the code and the reason. A parsed code is 300 to 699.
     pub fn error_code(&self) -> Option<(u16, &'a str)>
         ensures { error_view result ≡ (message_view self.now).attributes.error_code }

@@ -9,12 +9,14 @@ ghost use Rattle.is_stun.specs.Pass.{kept, kept_after};
 
 use crate::address::keep_address;
 use crate::kinds::{
-    bytes_of_len, channel_number, keep_error_code, network_cost, number32, number64, text,
+    bytes_of_len, channel_number, keep_error_code, network_cost, nomination, number32, number64,
+    text,
 };
 use crate::numbers::{
     CHANNEL_NUMBER, DATA, ERROR_CODE, FINGERPRINT, ICE_CONTROLLED, ICE_CONTROLLING, LIFETIME,
-    MESSAGE_INTEGRITY, NETWORK_COST, NONCE, PRIORITY, REALM, SOFTWARE, TEXT_LIMIT, USE_CANDIDATE,
-    USERNAME, USERNAME_LIMIT, XOR_MAPPED_ADDRESS, XOR_PEER_ADDRESS, XOR_RELAYED_ADDRESS,
+    MESSAGE_INTEGRITY, NETWORK_COST, NOMINATION, NONCE, PRIORITY, REALM, SOFTWARE, TEXT_LIMIT,
+    USE_CANDIDATE, USERNAME, USERNAME_LIMIT, XOR_MAPPED_ADDRESS, XOR_PEER_ADDRESS,
+    XOR_RELAYED_ADDRESS,
 };
 use crate::tlv::Tlv;
 use is_proto::ParseFault;
@@ -39,6 +41,7 @@ pub struct Attributes<'a> {
     pub(crate) ice_controlled: Option<u64>,
     pub(crate) ice_controlling: Option<u64>,
     pub(crate) network_cost: Option<(u16, u16)>,
+    pub(crate) nomination: Option<u32>,
     pub(crate) fingerprint: Option<u32>,
 }
 
@@ -85,6 +88,7 @@ impl<'a> Attributes<'a> {
             ice_controlled: None,
             ice_controlling: None,
             network_cost: None,
+            nomination: None,
             fingerprint: None,
         }
     }
@@ -125,6 +129,11 @@ impl<'a> Attributes<'a> {
             NETWORK_COST => {
                 if let Some(cost) = network_cost(value) {
                     self.network_cost = Some(cost);
+                }
+            }
+            NOMINATION => {
+                if let Some(number) = nomination(value) {
+                    self.nomination = Some(number);
                 }
             }
             _ => {}

@@ -376,6 +376,19 @@ impl<'a> Builder<'a, HasClass> {
         }
     }
 
+    /// Sets NOMINATION: the number of a nomination (draft-thatcher-ice-renomination).
+    pub fn nomination(self, number: u32) -> Self
+        ensures kind { kind_so_far result ≡ kind_so_far self.entry }
+        ensures attributes { attributes_so_far result ≡ record (attributes_so_far self.entry) { nomination = Some number } }
+    {
+        let mut attrs = self.attrs;
+        attrs.nomination = Some(number);
+        Builder {
+            attrs,
+            state: self.state,
+        }
+    }
+
     /// Returns the message. It has no MESSAGE-INTEGRITY until it is written with a password.
     pub fn build(self, trans_id: TransId) -> StunMessage<'a>
         ensures { message_view result ≡ built (kind_so_far self.entry).method (kind_so_far self.entry).class trans_id.0

@@ -26,7 +26,7 @@ fn built<'a>(class: Class, trans_id: TransId, attrs: Attributes<'a>) -> StunMess
 }
 
 impl<'a> StunMessage<'a> {
-    ghost use Rattle.is_stun.specs.Checks.{binding_request, binding_reply, binding_role_conflict_reply};
+    ghost use Rattle.is_stun.specs.Checks.{binding_request, binding_reply, binding_role_conflict_reply, with_nomination};
 
     /// Returns a connectivity check: a Binding request (RFC 8445, section 7.2.2). USERNAME is the peer's username
     /// fragment, a colon and the local one. The tie-breaker goes into the attribute of the role. The priority is that
@@ -51,6 +51,15 @@ impl<'a> StunMessage<'a> {
             ..Attributes::default()
         };
         built(Class::Request, trans_id, attrs)
+    }
+
+    /// Returns the check with NOMINATION, the number of its nomination, if there is one (draft-thatcher-ice-renomination).
+    pub fn with_nomination(self, number: Option<u32>) -> StunMessage<'a>
+        ensures { message_view result ≡ with_nomination number (message_view self.entry) }
+    {
+        let mut attrs = self.attrs;
+        attrs.nomination = number;
+        StunMessage { attrs, ..self }
     }
 
     /// Returns a Binding success response with the source address of the request (RFC 8445, section 7.3.1.2).

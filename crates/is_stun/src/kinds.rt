@@ -3,7 +3,7 @@
 ghost use Rattle.std.specs.Prelude.{◌≡◌, ◌≤◌, length, drop, Some, None, OnOk, IfErr};
 ghost use Rattle.std.specs.Result.{result_ok};
 ghost use Rattle.std.specs.Int.{w32, w64};
-ghost use Rattle.is_stun.specs.Kinds.{text, number, bytes_of_len, error_code, channel_number, network_cost, fault_in};
+ghost use Rattle.is_stun.specs.Kinds.{text, number, bytes_of_len, error_code, channel_number, network_cost, nomination, fault_in};
 ghost use Rattle.is_stun.specs.ErrorCodeView.{error_view};
 ghost use Rattle.is_stun.specs.Gives.{Gives};
 
@@ -114,4 +114,15 @@ pub(crate) fn network_cost(value: &[u8]) -> Option<(u16, u16)>
     let network = u16::from_be_bytes([value[0], value[1]]);
     let cost = u16::from_be_bytes([value[2], value[3]]);
     Some((network, cost))
+}
+
+/// Reads the number of a nomination from four bytes.
+#[tactic(auto, unfolding(crate::specs::Kinds::nomination))]
+pub(crate) fn nomination(value: &[u8]) -> Option<u32>
+    ensures { result ≡ nomination value.now }
+{
+    match value {
+        [a, b, c, d] => Some(u32::from_be_bytes([*a, *b, *c, *d])),
+        _ => None,
+    }
 }

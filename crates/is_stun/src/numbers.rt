@@ -51,6 +51,9 @@ pub(crate) const ICE_CONTROLLING: u16 = 0x802A;
 /// The cost of the sender's network, as WebRTC sends it.
 pub(crate) const NETWORK_COST: u16 = 0xC057;
 
+/// The number of a nomination, as WebRTC sends it (draft-thatcher-ice-renomination).
+pub(crate) const NOMINATION: u16 = 0xC001;
+
 // The lengths of values, in bytes.
 
 /// The longest USERNAME that is read.

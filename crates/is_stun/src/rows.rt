@@ -14,7 +14,7 @@ use crate::attributes::Attributes;
 use crate::error_code::ErrorValue;
 use crate::numbers::{
     CHANNEL_NUMBER, DATA, ERROR_CODE, ICE_CONTROLLED, ICE_CONTROLLING, LIFETIME, NETWORK_COST,
-    NONCE, PRIORITY, REALM, SOFTWARE, USE_CANDIDATE, USERNAME, XOR_MAPPED_ADDRESS,
+    NOMINATION, NONCE, PRIORITY, REALM, SOFTWARE, USE_CANDIDATE, USERNAME, XOR_MAPPED_ADDRESS,
     XOR_PEER_ADDRESS, XOR_RELAYED_ADDRESS,
 };
 use crate::writing::Row;
@@ -32,6 +32,7 @@ pub(crate) struct Values {
     channel_number: Option<[u8; 4]>,
     lifetime: Option<[u8; 4]>,
     network_cost: Option<[u8; 4]>,
+    nomination: Option<[u8; 4]>,
 }
 
 fn u64_bytes(number: Option<u64>) -> Option<[u8; 8]>
@@ -99,6 +100,7 @@ impl Values {
         ensures channel { result.channel_number ≡ option_map channel_value attrs.now.channel_number }
         ensures lifetime { result.lifetime ≡ option_map (to_be_bytes w32) attrs.now.lifetime }
         ensures cost { result.network_cost ≡ option_map network_cost_value attrs.now.network_cost }
+        ensures nomination { result.nomination ≡ option_map (to_be_bytes w32) attrs.now.nomination }
     {
         Values {
             controlled: u64_bytes(attrs.ice_controlled),
@@ -110,6 +112,7 @@ impl Values {
             channel_number: channel_bytes(attrs.channel_number),
             lifetime: u32_bytes(attrs.lifetime),
             network_cost: cost_bytes(attrs.network_cost),
+            nomination: u32_bytes(attrs.nomination),
         }
     }
 }
@@ -184,7 +187,7 @@ pub(crate) fn rows_of<'a>(
     attrs: &Attributes<'a>,
     values: &'a Values,
     error: Option<&'a ErrorValue>,
-) -> [Row<'a>; 16]
+) -> [Row<'a>; 17]
     ensures { map row_view result
         ≡ row USERNAME (option_copied attrs.now.username)
         ∷ row ICE_CONTROLLED values.now.controlled
@@ -202,6 +205,7 @@ pub(crate) fn rows_of<'a>(
         ∷ row ERROR_CODE (option_map error_bytes (option_copied error.entry))
         ∷ row SOFTWARE (option_copied attrs.now.software)
         ∷ row NETWORK_COST values.now.network_cost
+        ∷ row NOMINATION values.now.nomination
         ∷ [] }
 {
     [
@@ -221,5 +225,6 @@ pub(crate) fn rows_of<'a>(
         error_row(error),
         text_row(SOFTWARE, attrs.software),
         array_row(NETWORK_COST, &values.network_cost),
+        array_row(NOMINATION, &values.nomination),
     ]
 }

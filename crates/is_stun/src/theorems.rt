@@ -5,9 +5,9 @@ ghost use Rattle.is_stun.specs.Message.{Message};
 ghost use Rattle.is_stun.specs.Reading.{Reads};
 ghost use Rattle.is_stun.specs.Spells.{Spells};
 ghost use Rattle.is_stun.specs.Theorems.{ReadsOrFails, SignedIffAuthentic, WrittenIsRead, WrittenIsReadAlike, WrittenByDefaultIsRead};
-ghost use Rattle.is_stun.specs.Theorems.{IsWrittenPlain, PlainReply, TakesBytes, FitsInto, CheckTakes, LONGEST_CHECK, LONGEST_REPLY, reply_len};
+ghost use Rattle.is_stun.specs.Theorems.{IsWrittenPlain, PlainReply, TakesBytes, FitsInto, CheckTakes, LONGEST_CHECK, LONGEST_NUMBERED_CHECK, LONGEST_REPLY, reply_len};
 ghost use Rattle.is_stun.specs.Numbers.{WRITTEN_USERNAME_LIMIT};
-ghost use Rattle.is_stun.specs.Checks.{binding_request, binding_reply, binding_role_conflict_reply};
+ghost use Rattle.is_stun.specs.Checks.{binding_request, binding_reply, binding_role_conflict_reply, with_nomination};
 ghost use Rattle.std.specs.declared.net.socket_addr.SocketAddr.{SocketAddr};
 ghost use Rattle.std.specs.Cmp.{IsTotalOrder};
 ghost use Rattle.std.specs.Cmp.Lexicographic.{slice_cmp};
@@ -73,13 +73,17 @@ pub fn replies_fit()
 {}
 
 /// A signed check takes 76 bytes, plus USERNAME with its padding, plus 4 bytes if it nominates. With a USERNAME of 508
-/// bytes, the longest that can be written, that is at most 588 bytes.
+/// bytes, the longest that can be written, that is at most 588 bytes, and 596 with NOMINATION.
 pub fn checks_fit()
     ensures takes { (key id username : List ℕ) (controlling : Bool) (tie_breaker priority : ℕ) (nominates : Bool)
         → CheckTakes key id username controlling tie_breaker priority nominates }
     ensures fits { (key id username : List ℕ) (controlling : Bool) (tie_breaker priority : ℕ) (nominates : Bool)
         → length username ≤ WRITTEN_USERNAME_LIMIT
         → FitsInto key LONGEST_CHECK (binding_request username id controlling tie_breaker priority nominates) }
+    ensures numbered_fits { (key id username : List ℕ) (controlling : Bool) (tie_breaker priority : ℕ) (nominates : Bool)
+        (number : Option ℕ) → length username ≤ WRITTEN_USERNAME_LIMIT
+        → FitsInto key LONGEST_NUMBERED_CHECK (with_nomination number (binding_request username id controlling tie_breaker
+        priority nominates)) }
 {}
 
 /// Two transaction IDs are equal exactly if their bytes are equal, and equal ones hash alike. They are ordered by their

@@ -111,4 +111,5 @@ pub(crate) fn values_fit(attrs: &Attributes<'_>)
     number64_fits(attrs.ice_controlled);
     number64_fits(attrs.ice_controlling);
     cost_fits(attrs.network_cost);
+    number32_fits(attrs.nomination);
 }

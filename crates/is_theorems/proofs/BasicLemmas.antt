@@ -6,3 +6,4 @@ pub mod MultisetInclusion
 pub mod VacantIndices
 pub mod CandidatesByIndex
 pub mod PairsInTurn
+pub mod ServedPairs

@@ -2,7 +2,9 @@
 pub mod AfterNominationAndRemoval
 pub mod ChecksAhead
 pub mod FirstDuePair
+pub mod PressingTimeouts
 pub mod AfterPackets
+pub mod NoNominationDue
 pub mod WithoutValidPair
 pub mod PollingCycles
 pub mod ConsentAfterTimeouts

@@ -1,4 +1,5 @@
 -- Which path is selected, and after what.
+pub mod FirstNumbered
 pub mod GreatestEligiblePair
 pub mod SelectedPairIsNominated
 pub mod NominationPoints

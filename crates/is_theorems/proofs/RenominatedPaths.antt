@@ -2,3 +2,4 @@
 pub mod LastNominatedPair
 pub mod OnePathAtBothAgents
 pub mod LastNominatedPerAgent
+pub mod GreatestNumber

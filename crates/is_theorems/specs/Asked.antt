@@ -10,6 +10,7 @@ use Rattle.is_stun.specs.Message.{Message}
 use Rattle.is_rules.specs.Agent.{AgentRecord}
 use Rattle.is_rules.specs.Answers.{goes_back}
 use Rattle.is_rules.specs.Brought.{Brings, IsServing}
+use Rattle.is_rules.specs.Serving.{nominates}
 use Rattle.is_rules.specs.declared.emitted.Path.{Path}
 use Rattle.is_theorems.specs.Logs.{Logged}
 use Rattle.is_rules.specs.Queue.{request_at}
@@ -41,7 +42,7 @@ module _ {H P : Type 0} where
   -- afterwards.
   abbrev pub IsAskedOn : AgentRecord H P → Logged P → AgentRecord H P → Path → Type 0
   IsAskedOn old x new path =
-      (q : RequestRecord) × (id : List ℕ) × IsServing old x.call x.entry q × (q.use_candidate ≡ true)
+      (q : RequestRecord) × (id : List ℕ) × IsServing old x.call x.entry q × (nominates old q ≡ true)
       × (x.entry.emitted.issued ≡ Some (issued_as path class.Success id)) × (new.controlling ≡ false)
 
   module _ (mac : H → List ℕ → List ℕ → List ℕ) (answers : P → CandidateRecord → ℕ → ℕ → Type 0) where

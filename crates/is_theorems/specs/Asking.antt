@@ -9,6 +9,7 @@ use Rattle.is_stun.specs.declared.header.Class.TheVariants.{Request, Success}
 use Rattle.is_rules.specs.declared.emitted.Path.{Path}
 use Rattle.is_rules.specs.Agent.{AgentRecord}
 use Rattle.is_rules.specs.Brought.{IsServing}
+use Rattle.is_rules.specs.Serving.{nominates}
 use Rattle.is_theorems.specs.Delivery.{KnowEachOther, IsReachedBy, Sends, Delivered}
 use Rattle.is_theorems.specs.Exchange.{AreBetween, Course}
 use Rattle.is_rules.specs.Issuing.{via_out}
@@ -24,10 +25,10 @@ module _ {H P : Type 0} where
   abbrev pub AreNominatedOn : AgentRecord H P → Path → Type 0
   AreNominatedOn a path = (p : PairRecord) → Has a.pairs p → path_of a p ≡ path → stays_nominated a p ≡ true
 
-  -- The nomination is accepted: the transition serves a request with USE-CANDIDATE, and issues its success response on the path.
+  -- The nomination is accepted: the transition serves a request that nominates, and issues its success response on the path.
   abbrev pub AcceptsNomination : AgentRecord H P → Call P → Entry → Path → Type 0
   AcceptsNomination old call e path =
-      (q : RequestRecord) × (id : List ℕ) × IsServing old call e q × (q.use_candidate ≡ true) × (e.emitted.issued ≡ Some (issued_as path Success id))
+      (q : RequestRecord) × (id : List ℕ) × IsServing old call e q × (nominates old q ≡ true) × (e.emitted.issued ≡ Some (issued_as path Success id))
 
   module _ (mac : H → List ℕ → List ℕ → List ℕ) (answers : P → CandidateRecord → ℕ → ℕ → Type 0) where
     -- A controlling agent sends a check in a `handle_timeout` call on a path whose pairs are nominated afterwards. The check is

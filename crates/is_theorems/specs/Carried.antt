@@ -15,6 +15,7 @@ use Rattle.is_theorems.specs.Conflicts.{AreSentUnder, ServesPastTests, handing}
 use Rattle.is_theorems.specs.Delivery.{KnowEachOther, IsReachedBy, Sends, Delivered, IsTaken, Issued}
 use Rattle.is_theorems.specs.Exchange.{Course}
 use Rattle.is_rules.specs.Issuing.{via_out}
+use Rattle.is_rules.specs.Roles.{keeps_role}
 use Rattle.is_theorems.specs.Pending.{checks_on, KeepsAlong, IsValidBy}
 use Rattle.is_rules.specs.Sound.{IsSound}
 use Rattle.is_rules.specs.Steps.{Call, Entry, HandleTimeout, ReceivePacket, Step}
@@ -63,17 +64,18 @@ module _ {H P : Type 0} (mac : H → List ℕ → List ℕ → List ℕ) (answer
       → came.contents ≡ check.contents → IsReachedBy b (via_out came) → Delivered mac answers came at b handed served
       → AcceptsNomination b (ReceivePacket at (via_out came) came.contents) handed (reversed (via_out came))
 
-  -- The check reached an agent that has its sender's role, and no smaller tie-breaker. That agent keeps its role, and sends a 487
-  -- on the reverse path. The sender receives it on the reverse of the check's path, at any time while the check is pending. Then
-  -- the sender accepts it. Afterwards it has the other role, if all its pending transactions with this ID were sent in its role.
+  -- The check reached an agent that has its sender's role, and no smaller tie-breaker, or that keeps its role whatever the tie-breakers
+  -- are. It sends a 487 on the reverse path. The sender receives it on the reverse of the check's path, at any time while the check is
+  -- pending. Then the sender accepts it, if it does not keep its own role. Afterwards it has the other role, if all its pending
+  -- transactions with this ID were sent in its role.
   pub record IsConflictCarried (a sent b served : AgentRecord H P) (check came : Packet) (id : List ℕ) (handed : Entry) : Type 0 where
-    pub no_smaller : a.tie_breaker ≤ b.tie_breaker
+    pub no_smaller : keeps_role b ≡ false → a.tie_breaker ≤ b.tie_breaker
     pub stays : served.controlling ≡ b.controlling
     pub rejection : Packet
     pub via_back : via_out rejection ≡ reversed (via_out came)
     pub sends : Sends b handed Failure id rejection served
     pub returns : (mid taken : AgentRecord H P) (answer : Packet) (xs : List (Call P × Entry)) (back limit : ℕ) (returned : Entry) → (course : Course mac answers xs sent mid)
-        → KeepsAlong mac answers limit xs sent mid course → checks_on (via_out check) xs < limit → KnowEachOther mac mid b
+        → KeepsAlong mac answers limit xs sent mid course → checks_on (via_out check) xs < limit → KnowEachOther mac mid b → keeps_role mid ≡ false
         → answer.contents ≡ rejection.contents → goes_back (via_out answer) (via_out check) ≡ true → Delivered mac answers answer back mid returned taken
         → (IsRejectedBy mid (handing answer back) returned taken × (AreSentUnder a.controlling mid id → taken.controlling ≡ not b.controlling))
         ⊎ EndsAlong mac answers xs sent mid course (via_out check)

@@ -1,5 +1,5 @@
 -- A role conflict, and the one check that resolves it (RFC 8445, sections 7.2.5.1 and 7.3.1.1).
-use Rattle.std.specs.Prelude.{◌≡◌, ◌⊎◌, ℕ, ◌<◌, ◌≤◌, Bool, not, List}
+use Rattle.std.specs.Prelude.{◌≡◌, ◌⊎◌, ℕ, ◌<◌, ◌≤◌, Bool, false, not, List}
 use Rattle.rand_core.specs.Stream.{Stream}
 use Rattle.is_proto.specs.Packets.{Packet}
 use Rattle.is_candidate.specs.Candidates.{CandidateRecord}
@@ -11,6 +11,7 @@ use Rattle.is_theorems.specs.Delivery.{KnowEachOther, IsReachedBy, Sends, Delive
 use Rattle.is_theorems.specs.Exchange.{AreBetween, Course}
 use Rattle.is_rules.specs.Issuing.{via_out}
 use Rattle.is_rules.specs.Request.{RequestRecord}
+use Rattle.is_rules.specs.Roles.{keeps_role}
 use Rattle.is_rules.specs.Sound.{IsSound}
 use Rattle.is_rules.specs.Steps.{Call, Entry, HandleTimeout, ReceivePacket, Step}
 use Rattle.is_rules.specs.Emitted.{reversed}
@@ -29,17 +30,18 @@ module _ {H P : Type 0} where
   ServesPastTests old call e = (q : RequestRecord) × IsServing old call e q × IsServedPastTests old q
 
   module _ (mac : H → List ℕ → List ℕ → List ℕ) (answers : P → CandidateRecord → ℕ → ℕ → Type 0) where
-    -- The check reached an agent that has its sender's role, and no smaller tie-breaker. That agent keeps its role, and sends a
-    -- 487 on the reverse path. If the sender receives this before its next `handle_timeout` call, it accepts it. Afterwards the
-    -- sender has the other role, if all its pending transactions with this ID were sent in its role.
+    -- The check reached an agent that has its sender's role, and no smaller tie-breaker, or that keeps its role whatever the tie-breakers
+    -- are. It sends a 487 on the reverse path. If the sender receives this before its next `handle_timeout` call, it accepts it, if it
+    -- does not keep its own role. Afterwards the sender has the other role, if all its pending transactions with this ID were sent in
+    -- its role.
     pub record IsConflictSent (a near b served : AgentRecord H P) (check : Packet) (id : List ℕ) (handed : Entry) : Type 0 where
-      pub no_smaller : a.tie_breaker ≤ b.tie_breaker
+      pub no_smaller : keeps_role b ≡ false → a.tie_breaker ≤ b.tie_breaker
       pub stays : served.controlling ≡ b.controlling
       pub rejection : Packet
       pub via_back : via_out rejection ≡ reversed (via_out check)
       pub sends : Sends b handed Failure id rejection served
       pub returns : (mid taken : AgentRecord H P) (ys : List (Call P × Entry)) (back : ℕ) (returned : Entry)
-          → AreBetween ys → Course mac answers ys near mid → Delivered mac answers rejection back mid returned taken
+          → AreBetween ys → Course mac answers ys near mid → keeps_role mid ≡ false → Delivered mac answers rejection back mid returned taken
           → IsRejectedBy mid (handing rejection back) returned taken
           × (AreSentUnder a.controlling mid id → taken.controlling ≡ not b.controlling)
 

@@ -10,10 +10,10 @@ use Rattle.is_rules.specs.declared.emitted.Path.{Path}
 use Rattle.is_rules.specs.Agent.{AgentRecord}
 use Rattle.is_theorems.specs.Asked.{IsAnsweredIn}
 use Rattle.is_theorems.specs.AskedCourses.{EndsAlong}
-use Rattle.is_theorems.specs.Courses.{CourseRound}
+use Rattle.is_theorems.specs.Courses.{AcceptsSuccess, CourseRound}
 use Rattle.is_theorems.specs.Exchange.{Course}
 use Rattle.is_theorems.specs.Logs.{Logged}
-use Rattle.is_theorems.specs.Progress.{checks_for}
+use Rattle.is_theorems.specs.Progress.{Awaits, IsUnanswered, checks_for}
 use Rattle.is_theorems.specs.Reached.{IsInLine, IsLasting, is_in_round, IsPassing, ChecksIn, IsEndedIn}
 use Rattle.is_theorems.specs.ReachedCourses.{ChecksAmong, IsAnsweredAmong, PassRounds}
 use Rattle.is_theorems.specs.Rounds.{LoggedRound, entries_of, Part}
@@ -80,6 +80,18 @@ module _ {H P : Type 0} (mac : H → List ℕ → List ℕ → List ℕ) (answer
       → (run : PassRounds mac answers (r ∷ later) start last) → ((x : CourseRound P) → Has later x → IsOpenRound by x)
       → ((x : CourseRound P) → Has later x → IsLasting x.now start p) → Suffices by r.now start run.1 last (length later)
       → IsReached (r ∷ later) start last run (path_of start p)
+
+  -- The same for a controlling agent without a valid pair, whether its nominations have numbers or not: unless a success response is
+  -- accepted in the rounds.
+  abbrev pub CoursesReachUnanswered : Type 0
+  CoursesReachUnanswered =
+      (first start last : AgentRecord H P) (xs : List (Call P × Entry)) (r : CourseRound P) (later : List (CourseRound P)) (p : PairRecord) (by : ℕ)
+      → IsFresh first → Course mac answers xs first start → start.controlling ≡ true → Awaits r.now by start p → IsUnanswered start p
+      → by ≤ r.now → r.timeout.answer ≡ Done → r.now < MAX → AreInRound r.following
+      → (run : PassRounds mac answers (r ∷ later) start last) → ((x : CourseRound P) → Has later x → IsOpenRound by x)
+      → Suffices by r.now start run.1 last (length later)
+      → ((x : CourseRound P) × Has (r ∷ later) x × ((y : Call P × Entry) × Has x.following y × AcceptsSuccess y.0 y.1))
+      ⊎ IsReached (r ∷ later) start last run (path_of start p)
 
   -- ---- in a log
 

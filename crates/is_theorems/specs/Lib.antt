@@ -4,6 +4,7 @@ pub mod Runs
 pub mod Bounds
 pub mod RoleState
 pub mod RoleView
+pub mod KeptRole
 pub mod Progress
 pub mod Rounds
 pub mod Delivery
@@ -33,6 +34,7 @@ pub mod Waiting
 pub mod Limited
 pub mod Renominating
 pub mod RenominatingCourses
+pub mod Numbered
 pub mod Pacing
 pub mod InTime
 pub mod Consent

@@ -1,6 +1,6 @@
 -- The log of an execution, newest entry first, and its properties: which paths were answered, which the peer nominated, and which
 -- responses were sent. Nothing here names an abstract state.
-use Rattle.std.specs.Prelude.{◌≡◌, ℕ, ◌⊎◌, Bool, true, false, List, [], ◌∷◌, ◌++◌, Option, Some, None, if◌then◌else◌}
+use Rattle.std.specs.Prelude.{◌≡◌, ℕ, ◌⊎◌, ◌||◌, is_some, Bool, true, false, List, [], ◌∷◌, ◌++◌, Option, Some, None, if◌then◌else◌}
 use Rattle.std.specs.Option.{option_or}
 use Rattle.is_stun.specs.declared.header.Class.TheVariants as class
 use Rattle.is_stun.specs.declared.header.Method.TheVariants.{Binding}
@@ -77,11 +77,11 @@ module _ {H P : Type 0} (mac : H → List ℕ → List ℕ → List ℕ) (provid
   abbrev pub IsAnsweredBy : Logged P → List (Logged P) → Path → Type 0
   IsAnsweredBy x before path = AnswersAt x before path ⊎ Answered before path
 
--- This entry accepted a Binding request with USE-CANDIDATE. It was received on the reverse path.
+-- This entry accepted a Binding request with USE-CANDIDATE or NOMINATION. It was received on the reverse path.
 abbrev pub AsksAt : {P : Type 0} → Logged P → Path → Type 0
 AsksAt x path =
     (at : ℕ) × (by : Path) × (m : Message) × Brings x.call x.entry at by m × (m.method ≡ Binding) × (m.class ≡ class.Request)
-    × (m.attributes.use_candidate ≡ true) × (reversed by ≡ path)
+    × ((m.attributes.use_candidate || is_some m.attributes.nomination) ≡ true) × (reversed by ≡ path)
 
 abbrev pub NominatedByPeer : {P : Type 0} → List (Logged P) → Path → Type 0
 NominatedByPeer [] path = ⊥

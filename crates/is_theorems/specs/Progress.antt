@@ -1,6 +1,6 @@
 -- What an agent achieves if `handle_timeout` is called at the times that `poll_timeout` returns: every timeout makes
 -- progress, and each due pair is checked (starvation freedom).
-use Rattle.std.specs.Prelude.{◌≡◌, ◌≢◌, ℕ, ◌*◌, ◌<◌, ◌≤◌, true, false, List, [], ◌∷◌, length, Option, Some, None, is_some, Ok, ◌⊎◌, if◌then◌else◌}
+use Rattle.std.specs.Prelude.{◌≡◌, ◌≢◌, ℕ, ◌&&◌, ◌*◌, ◌<◌, ◌≤◌, true, false, List, [], ◌∷◌, length, Option, Some, None, is_some, Ok, ◌⊎◌, if◌then◌else◌}
 use Rattle.rand_core.specs.Stream.{Stream}
 use Rattle.is_proto.specs.Lists.{Has, is_empty}
 use Rattle.is_proto.specs.Times.{MAX}
@@ -20,7 +20,7 @@ use Rattle.is_rules.specs.Agent.{AgentRecord}
 use Rattle.is_rules.specs.Checking.{goes_ahead}
 use Rattle.is_rules.specs.Sending.{path_of}
 use Rattle.is_stun.specs.Reading.{Reads}
-use Rattle.is_rules.specs.Nominating.{is_eligible}
+use Rattle.is_rules.specs.Nominating.{is_eligible, is_pressing, nominates_at_once, numbers}
 use Rattle.is_rules.specs.Points.{IsTopSelected}
 use Rattle.is_rules.specs.Queue.{request_at}
 use Rattle.is_rules.specs.Steps.{Done, Entry, Flag, HandleTimeout, ReceivePacket, Step}
@@ -67,14 +67,22 @@ module _ {H P : Type 0} where
     pub full : a.lite ≡ false
     pub peer : is_some a.remote_creds ≡ true
 
+  -- At a `handle_timeout` call the agent is controlled, or its nominations have no numbers. Otherwise it checks each path that it selects
+  -- at once, before the pairs that are due earlier (`nominates_at_once`).
+  abbrev pub ChecksInTurn : AgentRecord H P → Type 0
+  ChecksInTurn a = (a.controlling && numbers a) ≡ false
+
   -- A check is sent on the pair's path.
   abbrev pub ChecksOn : AgentRecord H P → Emitted → PairRecord → Type 0
   ChecksOn a emitted p = (id : List ℕ) × (emitted.issued ≡ Some (issued_as (path_of a p) class.Request id))
 
-  -- The call makes progress: a check is sent, a pair is removed, or there are fewer early requests.
+  -- The call makes progress: a check is sent, a pair is removed, there are fewer early requests, or a path is selected because the
+  -- selected pair is gone.
   abbrev pub IsOfUse : AgentRecord H P → Emitted → AgentRecord H P → Type 0
   IsOfUse old emitted new =
-      ((p : PairRecord) × Has old.pairs p × (ChecksOn old emitted p ⊎ IsGone p.number new.pairs)) ⊎ (length new.queue < length old.queue)
+      ((p : PairRecord) × Has old.pairs p × (ChecksOn old emitted p ⊎ IsGone p.number new.pairs))
+      ⊎ ((length new.queue < length old.queue)
+      ⊎ ((is_pressing old ≡ true) × ((path : Path) × Has emitted.selected_paths (Some path))))
 
   -- A pair is eligible, and the selected pair exists, with the greatest priority of the eligible ones. In a state that no execution
   -- leads to it may be another one of this priority that is not eligible.
@@ -96,8 +104,10 @@ module _ {H P : Type 0} where
     pub there : Has a.pairs p
     pub due : due_time_of at a.timing p ≤ by
 
-  -- No pair is valid yet, and this one will not be removed after timeout before its check.
+  -- No pair is valid yet, and this one will not be removed after timeout before its check. No nomination is to be sent at once, before
+  -- pairs that are due earlier; until a path is selected, none will be.
   pub record IsUnanswered (a : AgentRecord H P) (p : PairRecord) : Type 0 where
+    pub calm : nominates_at_once a ≡ false
     pub invalid : (q : PairRecord) → Has a.pairs q → is_valid q ≡ false
     pub young : unanswered_count p.checks < a.timing.max_retransmits
 
@@ -174,11 +184,13 @@ TimeoutsAreOfUse {H = H} P mac =
 
 -- Starvation freedom: a pair is checked, or removed after timeout, within as many polling cycles as there are pairs that are due
 -- no later than it, or twice as many if checks may go ahead. The `handle_timeout` calls come at its due time, or later. A nominated pair
--- goes before all others, unless its due time was fixed before; so `poll_timeout` is called before each `handle_timeout` call.
+-- goes before all others, unless its due time was fixed before; so `poll_timeout` is called before each `handle_timeout` call. When the
+-- turns begin, no path is to be selected or nominated at once (`is_pressing`), and nominations that are sent at once go before no pair
+-- (`ChecksInTurn`).
 abbrev pub NoPairIsStarved : {H : Type 0} (P : Type 0) → (H → List ℕ → List ℕ → List ℕ) → Type 0
 NoPairIsStarved {H = H} P mac =
     (first last : AgentRecord H P) (turns : List (ℕ × Emitted)) (p : PairRecord) (at by : ℕ)
-    → IsSound first → first.packets ≡ [] → first.last_time ≡ Some at → Awaits at by first p
+    → IsSound first → first.packets ≡ [] → first.last_time ≡ Some at → is_pressing first ≡ false → ChecksInTurn first → Awaits at by first p
     → ((x : ℕ × Emitted) → Has turns x → (by ≤ x.0) × (x.0 < MAX))
     → Turns mac turns first last
     → checks_for first.rules (length (due_by by at first.timing first.pairs)) ≤ length turns

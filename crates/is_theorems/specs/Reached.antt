@@ -1,7 +1,7 @@
 -- How soon a pair that is due is checked, in either role, whatever the agent receives and while candidates are added: other pairs may
 -- be checked first, each at most twice. So a controlled agent selects a path, if the peer nominates the pair's path and the checks on
 -- it are answered.
-use Rattle.std.specs.Prelude.{◌≡◌, ℕ, ◌+◌, ◌*◌, ◌<◌, ◌≤◌, ◌⊎◌, Bool, true, false, List, [], ◌∷◌, ◌++◌, length, Some, None, is_some}
+use Rattle.std.specs.Prelude.{◌≡◌, ℕ, ◌+◌, ◌*◌, ◌<◌, ◌≤◌, ◌⊎◌, Bool, true, false, not, List, [], ◌∷◌, ◌++◌, length, Some, None, is_some}
 use Rattle.rand_core.specs.Stream.{Stream}
 use Rattle.is_proto.specs.Lists.{Has}
 use Rattle.is_proto.specs.Times.{MAX}
@@ -16,6 +16,7 @@ use Rattle.is_theorems.specs.AskedCourses.{Ends}
 use Rattle.is_rules.specs.declared.emitted.Path.{Path}
 use Rattle.is_theorems.specs.Logs.{Logged}
 use Rattle.is_theorems.specs.Progress.{IsChecking, checks_for}
+use Rattle.is_rules.specs.Nominating.{numbers}
 use Rattle.is_rules.specs.Queue.{request_at}
 use Rattle.is_theorems.specs.Rounds.{LoggedRound, entries_of, began_at, is_between, Part, RunsOn}
 use Rattle.is_theorems.specs.Runs.{IsFresh, IsTopPath}
@@ -24,13 +25,13 @@ use Rattle.is_rules.specs.Steps.{Call, SetMtu, SetControlTieBreaker, SetMaxCandi
 use Rattle.is_rules.specs.Emitted.{issued_as}
 
 -- What may come between two `handle_timeout` calls: packets and polls, candidates that are added, and settings that change neither
--- pairs nor the timing of their checks.
+-- pairs nor the timing of their checks. Renomination may do so, if nominations then have numbers; so it is only switched off.
 abbrev pub is_in_round : {P : Type 0} → Call P → Bool
 is_in_round (SetMtu target warn) = true
 is_in_round (SetControlTieBreaker tie_breaker) = true
 is_in_round (SetMaxCandidatePairs n) = true
 is_in_round (SetMaxDiscovered limit) = true
-is_in_round (SetRenomination renominates) = true
+is_in_round (SetRenomination renominates) = not renominates
 is_in_round (SetTimingAdvance by) = true
 is_in_round (SetLocalPreference object) = true
 is_in_round (SetControlling controlling) = true
@@ -63,10 +64,12 @@ module _ {H P : Type 0} where
   IsLasting now a p = is_valid p ≡ true → stays_answered a.timing.consent now p ≡ true
 
   -- A pair waits for its check: its due time, computed at time `at`, is at most `by`, and it will not be removed after timeout, or when
-  -- consent ends, before the check. It is not valid, so nothing nominates it first, or its due time is fixed already.
+  -- consent ends, before the check. It is not valid, so nothing nominates it first, or its due time is fixed already. Nominations have no
+  -- numbers: with them each path that is selected is checked at once.
   pub record IsInLine (at by : ℕ) (a : AgentRecord H P) (p : PairRecord) : Type 0 where
     pub checking : IsChecking a
     pub queue : a.queue ≡ []
+    pub unnumbered : numbers a ≡ false
     pub there : Has a.pairs p
     pub due : due_time_of at a.timing p ≤ by
     pub settled : (is_valid p ≡ false) ⊎ (is_some p.due ≡ true)

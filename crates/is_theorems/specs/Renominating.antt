@@ -14,7 +14,7 @@ use Rattle.is_theorems.specs.Asked.{IsOnlyPair, IsAnsweredIn, IsAskedOn, MayEndI
 use Rattle.is_theorems.specs.Delivery.{Sends}
 use Rattle.is_rules.specs.Issuing.{via_out}
 use Rattle.is_theorems.specs.Logs.{Logged, last_selected}
-use Rattle.is_rules.specs.Nominating.{eligible_numbered, followed}
+use Rattle.is_rules.specs.Nominating.{eligible_numbered, followed, numbers}
 use Rattle.is_rules.specs.Points.{IsNominationPoint}
 use Rattle.is_rules.specs.Queue.{request_at}
 use Rattle.is_theorems.specs.Rounds.{Part, RunsOn}
@@ -80,6 +80,7 @@ module _ {H P : Type 0} where
       pub done : timeout.entry.answer ≡ Done
       pub none : request_at now found.run.0 ≡ None
       pub renominates : last.renominates ≡ true
+      pub unnumbered : numbers last ≡ false
       pub controlled : last.controlling ≡ false
       pub asked : IsAskedLast before start found.at part found.run.0 found.run.1 found.run.2 path
       pub answered : IsAnsweredIn part path

@@ -13,6 +13,7 @@ use Rattle.is_theorems.specs.Asking.{AreNominatedOn, AcceptsNomination}
 use Rattle.is_theorems.specs.Delivery.{Sends}
 use Rattle.is_theorems.specs.Exchange.{Course}
 use Rattle.is_rules.specs.Issuing.{via_out}
+use Rattle.is_rules.specs.Nominating.{numbers}
 use Rattle.is_rules.specs.Queue.{request_at}
 use Rattle.is_rules.specs.Steps.{Call, Entry, HandleTimeout, Done, Step}
 use Rattle.is_theorems.specs.Shared.{IsNewlyCreated}
@@ -44,14 +45,14 @@ module _ {H P : Type 0} (mac : H → List ℕ → List ℕ → List ℕ) (answer
 
   -- In a segment of an execution the agent accepted the nomination of a path last, and received a success response on it, in either
   -- order. A `handle_timeout` call that serves no early request follows, while the agent is controlled and nominations replace earlier
-  -- ones. If only one pair uses the path's addresses then, the path is the one that it selected last, unless a pair that uses them may
+  -- ones, without numbers. If only one pair uses the path's addresses then, the path is the one that it selected last, unless a pair that uses them may
   -- have been removed.
   abbrev pub LastAcceptedNominationsAreLast : Type 0
   LastAcceptedNominationsAreLast =
       (first start near last : AgentRecord H P) (before xs : List (Call P × Entry)) (s t : Stream) (now : ℕ) (timeout : Entry) (path : Path)
       → IsNewlyCreated first → Course mac answers before first start → (course : Course mac answers xs start near)
       → Step mac answers near s (HandleTimeout now) timeout last t → timeout.answer ≡ Done → request_at now near ≡ None
-      → last.renominates ≡ true → near.controlling ≡ false
+      → last.renominates ≡ true → numbers last ≡ false → near.controlling ≡ false
       → AcceptsNominationLastAlong xs start near course path → IsAnsweredAlong xs path → IsOnlyPair last path
       → (selected_along None (before ++ (xs ++ (HandleTimeout now, timeout) ∷ [])) ≡ Some path)
       ⊎ (EndsAlong mac answers xs start near course path ⊎ Ends answers near (HandleTimeout now) timeout path)

@@ -1,6 +1,6 @@
 -- The external view of an agent, as its peer observes it: its role, its early requests, its packets, its pending transactions and
 -- its valid paths. Also the effect that one transition may have on this view.
-use Rattle.std.specs.Prelude.{◌≡◌, ℕ, Bool, true, false, not, nat_lt, nat_le, List, [], Option, Some, None, ◌⊎◌, if◌then◌else◌}
+use Rattle.std.specs.Prelude.{◌≡◌, ℕ, ◌&&◌, ◌||◌, Bool, true, false, not, nat_lt, nat_le, List, [], Option, Some, None, ◌⊎◌, if◌then◌else◌}
 use Rattle.std.specs.Option.{option_map_or}
 use Rattle.is_proto.specs.Lists.{Has}
 use Rattle.is_stun.specs.declared.header.Class.{Class}
@@ -34,6 +34,8 @@ pub record RoleState : Type 0 where
   pub controlling : Bool
   pub tie_breaker : ℕ
   pub lite : Bool
+  -- A lite agent that keeps its role, whatever its peer claims.
+  pub keeps : Bool
   -- The request passes the tests of its USERNAME and its destination.
   pub passes : RequestRecord → Bool
   pub queue : List RequestRecord
@@ -63,10 +65,10 @@ abbrev pub Claims : Option ℕ → Option ℕ → Bool → ℕ → Type 0
 Claims controlling controlled role tie = (controlling ≡ (if role then Some tie else None)) × (controlled ≡ (if role then None else Some tie))
 
 abbrev pub sends_487 : RoleState → RequestRecord → Bool
-sends_487 s q = option_map_or (λ tie. nat_le tie s.tie_breaker) (rival_in s.controlling q) false
+sends_487 s q = option_map_or (λ tie. s.keeps || nat_le tie s.tie_breaker) (rival_in s.controlling q) false
 
 abbrev pub switches_role : RoleState → RequestRecord → Bool
-switches_role s q = option_map_or (λ tie. nat_lt s.tie_breaker tie) (rival_in s.controlling q) false
+switches_role s q = option_map_or (λ tie. not s.keeps && nat_lt s.tie_breaker tie) (rival_in s.controlling q) false
 
 -- ---- what a transition did
 
@@ -85,7 +87,8 @@ abbrev pub Conveys : Class → RoleState → RoleEvent → Mail → Bool → Typ
 Conveys class.Request old d m role = Claims m.ice_controlling m.ice_controlled old.controlling old.tie_breaker × (role ≡ old.controlling)
 -- A success response has the transaction ID of the request that was served.
 Conveys class.Success old d m role = (q : RequestRecord) × (d.serves ≡ Some q) × (q.id ≡ m.id)
--- So has a 487. Its request claimed the agent's own role with a tie-breaker that is not greater. The role does not change.
+-- So has a 487. Its request claimed the agent's own role with a tie-breaker that is not greater, or the agent keeps its role. The role
+-- does not change.
 Conveys class.Failure old d m role = (q : RequestRecord) × (d.serves ≡ Some q) × (q.id ≡ m.id) × (sends_487 old q ≡ true) × (role ≡ old.controlling)
 Conveys class.Indication old d m role = ⊥
 Conveys class.Unknown old d m role = ⊥
@@ -111,7 +114,7 @@ pub record MeetsSuccess (old : RoleState) (d : RoleEvent) (path : Path) : Type 0
   pub came : d.via ≡ Some via
   pub back : (via.source ≡ path.destination) × (via.destination ≡ path.source)
 
--- The served request claims the agent's role with a greater tie-breaker, so the agent switches its role.
+-- The served request claims the agent's role with a greater tie-breaker, so the agent switches its role, unless it keeps it.
 abbrev pub SwitchRole : RoleState → RoleEvent → RoleState → Type 0
 SwitchRole old d new = (q : RequestRecord) × (d.serves ≡ Some q) × (switches_role old q ≡ true) × (new.controlling ≡ not old.controlling)
 
@@ -146,12 +149,12 @@ pub record RoleEffect (old : RoleState) (d : RoleEvent) (new : RoleState) : Type
   pub cleared : d.clears ≡ true → (new.kept ≡ []) × (new.valid ≡ []) × (d.selected_paths ≡ [])
   -- The role does not change, or it switches because of a request or of a 487.
   pub role : d.sets ≡ false → (new.controlling ≡ old.controlling) ⊎ (SwitchRole old d new ⊎ MeetsConflict old d new)
-  -- A served request that passes the tests switches the role if it claims the role with a greater tie-breaker, and does not
-  -- otherwise.
+  -- A served request that passes the tests switches the role if it claims the role with a greater tie-breaker and the agent does not
+  -- keep its role, and does not otherwise.
   pub settled : (q : RequestRecord) → d.serves ≡ Some q → old.passes q ≡ true
       → new.controlling ≡ (if switches_role old q then not old.controlling else old.controlling)
-  -- After each accepted 487 the agent has the role that its check was not sent in.
-  pub expired : (m : Mail) → d.accepts ≡ Some m → m.class ≡ class.Failure → m.is_conflict ≡ true → MeetsConflict old d new
+  -- After each accepted 487 the agent has the role that its check was not sent in, unless it keeps its role.
+  pub expired : old.keeps ≡ false → (m : Mail) → d.accepts ≡ Some m → m.class ≡ class.Failure → m.is_conflict ≡ true → MeetsConflict old d new
 
 -- ---- a newly created agent, in either role
 

@@ -21,6 +21,7 @@ use Rattle.is_rules.specs.Agent.{AgentRecord, fresh}
 use Rattle.is_rules.specs.Sending.{path_of}
 use Rattle.is_rules.specs.Serving.{names_another}
 use Rattle.is_rules.specs.Queue.{request_at}
+use Rattle.is_rules.specs.Roles.{keeps_role}
 use Rattle.is_rules.specs.Answers.{is_role_conflict}
 use Rattle.is_rules.specs.Steps.{Call, SetIceLite, SetControlTieBreaker, SetControlling, ReceivePacket, HandleTimeout, Step}
 use Rattle.is_rules.specs.Sound.{IsSound, GivesBased}
@@ -66,6 +67,7 @@ module _ {H P : Type 0} where
     controlling = a.controlling;
     tie_breaker = a.tie_breaker;
     lite = a.lite;
+    keeps = keeps_role a;
     passes = λ q. not (names_another a q) && is_some (local_place a.local q);
     queue = a.queue;
     packets = map mail_in a.packets;

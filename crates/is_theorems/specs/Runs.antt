@@ -97,12 +97,12 @@ module _ {H P : Type 0} (mac : H → List ℕ → List ℕ → List ℕ) (answer
       AtEach first s log (λ before mid x after. (at : ℕ) (by : Path) (m : Message) → Brings x.call x.entry at by m → m.class ≡ class.Success
       → (p : PairRecord) × Has after.pairs p × (keeps_check_on after by m.id p ≡ true) × (is_valid p ≡ true))
 
-  -- If a request with USE-CANDIDATE is received and gets a success response, and the agent is controlled afterwards, a pair on
+  -- If a request with USE-CANDIDATE and without a NOMINATION of 0 is received and gets a success response, and the agent is controlled afterwards, a pair on
   -- the path of the response is nominated.
   abbrev pub RequestsNominate : AgentRecord H P → Stream → List (Logged P) → Type 0
   RequestsNominate first s log =
       AtEach first s log (λ before mid x after. (at : ℕ) (by : Path) (m : Message) (issued : Issued) → Brings x.call x.entry at by m
-      → m.attributes.use_candidate ≡ true → x.entry.emitted.issued ≡ Some issued → issued.class ≡ class.Success → after.controlling ≡ false
+      → m.attributes.use_candidate ≡ true → ¬ (m.attributes.nomination ≡ Some 0) → x.entry.emitted.issued ≡ Some issued → issued.class ≡ class.Success → after.controlling ≡ false
       → IsNominatedOn after issued.path)
 
   -- ---- the theorems

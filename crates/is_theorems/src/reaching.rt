@@ -7,7 +7,7 @@
 
 ghost use Rattle.is_theorems.specs.BoundedRounds.{LimitsReach};
 ghost use Rattle.is_theorems.specs.FirstChecks.{CoursesCheckFromDue};
-ghost use Rattle.is_theorems.specs.FirstTimeouts.{OpenCoursesReach, PairsAreReachedFromDue, CoursesReachFromDue};
+ghost use Rattle.is_theorems.specs.FirstTimeouts.{OpenCoursesReach, PairsAreReachedFromDue, CoursesReachFromDue, CoursesReachUnanswered};
 ghost use Rattle.is_theorems.specs.Reached.{PairsAreReached};
 ghost use Rattle.is_theorems.specs.ReachedCourses.{CoursesReach, CoursesCheck};
 
@@ -47,9 +47,7 @@ pub fn courses_check<H: Sha1HmacProvider, P: LocalPreference>()
 /// them, or a candidate that is added in them may remove a pair of the path.
 pub fn open_courses_reach<H: Sha1HmacProvider, P: LocalPreference>()
     ensures { OpenCoursesReach H.mac P.answers }
-{
-    pairs_are_reached::<H, P>();
-}
+{}
 
 /// From a newly created agent: a pair is due by a `handle_timeout` call. Then a check is sent on its path in this call's round, or in
 /// one of 2m - 1 later ones, and one more for each pair that is added in these. If the pair is the only one, the call's round
@@ -57,18 +55,19 @@ pub fn open_courses_reach<H: Sha1HmacProvider, P: LocalPreference>()
 /// added in them may remove a pair of the path. Here m is the number of pairs when the second call comes.
 pub fn reached_from_due<H: Sha1HmacProvider, P: LocalPreference>()
     ensures { PairsAreReachedFromDue H.mac P.answers }
-{
-    pairs_are_reached::<H, P>();
-}
+{}
 
 /// The same of an agent that shares its random source. If the pair is due before the first call, 2n - 1 rounds suffice, the first
 /// included, and one more for each pair that is added in them. Here n is the number of pairs when the first call comes.
 pub fn courses_reach_from_due<H: Sha1HmacProvider, P: LocalPreference>()
     ensures { CoursesReachFromDue H.mac P.answers }
-{
-    open_courses_reach::<H, P>();
-    reached_from_due::<H, P>();
-}
+{}
+
+/// The same of a controlling agent without a valid pair, also if its nominations have numbers and renomination is on: unless a success
+/// response is accepted in the rounds.
+pub fn courses_reach_unanswered<H: Sha1HmacProvider, P: LocalPreference>()
+    ensures { CoursesReachUnanswered H.mac P.answers }
+{}
 
 /// A controlling agent, which may share its random source, has no valid pair, and one is due by a `handle_timeout` call. Then a check
 /// is sent on its path in one of n rounds, unless a path is selected in one of them. Here n is the number of pairs that are due by

@@ -2,6 +2,7 @@
 
 ghost use Rattle.is_theorems.specs.Renominating.{OnlySelectedAreNominated, FollowedAreSelected, LastAskedAreSelected, BothSelectOnePath};
 ghost use Rattle.is_theorems.specs.RenominatingCourses.{NominatedAreLast, LastAcceptedNominationsAreLast};
+ghost use Rattle.is_theorems.specs.Numbered.{GreatestAreSelected, GreatestAreKept, GreatestAreLast, GreatestStay};
 
 use is_candidate::LocalPreference;
 use is_proto::Sha1HmacProvider;
@@ -46,4 +47,28 @@ pub fn nominated_are_last<H: Sha1HmacProvider, P: LocalPreference>()
 /// only one pair uses this path's addresses and no pair that does may have been removed.
 pub fn last_accepted_nominations_are_last<H: Sha1HmacProvider, P: LocalPreference>()
     ensures { LastAcceptedNominationsAreLast H.mac P.answers }
+{}
+
+/// From a newly created agent: a controlled agent goes by numbers, and one eligible pair was nominated by a greater number than all others.
+/// Then it is selected, after an accepted success response, and after a `handle_timeout` call that serves no early request.
+pub fn greatest_are_selected<H: Sha1HmacProvider, P: LocalPreference>()
+    ensures { GreatestAreSelected H.mac P.answers }
+{}
+
+/// Once a pair is selected that was nominated by a greater number than all others, it stays selected as long as that is so and the pair is
+/// eligible, whatever is lost, late or replayed: a lesser or equal number moves the selection on no path.
+pub fn greatest_are_kept<H: Sha1HmacProvider, P: LocalPreference>()
+    ensures { GreatestAreKept H.mac P.answers }
+{}
+
+/// Such a pair's path is the one that a controlled agent, which may share its random source, selected last, from its next `handle_timeout` call
+/// on that serves no early request, whatever it accepted before.
+pub fn greatest_are_last<H: Sha1HmacProvider, P: LocalPreference>()
+    ensures { GreatestAreLast H.mac P.answers }
+{}
+
+/// The nomination with the greatest number has arrived, and its path is selected. It stays the path that was selected last while a pair on
+/// it is eligible, whatever is lost, late or replayed: requests that nominate other paths by less move the selection nowhere.
+pub fn greatest_stay<H: Sha1HmacProvider, P: LocalPreference>()
+    ensures { GreatestStay H.mac P.answers }
 {}

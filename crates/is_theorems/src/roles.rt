@@ -2,6 +2,7 @@
 
 ghost use Rattle.is_theorems.specs.Carried.{CarriedSettle};
 ghost use Rattle.is_theorems.specs.Conflicts.{ConflictsSettle};
+ghost use Rattle.is_theorems.specs.KeptRole.{LiteKeepsRole};
 ghost use Rattle.is_theorems.specs.RoleView.{FreshIsNew};
 
 use crate::exchanging::checks_are_answered;
@@ -12,6 +13,11 @@ use is_stun::theorems::{checks_fit, replies_fit, written_is_read};
 /// A newly created agent has the external view of a new agent.
 pub fn fresh_is_new<H: Sha1HmacProvider, P: LocalPreference>()
     ensures { FreshIsNew H P }
+{}
+
+/// By the rule `lite_keeps_role` no packet and no `handle_timeout` call changes the role of a lite agent; only `set_controlling` does.
+pub fn lite_agents_keep_their_role<H: Sha1HmacProvider, P: LocalPreference>()
+    ensures { LiteKeepsRole H.mac P.answers }
 {}
 
 /// One check resolves a role conflict: it is delivered to the other agent, which has the sender's role. Either that agent has the

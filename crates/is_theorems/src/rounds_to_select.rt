@@ -7,7 +7,6 @@ ghost use Rattle.is_theorems.specs.Progress.{AnsweredSelect};
 ghost use Rattle.is_theorems.specs.Reached.{AskedRoundsSelect};
 ghost use Rattle.is_theorems.specs.Rounds.{AnsweredRoundsSelect};
 
-use crate::reaching::{pairs_are_reached, reached_from_due};
 use is_candidate::LocalPreference;
 use is_proto::Sha1HmacProvider;
 
@@ -45,13 +44,10 @@ pub fn open_rounds_select<H: Sha1HmacProvider, P: LocalPreference>()
     ensures { AnsweredOpenRoundsSelect H.mac P.answers }
 {
     answered_rounds_select::<H, P>();
-    pairs_are_reached::<H, P>();
 }
 
 /// The same for a pair that is due by the first timeout of the rounds, and maybe not before it: one round suffices for a single pair,
 /// otherwise 2m - 1 later ones for m pairs when the second timeout comes, and one more for each pair that is added in these.
 pub fn due_rounds_select<H: Sha1HmacProvider, P: LocalPreference>()
     ensures { AnsweredDueRoundsSelect H.mac P.answers }
-{
-    reached_from_due::<H, P>();
-}
+{}

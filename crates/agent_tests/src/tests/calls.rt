@@ -21,6 +21,7 @@ fn outcome(error: &IceError) -> Outcome {
         IceError::MtuTooSmall => Outcome::MtuTooSmall,
         IceError::CredentialsTooLong => Outcome::CredentialsTooLong,
         IceError::PriorityTooHigh => Outcome::PriorityTooHigh,
+        IceError::LiteStaysControlled => Outcome::LiteStaysControlled,
         _ => Outcome::Other,
     }
 }
@@ -52,6 +53,7 @@ impl Player {
             Call::Peers(count) => add_remotes(&mut self.agent, alloc, count),
             Call::Invalidate(line) => invalidate(&mut self.agent, parsed(alloc, line)),
             Call::Recreate => outcome_of(self.agent.recreate_candidate_pairs()),
+            Call::Control(role) => outcome_of(self.agent.set_controlling(role)),
             Call::SetMtu(mtu, mtu_warn) => outcome_of(self.agent.set_mtu(mtu..=mtu_warn)),
             _ => self.passes(call),
         }
@@ -63,6 +65,7 @@ impl Player {
             Call::Timeout(ms) => self.passes_to(ms),
             Call::Check(ms) => done_if(self.checks(ms)),
             Call::CheckTo(ms, to, nominates) => done_if(self.checks_to(ms, to, nominates)),
+            Call::CheckBy(ms, to, number) => done_if(self.checks_by(ms, to, number)),
             Call::CheckPublished(ms) => done_if(self.checks_under_published_id(ms)),
             Call::CheckZeros(ms, to) => done_if(self.checks_under_zeros(ms, to)),
             _ => Outcome::Other,
@@ -81,6 +84,11 @@ impl Player {
     /// The same, whose packet goes to this address, with USE-CANDIDATE or without.
     fn checks_to(&mut self, ms: u64, to: At, nominates: bool) -> bool {
         self.checks(ms) && self.has_sent_from(At(1, 1000), to) && self.has_nominated(nominates)
+    }
+
+    /// The same, with USE-CANDIDATE and NOMINATION of this number, or neither.
+    fn checks_by(&mut self, ms: u64, to: At, number: Option<u32>) -> bool {
+        self.checks_to(ms, to, number.is_some()) && self.has_number(number)
     }
 
     /// The same, with the first random words of the published example.

@@ -293,6 +293,8 @@ const BEFORE: Rules = Rules {
     consent: None,
     selected_first: false,
     timeout_after_requests: false,
+    lite_keeps_role: false,
+    numbered_nominations: false,
     ..MODERN
 };
 

@@ -126,6 +126,15 @@ fn request(message: Message) -> StunMessage<'static> {
             1853824767,
             nominates,
         ),
+        Message::Nominates(use_candidate, number) => StunMessage::binding_request(
+            "near:farr",
+            TransId([7; 12]),
+            true,
+            10,
+            1853824767,
+            use_candidate,
+        )
+        .with_nomination(Some(number)),
         Message::Numbered(number) => {
             let id = numbered_id(number);
             StunMessage::binding_request("p9KA:SQAt", id, true, 9, 1853824767, false)

@@ -8,7 +8,7 @@ use super::driver::Player;
 use super::making::numbered_id;
 use super::sent::{
     check_length, claims, class_and_length, is_between, is_discovery, is_reply, is_restart,
-    is_selection, is_signed, nominates, sent_id, sign_of,
+    is_selection, is_signed, nominates, nomination, sent_id, sign_of,
 };
 use super::step::{At, Emitted, Outcome, Packet};
 use super::story::same;
@@ -91,6 +91,12 @@ impl Player {
     pub(super) fn has_nominated(&mut self, expected: bool) -> bool {
         let actual = nominates(&self.sent);
         self.compares(actual, Some(expected))
+    }
+
+    /// The last packet has NOMINATION of this number, or none.
+    pub(super) fn has_number(&mut self, expected: Option<u32>) -> bool {
+        let actual = nomination(&self.sent);
+        self.compares(actual, expected)
     }
 
     /// The last packet has this id.

@@ -2,6 +2,7 @@
 
 use super::driver::Player;
 use super::roles::Turn::*;
+use super::settings::ORIGINAL;
 use super::step::Call::*;
 use super::step::Emitted::*;
 use super::step::Held::*;
@@ -9,9 +10,10 @@ use super::step::Packet::*;
 use super::step::Shown::*;
 use super::step::Start::*;
 use super::step::Step::*;
-use super::step::{At, Count, Message, Setting, Start, Step, Whose};
+use super::step::{At, Count, Message, Outcome, Setting, Start, Step, Whose};
 use super::story::{Missed, report};
 use super::*;
+use is::Rules;
 use is::pair::CheckState;
 
 /// A step of two agents.
@@ -19,6 +21,8 @@ use is::pair::CheckState;
 enum Turn {
     /// New agents with these tie-breakers claim one role, the controlling one or the other. Each sends a check at 0.
     Claim(u64, u64, bool),
+    /// A new full agent and a new lite one with these tie-breakers are both controlled. The first one sends a check at 0.
+    Serve(u64, u64),
     /// The first agent does this.
     One(Step),
     /// The second agent does this.
@@ -93,6 +97,10 @@ fn makes(one: &mut Player, two: &mut Player, turn: &Turn) -> bool {
                     &SECOND_CLAIM,
                 )
         }
+        Serve(first, second) => {
+            claims(one, New("AAAA", "passA", first), false, &FIRST_CLAIM)
+                && claims(two, New("BBBB", "passB", second), false, &LITE_CLAIM)
+        }
         One(step) => one.makes(&step),
         Two(step) => two.makes(&step),
         ToOne(ms) => one.gets(ms, two),
@@ -137,7 +145,21 @@ const SECOND_CLAIM: [Step; 5] = [
     Emits(Events("Rc")),
 ];
 
-const CONFLICTS: [Conflict; 5] = [
+const LITE_CLAIM: [Step; 5] = [
+    Set(Setting::Lite),
+    Does(Creds(Whose::Remote, "AAAA", "passA")),
+    Does(Host(At(2, 2000))),
+    Does(Peer(FIRST)),
+    Does(Timeout(0)),
+];
+
+/// A lite agent keeps its role.
+const KEEPS: Rules = Rules {
+    lite_keeps_role: true,
+    ..ORIGINAL
+};
+
+const CONFLICTS: [Conflict; 10] = [
     Conflict(
         "the_lesser_tie_breaker_switches",
         &[
@@ -245,6 +267,87 @@ const CONFLICTS: [Conflict; 5] = [
             Two(Shows(Controlling(true))),
             Two(Takes(Between(20, At(1, 1000), At(2, 2000)))),
             Two(Shows(Controlling(false))),
+        ],
+    ),
+    Conflict(
+        "a_lite_agent_keeps_its_role_whatever_the_tie_breakers_are",
+        &[
+            Serve(10, 5),
+            Two(Set(Setting::Rules(KEEPS))),
+            ToTwo(10),
+            Two(Emits(Sends)),
+            Two(Emits(Sent(Class::Failure, 76))),
+            Two(Emits(Signed("passB"))),
+            Roles(false, false),
+            ToOne(20),
+            Roles(true, false),
+            One(Does(Check(250))),
+            ToTwo(260),
+            Two(Emits(Sends)),
+            Two(Emits(Sent(Class::Success, 64))),
+            Roles(true, false),
+            // an equal tie-breaker
+            Serve(5, 5),
+            Two(Set(Setting::Rules(KEEPS))),
+            ToTwo(10),
+            Two(Emits(Sends)),
+            Two(Emits(Sent(Class::Failure, 76))),
+            Roles(false, false),
+        ],
+    ),
+    Conflict(
+        "without_the_rule_it_may_switch",
+        &[
+            Serve(10, 5),
+            ToTwo(10),
+            Two(Emits(Sends)),
+            Two(Emits(Sent(Class::Success, 64))),
+            Roles(false, true),
+        ],
+    ),
+    Conflict(
+        "a_full_agent_with_the_rule_may_switch",
+        &[
+            Claim(10, 5, false),
+            Two(Set(Setting::Rules(KEEPS))),
+            ToTwo(10),
+            Two(Emits(Sends)),
+            Two(Emits(Sent(Class::Success, 64))),
+            Roles(false, true),
+        ],
+    ),
+    Conflict(
+        "a_lite_agent_that_keeps_its_role_is_not_made_controlling",
+        &[
+            Serve(10, 5),
+            Two(Does(Control(true))),
+            Roles(false, true),
+            Two(Does(Control(false))),
+            Two(Set(Setting::Rules(KEEPS))),
+            Two(Errs(Control(true), Outcome::LiteStaysControlled)),
+            Roles(false, false),
+            Two(Does(Control(false))),
+            Roles(false, false),
+            One(Set(Setting::Rules(KEEPS))),
+            One(Does(Control(true))),
+            Roles(true, false),
+        ],
+    ),
+    // it sent the check while it was a full agent
+    Conflict(
+        "a_487_leaves_a_lite_agent_its_role",
+        &[
+            Claim(10, 5, false),
+            Two(Set(Setting::Lite)),
+            Two(Set(Setting::Rules(KEEPS))),
+            ToOne(10),
+            One(Emits(Sends)),
+            One(Emits(Sent(Class::Failure, 76))),
+            ToTwo(20),
+            Roles(false, false),
+            Two(Set(Setting::Rules(ORIGINAL))),
+            ToTwo(30),
+            Roles(false, true),
         ],
     ),
 ];

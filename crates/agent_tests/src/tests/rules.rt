@@ -1,4 +1,4 @@
-//! What an agent does beyond the original's behaviour: triggered checks, early retransmissions, and selection at a request.
+//! What an agent does beyond the original's behavior: triggered checks, early retransmissions, and selection at a request.
 
 use super::settings::ORIGINAL;
 use super::step::Call::*;

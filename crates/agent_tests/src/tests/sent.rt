@@ -31,6 +31,11 @@ pub(super) fn nominates(sent: &Option<Transmit>) -> Option<bool> {
     Some(message_of(sent)?.use_candidate())
 }
 
+/// The number of its nomination.
+pub(super) fn nomination(sent: &Option<Transmit>) -> Option<u32> {
+    message_of(sent)?.nomination()
+}
+
 /// The length of the packet, if it has the PRIORITY of a peer-reflexive candidate.
 pub(super) fn check_length(sent: &Option<Transmit>) -> Option<usize> {
     if message_of(sent)?.prio() == Some(1862270719) {

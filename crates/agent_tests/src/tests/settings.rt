@@ -19,7 +19,7 @@ fn settings_are_kept(rt: HostRuntime) -> Result<(), Fail> {
 /// A tie-breaker that the agent sends in the controlling role.
 const TIE: u64 = 0x0102_0304_0506_0708;
 
-/// The original's behaviour, with which an agent begins.
+/// The original's behavior, with which an agent begins.
 pub(super) const ORIGINAL: Rules = Rules {
     kinds_in_turn: false,
     triggered_checks: None,
@@ -28,6 +28,8 @@ pub(super) const ORIGINAL: Rules = Rules {
     consent: None,
     selected_first: false,
     timeout_after_requests: false,
+    lite_keeps_role: false,
+    numbered_nominations: false,
 };
 
 /// What connects fastest, keeps consent, and has a next timeout after each call.
@@ -45,6 +47,8 @@ pub(super) const MODERN: Rules = Rules {
     }),
     selected_first: true,
     timeout_after_requests: true,
+    lite_keeps_role: true,
+    numbered_nominations: true,
 };
 
 const STORIES: [Story; 5] = [

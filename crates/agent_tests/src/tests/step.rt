@@ -90,7 +90,7 @@ pub(super) enum Setting {
     TwoChecks,
     /// Each nomination replaces the ones before, or not.
     Renomination(bool),
-    /// What it does beyond the original's behaviour.
+    /// What it does beyond the original's behavior.
     Rules(Rules),
     /// The number that resolves role conflicts.
     TieBreaker(u64),
@@ -109,6 +109,7 @@ pub(super) enum Outcome {
     MtuTooSmall,
     CredentialsTooLong,
     PriorityTooHigh,
+    LiteStaysControlled,
     /// Memory ran out, or a candidate attribute was wrong.
     Other,
 }
@@ -149,6 +150,8 @@ pub(super) enum Call {
     Invalidate(&'static str),
     /// Forms the pairs again.
     Recreate,
+    /// Sets the role.
+    Control(bool),
     /// Sets how long packets may be, and from which length on they cause a warning.
     SetMtu(usize, usize),
     /// Calls `handle_timeout`.
@@ -157,6 +160,8 @@ pub(super) enum Call {
     Check(u64),
     /// The same, whose packet goes from 10.0.0.1:1000 to this address, with USE-CANDIDATE or without.
     CheckTo(u64, At, bool),
+    /// The same, whose packet has USE-CANDIDATE and NOMINATION of this number, or neither.
+    CheckBy(u64, At, Option<u32>),
     /// The same, with the first random words of the published example of PCG.
     CheckPublished(u64),
     /// The same, with random words of zeros, to this address.
@@ -177,6 +182,8 @@ pub(super) enum Message {
     /// A request from `farr` to `near` with tie-breaker 10, which claims the controlling role or the other one, and has
     /// USE-CANDIDATE or not.
     Request(bool, bool),
+    /// The same that claims the controlling role, with USE-CANDIDATE or not, and has NOMINATION of this number.
+    Nominates(bool, u32),
     /// A request from `farr` to `near` that claims no role.
     NoRole,
     /// One that claims the controlled role with tie-breaker 3, and has USE-CANDIDATE.

@@ -1,5 +1,5 @@
 //! A block `clause NAME`: stories of one line each. A story begins with the precondition that it lacks, or `none`, and its
-//! result, which is `selects` or `silent`, or for roles `differs` or `alike`. Its events follow, with these marks between them:
+//! result, which is `selects` or `silent`, for roles `differs` or `alike`, and for `in_time` `checks` or `late`. Its events follow, with these marks between them:
 //! `[` begins the segment, `A:` and `B:` the rounds of a side, `]` ends those of A, and at `cut` a new log of the same agents begins.
 use super::history::History;
 use super::play::Play;
@@ -115,6 +115,8 @@ fn result_text(clause: Clause, happens: bool) -> &'static str {
     match (clause, happens) {
         (Clause::Meet(_), true) => "differs",
         (Clause::Meet(_), false) => "alike",
+        (Clause::InTime, true) => "checks",
+        (Clause::InTime, false) => "late",
         (_, true) => "selects",
         (_, false) => "silent",
     }

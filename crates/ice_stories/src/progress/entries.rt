@@ -64,6 +64,18 @@ impl History {
         count < limit
     }
 
+    /// The side is never made lite, or never gets the rule by which a lite agent keeps its role.
+    pub fn compares_ties(&self, side: Side) -> bool {
+        let (mut lite, mut rule) = (false, false);
+        for note in &self.notes {
+            if note.side == side {
+                lite = lite || note.makes_lite;
+                rule = rule || note.sets_rule;
+            }
+        }
+        !lite || !rule
+    }
+
     /// The side selected a path at one of these entries.
     pub fn selects(&self, side: Side, first: usize, end: usize) -> bool {
         for (number, note) in self.notes.iter().enumerate().take(end) {

@@ -3,7 +3,7 @@ use super::seen::Seen;
 use crate::names::of;
 use crate::two::Start;
 use is::stun::Class;
-use is::{Instant, Issued, Path, Side};
+use is::{Duration, Instant, Issued, Path, Side};
 
 /// What a side does at an event, by what the clauses distinguish.
 #[derive(Clone, Copy)]
@@ -16,6 +16,8 @@ pub enum Does {
     Adds { replaces: bool },
     /// It changes a setting that no pair depends on.
     Sets,
+    /// It sets the pacing interval.
+    Paces(Duration),
     /// It clears its pairs.
     Clears,
     /// Any other call.
@@ -46,6 +48,11 @@ pub struct Note {
     pub accepted: bool,
     pub issued: Option<Issued>,
     pub selected: [Option<Path>; 2],
+    /// What `poll_timeout` returned.
+    pub deadline: Option<Instant>,
+    /// The call makes the side lite; it sets the rule by which a lite agent keeps its role.
+    pub makes_lite: bool,
+    pub sets_rule: bool,
 }
 
 /// The entries of a claim: the segment's first one; those with which the rounds of the controlling and of the controlled

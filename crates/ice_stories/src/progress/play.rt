@@ -2,13 +2,13 @@
 //! not show its agents; `follows` compares what these agents issue and select with its log.
 use super::history::{Claim, Does, History, Note};
 use super::seen::{Agent, LATE, Seen, agent_seen, is_reached, settings};
-use crate::names::{creds, of, other, random, time, ufrag, with};
+use crate::names::{MS, creds, of, other, random, time, ufrag, with};
 use crate::two::{Start, log_of};
 use crate::words::{Arrival, call_of, delivery};
 use is::stun::{Class, StunMessage};
 use is::{
-    AgentCall, Answer, Call, Entry, IceError, Instant, Issued, Path, Side, Transmit, WorldEvent,
-    WorldLog, run,
+    AgentCall, Answer, Call, Duration, Entry, IceError, Instant, Issued, Path, Side, Transmit,
+    WorldEvent, WorldLog, run,
 };
 use rand_pcg::Pcg32;
 use std::alloc::Global;
@@ -35,6 +35,7 @@ pub struct Play {
     early: [usize; 2],
     numbers: [u64; 2],
     limits: [usize; 2],
+    paces: [Duration; 2],
     events: Vec<WorldEvent>,
     pub history: History,
     /// What `poll_timeout` returned last.
@@ -54,7 +55,9 @@ fn does(call: &Call, destination: SocketAddr) -> Does {
         },
         AgentCall::SetLocalCredentials(_)
         | AgentCall::SetMaxCandidatePairs(_)
-        | AgentCall::SetMaxDiscovered(_) => Does::Sets,
+        | AgentCall::SetMaxDiscovered(_)
+        | AgentCall::SetRenomination(false) => Does::Sets,
+        AgentCall::SetTimingAdvance(advance) => Does::Paces(*advance),
         AgentCall::RestartIce { .. } | AgentCall::RecreateCandidatePairs => Does::Clears,
         _ => Does::Calls,
     }
@@ -83,7 +86,7 @@ fn member(alloc: Global, side: Side, start: Start) -> Result<Agent, IceError> {
         creds(alloc, side, ufrag(side))?,
         of(side, start.tie_breakers),
     )?;
-    agent.set_controlling(of(side, start.controlling));
+    agent.set_controlling(of(side, start.controlling))?;
     Ok(agent)
 }
 
@@ -105,6 +108,7 @@ impl Play {
             early: [0, 0],
             numbers: [0, 0],
             limits: [9, 9],
+            paces: [Duration(50 * MS), Duration(50 * MS)],
             events: Vec::new(alloc),
             history: History {
                 start,
@@ -140,6 +144,7 @@ impl Play {
         let numbers = with(side, self.numbers, next.numbers);
         self.numbers = numbers;
         next.early = of(side, self.early);
+        next.pace = of(side, self.paces);
         next
     }
 
@@ -158,6 +163,9 @@ impl Play {
             accepted: false,
             issued: None,
             selected: [None, None],
+            deadline: None,
+            makes_lite: false,
+            sets_rule: false,
         }
     }
 
@@ -176,7 +184,10 @@ impl Play {
             Answer::Done | Answer::Added => note.done = true,
             Answer::Flag(accepted) => note.accepted = accepted,
             Answer::Refused(_) => note.failed = true,
-            Answer::Wake(at) => self.next_timeout = at,
+            Answer::Wake(at) => {
+                self.next_timeout = at;
+                note.deadline = at;
+            }
             Answer::Transmit(Some(packet)) => return self.sends(side, packet),
             Answer::Transmit(None) => self.polled = None,
             _ => {}
@@ -216,13 +227,27 @@ impl Play {
         }
     }
 
+    /// Keeps what the call sets, and what no getter shows.
+    fn notes_setting(&mut self, side: Side, call: &Call, note: &mut Note) {
+        match call {
+            AgentCall::SetMaxStunRetransmits(limit) => {
+                let limits = with(side, self.limits, *limit);
+                self.limits = limits;
+            }
+            AgentCall::SetTimingAdvance(advance) => {
+                let paces = with(side, self.paces, *advance);
+                self.paces = paces;
+            }
+            AgentCall::SetIceLite(lite) => note.makes_lite = *lite,
+            AgentCall::SetRules(rules) => note.sets_rule = rules.lite_keeps_role,
+            _ => {}
+        }
+    }
+
     /// The side makes the call, and the note gets its result.
     fn ends_note(&mut self, mut note: Note, call: Call, event: WorldEvent) -> bool {
         let side = note.side;
-        if let AgentCall::SetMaxStunRetransmits(limit) = &call {
-            let limits = with(side, self.limits, *limit);
-            self.limits = limits;
-        }
+        self.notes_setting(side, &call, &mut note);
         let Some(entry) = self.makes(side, call) else {
             return false;
         };

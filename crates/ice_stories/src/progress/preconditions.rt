@@ -1,6 +1,6 @@
-//! The preconditions of the clauses `nomination_accepted`, `connect`, `rounds`, `meet` and `one_path` of `World::run`, by the names of
-//! their definitions in `AcceptedNominations`, `AcceptedNominationsIn`, `Connections`, `Selections`, `Meetings` and `Renominations`. For each
-//! clause a function returns the first precondition that an execution lacks, and how many it lacks. That a call may
+//! The preconditions of the clauses `nomination_accepted`, `connect`, `rounds`, `meet`, `one_path` and `in_time` of `World::run`, by the names
+//! of their definitions in `AcceptedNominations`, `AcceptedNominationsIn`, `Connections`, `Selections`, `Meetings`, `Renominations` and
+//! `Punctual`. For each clause a function returns the first precondition that an execution lacks, and how many it lacks. That a call may
 //! remove a pair counts as one, since the clause then says nothing else.
 //!
 //! Not looked at are preconditions that no story can lack: RTOs of at least 1 ms (`IsPaced`), one HMAC provider, credentials
@@ -8,9 +8,10 @@
 
 use super::exchanges::{Exchange, Expected};
 use super::history::{Claim, History};
-use crate::names::{back, of, other};
+use super::timed::Timing;
+use crate::names::{MS, back, of, other};
 use is::stun::Class;
-use is::{Issued, Side};
+use is::{Duration, Issued, Side};
 use std::fmt;
 
 /// A precondition that an execution lacks, by name, with what is missing of rounds or of an exchange.
@@ -41,8 +42,14 @@ const DISTINCT_IDS: &str = "DistinctIds";
 /// One side is controlled, and the other is controlling (`IsControlled`, `IsControlling`).
 const ROLES: &str = "Roles";
 
+/// Neither is a lite one that keeps its role (`ComparesTies`).
+const COMPARES: &str = "Compares";
+
 /// Both have renomination (`Renominate`).
 const RENOMINATION: &str = "Renomination";
+
+/// The nominations of the controlled side have no numbers.
+const UNNUMBERED: &str = "Unnumbered";
 
 /// The rounds of the controlling side (`HasRounds`; in `rounds` `Awaits` and `IsUnanswered`).
 const ASKING_ROUNDS: &str = "AskingRounds";
@@ -52,6 +59,21 @@ const ASKS: &str = "Asks";
 
 /// Its check that is answered (`IsAnsweredInTime`).
 const ANSWERS: &str = "Answers";
+
+/// The rounds of A in `in_time` (`HasRounds`).
+const ROUNDS: &str = "Rounds";
+
+/// Its pacing interval (`begins` and `keeps` of `IsTimed`).
+const PACE: &str = "Pace";
+
+/// Its caller (`IsPunctual`).
+const PUNCTUAL: &str = "Punctual";
+
+/// The pacing interval and the delay of `in_time` in stories.
+const TIMING: Timing = Timing {
+    pace: Duration(50 * MS),
+    delay: Duration(10 * MS),
+};
 
 /// The rounds of the controlled side (`HasRounds`).
 const ASKED_ROUNDS: &str = "AskedRounds";
@@ -77,7 +99,8 @@ const STAYS: &str = "Stays";
 /// Nor one of the controlling side's path in its rounds (`MayEndInRounds`).
 const ASKING_STAYS: &str = "AskingStays";
 
-/// A clause. In stories A is controlling in `rounds`, and B is controlled in `nomination_accepted`, `connect` and `one_path`.
+/// A clause. In stories A is controlling in `rounds`, B is controlled in `nomination_accepted`, `connect` and `one_path`, and A has the rounds of
+/// `in_time`.
 #[derive(Clone, Copy)]
 pub enum Clause {
     AcceptedNomination,
@@ -86,6 +109,7 @@ pub enum Clause {
     /// For a check of this side.
     Meet(Side),
     OnePath,
+    InTime,
 }
 
 impl Clause {
@@ -97,6 +121,7 @@ impl Clause {
             "meet A" => Some(Clause::Meet(Side::A)),
             "meet B" => Some(Clause::Meet(Side::B)),
             "one_path" => Some(Clause::OnePath),
+            "in_time" => Some(Clause::InTime),
             _ => None,
         }
     }
@@ -215,6 +240,10 @@ impl History {
         let renominates = self.renominates(c.first, call.saturating_add(1));
         let lists = [
             missing(renominates, RENOMINATION),
+            missing(
+                !self.before(call.saturating_add(1), Side::B).numbered,
+                UNNUMBERED,
+            ),
             self.lacks_last_asking(c, call),
             self.lacks_exchange(c, call),
         ];
@@ -272,6 +301,17 @@ impl History {
         joined((None, 0), &lists)
     }
 
+    /// The preconditions of `in_time` (`ChecksComeInTime`) that are missing, for rounds of the side that end before `end`.
+    pub fn in_time_lacks(&self, side: Side, first: usize, end: usize, timing: Timing) -> Missing {
+        let lists = [
+            missing(self.fresh, NEW_AGENTS),
+            part_of(ROUNDS, self.lacks_rounds(side, first, end)),
+            missing(self.keeps_pace(side, first, end, timing.pace), PACE),
+            missing(self.is_punctual(side, first, end, timing.delay), PUNCTUAL),
+        ];
+        joined((None, 0), &lists)
+    }
+
     /// None of the first entries sends a check of the same id.
     fn is_new_id(&self, issued: Issued, end: usize) -> bool {
         for note in self.notes.iter().take(end) {
@@ -309,6 +349,10 @@ impl History {
             missing(self.fresh, NEW_AGENTS),
             missing(a != b, TIE_BREAKERS),
             missing(self.has_distinct_ids(), DISTINCT_IDS),
+            missing(
+                self.compares_ties(Side::A) && self.compares_ties(Side::B),
+                COMPARES,
+            ),
             met,
         ];
         joined((None, 0), &lists)
@@ -324,6 +368,10 @@ impl History {
             Clause::Rounds => self.rounds_lacks(self.claim, end),
             Clause::Meet(side) => self.meet_lacks(side),
             Clause::OnePath => self.one_path_lacks(self.claim, call),
+            Clause::InTime => {
+                let ended = self.claim.ended.min(end);
+                self.in_time_lacks(Side::A, self.claim.asking, ended, TIMING)
+            }
         }
     }
 
@@ -338,6 +386,10 @@ impl History {
                 a != b
             }
             Clause::OnePath => self.are_on_one_path(end),
+            Clause::InTime => {
+                let ended = self.claim.ended.min(end);
+                self.checks_in_time(Side::A, self.claim.asking, ended, TIMING)
+            }
         }
     }
 }

@@ -2,7 +2,7 @@
 use super::history::{Does, History, Note};
 use super::seen::Seen;
 use crate::names::{back, of, other};
-use is::stun::Class;
+use is::stun::{Class, TransId};
 use is::{Instant, Side};
 
 /// What rounds lack to suffice for a pair (`HasRounds`), by name.
@@ -32,6 +32,13 @@ const INVALID: Rounds = "Invalid";
 /// It is not removed before its check.
 const YOUNG: Rounds = "Young";
 
+/// Consent does not end before its check (`IsLasting`).
+const LASTING: Rounds = "Lasting";
+
+/// Its nominations have no numbers. In `rounds` they may, if none is to be sent at once (`nominates_at_once`): as none of its pairs was
+/// selected.
+const UNNUMBERED: Rounds = "Unnumbered";
+
 /// Each `handle_timeout` call returns Ok.
 const DONE: Rounds = "Done";
 
@@ -56,7 +63,7 @@ struct Kept {
     polls: bool,
 }
 
-/// What the pair lacks for rounds that begin at this time (`IsInLine`).
+/// What the pair lacks for rounds that begin at this time (`IsInLine`, except for `unnumbered`).
 fn lacks_in_line(seen: Seen, now: Instant) -> Result<Instant, Rounds> {
     if !seen.checking {
         return Err(CHECKING);
@@ -99,7 +106,7 @@ fn does_in_round(note: &Note, side: Side) -> Result<InRound, Rounds> {
         Does::Timeout(now) if note.done => Ok(InRound::Timeout(now)),
         Does::Timeout(_) => Err(DONE),
         Does::Polls | Does::Receives(_, _) => Ok(InRound::Polls),
-        Does::Adds { .. } | Does::Sets => Ok(InRound::Calls),
+        Does::Adds { .. } | Does::Sets | Does::Paces(_) => Ok(InRound::Calls),
         Does::Clears | Does::Calls => Err(BETWEEN),
     }
 }
@@ -134,7 +141,54 @@ impl History {
             },
             None => return Err(COMES),
         };
-        Ok((lacks_in_line(self.before(first, side), now)?, now))
+        let due = lacks_in_line(self.before(first, side), now)?;
+        if self.lasts(side, first, now) {
+            Ok((due, now))
+        } else {
+            Err(LASTING)
+        }
+    }
+
+    /// When the side sent the check with this id on its path.
+    fn sent_at(&self, side: Side, id: TransId) -> Option<Instant> {
+        for number in 0..self.notes.len() {
+            match self.check_at(number, side) {
+                Some(issued) if issued.id == id => return self.notes.get(number)?.time(),
+                _ => {}
+            }
+        }
+        None
+    }
+
+    /// When the last check on its path was sent that got a response before this entry.
+    fn consented_at(&self, side: Side, end: usize) -> Option<Instant> {
+        let mut last = None;
+        for note in self.notes.iter().take(end) {
+            if let Some((sender, what)) = note.packet
+                && sender == other(side)
+                && note.accepted
+                && what.class == Class::Success
+            {
+                last = match (last, self.sent_at(side, what.id)) {
+                    (Some(one), Some(two)) => Some(two.max(one)),
+                    (None, found) => found,
+                    (found, None) => found,
+                };
+            }
+        }
+        last
+    }
+
+    /// Consent of the pair, as it is before this entry, does not end before the time.
+    fn lasts(&self, side: Side, first: usize, now: Instant) -> bool {
+        let seen = self.before(first, side);
+        let (Some(pair), Some(consent)) = (seen.awaited, seen.consent) else {
+            return true;
+        };
+        match self.consented_at(side, first) {
+            Some(at) => !pair.valid || now < at + consent.timeout,
+            None => true,
+        }
     }
 
     /// The rounds of the side from the first entry on, before the end.
@@ -155,6 +209,9 @@ impl History {
                 InRound::Timeout(now) if number > first => {
                     if now <= by {
                         return Err(LATE);
+                    }
+                    if !self.lasts(side, first, now) {
+                        return Err(LASTING);
                     }
                     kept.second = kept.second.min(number);
                     kept.later = kept.later.saturating_add(1);
@@ -179,6 +236,7 @@ impl History {
     pub fn lacks_rounds(&self, side: Side, first: usize, end: usize) -> Option<Rounds> {
         match self.kept(side, first, end) {
             Err(missed) => Some(missed),
+            Ok(_) if self.before(first, side).numbered => Some(UNNUMBERED),
             Ok(kept) if self.suffices(kept, side, first, end) => None,
             Ok(_) => Some(ENOUGH),
         }
@@ -190,6 +248,7 @@ impl History {
         let kept = match self.kept(side, first, end) {
             Err(missed) => return Some(missed),
             Ok(_) if start.is_valid => return Some(INVALID),
+            Ok(_) if start.numbered && start.selected => return Some(UNNUMBERED),
             Ok(kept) => kept,
         };
         let due = u64::try_from(start.due).ok()?;

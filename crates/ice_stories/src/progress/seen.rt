@@ -2,7 +2,9 @@
 //! is in at most one pair.
 use is::pair::{CandidatePair, CheckState};
 use is::stun::StunTiming;
-use is::{CandidateKind, DefaultSha1HmacProvider, Duration, IceAgent, IceCreds, Instant, Path};
+use is::{
+    CandidateKind, Consent, DefaultSha1HmacProvider, Duration, IceAgent, IceCreds, Instant, Path,
+};
 
 pub type Agent = IceAgent<DefaultSha1HmacProvider>;
 
@@ -35,6 +37,14 @@ pub struct Seen {
     pub nominated: bool,
     /// It has renomination.
     pub renominates: bool,
+    /// Its nominations have numbers.
+    pub numbered: bool,
+    /// The pair that was selected last is one of its pairs.
+    pub selected: bool,
+    /// When consent ends, by its rules.
+    pub consent: Option<Consent>,
+    /// Its pacing interval.
+    pub pace: Duration,
     /// Its checks may go ahead of pairs that are due earlier.
     pub goes_ahead: bool,
     pub awaited: Option<Awaited>,
@@ -133,6 +143,10 @@ pub fn settings(agent: &Agent, limit: usize) -> Seen {
         joined: 0,
         nominated: true,
         renominates: agent.renomination(),
+        numbered: agent.renomination() && agent.rules().numbered_nominations,
+        selected: false,
+        consent: agent.rules().consent,
+        pace: Duration(0),
         goes_ahead: agent.rules().kinds_in_turn
             || agent.rules().triggered_checks.is_some()
             || agent.rules().selected_first,
@@ -153,6 +167,7 @@ fn path_seen(agent: &Agent, path: Path, now: Instant, limit: usize) -> Seen {
         if let Some(pair) = agent.find_pair_for_equivalent_remote_candidate(remote) {
             seen.pairs = seen.pairs.saturating_add(1);
             seen.numbers = seen.numbers.max(pair.id().0.saturating_add(1));
+            seen.selected = seen.selected || agent.is_selected_pair(pair);
             if remote.addr() == path.destination {
                 seen.joined = seen.joined.saturating_add(1);
                 if remote.proto() == path.proto {

@@ -4,17 +4,24 @@ use super::clauses::reads_all;
 use super::history::{Claim, History};
 use super::play::Play;
 use super::session::Network;
+use super::timed::Timing;
 use crate::blocks::{is_played, line_of};
 use crate::names::{MS, home, mapped, of, other, path_of};
 use crate::report::{Broken, compared, ends};
 use crate::two::Start;
-use is::{Instant, Path, Protocol, Side};
+use is::{Duration, Instant, Path, Protocol, Side};
 use std::alloc::Global;
 use std::fmt;
 use std::io::Write;
 
 /// Both sessions begin at 60 s, B's 3 ms later.
 const START: u64 = 60_000;
+
+/// The pacing interval of the sessions. They call `handle_timeout` exactly when `poll_timeout` says.
+const EXACT: Timing = Timing {
+    pace: Duration(50 * MS),
+    delay: Duration(0),
+};
 
 /// The side's path to the other one's mapped address.
 fn through_nats(side: Side) -> Path {
@@ -31,10 +38,12 @@ struct Session<'a> {
     start: Start,
     setup: &'a str,
     network: Network,
+    /// When each side checks its path, and by when `in_time` says so.
+    timed: bool,
     call: Option<(u64, &'a str)>,
 }
 
-/// The words `loop DELAY`, then `nats`, `links` and `at MS WORD`, if there are these.
+/// The words `loop DELAY`, then `nats`, `links`, `timed` and `at MS WORD`, if there are these.
 fn session_of<'a>(start: Start, setup: &'a str, words: &'a str) -> Option<Session<'a>> {
     let (delay, rest) = words.split_once(' ').unwrap_or((words, ""));
     let call = match words.split_once(" at ") {
@@ -52,6 +61,7 @@ fn session_of<'a>(start: Start, setup: &'a str, words: &'a str) -> Option<Sessio
             nats: rest.contains("nats"),
             links: rest.contains("links"),
         },
+        timed: rest.contains("timed"),
         call,
     })
 }
@@ -212,6 +222,45 @@ impl History {
         None
     }
 
+    /// When the side first checks its path in rounds from this entry on that lack nothing of `in_time`, and by when it does so.
+    fn timed_from(&self, side: Side, first: usize) -> Option<(u64, u64)> {
+        for last in first..self.notes.len() {
+            let end = last.saturating_add(1);
+            let (_, count) = self.in_time_lacks(side, first, end, EXACT);
+            if count == 0 {
+                let (Instant(checked), Instant(limit)) = (
+                    self.checked_at(side, first, end)?,
+                    self.checks_by(side, first, end, EXACT)?,
+                );
+                return Some((
+                    (checked / MS).saturating_sub(START),
+                    (limit / MS).saturating_sub(START),
+                ));
+            }
+        }
+        None
+    }
+
+    /// The same for the first such rounds.
+    fn timed(&self, side: Side) -> Option<(u64, u64)> {
+        for first in 0..self.notes.len() {
+            if self.is_timeout_of(first, side) {
+                let found = self.timed_from(side, first);
+                if found.is_some() {
+                    return found;
+                }
+            }
+        }
+        None
+    }
+
+    /// When each checks its path, and by when `in_time` says so.
+    fn check_times(&self, alloc: Global) -> Option<String> {
+        let (a, b) = (self.timed(Side::A)?, self.timed(Side::B)?);
+        let ((a_checks, a_by), (b_checks, b_by)) = (a, b);
+        format!(in alloc; "A checks {a_checks} by {a_by}, B checks {b_checks} by {b_by}").ok()
+    }
+
     /// When A and B select a path, and by when `rounds`, `nomination_accepted` and `connect` say so; how many preconditions of `meet` are missing.
     fn times(&self, alloc: Global) -> Option<String> {
         let (_, of_a) = self.meet_lacks(Side::A);
@@ -238,7 +287,9 @@ impl History {
 /// What is found of a session.
 fn found_by(play: &mut Play, file: &str, s: Session<'_>) -> Option<String> {
     let set_up = plays_session(play, file, s)?;
-    if s.network.links {
+    if s.timed {
+        play.history.check_times(play.alloc)
+    } else if s.network.links {
         play.history.link_times(play.alloc, set_up)
     } else {
         play.history.times(play.alloc)

@@ -13,7 +13,7 @@ use Rattle.is_theorems.proofs.ExecutionLogs.PointsOfSegments.{deeper, later_poin
 use Rattle.is_theorems.specs.Limited.{DiscoveriesStayFew, FormsFewAt, IsLimitedAt, ListsStayBounded, PairsStayFew}
 use Rattle.is_theorems.specs.Shared.{IsNewlyCreated, SharedRun, BeforeEach}
 use Rattle.is_theorems.specs.Waiting.{IsShort, QueuesAreShort}
-use Rattle.is.specs.declared.world.Side.{Side}
+use Rattle.is.specs.declared.world_events.Side.{Side}
 use Rattle.is.specs.Floods.{QueuesStayShort, DiscoveriesAreFew, BothAreBounded, BothHaveFewPairs, BothAreShort, BothDiscoverFew}
 use Rattle.is.specs.AcceptedNominationsIn.{Occurrence, occurrences_in}
 use Rattle.is.specs.Sides.{own_at, own_log}

@@ -55,10 +55,18 @@ module _ {H P : Type 0} (mac : H → List ℕ → List ℕ → List ℕ) (answer
 
   -- the answer to bytes that are not accepted
   pub left_out : (old new : AgentRecord H P) (now : ℕ) (path : Path) (bytes : List ℕ) (e : Entry) → ¬ AcceptsOnPath mac old path bytes
-      → Receives mac answers now old path bytes e new → (answer : Answer) × LeavesOut mac old path bytes answer × (e ≡ quiet answer)
+      → Receives mac answers now old path bytes e new → (answer : Answer) × LeavesOut mac answers now old path bytes answer × (e ≡ quiet answer)
   left_out old new now path bytes e unaccepted received =
       let unchanged = (settled old new now path bytes e received).unaccepted unaccepted in
-      (e.answer, inl (unchanged.answer, unaccepted), ap (λ o. let x : Entry = record { answer = e.answer; emitted = o } in x) unchanged.emitted)
+      let nothing : e ≡ quiet e.answer = ap (λ o. let x : Entry = record { answer = e.answer; emitted = o } in x) unchanged.emitted in (
+        e.answer,
+        inl (
+          subst (λ (a : AgentRecord H P). Receives mac answers now old path bytes (quiet e.answer) a) unchanged.same
+              (subst (λ (x : Entry). Receives mac answers now old path bytes x new) nothing received),
+          unaccepted,
+        ),
+        nothing,
+      )
 
   pub packets_are_settled : (first : AgentRecord H P) (s : Stream) (log : List (Logged P)) → PacketsAreSettled mac answers first s log
   packets_are_settled first s log before mid after x point now path bytes is =

@@ -1,5 +1,5 @@
 -- The effect of a claimed role at its receiver.
-use Rattle.std.proofs.Common.{◌≡◌, ℕ, ◌<◌, ◌≤◌, Bool, true, false, not, nat_lt, nat_le, Option, Some, None, refl, ap, sym, ◌∙◌, arith}
+use Rattle.std.proofs.Common.{◌≡◌, ℕ, ◌<◌, ◌≤◌, ◌&&◌, ◌||◌, Bool, true, false, not, nat_lt, nat_le, Option, Some, None, refl, ap, sym, ◌∙◌, arith}
 use Rattle.std.specs.Prelude.{if◌then◌else◌}
 use Rattle.std.specs.Option.{option_map_or}
 use Rattle.std.proofs.lemmas.Bool.Decides.{nat_tests}
@@ -28,18 +28,20 @@ tested test true false tie r is h = (let k = sym (ap (λ x. option_map_or test x
 tested test false true tie r is h = (let k = sym (ap (λ x. option_map_or test x false) is) ∙ h in cc)
 
 -- a 487 goes to a claim of the receiver's own role without a greater tie-breaker
-pub sends_487-claims : (s : RoleState) (q : RequestRecord) (role : Bool) (tie : ℕ) → Claims q.ice_controlling q.ice_controlled role tie → sends_487 s q ≡ true
+pub sends_487-claims : (s : RoleState) (q : RequestRecord) (role : Bool) (tie : ℕ) → s.keeps ≡ false → Claims q.ice_controlling q.ice_controlled role tie → sends_487 s q ≡ true
     → (s.controlling ≡ role) × (tie ≤ s.tie_breaker)
-sends_487-claims s q role tie c h =
-    let k = tested (λ t. nat_le t s.tie_breaker) s.controlling role tie (rival_in s.controlling q) (rivals s.controlling role tie q c) h in
+sends_487-claims s q role tie compares c h =
+    let k = tested (λ t. nat_le t s.tie_breaker) s.controlling role tie (rival_in s.controlling q) (rivals s.controlling role tie q c)
+    (sym (ap (λ b. option_map_or (λ t. b || nat_le t s.tie_breaker) (rival_in s.controlling q) false) compares) ∙ h) in
     let le : nat_le tie s.tie_breaker ≡ true = k.1 in
     (k.0, grind (arith, nat_tests))
 
 -- the receiver switches its role at a claim of it with a greater one
-pub switches_role-claims : (s : RoleState) (q : RequestRecord) (role : Bool) (tie : ℕ) → Claims q.ice_controlling q.ice_controlled role tie → switches_role s q ≡ true
+pub switches_role-claims : (s : RoleState) (q : RequestRecord) (role : Bool) (tie : ℕ) → s.keeps ≡ false → Claims q.ice_controlling q.ice_controlled role tie → switches_role s q ≡ true
     → (s.controlling ≡ role) × (s.tie_breaker < tie)
-switches_role-claims s q role tie c h =
-    let k = tested (λ t. nat_lt s.tie_breaker t) s.controlling role tie (rival_in s.controlling q) (rivals s.controlling role tie q c) h in
+switches_role-claims s q role tie compares c h =
+    let k = tested (λ t. nat_lt s.tie_breaker t) s.controlling role tie (rival_in s.controlling q) (rivals s.controlling role tie q c)
+    (sym (ap (λ b. option_map_or (λ t. not b && nat_lt s.tie_breaker t) (rival_in s.controlling q) false) compares) ∙ h) in
     let lt : nat_lt s.tie_breaker tie ≡ true = k.1 in
     (k.0, grind (arith, nat_tests))
 
@@ -51,8 +53,9 @@ switched test true false tie r is h = ap (λ x. if option_map_or test x false th
 switched test false true tie r is h = ap (λ x. if option_map_or test x false then true else false) is
 
 -- once such a conflict was resolved the roles differ
-pub settled-claims : (s : RoleState) (q : RequestRecord) (role : Bool) (tie : ℕ) → Claims q.ice_controlling q.ice_controlled role tie → s.tie_breaker < tie
+pub settled-claims : (s : RoleState) (q : RequestRecord) (role : Bool) (tie : ℕ) → s.keeps ≡ false → Claims q.ice_controlling q.ice_controlled role tie → s.tie_breaker < tie
     → (if switches_role s q then not s.controlling else s.controlling) ≡ not role
-settled-claims s q role tie c less =
+settled-claims s q role tie compares c less =
     let lt : nat_lt s.tie_breaker tie ≡ true = grind (arith, nat_tests) in
-    switched (λ t. nat_lt s.tie_breaker t) s.controlling role tie (rival_in s.controlling q) (rivals s.controlling role tie q c) lt
+    ap (λ b. if option_map_or (λ t. not b && nat_lt s.tie_breaker t) (rival_in s.controlling q) false then not s.controlling else s.controlling) compares
+    ∙ switched (λ t. nat_lt s.tie_breaker t) s.controlling role tie (rival_in s.controlling q) (rivals s.controlling role tie q c) lt

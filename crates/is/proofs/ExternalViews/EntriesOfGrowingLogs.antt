@@ -4,7 +4,7 @@ use Rattle.std.specs.Prelude.{slice_get}
 use Rattle.is_stun.specs.declared.header.Class.{Class}
 use Rattle.is_stun.specs.declared.header.Class.TheVariants as class
 use Rattle.is_rules.specs.declared.emitted.Path.{Path}
-use Rattle.is.specs.declared.world.Side.{Side}
+use Rattle.is.specs.declared.world_events.Side.{Side}
 use Rattle.is.specs.World.{other}
 use Rattle.is.proofs.ExternalViews.NetworkModel.{Emitted}
 use Rattle.is.proofs.ExternalViews.NetworkModel.{Issues, Takes, NoClear, Trace, DistinctChecks}

@@ -7,8 +7,8 @@ use Rattle.is_stun.specs.declared.header.Class.{Class}
 use Rattle.is_stun.specs.declared.header.Class.TheVariants as class
 use Rattle.is_rules.specs.declared.emitted.Path.{Path}
 use Rattle.is_rules.specs.Request.{RequestRecord}
-use Rattle.is.specs.declared.world.Side.{Side}
-use Rattle.is.specs.declared.world.Side.TheVariants.{A, B}
+use Rattle.is.specs.declared.world_events.Side.{Side}
+use Rattle.is.specs.declared.world_events.Side.TheVariants.{A, B}
 use Rattle.is_theorems.specs.RoleState.{Mail, Kept, RoleState, RoleEvent, RoleEffect, Claims, Conveys, IsCarriedIn, MeetsSuccess, MeetsConflict}
 use Rattle.is.specs.World.{other}
 use Rattle.is.proofs.ExternalViews.NetworkModel.{InFlight, Seen, Emitted, at, roles_of, role_at}
@@ -186,6 +186,7 @@ pub record Brought (z : Setting) (es : List Emitted) (side : Side) (e : Emitted)
 
 pub record Turn (z : Setting) (es : List Emitted) (side : Side) (old : RoleState) (d : RoleEvent) (e : Emitted) (new : RoleState) : Type 0 where
   pub effect : RoleEffect old d new
+  pub compares : old.keeps ≡ false
   pub brought : (m : Mail) → d.accepts ≡ Some m → Brought z es side e m
   pub not_set : d.sets ≡ false
   pub full : z.full side ≡ true → d.makes_lite ≡ false
@@ -267,7 +268,7 @@ module _ (z : Setting) (es : List Emitted) (side : Side) (old new : RoleState) (
       })
   says_fact path m class.Failure greater issued (q, serving, id_is, insisting, stays) =
       let r = arrived q serving in
-      let k = sends_487-claims old q r.check.role (z.tie (other side)) r.check.claims insisting in
+      let k = sends_487-claims old q r.check.role (z.tie (other side)) t.compares r.check.claims insisting in
       let le : z.tie (other side) ≤ z.tie side = subst (λ n. z.tie (other side) ≤ n) h.tie k.1 in
       let side_greater : side ≡ z.greater = elim (sides side z.greater) [
         | inl is ↦ is
@@ -379,7 +380,7 @@ module _ (z : Setting) (es : List Emitted) (side : Side) (old new : RoleState) (
     | inr switches ↦ elim switches [
       | inl yielding ↦ (
           let r = arrived yielding.0 yielding.1 in
-          let k = switches_role-claims old yielding.0 r.check.role (z.tie (other side)) r.check.claims yielding.2 in
+          let k = switches_role-claims old yielding.0 r.check.role (z.tie (other side)) t.compares r.check.claims yielding.2 in
           let lt = z.greatest in
           let back : z.tie z.greater < z.tie (other z.greater) = subst (λ s. z.tie s < z.tie (other s)) is (subst (λ n. n < z.tie (other side)) h.tie k.1) in
           let none : ⊥ = omega (arith, lt, back) in
@@ -416,7 +417,7 @@ module _ (z : Setting) (es : List Emitted) (side : Side) (old new : RoleState) (
     | inr switches ↦ elim switches [
       | inl yielding ↦ (
           let r = arrived yielding.0 yielding.1 in
-          let k = switches_role-claims old yielding.0 r.check.role (z.tie (other side)) r.check.claims yielding.2 in
+          let k = switches_role-claims old yielding.0 r.check.role (z.tie (other side)) t.compares r.check.claims yielding.2 in
           absurd (not-self z.role (sym role ∙ k.0 ∙ request_role is yielding.0 yielding.1)))
       | inr by ↦ rejected_role distinct by
     ]
@@ -430,5 +431,5 @@ module _ (z : Setting) (es : List Emitted) (side : Side) (old new : RoleState) (
       let r = arrived q serving in
       let less : old.tie_breaker < z.tie (other side) =
       subst (λ n. n < z.tie (other side)) (sym h.tie) (subst (λ s. z.tie s < z.tie (other s)) (sym is) (subst (λ s. z.tie (other z.greater) < z.tie s) (sym (other-other z.greater)) z.greatest)) in
-      t.effect.settled q serving passing ∙ settled-claims old q r.check.role (z.tie (other side)) r.check.claims less ∙ ap not (request_role is q serving)
-  met_turn distinct is (inr (m, accepts, class_is, conflict)) = rejected_role distinct (t.effect.expired m accepts class_is conflict)
+      t.effect.settled q serving passing ∙ settled-claims old q r.check.role (z.tie (other side)) t.compares r.check.claims less ∙ ap not (request_role is q serving)
+  met_turn distinct is (inr (m, accepts, class_is, conflict)) = rejected_role distinct (t.effect.expired t.compares m accepts class_is conflict)

@@ -7,8 +7,8 @@ use Rattle.is_stun.specs.declared.header.Class.TheVariants as class
 use Rattle.is_rules.specs.declared.emitted.Path.{Path}
 use Rattle.is_rules.specs.Request.{RequestRecord}
 use Rattle.is_theorems.specs.RoleState.{Mail, Sent, RoleState, RoleEvent, RoleEffect, IsNewRoleState}
-use Rattle.is.specs.declared.world.Side.{Side}
-use Rattle.is.specs.declared.world.Side.TheVariants.{A, B}
+use Rattle.is.specs.declared.world_events.Side.{Side}
+use Rattle.is.specs.declared.world_events.Side.TheVariants.{A, B}
 use Rattle.is.specs.World.{other}
 use Rattle.is.specs.WorldRoles.{changes}
 
@@ -81,6 +81,8 @@ pub record IsAwaited (s : RoleState) (d : RoleEvent) (id : List ℕ) : Type 0 wh
 pub record Moves (w : Seen) (side : Side) (d : RoleEvent) (e : Emitted) (w' : Seen) : Type 0 where
   pub new : RoleState
   pub effect : RoleEffect (at side w) d new
+  -- it is no lite agent that keeps its role
+  pub compares : (at side w).keeps ≡ false
   pub posted : List InFlight
   pub world : w' ≡ record (put side new w) { network = w.network ++ posted }
   pub from_queue : (l : InFlight) → Has posted l → (l.sender ≡ side) × Has (at side w).packets l.mail

@@ -6,8 +6,8 @@ use Rattle.is_proto.specs.Lists.{Has, same}
 use Rattle.is_stun.specs.declared.header.Class.TheVariants as class
 use Rattle.is_rules.specs.declared.emitted.Path.{Path}
 use Rattle.is_rules.specs.Request.{RequestRecord}
-use Rattle.is.specs.declared.world.Side.{Side}
-use Rattle.is.specs.declared.world.Side.TheVariants.{A, B}
+use Rattle.is.specs.declared.world_events.Side.{Side}
+use Rattle.is.specs.declared.world_events.Side.TheVariants.{A, B}
 use Rattle.is_theorems.specs.RoleState.{Mail, RoleState, RoleEvent, IsNewRoleState}
 use Rattle.is.specs.World.{other}
 use Rattle.is.specs.WorldRoles.{changes}
@@ -38,6 +38,7 @@ module _ (z : Setting) (es : List Emitted) (w w' : Seen) (k : Carried z es w) wh
   turn_of : (side : Side) (d : RoleEvent) (e : Emitted) (m : Moves w side d e w') → AreFull z (Move side d) → Turn z es side (at side w) d e m.new
   turn_of side d e m full = record {
     effect = m.effect;
+    compares = m.compares;
     brought = λ mail accepts.
         let l = m.delivered mail accepts in
         record { fact = subst (λ s. Fact z es s mail.class mail) l.sender (k.network l.in_flight mail l.there l.mail); accepted = l.accepted; moved = l.moved };

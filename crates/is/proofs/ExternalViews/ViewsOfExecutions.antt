@@ -1,7 +1,7 @@
 -- An execution of the two-agent network model is one of the model with external views.
 use Rattle.std.proofs.Common.{◌≡◌, ℕ, zero, suc, Bool, true, false, List, [], ◌∷◌, ◌++◌, map, Option, Some, None, option_map, inl, inr, refl, ap, sym, ◌∙◌, subst, append-nil}
-use Rattle.std.specs.Prelude.{◌||◌, MatchBool, slice_get}
-use Rattle.std.specs.List.{list_any}
+use Rattle.std.specs.Prelude.{◌||◌, ◌&&◌, MatchBool, slice_get}
+use Rattle.std.specs.List.{AllByRecursion, list_any}
 use Rattle.std.proofs.lemmas.Slice.Eq.{bytes_eq-Decides}
 use Rattle.is_proto.specs.Lists.{Has}
 use Rattle.is_proto.specs.Packets.{Packet}
@@ -28,14 +28,14 @@ use Rattle.is_rules.specs.Answers.{keeps_check_on, goes_back}
 use Rattle.is_rules.specs.Steps.{Step}
 use Rattle.is_rules.specs.Sound.{IsSound}
 use Rattle.is_rules.specs.Brought.{Brings}
-use Rattle.is_rules.specs.Effects.{PathTheorem}
+use Rattle.is_rules.specs.Effects.{PathTheorem, keeping_set_by, lite_set_by}
+use Rattle.is_rules.specs.Roles.{keeps_role}
 use Rattle.is_theorems.specs.RoleView.{mail_of, mail_unless, mail_read, mail_in, kept_as, all_kept, role_state_of, when_accepted, sent_as, some_paths, sets_role, sets_lite, packet_path, accepted_by, role_event_of, RoleTheorem}
-use Rattle.is.specs.declared.world.Side.{Side}
-use Rattle.is.specs.declared.world.Side.TheVariants.{A, B}
+use Rattle.is.specs.declared.world_events.Side.{Side}
+use Rattle.is.specs.declared.world_events.Side.TheVariants.{A, B}
 use Rattle.is.specs.World as world
 use Rattle.is.specs.World.{WorldRecord, InFlightRecord, Event, Outcome, LoggedEvent, other, in_world, plain, read_unless, moved_by, PolledInto, TakesTurn, Persists, Polls, Delivers, Happens, Streams}
-use Rattle.is.specs.WorldRoles.{Makes}
-use Rattle.is.specs.Traces.{StaysFull, IsNeverLite}
+use Rattle.is.specs.WorldRoles.{Makes, StaysFull, IsNeverLite, LeavesRule}
 use Rattle.is.proofs.ExternalViews.NetworkModel as seen
 use Rattle.is.proofs.ExternalViews.NetworkModel.{InFlight, Seen, Roles, Moved, Emitted, Kind, Still, Move, Moves, IsAwaited, Happening, emitted_of, NeverLite}
 
@@ -201,6 +201,62 @@ module _ {H P : Type 0} where
   sound_put B new w network h is A = h A
   sound_put B new w network h is B = is
 
+-- ---- an agent that keeps its role only by its tie-breaker
+
+-- it is not lite, or does not have the rule
+abbrev pub Compares : {H P : Type 0} → Bool → AgentRecord H P → Type 0
+Compares true a = a.lite ≡ false
+Compares false a = a.rules.lite_keeps_role ≡ false
+
+-- an event that leaves it so
+abbrev pub Leaves : {P : Type 0} → Bool → Side → Event P → Type 0
+Leaves true side event = StaysFull side event
+Leaves false side event = LeavesRule side event
+
+abbrev pub BothCompare : {H P : Type 0} → (Side → Bool) → WorldRecord H P → Type 0
+BothCompare how w = (side : Side) → Compares (how side) (world.at side w)
+
+-- neither keeps it whatever its peer claims
+abbrev pub NoneKeeps : {H P : Type 0} → WorldRecord H P → Type 0
+NoneKeeps w = (side : Side) → keeps_role (world.at side w) ≡ false
+
+neither : (b : Bool) → (b && false) ≡ false
+neither true = refl
+neither false = refl
+
+pub none_keeps : {H P : Type 0} (how : Side → Bool) (w : WorldRecord H P) → BothCompare how w → NoneKeeps w
+none_keeps how w compares side = by (how side) (compares side) where
+  by : (b : Bool) → Compares b (world.at side w) → keeps_role (world.at side w) ≡ false
+  by true full = ap (λ l. l && (world.at side w).rules.lite_keeps_role) full
+  by false off = ap (λ r. (world.at side w).lite && r) off ∙ neither (world.at side w).lite
+
+called_full : {P : Type 0} (side : Side) (c : agent.Call P) → StaysFull side (world.Call side c) → lite_set_by c false ≡ false
+called_full side (agent.SetIceLite lite) full = full refl
+called_full side c full = refl
+
+called_off : {P : Type 0} (side : Side) (c : agent.Call P) → LeavesRule side (world.Call side c) → keeping_set_by c false ≡ false
+called_off side (agent.SetRules rules) off = off refl
+called_off side c off = refl
+
+module _ {H P : Type 0} where
+  compares_put : (how : Side → Bool) (side : Side) (new : AgentRecord H P) (w : WorldRecord H P) (network : List InFlightRecord) → BothCompare how w → Compares (how side) new
+      → BothCompare how (record (world.put side new w) { network = network })
+  compares_put how A new w network h is A = is
+  compares_put how A new w network h is B = h B
+  compares_put how B new w network h is A = h A
+  compares_put how B new w network h is B = is
+
+  -- a call
+  compares_called : (b : Bool) (side : Side) (c : agent.Call P) (old new : AgentRecord H P) → Leaves b side (world.Call side c) → new.lite ≡ lite_set_by c old.lite
+      → new.rules.lite_keeps_role ≡ keeping_set_by c old.rules.lite_keeps_role → Compares b old → Compares b new
+  compares_called true side c old new leaves lite keeping full = lite ∙ (ap (λ l. lite_set_by c l) full ∙ called_full side c leaves)
+  compares_called false side c old new leaves lite keeping off = keeping ∙ (ap (λ r. keeping_set_by c r) off ∙ called_off side c leaves)
+
+  -- what sets neither
+  compares_still : (b : Bool) (old new : AgentRecord H P) → new.lite ≡ old.lite → new.rules.lite_keeps_role ≡ old.rules.lite_keeps_role → Compares b old → Compares b new
+  compares_still true old new lite keeping full = lite ∙ full
+  compares_still false old new lite keeping off = keeping ∙ off
+
 -- ---- events
 
 -- the result of an event
@@ -232,11 +288,12 @@ map-append f [] ys = refl
 map-append f (x ∷ xs) ys = ap (λ zs. f x ∷ zs) (map-append f xs ys)
 
 module _ {H P : Type 0} where
-  moves_so : (w : WorldRecord H P) (side : Side) (d : RoleEvent) (e : Emitted) (new : AgentRecord H P) (network posted : List InFlightRecord) → Did w side d e new network posted
+  moves_so : (w : WorldRecord H P) (side : Side) (d : RoleEvent) (e : Emitted) (new : AgentRecord H P) (network posted : List InFlightRecord) → NoneKeeps w → Did w side d e new network posted
       → Moves (seen_of w) side d e (seen_of (record (world.put side new w) { network = network }))
-  moves_so w side d e new network posted k = record {
+  moves_so w side d e new network posted free k = record {
     new = role_state_of new;
     effect = subst (λ s. RoleEffect s d (role_state_of new)) (sym (at_side side w)) k.effect;
+    compares = subst (λ s. s.keeps ≡ false) (sym (at_side side w)) (free side);
     posted = map in_flight_as posted;
     world = put_side side new w network ∙ ap (λ b. record (seen.put side (role_state_of new) (seen_of w)) { network = b }) (ap (map in_flight_as) k.multiset_is ∙ map-append in_flight_as w.network posted);
     from_queue = λ l has. (let o = k.from l has in (o.0, subst (λ s. Has s.packets l.mail) (sym (at_side side w)) o.1));
@@ -291,8 +348,8 @@ module _ {H P : Type 0} where
       made : (s : Side) (d : agent.Call P) → Makes w x.event s d → (side ≡ s) × (c ≡ d)
       full : (s : Side) → StaysFull s x.event → side ≡ s → sets_lite c ≡ false
 
-    turns : (w w' : WorldRecord H P) (s t : Streams) (side : Side) (c : agent.Call P) (x : LoggedEvent P) → AreSound w → TakesTurn mac answers w s side c x.outcome w' t → Packets w side c x → Comes w w' x
-    turns w w' s t side c x sound k p =
+    turns : (w w' : WorldRecord H P) (s t : Streams) (side : Side) (c : agent.Call P) (x : LoggedEvent P) → AreSound w → NoneKeeps w → TakesTurn mac answers w s side c x.outcome w' t → Packets w side c x → Comes w w' x
+    turns w w' s t side c x sound free k p =
         let old = world.at side w in
         let d = role_event_of old c x.outcome.entry in
         let path = paths old k.new (world.source_of side s) k.left c x.outcome.entry (sound side) k.given k.step in
@@ -314,7 +371,7 @@ module _ {H P : Type 0} where
         } in
         subst (λ v. Comes w v x) (sym (k.world ∙ sym (same_multiset side k.new w))) (record {
           kind = Move side d;
-          happens = moves_so w side d (emitted_at x) k.new w.network [] did;
+          happens = moves_so w side d (emitted_at x) k.new w.network [] free did;
           made = λ s' c' made.
               let is = p.made s' c' made in
               ap (λ y. Move y (role_event_of (world.at y w) c x.outcome.entry)) is.0 ∙ ap (λ y. Move s' (role_event_of (world.at s' w) y x.outcome.entry)) is.1;
@@ -322,9 +379,9 @@ module _ {H P : Type 0} where
           sound = sound_put side k.new w w.network sound path.1;
         })
 
-    called : (w w' : WorldRecord H P) (s t : Streams) (side : Side) (c : agent.Call P) (x : LoggedEvent P) → AreSound w → x.event ≡ world.Call side c → in_world c ≡ true
+    called : (w w' : WorldRecord H P) (s t : Streams) (side : Side) (c : agent.Call P) (x : LoggedEvent P) → AreSound w → NoneKeeps w → x.event ≡ world.Call side c → in_world c ≡ true
         → TakesTurn mac answers w s side c x.outcome w' t → Comes w w' x
-    called w w' s t side c x sound event_is is k = turns w w' s t side c x sound k (record {
+    called w w' s t side c x sound free event_is is k = turns w w' s t side c x sound free k (record {
       delivered = λ m accepted. absurd (let none = unaccepting c x.outcome.entry.answer is in cc);
       accepts = λ y yes moved. absurd (let none = ap (option_map moved_as) (k.moved ∙ unmoving c is) in cc);
       awaited = λ m accepted success. absurd (let none = unaccepting c x.outcome.entry.answer is in cc);
@@ -339,16 +396,16 @@ module _ {H P : Type 0} where
     other-other B = refl
 
     delivers : (o : Option InFlightRecord) (w w' : WorldRecord H P) (s t : Streams) (place now : ℕ) (via : Path) (x : LoggedEvent P) → x.event ≡ world.Deliver place now via → slice_get w.network place ≡ o
-        → AreSound w → Delivers mac answers w s o now via x.outcome w' t → Comes w w' x
-    delivers None w w' s t place now via x event_is found sound k =
+        → AreSound w → NoneKeeps w → Delivers mac answers w s o now via x.outcome w' t → Comes w w' x
+    delivers None w w' s t place now via x event_is found sound free k =
         persists_still w w' x agent.NoSuchPacket None sound k.2 k.0
         (λ s' c made. (let m : Makes w (world.Deliver place now via) s' c = subst (λ v. Makes w v s' c) event_is made in let found_one = m.1 in cc))
-    delivers (Some l) w w' s t place now via x event_is found sound k =
+    delivers (Some l) w w' s t place now via x event_is found sound free k =
         let side = other l.sender in
         let bytes = l.packet.contents in
         let c : agent.Call P = agent.ReceivePacket now via bytes in
         let old = world.at side w in
-        turns w w' s t side c x sound k (record {
+        turns w w' s t side c x sound free k (record {
           delivered = λ m accepted. (
               let is = when_is x.outcome.entry.answer (mail_read bytes) m accepted in
               (l, Has-get w.network place l found, other-other l.sender, is.1, ap is_yes is.0, ap (option_map moved_as) k.moved ∙ mail_moved (fault_of bytes) (message_of bytes) m is.1));
@@ -387,8 +444,8 @@ module _ {H P : Type 0} where
 
     -- ---- a poll
 
-    polls : (w w' : WorldRecord H P) (s t : Streams) (side : Side) (x : LoggedEvent P) → AreSound w → x.event ≡ world.Poll side → Polls mac answers w s side x.outcome w' t → Comes w w' x
-    polls w w' s t side x sound event_is k = subst (λ v. Comes w v x) (sym k.world) (by k.new k.network k.answer k.polled (k.emitted ∙ ap (λ v. plain k.answer (Some side) (world.roles_of v)) k.world)) where
+    polls : (w w' : WorldRecord H P) (s t : Streams) (side : Side) (x : LoggedEvent P) → AreSound w → NoneKeeps w → x.event ≡ world.Poll side → Polls mac answers w s side x.outcome w' t → Comes w w' x
+    polls w w' s t side x sound free event_is k = subst (λ v. Comes w v x) (sym k.world) (by k.new k.network k.answer k.polled (k.emitted ∙ ap (λ v. plain k.answer (Some side) (world.roles_of v)) k.world)) where
       no_one : (s' : Side) (c : agent.Call P) → Makes w x.event s' c → ⊥
       no_one s' c made = subst (λ v. Makes w v s' c) event_is made
 
@@ -422,7 +479,7 @@ module _ {H P : Type 0} where
           } in
           record {
             kind = Move side d;
-            happens = moves_so w side d (emitted_at x) new network posted did;
+            happens = moves_so w side d (emitted_at x) new network posted free did;
             made = λ s' c made. absurd (no_one s' c made);
             full = λ s' full same. refl;
             sound = sound_put side new w network sound path.1;
@@ -445,37 +502,86 @@ module _ {H P : Type 0} where
 
     -- ---- executions
 
-    pub event : (w w' : WorldRecord H P) (s t : Streams) (x : LoggedEvent P) → AreSound w → Happens mac answers w s x.event x.outcome w' t → Comes w w' x
-    event w w' s t x sound h = by x.event refl h where
+    pub event : (w w' : WorldRecord H P) (s t : Streams) (x : LoggedEvent P) → AreSound w → NoneKeeps w → Happens mac answers w s x.event x.outcome w' t → Comes w w' x
+    event w w' s t x sound free h = by x.event refl h where
       by : (v : Event P) → x.event ≡ v → Happens mac answers w s v x.outcome w' t → Comes w w' x
       by (world.Call side c) is k =
           elim (in_world c) as (λ b. in_world c ≡ b → MatchBool b (TakesTurn mac answers w s side c x.outcome w' t) (Persists mac answers w s agent.NotInWorld (Some side) x.outcome w' t) → Comes w w' x) [
-            | true ↦ λ within turn. called w w' s t side c x sound is within turn
+            | true ↦ λ within turn. called w w' s t side c x sound free is within turn
             | false ↦ λ without persisted. persists_still w w' x agent.NotInWorld (Some side) sound persisted.2 persisted.0
                 (λ s' d made. (let m : Makes w (world.Call side c) s' d = subst (λ v. Makes w v s' d) is made in let no = m.2 in cc))
           ] refl k
-      by (world.Poll side) is k = polls w w' s t side x sound is k
-      by (world.Deliver place now via) is k = delivers (slice_get w.network place) w w' s t place now via x is refl sound k
+      by (world.Poll side) is k = polls w w' s t side x sound free is k
+      by (world.Deliver place now via) is k = delivers (slice_get w.network place) w w' s t place now via x is refl sound free k
       by (world.Stray side now via bytes) is (answer, left, (same, kept, was)) = persists_still w w' x answer (Some side) sound was same
           (λ s' d made. subst (λ v. Makes w v s' d) is made)
 
+    -- it leaves both so
+    pub compares_on : (how : Side → Bool) (w w' : WorldRecord H P) (s t : Streams) (x : LoggedEvent P) → AreSound w → BothCompare how w → ((side : Side) → Leaves (how side) side x.event)
+        → Happens mac answers w s x.event x.outcome w' t → BothCompare how w'
+    compares_on how w w' s t x sound compares leaves h = by x.event leaves h where
+      same : w' ≡ w → BothCompare how w'
+      same is = subst (λ v. BothCompare how v) (sym is) compares
+
+      acted : (side : Side) (c : agent.Call P) → (k : TakesTurn mac answers w s side c x.outcome w' t) → Compares (how side) k.new → BothCompare how w'
+      acted side c k is = subst (λ v. BothCompare how v) (sym (k.world ∙ sym (same_multiset side k.new w))) (compares_put how side k.new w w.network compares is)
+
+      effect : (side : Side) (c : agent.Call P) → (k : TakesTurn mac answers w s side c x.outcome w' t)
+          → (k.new.lite ≡ lite_set_by c (world.at side w).lite) × (k.new.rules.lite_keeps_role ≡ keeping_set_by c (world.at side w).rules.lite_keeps_role)
+      effect side c k = let path = paths (world.at side w) k.new (world.source_of side s) k.left c x.outcome.entry (sound side) k.given k.step in (path.0.lite, path.0.keeping)
+
+      delivered : (o : Option InFlightRecord) (now : ℕ) (via : Path) → Delivers mac answers w s o now via x.outcome w' t → BothCompare how w'
+      delivered None now via k = same k.0
+      delivered (Some l) now via k =
+          let side = other l.sender in
+          let f = effect side (agent.ReceivePacket now via l.packet.contents) k in
+          acted side (agent.ReceivePacket now via l.packet.contents) k (compares_still (how side) (world.at side w) k.new f.0 f.1 (compares side))
+
+      polled : (side : Side) (k : Polls mac answers w s side x.outcome w' t) → BothCompare how w'
+      polled side k = subst (λ v. BothCompare how v) (sym k.world) (compares_put how side k.new w k.network compares (elim k.polled [
+        | inl (_, is, multiset_is) ↦ subst (λ a. Compares (how side) a) (sym is) (compares side)
+        | inr (inl (_, given, multiset_is)) ↦ compares_still (how side) (world.at side w) k.new (ap (λ (a : AgentRecord H P). a.lite) given.1) (ap (λ (a : AgentRecord H P). a.rules.lite_keeps_role) given.1) (compares side)
+        | inr (inr (p, given, _, multiset_is)) ↦ compares_still (how side) (world.at side w) k.new (ap (λ (a : AgentRecord H P). a.lite) given.1) (ap (λ (a : AgentRecord H P). a.rules.lite_keeps_role) given.1) (compares side)
+      ]))
+
+      by : (v : Event P) → ((side : Side) → Leaves (how side) side v) → Happens mac answers w s v x.outcome w' t → BothCompare how w'
+      by (world.Call side c) leaves k =
+          elim (in_world c) as (λ b. MatchBool b (TakesTurn mac answers w s side c x.outcome w' t) (Persists mac answers w s agent.NotInWorld (Some side) x.outcome w' t) → BothCompare how w') [
+            | true ↦ λ turn. (let f = effect side c turn in acted side c turn (compares_called (how side) side c (world.at side w) turn.new (leaves side) f.0 f.1 (compares side)))
+            | false ↦ λ persisted. same persisted.0
+          ] k
+      by (world.Poll side) leaves k = polled side k
+      by (world.Deliver place now via) leaves k = delivered (slice_get w.network place) now via k
+      by (world.Stray side now via bytes) leaves (answer, left, (still, kept, was)) = same still
+
     -- an execution, as it is observed
-    pub record Follows (first : WorldRecord H P) (log : List (LoggedEvent P)) (last : WorldRecord H P) : Type 0 where
+    pub record Follows (how : Side → Bool) (first : WorldRecord H P) (log : List (LoggedEvent P)) (last : WorldRecord H P) : Type 0 where
       pub seen_log : List Happening
       pub ran : seen.Run (seen_of first) seen_log (seen_of last)
       pub emitted : emitted_of seen_log ≡ map emitted_at log
       pub full : (side : Side) → IsNeverLite side log → NeverLite side seen_log
       pub sound : AreSound last
+      pub compares : BothCompare how last
 
-    pub follow : (log : List (LoggedEvent P)) (first last : WorldRecord H P) (s t : Streams) (n : ℕ) → AreSound first → world.WorldRun mac answers first s n log last t → Follows first log last
-    follow [] first last s t n sound (is, _) = record { seen_log = []; ran = ap seen_of is; emitted = refl; full = λ side h. tt; sound = subst AreSound (sym is) sound }
-    follow (x ∷ log) first last s t n sound (mid, u, number, happens, ran) =
-        let c = event first mid s u x sound happens in
-        let more = follow log mid last u t (suc n) c.sound ran in
+    pub follow : (how : Side → Bool) (log : List (LoggedEvent P)) (first last : WorldRecord H P) (s t : Streams) (n : ℕ) → AreSound first → BothCompare how first
+        → ((side : Side) → AllByRecursion (λ x. Leaves (how side) side x.event) log) → world.WorldRun mac answers first s n log last t → Follows how first log last
+    follow how [] first last s t n sound compares leaves (is, _) = record {
+      seen_log = [];
+      ran = ap seen_of is;
+      emitted = refl;
+      full = λ side h. tt;
+      sound = subst AreSound (sym is) sound;
+      compares = subst (λ v. BothCompare how v) (sym is) compares;
+    }
+    follow how (x ∷ log) first last s t n sound compares leaves (mid, u, number, happens, ran) =
+        let c = event first mid s u x sound (none_keeps how first compares) happens in
+        let next = compares_on how first mid s u x sound compares (λ side. (let k = leaves side in k.0)) happens in
+        let more = follow how log mid last u t (suc n) c.sound next (λ side. (let k = leaves side in k.1)) ran in
         record {
           seen_log = record { kind = c.kind; emitted = emitted_at x } ∷ more.seen_log;
           ran = (seen_of mid, c.happens, more.ran);
           emitted = ap (λ es. emitted_at x ∷ es) more.emitted;
           full = λ side never. (c.full side never.0, more.full side never.1);
           sound = more.sound;
+          compares = more.compares;
         }

@@ -17,21 +17,21 @@ use Rattle.is_rules.specs.Effects.{PathTheorem}
 use Rattle.is_theorems.specs.RoleView.{some_paths, RoleTheorem}
 use Rattle.is.specs.declared.calls.Answer as code
 use Rattle.is.specs.declared.calls.Answer.TheVariants as answer
-use Rattle.is.specs.declared.world.Side.{Side}
+use Rattle.is.specs.declared.world_events.Side.{Side}
 use Rattle.is.specs.declared.traces.Trace.{Trace}
-use Rattle.is.specs.declared.world.WorldEntry.{WorldEntry}
-use Rattle.is.specs.declared.world.TwoAgentsEvent.{TwoAgentsEvent}
+use Rattle.is.specs.declared.world_events.WorldEntry.{WorldEntry}
+use Rattle.is.specs.declared.world_events.TwoAgentsEvent.{TwoAgentsEvent}
 use Rattle.is.specs.Views.{answer_view}
 use Rattle.is.specs.World as world
-use Rattle.is.specs.declared.world.WorldLog.{WorldLog}
+use Rattle.is.specs.declared.world_events.WorldLog.{WorldLog}
 use Rattle.is.specs.World.{WorldRecord, Event, LoggedEvent, logged_as, logged, other, IsWorldLog, Streams}
-use Rattle.is.specs.WorldRoles.{HaveDistinctIds, IsFairWorld, Point, role_in, changes, GreaterKeeps, LesserSwitchesOnce}
-use Rattle.is.specs.Traces.{Issues, TakesMessage, SelectsPathAt, IsAt, IsUncleared, IsTrace, IsNeverLite, ComesBack, SelectedAreTraced}
+use Rattle.is.specs.WorldRoles.{HaveDistinctIds, IsFairWorld, IsNeverLite, Point, role_in, changes, GreaterKeeps, LesserSwitchesOnce}
+use Rattle.is.specs.Traces.{Issues, TakesMessage, SelectsPathAt, IsAt, IsUncleared, IsTrace, ComesBack, SelectedAreTraced}
 use Rattle.is.proofs.ExternalViews.NetworkModel as seen
 use Rattle.is.proofs.ExternalViews.NetworkModel.{Moved, Emitted, emitted_of}
 use Rattle.is.proofs.ExternalViews.PreservedByEvents as runs
 use Rattle.is.proofs.ExternalViews.ViewsOfExecutions.{seen_of, moved_as, is_yes, via_in, emitted_at}
-use Rattle.is.proofs.RolesAndChains.RolesAndChainsOfViews.{get-map_back, issued_back, preconditions_seen, sound_first, Sight, sight, greater_keeps, lesser_switches_once}
+use Rattle.is.proofs.RolesAndChains.RolesAndChainsOfViews.{get-map_back, how_of, issued_back, leaves_all, preconditions_seen, sound_first, compares_first, Sight, sight, greater_keeps, lesser_switches_once}
 
 -- ---- lists
 
@@ -198,7 +198,12 @@ module _ {H P : Type 0} (mac : H → List ℕ → List ℕ → List ℕ) (answer
           happens = k.happens;
           leads = k.leads;
         } in
-        record { cut = cut; mid = k.mid; sees = sight mac answers paths roles fresh_sound first k.mid s Log cut.rest x (sound_first fresh_sound first greater Log fair) point }
+        record {
+          cut = cut;
+          mid = k.mid;
+          sees = sight mac answers paths roles fresh_sound first k.mid s Log cut.rest x (how_of first greater Log fair) (sound_first fresh_sound first greater Log fair)
+              (compares_first first greater Log fair) (leaves_all first greater Log fair) point;
+        }
 
     -- ---- entries up to a number
 

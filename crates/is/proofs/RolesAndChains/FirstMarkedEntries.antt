@@ -11,8 +11,8 @@ use Rattle.is_rules.specs.declared.emitted.Path.{Path}
 use Rattle.is.specs.declared.traces.Mark.{Mark}
 use Rattle.is.specs.declared.traces.Mark.TheVariants.{Taken, Issued, Cleared}
 use Rattle.is.specs.declared.traces.Trace.{Trace}
-use Rattle.is.specs.declared.world.Side.{Side}
-use Rattle.is.specs.declared.world.WorldEntry.{WorldEntry}
+use Rattle.is.specs.declared.world_events.Side.{Side}
+use Rattle.is.specs.declared.world_events.WorldEntry.{WorldEntry}
 use Rattle.is.specs.World.{other}
 use Rattle.is.specs.Traces.{Issues, SelectsPathAt, IsAt, HasAnswer, IsTrace, IsTraceOf, IsFirstTrace}
 use Rattle.is.specs.Marks.{IsMarked, NoneMarked, IsFirstFrom, IsFirst}

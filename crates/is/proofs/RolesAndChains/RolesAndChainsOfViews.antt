@@ -24,16 +24,15 @@ use Rattle.is_rules.specs.Brought.{Brings, IsServing, IsServedPastTests}
 use Rattle.is_rules.specs.Emitted.{issued_as}
 use Rattle.is_rules.specs.Effects.{PathTheorem}
 use Rattle.is_theorems.specs.RoleView.{mail_of, mail_unless, mail_read, role_state_of, when_accepted, when_done, request_when, sent_as, accepted_by, served_by, role_event_of, RoleTheorem}
-use Rattle.is.specs.declared.world.Side.{Side}
-use Rattle.is.specs.declared.world.Side.TheVariants.{A, B}
+use Rattle.is.specs.declared.world_events.Side.{Side}
+use Rattle.is.specs.declared.world_events.Side.TheVariants.{A, B}
 use Rattle.is.specs.World as world
 use Rattle.is.specs.World.{WorldRecord, LoggedEvent, other, Streams}
-use Rattle.is.specs.WorldRoles.{IsNewAgent, HaveDistinctIds, IsFairWorld, role_at, role_in, changes, GreaterKeeps, LesserSwitchesOnce, Makes, Point, RolesDifferOnceMet}
-use Rattle.is.specs.Traces.{StaysFull, IsNeverLite}
+use Rattle.is.specs.WorldRoles.{IsNewAgent, HaveDistinctIds, IsFairWorld, IsNeverLite, StaysFull, ComparesTies, role_at, role_in, changes, GreaterKeeps, LesserSwitchesOnce, Makes, Point, RolesDifferOnceMet}
 use Rattle.is.proofs.ExternalViews.NetworkModel as seen
 use Rattle.is.proofs.ExternalViews.NetworkModel.{Seen, Emitted, Kind, Move, Happening, emitted_of, roles_along, NeverLite}
 use Rattle.is.proofs.ExternalViews.PreservedByEvents as runs
-use Rattle.is.proofs.ExternalViews.ViewsOfExecutions.{seen_of, in_flight_as, roles_as, emitted_at, AreSound, follow, event}
+use Rattle.is.proofs.ExternalViews.ViewsOfExecutions.{seen_of, in_flight_as, roles_as, emitted_at, AreSound, Leaves, BothCompare, Compares, follow, event, none_keeps, compares_on}
 
 -- ---- entries, as they are seen
 
@@ -101,6 +100,31 @@ preconditions_seen first greater log es same p = record {
 
 pub sound_first : {H P : Type 0} → FreshIsSound H P → (first : WorldRecord H P) (greater : Side) (log : List (LoggedEvent P)) → IsFairWorld first greater log → AreSound first
 sound_first sound first greater log p side = sound_new sound (world.at side first) (p.new side)
+
+-- ---- neither keeps its role as a lite agent
+
+abbrev pub way : {P : Type 0} (side : Side) (log : List (LoggedEvent P)) → ComparesTies side log → Bool
+way side log (inl full) = true
+way side log (inr off) = false
+
+-- for each side, which precondition holds
+abbrev pub how_of : {H P : Type 0} (first : WorldRecord H P) (greater : Side) (log : List (LoggedEvent P)) → IsFairWorld first greater log → Side → Bool
+how_of first greater log p side = way side log (p.compares side)
+
+abbrev pub LeaveAll : {P : Type 0} → (Side → Bool) → List (LoggedEvent P) → Type 0
+LeaveAll how log = (side : Side) → AllByRecursion (λ x. Leaves (how side) side x.event) log
+
+pub leaves_all : {H P : Type 0} (first : WorldRecord H P) (greater : Side) (log : List (LoggedEvent P)) (p : IsFairWorld first greater log) → LeaveAll (how_of first greater log p) log
+leaves_all first greater log p side = by (p.compares side) where
+  by : (y : ComparesTies side log) → AllByRecursion (λ x. Leaves (way side log y) side x.event) log
+  by (inl full) = full
+  by (inr off) = off
+
+pub compares_first : {H P : Type 0} (first : WorldRecord H P) (greater : Side) (log : List (LoggedEvent P)) (p : IsFairWorld first greater log) → BothCompare (how_of first greater log p) first
+compares_first first greater log p side = by (how_of first greater log p side) (p.new side) where
+  by : (b : Bool) → IsNewAgent (world.at side first) → Compares b (world.at side first)
+  by true (creds, tie, role, is) = ap (λ a. a.lite) is
+  by false (creds, tie, role, is) = ap (λ a. a.rules.lite_keeps_role) is
 
 -- ---- roles
 
@@ -203,7 +227,8 @@ module _ {H P : Type 0} where
   module _ (mac : H → List ℕ → List ℕ → List ℕ) (answers : P → CandidateRecord → ℕ → ℕ → Type 0) (paths : PathTheorem {H = H} {P = P} mac answers) (roles : RoleTheorem {H = H} {P = P} mac answers) (fresh_sound : FreshIsSound H P) where
     pub greater_keeps : (first last : WorldRecord H P) (s t : Streams) (n : ℕ) (log : List (LoggedEvent P)) → world.WorldRun mac answers first s n log last t → GreaterKeeps first log
     greater_keeps first last s t n log ran greater p =
-        let k = follow mac answers paths roles log first last s t n (sound_first fresh_sound first greater log p) ran in
+        let k = follow mac answers paths roles (how_of first greater log p) log first last s t n (sound_first fresh_sound first greater log p) (compares_first first greater log p)
+        (leaves_all first greater log p) ran in
         let all = runs.keeps_role (seen_of first) (seen_of last) k.seen_log k.ran greater (preconditions_seen first greater log (emitted_of k.seen_log) k.emitted p) in
         all_keep greater (world.at greater first).controlling log
         (subst (λ r. AllByRecursion (λ (e : Emitted). seen.role_at greater e.roles ≡ r) (map emitted_at log)) (role_of greater first)
@@ -211,16 +236,20 @@ module _ {H P : Type 0} where
 
     pub lesser_switches_once : (first last : WorldRecord H P) (s t : Streams) (n : ℕ) (log : List (LoggedEvent P)) → world.WorldRun mac answers first s n log last t → LesserSwitchesOnce first log
     lesser_switches_once first last s t n log ran greater p =
-        let k = follow mac answers paths roles log first last s t n (sound_first fresh_sound first greater log p) ran in
+        let k = follow mac answers paths roles (how_of first greater log p) log first last s t n (sound_first fresh_sound first greater log p) (compares_first first greater log p)
+        (leaves_all first greater log p) ran in
         let once = runs.switches_role_once (seen_of first) (seen_of last) k.seen_log k.ran greater (preconditions_seen first greater log (emitted_of k.seen_log) k.emitted p) in
         subst (λ r. changes r (map (role_in (other greater)) log) ≤ 1) (role_of (other greater) first)
         (subst (λ rs. changes (seen.at (other greater) (seen_of first)).controlling rs ≤ 1) (ap (roles_along (other greater)) k.emitted ∙ along (other greater) log) once)
 
-    pub sight : (first mid : WorldRecord H P) (s : Streams) (log rest : List (LoggedEvent P)) (x : LoggedEvent P) → AreSound first → (point : Point mac answers first s log mid x rest) → Sight first log point.before mid x rest
-    sight first mid s log rest x sound point =
-        let one = follow mac answers paths roles point.before first mid s point.u 0 sound point.led in
-        let two = event mac answers paths roles mid point.after point.u point.v x one.sound point.happens in
-        let three = follow mac answers paths roles rest point.after point.last point.v point.t point.n two.sound point.leads in
+    pub sight : (first mid : WorldRecord H P) (s : Streams) (log rest : List (LoggedEvent P)) (x : LoggedEvent P) (how : Side → Bool) → AreSound first → BothCompare how first → LeaveAll how log → (point : Point mac answers first s log mid x rest) → Sight first log point.before mid x rest
+    sight first mid s log rest x how sound compares leaves point =
+        let parts = λ (side : Side). all-cut (λ (y : LoggedEvent P). Leaves (how side) side y.event) point.before (x ∷ rest)
+        (subst (λ xs. AllByRecursion (λ y. Leaves (how side) side y.event) xs) point.split (leaves side)) in
+        let one = follow mac answers paths roles how point.before first mid s point.u 0 sound compares (λ side. (let k = parts side in k.0)) point.led in
+        let two = event mac answers paths roles mid point.after point.u point.v x one.sound (none_keeps how mid one.compares) point.happens in
+        let next = compares_on mac answers paths roles how mid point.after point.u point.v x one.sound one.compares (λ side. (let k = parts side in k.1.0)) point.happens in
+        let three = follow mac answers paths roles how rest point.after point.last point.v point.t point.n two.sound next (λ side. (let k = parts side in k.1.1)) point.leads in
         let h : Happening = record { kind = two.kind; emitted = emitted_at x } in
         record {
           whole = one.seen_log ++ h ∷ three.seen_log;
@@ -242,7 +271,7 @@ module _ {H P : Type 0} where
 
     pub roles_differ_once_met : (first : WorldRecord H P) (s : Streams) (log : List (LoggedEvent P)) → RolesDifferOnceMet mac answers first s log
     roles_differ_once_met first s log greater p mid x rest point (c, makes, met) =
-        let k = sight first mid s log rest x (sound_first fresh_sound first greater log p) point in
+        let k = sight first mid s log rest x (how_of first greater log p) (sound_first fresh_sound first greater log p) (compares_first first greater log p) (leaves_all first greater log p) point in
         let meeting = met_seen (other greater) mid c x.outcome.entry k.here.kind (k.made (other greater) c makes) met in
         let all = runs.differ_once_met (seen_of first) k.whole greater (preconditions_seen first greater log (emitted_of k.whole) k.emitted p) k.before (seen_of mid) k.here k.following k.point meeting in
         all_differ (x ∷ rest) (subst (λ es. AllByRecursion (λ (e : Emitted). e.roles.a ≢ e.roles.b) es) (ap (λ e. e ∷ emitted_of k.following) k.emitted_here ∙ ap (λ es. emitted_at x ∷ es) k.emitted_after) all)

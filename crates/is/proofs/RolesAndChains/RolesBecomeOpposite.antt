@@ -17,8 +17,8 @@ use Rattle.is_rules.specs.Issuing.{via_out}
 use Rattle.is_theorems.specs.RoleView.{RoleTheorem}
 use Rattle.is_rules.specs.Sound.{FreshIsSound}
 use Rattle.is_rules.specs.Steps as agent
-use Rattle.is.specs.declared.world.Side.{Side}
-use Rattle.is.specs.declared.world.Side.TheVariants.{A, B}
+use Rattle.is.specs.declared.world_events.Side.{Side}
+use Rattle.is.specs.declared.world_events.Side.TheVariants.{A, B}
 use Rattle.is.specs.Deliveries.{Hands}
 use Rattle.is.specs.AcceptedNominationsIn.{Occurrence, HandedCheck, IsReturned, IsReturnedInTime, occurrences_in}
 use Rattle.is.specs.Connects.{AgreeOnRoles}
@@ -28,13 +28,14 @@ use Rattle.is.specs.World.{WorldRecord, Event, LoggedEvent, Happens, WorldRun, a
 use Rattle.is.specs.WorldRoles.{IsFairWorld, Makes, Meets, role_in}
 use Rattle.is.proofs.TwoAgentEvents.DeliveredPackets.{rewritten, delivered}
 use Rattle.is.proofs.TwoAgentEvents.EventsOfSegments.{Follow, follows, cut, state_is, meet, own, Checked, checked, Awaited, awaits, removed}
-use Rattle.is.proofs.ExternalViews.ViewsOfExecutions.{seen_of, emitted_at, AreSound, event}
+use Rattle.is.proofs.ExternalViews.ViewsOfExecutions.{seen_of, emitted_at, AreSound, BothCompare, event, none_keeps, compares_on}
 use Rattle.is.proofs.TwoAgentEvents.OwnExecutions.{twice, role_after}
 use Rattle.is.proofs.ExternalViews.NetworkModel as seen
 use Rattle.is.proofs.ExternalViews.NetworkModel.{Seen, Happening, emitted_of}
 use Rattle.is.proofs.ExternalViews.ImpliedByTheLog.{sides}
 use Rattle.is.proofs.ExternalViews.PreservedByEvents.{reaches, event_apart}
-use Rattle.is.proofs.RolesAndChains.RolesAndChainsOfViews.{preconditions_seen, sound_first, role_of, met_seen, map-append}
+use Rattle.is.proofs.RolesAndChains.RolesAndChainsOfViews.{LeaveAll, how_of, leaves_all, preconditions_seen, sound_first, role_of, met_seen, map-append, compares_first}
+use Rattle.is_rules.specs.Roles.{keeps_role}
 
 run_on : (first mid last : Seen) (log : List Happening) (x : Happening) → seen.Run first log mid → seen.Happens mid x.kind x.emitted last → seen.Run first (log ++ x ∷ []) last
 run_on first mid last [] x is happens = (last, subst (λ (v : Seen). seen.Happens v x.kind x.emitted last) is happens, refl)
@@ -75,13 +76,15 @@ module _ {H P : Type 0} where
       → Makes w x.event side (agent.ReceivePacket h.now via packet.contents)
   handed_makes side via packet w x h = subst (λ (v : Event P). Makes w v side (agent.ReceivePacket h.now via packet.contents)) (sym h.event) (record { sender = other side; packet = packet }, h.sent, twice side, refl)
 
-  module _ (first : WorldRecord H P) (greater : Side) where
+  module _ (first : WorldRecord H P) (greater : Side) (how : Side → Bool) where
     -- a network model that an execution leads to, with the entries of the log that are left
     record Comes (w : WorldRecord H P) (left : List (LoggedEvent P)) : Type 0 where
       front : List Happening
       led : seen.Run (seen_of first) front (seen_of w)
       fair : seen.Preconditions (seen_of first) greater (emitted_of front ++ map emitted_at left)
       sound : AreSound w
+      compares : BothCompare how w
+      leaves : LeaveAll how left
 
     role_kept : (w : WorldRecord H P) (left : List (LoggedEvent P)) → Comes w left → (at greater w).controlling ≡ (at greater first).controlling
     role_kept w left k = sym (role_of greater w) ∙ (reaches (seen_of first) (seen_of w) k.front (map emitted_at left) greater k.fair k.led).role ∙ role_of greater first
@@ -94,23 +97,25 @@ module _ {H P : Type 0} where
 
       comes_on : (w w' : WorldRecord H P) (s t : Streams) (x : LoggedEvent P) (left : List (LoggedEvent P)) → Comes w (x ∷ left) → Happens mac answers w s x.event x.outcome w' t → Comes w' left
       comes_on w w' s t x left k happens =
-          let c = event mac answers paths roles w w' s t x k.sound happens in
+          let c = event mac answers paths roles w w' s t x k.sound (none_keeps how w k.compares) happens in
           let h : Happening = record { kind = c.kind; emitted = emitted_at x } in record {
             front = k.front ++ h ∷ [];
             led = run_on (seen_of first) (seen_of w) (seen_of w') k.front h k.led c.happens;
             fair = subst (λ es. seen.Preconditions (seen_of first) greater es)
                 (sym (ap (λ es. es ++ map emitted_at left) (map-append (λ (y : Happening). y.emitted) k.front (h ∷ [])) ∙ append_assoc (emitted_of k.front) (emitted_at x ∷ []) (map emitted_at left))) k.fair;
             sound = c.sound;
+            compares = compares_on mac answers paths roles how w w' s t x k.sound k.compares (λ side. (let l = k.leaves side in l.0)) happens;
+            leaves = λ side. (let l = k.leaves side in l.1);
           }
 
       apart_on : (w w' : WorldRecord H P) (s t : Streams) (x : LoggedEvent P) (left : List (LoggedEvent P)) → Comes w (x ∷ left) → Happens mac answers w s x.event x.outcome w' t → Apart w → Apart w'
       apart_on w w' s t x left k happens differs =
-          let c = event mac answers paths roles w w' s t x k.sound happens in
+          let c = event mac answers paths roles w w' s t x k.sound (none_keeps how w k.compares) happens in
           event_apart (seen_of first) (seen_of w) (seen_of w') k.front (map emitted_at left) c.kind (emitted_at x) greater k.fair k.led c.happens (inr differs)
 
       met_on : (w w' : WorldRecord H P) (s t : Streams) (x : LoggedEvent P) (left : List (LoggedEvent P)) → Comes w (x ∷ left) → Happens mac answers w s x.event x.outcome w' t → Meets (other greater) w x → Apart w'
       met_on w w' s t x left k happens (c, makes, met) =
-          let e = event mac answers paths roles w w' s t x k.sound happens in
+          let e = event mac answers paths roles w w' s t x k.sound (none_keeps how w k.compares) happens in
           event_apart (seen_of first) (seen_of w) (seen_of w') k.front (map emitted_at left) e.kind (emitted_at x) greater k.fair k.led e.happens
           (inl (met_seen (other greater) w c x.outcome.entry e.kind (e.made (other greater) c makes) met))
 
@@ -212,7 +217,7 @@ module _ {H P : Type 0} where
             → (i : IsConflictCarried mac answers (at side k.sent.before) (at side k.sent.following) (at (other side) handed.before) (at (other side) handed.following) k.check came k.id handed.entry.outcome.entry)
             → IsReturnedInTime mac answers side path over part k i.rejection → Apart last
         rejected lesser i e = by (i.returns (at side again.before) (at side again.following) (rewritten r.via i.rejection) (own mac answers side between) r.comes.hands.now r.pending.limit
-            again.entry.outcome.entry z.course.0 z.course.2 z.few z.know refl z.goes z.comes) where
+            again.entry.outcome.entry z.course.0 z.course.2 z.few z.know free refl z.goes z.comes) where
               r : IsReturned mac side path over part k i.rejection
               r = e.returned
 
@@ -230,6 +235,12 @@ module _ {H P : Type 0} where
                   k.split ∙ (ap (λ xs. k.before ++ k.sent ∷ xs) (k.comes.split ∙ (ap (λ xs. k.comes.between ++ handed ∷ xs) r.comes.split
                   ∙ sym (append_assoc k.comes.between (handed ∷ r.comes.between) (again ∷ r.comes.rest))))
                   ∙ sym (append_assoc k.before (k.sent ∷ between) (again ∷ r.comes.rest)))
+
+              -- it is no lite agent that keeps its role
+              free : keeps_role (at side again.before) ≡ false
+              free =
+                  let k_again = comes_here (k.before ++ k.sent ∷ between) r.comes.rest again split in
+                  none_keeps how again.before k_again.compares side
 
               by : (IsRejectedBy (at side again.before) (handing (rewritten r.via i.rejection) r.comes.hands.now) again.entry.outcome.entry (at side again.following)
                   × (AreSentUnder (at side k.sent.before).controlling (at side again.before) k.id → (at side again.following).controlling ≡ not (at (other side) handed.before).controlling))
@@ -315,18 +326,21 @@ module _ {H P : Type 0} (mac : H → List ℕ → List ℕ → List ℕ) (answer
       let is : log ≡ whole = sym (entries_in first last s t 0 log run) ∙ (ap (λ (xs : List (Occurrence H P)). entries xs) split ∙ map-append (λ (x : Occurrence H P). x.entry) part rest) in
       let fair_whole : IsFairWorld first greater whole = subst (λ (l : List (LoggedEvent P)). IsFairWorld first greater l) is fair in
       let sound = sound_first new_sound first greater whole fair_whole in
-      let from : Comes first greater first whole = record {
+      let how : Side → Bool = how_of first greater whole fair_whole in
+      let from : Comes first greater how first whole = record {
         front = [];
         led = refl;
         fair = preconditions_seen first greater whole (map emitted_at whole) refl fair_whole;
         sound = sound;
+        compares = compares_first first greater whole fair_whole;
+        leaves = leaves_all first greater whole fair_whole;
       } in
       let on = cut mac answers part rest first last (subst (λ xs. Follow mac answers first xs last) split (follows mac answers first last s t 0 log run)) in
       let differ : Apart on.0 =
-      differs first greater mac answers paths roles resolves side path over part (entries rest) on.0 fair_whole.tie from on.1 k
+      differs first greater how mac answers paths roles resolves side path over part (entries rest) on.0 fair_whole.tie from on.1 k
       (checked mac answers paths side path over part first on.0 k sound on.1) (λ error sends. search (back error sends)) in
-      let following : Comes first greater on.0 (entries rest) = comes_after first greater mac answers paths roles part (entries rest) first on.0 from on.1 in
-      let after = apart_along first greater mac answers paths roles rest [] on.0 last (subst (λ (l : List (LoggedEvent P)). Comes first greater on.0 l) (sym (append-nil (entries rest))) following) on.2 differ in
+      let following : Comes first greater how on.0 (entries rest) = comes_after first greater how mac answers paths roles part (entries rest) first on.0 from on.1 in
+      let after = apart_along first greater how mac answers paths roles rest [] on.0 last (subst (λ (l : List (LoggedEvent P)). Comes first greater how on.0 l) (sym (append-nil (entries rest))) following) on.2 differ in
       let stays : (x : Occurrence H P) → Has rest x → StayOpposite x = after.1 in (after.0, search stays)
 
   -- once the roles are different, each agent keeps its role
@@ -343,32 +357,42 @@ module _ {H P : Type 0} (mac : H → List ℕ → List ℕ → List ℕ) (answer
     fair_whole = subst (λ (l : List (LoggedEvent P)). IsFairWorld first greater l)
         (sym (entries_in first last s t 0 log run) ∙ (ap (λ (xs : List (Occurrence H P)). entries xs) split ∙ map-append (λ (x : Occurrence H P). x.entry) part rest)) fair
 
-    from : Comes first greater first whole
-    from = record { front = []; led = refl; fair = preconditions_seen first greater whole (map emitted_at whole) refl fair_whole; sound = sound_first new_sound first greater whole fair_whole }
+    how : Side → Bool
+    how = how_of first greater whole fair_whole
+
+    from : Comes first greater how first whole
+    from = record {
+      front = [];
+      led = refl;
+      fair = preconditions_seen first greater whole (map emitted_at whole) refl fair_whole;
+      sound = sound_first new_sound first greater whole fair_whole;
+      compares = compares_first first greater whole fair_whole;
+      leaves = leaves_all first greater whole fair_whole;
+    }
 
     on : (mid : WorldRecord H P) × Follow mac answers first part mid × Follow mac answers mid rest last
     on = cut mac answers part rest first last (subst (λ xs. Follow mac answers first xs last) split (follows mac answers first last s t 0 log run))
 
     differ : Apart on.0
     differ = elim agree [
-      | inl apart ↦ (apart_along first greater mac answers paths roles part (entries rest) first on.0 from on.1 apart).0
+      | inl apart ↦ (apart_along first greater how mac answers paths roles part (entries rest) first on.0 from on.1 apart).0
       | inr (z, path, (over, h, back)) ↦
-          differs first greater mac answers paths roles resolves z path over part (entries rest) on.0 fair_whole.tie from on.1 h
+          differs first greater how mac answers paths roles resolves z path over part (entries rest) on.0 fair_whole.tie from on.1 h
           (checked mac answers paths z path over part first on.0 h from.sound on.1) (λ error sends. search (back error sends))
     ]
 
-    following : Comes first greater on.0 (entries rest)
-    following = comes_after first greater mac answers paths roles part (entries rest) first on.0 from on.1
+    following : Comes first greater how on.0 (entries rest)
+    following = comes_after first greater how mac answers paths roles part (entries rest) first on.0 from on.1
 
-    k : Settled first greater mac answers paths roles x.before × Settled first greater mac answers paths roles x.following
-    k = settled_along first greater mac answers paths roles rest [] on.0 last (subst (λ (l : List (LoggedEvent P)). Comes first greater on.0 l) (sym (append-nil (entries rest))) following) on.2 differ x has
+    k : Settled first greater how mac answers paths roles x.before × Settled first greater how mac answers paths roles x.following
+    k = settled_along first greater how mac answers paths roles rest [] on.0 last (subst (λ (l : List (LoggedEvent P)). Comes first greater how on.0 l) (sym (append-nil (entries rest))) following) on.2 differ x has
 
     begins : (at side on.0).controlling ≡ false
     begins = subst (λ (w : WorldRecord H P). (at side w).controlling ≡ false) (state_is mac answers part first on.0 on.1) controlled
 
-    roles_in : (w : WorldRecord H P) → Settled first greater mac answers paths roles w → ((at side w).controlling ≡ false) × ((at (other side) w).controlling ≡ true)
+    roles_in : (w : WorldRecord H P) → Settled first greater how mac answers paths roles w → ((at side w).controlling ≡ false) × ((at (other side) w).controlling ≡ true)
     roles_in w is =
-        let now = settled first greater mac answers paths roles on.0 (entries rest) following differ in (
-          same_role first greater mac answers paths roles side w on.0 is now ∙ begins,
-          same_role first greater mac answers paths roles (other side) w on.0 is now ∙ (apart_of side on.0 differ ∙ ap not begins),
+        let now = settled first greater how mac answers paths roles on.0 (entries rest) following differ in (
+          same_role first greater how mac answers paths roles side w on.0 is now ∙ begins,
+          same_role first greater how mac answers paths roles (other side) w on.0 is now ∙ (apart_of side on.0 differ ∙ ap not begins),
         )

@@ -1,6 +1,6 @@
 -- Both of two agents select a path in rounds in which the network delivers. The preconditions that mutants/specifications
 -- changes are read by tactics.
-use Rattle.std.proofs.Common.{◌≡◌, ℕ, suc, ◌<◌, Bool, true, false, List, [], ◌∷◌, ◌++◌, length, Option, Some, None, inl, inr, ◌⊎◌, refl, ap, sym, ◌∙◌, subst, arith, if◌then◌else◌}
+use Rattle.std.proofs.Common.{◌≡◌, ℕ, suc, ◌<◌, Bool, true, false, List, [], ◌∷◌, ◌++◌, ◌&&◌, length, Option, Some, None, inl, inr, ◌⊎◌, refl, ap, sym, ◌∙◌, subst, arith, if◌then◌else◌, Ok}
 use Rattle.std.specs.Prelude.{slice_get}
 use Rattle.is_proto.specs.Lists.{Has}
 use Rattle.is_proto.specs.Packets.{Packet}
@@ -11,7 +11,11 @@ use Rattle.is_rules.specs.Agent.{AgentRecord, fresh}
 use Rattle.is_theorems.specs.Asked.{IsOnlyPair}
 use Rattle.is_theorems.specs.AskedCourses.{AcceptsSuccessOn, IsAnsweredAlong, AcceptedNominationsAreSelected}
 use Rattle.is_theorems.specs.Carried.{CarriedAsk, CarriedSucceedLater}
-use Rattle.is_theorems.specs.Courses.{CourseRound}
+use Rattle.is_candidate.specs.Addresses.{same_address}
+use Rattle.is_rules.specs.Emitted.{reversed}
+use Rattle.is_theorems.specs.Courses.{AcceptsSuccess, CourseRound}
+use Rattle.is_theorems.specs.Progress.{Awaits, IsUnanswered}
+use Rattle.is_theorems.proofs.BasicLemmas.EqualAddresses.{same_address-same}
 use Rattle.is_rules.specs.Effects.{PathTheorem}
 use Rattle.is_rules.specs.Queue.{request_at}
 use Rattle.is_theorems.specs.Exchange.{AreBetween, Course}
@@ -19,11 +23,11 @@ use Rattle.is_theorems.specs.Reached.{IsInLine, IsLasting}
 use Rattle.is_theorems.specs.ReachedCourses.{IsPassed, PassRounds}
 use Rattle.is_rules.specs.Sending.{path_of}
 use Rattle.is_theorems.specs.FirstChecks.{times_of}
-use Rattle.is_theorems.specs.FirstTimeouts.{AreInRound, IsOpenRound, EndsAmong, Suffices, CoursesReachFromDue}
+use Rattle.is_theorems.specs.FirstTimeouts.{CoursesReachUnanswered, AreInRound, IsOpenRound, EndsAmong, Suffices, CoursesReachFromDue}
 use Rattle.is_rules.specs.Sound.{FreshIsSound}
 use Rattle.is_rules.specs.Steps as agent
 use Rattle.is_rules.specs.Steps.{Answer, Entry, Done, Rejected, quiet, Step}
-use Rattle.is.specs.declared.world.Side.{Side}
+use Rattle.is.specs.declared.world_events.Side.{Side}
 use Rattle.is.specs.Connections.{HasRounds, Succeeds, BothConnect}
 use Rattle.is.specs.AcceptedNominationsIn.{Occurrence, IsAskedOver}
 use Rattle.is.specs.Deliveries.{MakesPolls}
@@ -154,13 +158,54 @@ module _ {H P : Type 0} (mac : H → List ℕ → List ℕ → List ℕ) (answer
       subst (λ i. Suffices by r.now (at side r.timeout.before) (at side c.0) (at side last) i) (sym many)
       (subst (λ (w : WorldRecord H P). Suffices by r.now (at side r.timeout.before) (at side w) (at side last) (length later)) second (search enough)) in
       elim (reach (fresh (at side first).provider n.0 n.1) (at side r.timeout.before) (at side last) ((agent.SetControlling n.2, quiet Done) ∷ xs) (round_of side r) (rounds_of side later) p by
-      (n.0, n.1, refl) (at side first, source_of side s, source_of side s, tt, (refl, n.3, refl), led) line (let from = kept.from in omega (arith, from)) own_first.done own_first.early (is_open side r own_first)
+      (n.0, n.1, refl) (at side first, source_of side s, source_of side s, tt, (Ok _, refl, (refl, n.3), refl), led) line (let from = kept.from in omega (arith, from)) own_first.done own_first.early (is_open side r own_first)
       (at side r.timeout.following, at side c.0, source_of side u, moves.0, moves.1, o.0, k.0) (are_open side by r later kept)
       (each_round (λ c. IsLasting c.now (at side r.timeout.before) p) side later (λ x has. lasting x has)) so_many) [
         | inl (x, id, has, out) ↦ (let z = back side (r ∷ later) x has in inl (z.0, z.1, (id, ap (λ (y : CourseRound P). y.timeout.emitted.issued) z.2 ∙ out)))
         | inr (inl (x, has, is)) ↦ (let z = back side (r ∷ later) x has in inr (inl (z.0, z.1, subst (λ (y : CourseRound P). IsAnsweredAlong y.following path) (sym z.2) is)))
         | inr (inr (inl here)) ↦ inr (inr (r, inl refl, o.1 here))
         | inr (inr (inr others)) ↦ inr (inr (let m = k.1 others in (m.0, inr m.1, m.2)))
+      ]
+
+  -- one of the success responses that the side receives in the rounds is accepted
+  abbrev pub Accepts : Side → List (SideRound H P) → Type 0
+  Accepts side rounds = (r : SideRound H P) × Has rounds r × ((path : Path) × IsAnsweredAlong (own mac answers side r.following) path)
+
+  -- the reverse of the path that a response came on
+  on_reverse : (call : agent.Call P) (e : Entry) → AcceptsSuccess call e → (path : Path) × AcceptsSuccessOn call e path
+  on_reverse call e (now, via, m, brings, success) =
+      (reversed via, (now, via, m, brings, success, both_hold (same_address via.source via.source) (same_address via.destination via.destination) (same_address-same via.source) (same_address-same via.destination))) where
+        both_hold : (a b : Bool) → a ≡ true → b ≡ true → (a && b) ≡ true
+        both_hold true b one two = two
+        both_hold false b one two = cc
+
+  -- the same if no pair is valid, unless a success response is accepted
+  pub reached_unanswered : CoursesReachUnanswered {H = H} {P = P} mac answers → (side : Side) (first last : WorldRecord H P) (s : Streams) (xs : List (agent.Call P × Entry)) (r : SideRound H P) (later : List (SideRound H P)) (p : PairRecord) (by : ℕ)
+      → IsNewAgent (at side first) → Course mac answers xs (at side first) (at side r.timeout.before) → Follow mac answers r.timeout.before (all_of (r ∷ later)) last
+      → (at side r.timeout.before).controlling ≡ true → Awaits r.now by (at side r.timeout.before) p → IsUnanswered (at side r.timeout.before) p → AreKept side by r later
+      → SideRoundsSuffice side by r later last → Accepts side (r ∷ later) ⊎ Reaches side (path_of (at side r.timeout.before) p) (r ∷ later)
+  reached_unanswered reach side first last s xs r later p by n led (same, u, v, happens, more) role waits unanswered kept enough =
+      let path : Path = path_of (at side r.timeout.before) p in
+      let own_first : IsKept side r = kept.kept r (inl refl) in
+      let c = cut mac answers r.following (all_of later) r.timeout.following last more in
+      let o = owned mac answers side path r.following r.following r.timeout.following c.0 c.1 (λ x has. has) in
+      let k = passes side path later c.0 last c.2 (λ x has. (kept.kept x (inr has)).comes) in
+      let moves = moved side r u v own_first.comes happens in
+      let many = as_many side later in
+      let second : state_after r.timeout.following r.following ≡ c.0 = state_is mac answers r.following r.timeout.following c.0 c.1 in
+      let so_many : Suffices by r.now (at side r.timeout.before) (at side c.0) (at side last) (length (rounds_of side later)) =
+      subst (λ i. Suffices by r.now (at side r.timeout.before) (at side c.0) (at side last) i) (sym many)
+      (subst (λ (w : WorldRecord H P). Suffices by r.now (at side r.timeout.before) (at side w) (at side last) (length later)) second (search enough)) in
+      elim (reach (fresh (at side first).provider n.0 n.1) (at side r.timeout.before) (at side last) ((agent.SetControlling n.2, quiet Done) ∷ xs) (round_of side r) (rounds_of side later) p by
+      (n.0, n.1, refl) (at side first, source_of side s, source_of side s, tt, (Ok _, refl, (refl, n.3), refl), led) role waits unanswered (let from = kept.from in omega (arith, from)) own_first.done own_first.early
+      (is_open side r own_first) (at side r.timeout.following, at side c.0, source_of side u, moves.0, moves.1, o.0, k.0) (are_open side by r later kept) so_many) [
+        | inl (x, has, (y, there, accepts)) ↦
+            (let z = back side (r ∷ later) x has in let on = on_reverse y.0 y.1 accepts in
+            inl (z.0, z.1, (on.0, subst (λ (q : CourseRound P). IsAnsweredAlong q.following on.0) (sym z.2) (y, there, on.1))))
+        | inr (inl (x, id, has, out)) ↦ (let z = back side (r ∷ later) x has in inr (inl (z.0, z.1, (id, ap (λ (y : CourseRound P). y.timeout.emitted.issued) z.2 ∙ out))))
+        | inr (inr (inl (x, has, is))) ↦ (let z = back side (r ∷ later) x has in inr (inr (inl (z.0, z.1, subst (λ (y : CourseRound P). IsAnsweredAlong y.following path) (sym z.2) is))))
+        | inr (inr (inr (inl here))) ↦ inr (inr (inr (r, inl refl, o.1 here)))
+        | inr (inr (inr (inr others))) ↦ inr (inr (inr (let m = k.1 others in (m.0, inr m.1, m.2))))
       ]
 
   -- the rounds of a segment

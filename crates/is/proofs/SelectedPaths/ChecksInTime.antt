@@ -1,5 +1,5 @@
 -- A side of two agents checks a path in time, if its caller is punctual. What mutants/specifications changes is read by tactics.
-use Rattle.std.proofs.Common.{◌≡◌, ℕ, ◌+◌, ◌*◌, ◌≤◌, Bool, true, false, List, [], ◌∷◌, ◌++◌, length, Option, Some, None, inl, inr, ◌⊎◌, refl, ap, sym, ◌∙◌, subst, arith, if◌then◌else◌}
+use Rattle.std.proofs.Common.{◌≡◌, ℕ, ◌+◌, ◌*◌, ◌≤◌, Bool, true, false, List, [], ◌∷◌, ◌++◌, length, Option, Some, None, inl, inr, ◌⊎◌, refl, ap, sym, ◌∙◌, subst, arith, if◌then◌else◌, Ok}
 use Rattle.std.specs.Prelude.{slice_get}
 use Rattle.is_proto.specs.Lists.{Has}
 use Rattle.is_proto.specs.Packets.{Packet}
@@ -17,8 +17,8 @@ use Rattle.is_theorems.specs.FirstTimeouts.{Suffices}
 use Rattle.is_theorems.specs.InTime as law
 use Rattle.is_theorems.specs.InTime.{CoursesReachInTime}
 use Rattle.is_theorems.specs.Reached.{IsInLine, IsLasting}
-use Rattle.is.specs.declared.world.Side.{Side}
-use Rattle.is.specs.declared.world.Side.TheVariants.{A, B}
+use Rattle.is.specs.declared.world_events.Side.{Side}
+use Rattle.is.specs.declared.world_events.Side.TheVariants.{A, B}
 use Rattle.is.specs.AcceptedNominationsIn.{Occurrence}
 use Rattle.is.specs.Connections.{Succeeds}
 use Rattle.is.specs.Punctual.{IsPrompt, IsPunctual, IsTimed, ChecksBy, ChecksComeInTime}
@@ -115,7 +115,7 @@ module _ {H P : Type 0} (mac : H → List ℕ → List ℕ → List ℕ) (answer
       let so_many : Suffices by r.now (at side r.timeout.before) (at side c.0) (at side last) (length later) =
       subst (λ (w : WorldRecord H P). Suffices by r.now (at side r.timeout.before) (at side w) (at side last) (length later)) second (search enough) in
       elim (reach (fresh (at side first).provider n.0 n.1) (at side r.timeout.before) (at side last) ((agent.SetControlling n.2, quiet agent.Done) ∷ xs) (round_of mac answers side r)
-      (rounds_of mac answers side later) p by pace delay (length later) (n.0, n.1, refl) (at side first, source_of side s, source_of side s, tt, (refl, n.3, refl), led) line
+      (rounds_of mac answers side later) p by pace delay (length later) (n.0, n.1, refl) (at side first, source_of side s, source_of side s, tt, (Ok _, refl, (refl, n.3), refl), led) line
       (let from = kept.from in omega (arith, from)) own_first.done own_first.early (is_open mac answers side r own_first)
       (at side r.timeout.following, at side c.0, source_of side u, moves.0, moves.1, o.0, k.0) (are_open mac answers side by r later kept)
       (each_round mac answers (λ c. IsLasting c.now (at side r.timeout.before) p) side later (λ x has. lasting x has)) so_many (omega (arith, many))

@@ -1,6 +1,6 @@
 -- Two agents with renomination: the path that the controlling one nominated last is the one that both selected last. The
 -- preconditions that mutants/specifications changes are read by tactics where they are used: if one of them is weaker, that goal stays unproved.
-use Rattle.std.proofs.Common.{◌≡◌, ℕ, Bool, true, false, List, [], ◌∷◌, ◌++◌, Option, Some, None, inl, inr, ◌⊎◌, refl, ap, sym, ◌∙◌, subst, append_assoc, if◌then◌else◌}
+use Rattle.std.proofs.Common.{◌≡◌, ℕ, Bool, true, false, List, [], ◌∷◌, ◌++◌, Option, Some, None, inl, inr, ◌⊎◌, refl, ap, sym, ◌∙◌, subst, append_assoc, if◌then◌else◌, ◌||◌, is_some}
 use Rattle.std.specs.Prelude.{MatchBool, slice_get}
 use Rattle.is_proto.specs.Lists.{Has}
 use Rattle.is_proto.specs.Packets.{Packet}
@@ -23,11 +23,12 @@ use Rattle.is_rules.specs.Request.{RequestRecord}
 use Rattle.is_rules.specs.Sound.{FreshIsSound}
 use Rattle.is_rules.specs.Steps as agent
 use Rattle.is_rules.specs.Steps.{Answer, Done, Entry, Rejected}
+use Rattle.is_theorems.specs.Numbered.{GreatestAreLast, LeadsByNumber}
 use Rattle.is_theorems.specs.RenominatingCourses.{AcceptsNominationLastAlong, AcceptsNominationOnlyAlong, LastAcceptedNominationsAreLast, NominatedAreLast}
-use Rattle.is.specs.declared.world.Side.{Side}
-use Rattle.is.specs.declared.world.Side.TheVariants.{A, B}
+use Rattle.is.specs.declared.world_events.Side.{Side}
+use Rattle.is.specs.declared.world_events.Side.TheVariants.{A, B}
 use Rattle.is.specs.AcceptedNominationsIn.{Occurrence, HandedCheck, IsControlled, IsExchangedOver}
-use Rattle.is.specs.Renominations.{IsSelectedLast, KeepsSelected, NominatesNoOther, OnePathIsSelected}
+use Rattle.is.specs.Renominations.{IsSelectedLast, KeepsSelected, LeadingPathIsSelected, NominatesNoOther, OnePathIsSelected}
 use Rattle.is.specs.Sides.{only, polled_as, received_as, acts}
 use Rattle.is.specs.World as world
 use Rattle.is.specs.World.{WorldRecord, InFlightRecord, Event, LoggedEvent, TakesTurn, Persists, Happens, at, other, in_world, Streams, source_of}
@@ -39,12 +40,19 @@ use Rattle.is.proofs.TwoAgentEvents.EventsOfSegments.{middle, Follow, follows, c
 use Rattle.is.proofs.SelectedPaths.SelectedAfterNomination.{answered, apart_at, accepts_nomination, role_next}
 use Rattle.is.proofs.TwoAgentEvents.OwnLogs.{AtMostOne, acts_once}
 use Rattle.is.proofs.SelectedPaths.LastSelected.{called_not, nominated_selected, selected_call, selected_parts}
+use Rattle.is_rules.specs.Nominating.{numbers}
+use Rattle.is_rules.specs.Serving.{nominates as asks_of}
+use Rattle.is_theorems.proofs.BasicLemmas.ServedPairs.{taken-asks}
 
 sender_is : (sender side : Side) → other sender ≡ side → sender ≡ other side
 sender_is A side is = ap other is
 sender_is B side is = ap other is
 
 module _ {H P : Type 0} (mac : H → List ℕ → List ℕ → List ℕ) (answers : P → CandidateRecord → ℕ → ℕ → Type 0) where
+  course_join : (xs ys : List (agent.Call P × Entry)) (a b c : AgentRecord H P) → Course mac answers xs a b → Course mac answers ys b c → Course mac answers (xs ++ ys) a c
+  course_join [] ys a b c is on = subst (λ (z : AgentRecord H P). Course mac answers ys z c) is on
+  course_join (x ∷ xs) ys a b c (mid, s, t, given, step, more) on = (mid, s, t, given, step, course_join xs ys mid b c more on)
+
   -- ---- the controlled side is nominated no other path
 
   -- a call of the network model accepts no nomination
@@ -59,7 +67,7 @@ module _ {H P : Type 0} (mac : H → List ℕ → List ℕ → List ℕ) (answer
       → AcceptsNomination a (agent.ReceivePacket now via bytes) e one → one ≡ reversed via
   packet_accepts_nomination a b now via bytes e one f (q, id, serving, uses, out) = by (f.replied (issued_as one Success id) out refl) where
     by : ((r : RequestRecord) × IsServing a (agent.ReceivePacket now via bytes) e r × (issued_as one Success id ≡ issued_as (reversed r.path) Success r.id)
-        × (r.use_candidate ≡ true → b.controlling ≡ false → IsNominatedOn b (reversed r.path))) → one ≡ reversed via
+        × (asks_of a r ≡ true → b.controlling ≡ false → IsNominatedOn b (reversed r.path))) → one ≡ reversed via
     by (r, (at_, by_, m, brings, request, known, is), same, marks) =
         ap (λ (i : Issued). i.path) same ∙ (ap (λ (y : RequestRecord). reversed y.path) is ∙ ap reversed (sym brings.1))
 
@@ -91,7 +99,8 @@ module _ {H P : Type 0} (mac : H → List ℕ → List ℕ → List ℕ) (answer
           let f = (paths (at side x.before) (at side x.following) (source_of side s) turn.left (agent.ReceivePacket now via l.packet.contents) x.entry.outcome.entry (sound side) tt
           (turn_step mac answers x.before x.following s t side (agent.ReceivePacket now via l.packet.contents) x.entry.outcome turn)).0 in
           let m : Message = g.2.2 in
-          let uses : m.attributes.use_candidate ≡ true = ap (λ (y : RequestRecord). y.use_candidate) (sym g.2.6) ∙ g.3 in
+          let uses : (m.attributes.use_candidate || is_some m.attributes.nomination) ≡ true =
+          ap (λ (y : RequestRecord). y.use_candidate || is_some y.nomination) (sym g.2.6) ∙ taken-asks (numbers (at side x.before)) g.0 g.3 in
           let on : via ≡ reversed path = search (n.comes place now via l m is there (sender_is l.sender side same) g.2.3.2 g.2.4 uses) in
           packet_accepts_nomination (at side x.before) (at side x.following) now via l.packet.contents x.entry.outcome.entry one f g ∙ ap reversed on
 
@@ -196,19 +205,12 @@ module _ {H P : Type 0} (mac : H → List ℕ → List ℕ → List ℕ) (answer
 
     module _ (from : Side) (its over : Path) (before part rest : List (Occurrence H P)) (timeout : Occurrence H P) (now : ℕ) (first last : WorldRecord H P)
         (new : (x : Side) → IsNewAgent (at x first)) (follow : Follow mac answers first (before ++ ((part ++ timeout ∷ []) ++ rest)) last)
-        (roles : (x : Occurrence H P) → Has (part ++ timeout ∷ []) x → ((at (other from) x.before).controlling ≡ false) × ((at from x.before).controlling ≡ true))
         (set : (x : Occurrence H P) → Has (part ++ timeout ∷ []) x → (side : Side) → (at side x.following).renominates ≡ true)
         (k : HandedCheck mac from its over part) (nominated : AreNominatedOn (at from k.sent.following) its) (keeps : (x : Occurrence H P) → Has k.following x → KeepsSelected from x)
-        (none : (x : Occurrence H P) → Has k.comes.rest x → NominatesNoOther (other from) (reversed over) x)
-        (replies : (start : WorldRecord H P) → AreSound start → Follow mac answers start part timeout.before
-        → IsAnsweredAlong (own mac answers (other from) part) (reversed over) ⊎ Found mac answers (other from) (reversed over) (part ++ timeout ∷ []))
         (comes : timeout.entry.event ≡ world.Call (other from) (agent.HandleTimeout now)) (done : timeout.entry.outcome.entry.answer ≡ Done)
-        (idle : request_at now (at (other from) timeout.before) ≡ None) (only_pair : IsOnlyPair (at (other from) timeout.following) (reversed over)) where
+        (idle : request_at now (at (other from) timeout.before) ≡ None) where
       abbrev near_it : Type 0
       near_it = IsSelectedLast from its (before ++ (part ++ timeout ∷ []))
-
-      abbrev far_it : Type 0
-      far_it = IsSelectedLast (other from) (reversed over) (before ++ (part ++ timeout ∷ [])) ⊎ Found mac answers (other from) (reversed over) (part ++ timeout ∷ [])
 
       controls : (start : WorldRecord H P) → Follow mac answers first before start → AreSound start → Follow mac answers start part timeout.before → near_it
       controls start led sound on =
@@ -219,38 +221,74 @@ module _ {H P : Type 0} (mac : H → List ℕ → List ℕ → List ℕ) (answer
           ∙ (ap (λ xs. selected_along (selected_along start_is (own mac answers from part)) xs) quiet_there
           ∙ nominated_selected mac answers paths nominates from its over before part first start timeout.before (new from) led sound on k (set k.sent sent_has from) nominated keeps)
 
-      follows_it : (start : WorldRecord H P) (u v : Streams) → Follow mac answers first before start → AreSound start → Follow mac answers start part timeout.before
-          → Happens mac answers timeout.before u timeout.entry.event timeout.entry.outcome timeout.following v → far_it
-      follows_it start u v led sound on happens =
-          let side : Side = other from in
-          let path : Path = reversed over in
-          let earlier : List (agent.Call P × Entry) = own mac answers side before in
-          let here : List (agent.Call P × Entry) = own mac answers side part in
-          let turn : TakesTurn mac answers timeout.before u side (agent.HandleTimeout now) timeout.entry.outcome timeout.following v =
-          subst (λ (w : Event P). Happens mac answers timeout.before u w timeout.entry.outcome timeout.following v) comes happens in
-          let among = λ (x : Occurrence H P) (has : Has part x). Has-front part (timeout ∷ []) x has in
-          let role : (at side timeout.before).controlling ≡ false = (roles timeout (middle part [] timeout)).0 in
-          let g = accepts_last from its over part (part ++ timeout ∷ []) start timeout.before sound on among (λ x has. roles x (among x has)) role k nominated none in
-          elim (replies start sound on) [
-            | inr found ↦ inr found
-            | inl replied ↦ elim (follows_last (at side first) (at side start) (at side timeout.before) (at side timeout.following) earlier here (source_of side u) turn.left now timeout.entry.outcome.entry path (new side)
-                (own_course mac answers side before first start led) g.0 (turn_step mac answers timeout.before timeout.following u v side (agent.HandleTimeout now) timeout.entry.outcome turn) done idle
-                (set timeout (middle part [] timeout) side) role g.2 replied only_pair) [
-                  | inr ends ↦ inr (elim ends [
-                    | inl e ↦ g.1 e
-                    | inr e ↦ (timeout, middle part [] timeout, (agent.HandleTimeout now, comes, e))
-                  ])
-                  | inl is ↦ inl (selected_call mac answers side before part timeout now comes ∙ is)
-                ]
-          ]
+      -- by numbers
+      module _ (leads_last : GreatestAreLast {H = H} {P = P} mac answers) (number : ℕ) (leads : LeadsByNumber (at (other from) timeout.following) number (reversed over)) where
+        leads_it : (start : WorldRecord H P) (u v : Streams) → Follow mac answers first before start → Follow mac answers start part timeout.before
+            → Happens mac answers timeout.before u timeout.entry.event timeout.entry.outcome timeout.following v
+            → IsSelectedLast (other from) (reversed over) (before ++ (part ++ timeout ∷ []))
+        leads_it start u v led on happens =
+            let side : Side = other from in
+            let earlier : List (agent.Call P × Entry) = own mac answers side before in
+            let here : List (agent.Call P × Entry) = own mac answers side part in
+            let call : agent.Call P × Entry = (agent.HandleTimeout now, timeout.entry.outcome.entry) in
+            let turn : TakesTurn mac answers timeout.before u side (agent.HandleTimeout now) timeout.entry.outcome timeout.following v =
+            subst (λ (w : Event P). Happens mac answers timeout.before u w timeout.entry.outcome timeout.following v) comes happens in
+            let whole : Course mac answers (earlier ++ here) (at side first) (at side timeout.before) =
+            course_join earlier here (at side first) (at side start) (at side timeout.before) (own_course mac answers side before first start led) (own_course mac answers side part start timeout.before on) in
+            selected_call mac answers side before part timeout now comes
+            ∙ (ap (λ xs. selected_along None xs) (sym (append_assoc earlier here (call ∷ [])))
+            ∙ leads_last (at side first) (at side timeout.before) (at side timeout.following) (earlier ++ here) (source_of side u) turn.left now timeout.entry.outcome.entry number (reversed over) (new side)
+            whole (turn_step mac answers timeout.before timeout.following u v side (agent.HandleTimeout now) timeout.entry.outcome turn) done idle leads)
 
-      both_selected : near_it × far_it
-      both_selected =
-          let led = cut mac answers before ((part ++ timeout ∷ []) ++ rest) first last follow in
-          let on = cut mac answers (part ++ timeout ∷ []) rest led.0 last led.2 in
-          let m = meet mac answers part [] timeout led.0 on.0 on.1 in
-          let sound : AreSound led.0 = sound_along mac answers paths before first led.0 led.1 (λ z. sound_new new_sound (at z first) (new z)) in
-          (controls led.0 led.1 sound m.led, follows_it led.0 m.s m.t led.1 sound m.led m.happens)
+        both_lead : near_it × IsSelectedLast (other from) (reversed over) (before ++ (part ++ timeout ∷ []))
+        both_lead =
+            let led = cut mac answers before ((part ++ timeout ∷ []) ++ rest) first last follow in
+            let on = cut mac answers (part ++ timeout ∷ []) rest led.0 last led.2 in
+            let m = meet mac answers part [] timeout led.0 on.0 on.1 in
+            let sound : AreSound led.0 = sound_along mac answers paths before first led.0 led.1 (λ z. sound_new new_sound (at z first) (new z)) in
+            (controls led.0 led.1 sound m.led, leads_it led.0 m.s m.t led.1 m.led m.happens)
+
+      module _ (roles : (x : Occurrence H P) → Has (part ++ timeout ∷ []) x → ((at (other from) x.before).controlling ≡ false) × ((at from x.before).controlling ≡ true))
+          (plain : numbers (at (other from) timeout.following) ≡ false)
+          (none : (x : Occurrence H P) → Has k.comes.rest x → NominatesNoOther (other from) (reversed over) x)
+          (replies : (start : WorldRecord H P) → AreSound start → Follow mac answers start part timeout.before
+          → IsAnsweredAlong (own mac answers (other from) part) (reversed over) ⊎ Found mac answers (other from) (reversed over) (part ++ timeout ∷ []))
+          (only_pair : IsOnlyPair (at (other from) timeout.following) (reversed over)) where
+        abbrev far_it : Type 0
+        far_it = IsSelectedLast (other from) (reversed over) (before ++ (part ++ timeout ∷ [])) ⊎ Found mac answers (other from) (reversed over) (part ++ timeout ∷ [])
+
+        follows_it : (start : WorldRecord H P) (u v : Streams) → Follow mac answers first before start → AreSound start → Follow mac answers start part timeout.before
+            → Happens mac answers timeout.before u timeout.entry.event timeout.entry.outcome timeout.following v → far_it
+        follows_it start u v led sound on happens =
+            let side : Side = other from in
+            let path : Path = reversed over in
+            let earlier : List (agent.Call P × Entry) = own mac answers side before in
+            let here : List (agent.Call P × Entry) = own mac answers side part in
+            let turn : TakesTurn mac answers timeout.before u side (agent.HandleTimeout now) timeout.entry.outcome timeout.following v =
+            subst (λ (w : Event P). Happens mac answers timeout.before u w timeout.entry.outcome timeout.following v) comes happens in
+            let among = λ (x : Occurrence H P) (has : Has part x). Has-front part (timeout ∷ []) x has in
+            let role : (at side timeout.before).controlling ≡ false = (roles timeout (middle part [] timeout)).0 in
+            let g = accepts_last from its over part (part ++ timeout ∷ []) start timeout.before sound on among (λ x has. roles x (among x has)) role k nominated none in
+            elim (replies start sound on) [
+              | inr found ↦ inr found
+              | inl replied ↦ elim (follows_last (at side first) (at side start) (at side timeout.before) (at side timeout.following) earlier here (source_of side u) turn.left now timeout.entry.outcome.entry path (new side)
+                  (own_course mac answers side before first start led) g.0 (turn_step mac answers timeout.before timeout.following u v side (agent.HandleTimeout now) timeout.entry.outcome turn) done idle
+                  (set timeout (middle part [] timeout) side) plain role g.2 replied only_pair) [
+                    | inr ends ↦ inr (elim ends [
+                      | inl e ↦ g.1 e
+                      | inr e ↦ (timeout, middle part [] timeout, (agent.HandleTimeout now, comes, e))
+                    ])
+                    | inl is ↦ inl (selected_call mac answers side before part timeout now comes ∙ is)
+                  ]
+            ]
+
+        both_selected : near_it × far_it
+        both_selected =
+            let led = cut mac answers before ((part ++ timeout ∷ []) ++ rest) first last follow in
+            let on = cut mac answers (part ++ timeout ∷ []) rest led.0 last led.2 in
+            let m = meet mac answers part [] timeout led.0 on.0 on.1 in
+            let sound : AreSound led.0 = sound_along mac answers paths before first led.0 led.1 (λ z. sound_new new_sound (at z first) (new z)) in
+            (controls led.0 led.1 sound m.led, follows_it led.0 m.s m.t led.1 sound m.led m.happens)
 
     module _ (succeeds : CarriedSucceedLater {H = H} {P = P} mac answers) where
       -- the side's own check is answered, or a pair of its path may have been removed
@@ -262,19 +300,33 @@ module _ {H P : Type 0} (mac : H → List ℕ → List ℕ → List ℕ) (answer
           (λ x has. apart_at mac answers side (part ++ timeout ∷ []) x roles (Has-front part (timeout ∷ []) x has)) exchanged
 
       pub one_path : (first : WorldRecord H P) (s : Streams) (log : List (LoggedEvent P)) → OnePathIsSelected mac answers first s log
-      one_path first s log last t run before part rest timeout A its path segment set last_is exchanged =
-          let nominated : AreNominatedOn (at B last_is.check.sent.following) its = search last_is.nominated in
+      one_path first s log last t run before part rest timeout A its path segment set plain last_is exchanged =
+          let nominated : AreNominatedOn (at B last_is.here.check.sent.following) its = search last_is.here.nominated in
           let answer : IsExchangedOver mac A path part = search exchanged in
           let idle : request_at segment.plain.now (at A timeout.before) ≡ None = search segment.plain.serves_none in
           let lone : IsOnlyPair (at A timeout.following) path = search segment.only_pair in
+          let unnumbered : numbers (at A timeout.following) ≡ false = search plain in
           both_selected B its (reversed path) before part rest timeout segment.plain.now first last segment.new (subst (λ xs. Follow mac answers first xs last) segment.split (follows mac answers first last s t 0 log run))
-          (λ x has. apart_at mac answers A (part ++ timeout ∷ []) x segment.controlled has) (λ x has z. search (set x has z)) last_is.check nominated last_is.stays last_is.last
-          (replied A path part timeout segment.controlled answer) segment.plain.event segment.plain.done idle lone
-      one_path first s log last t run before part rest timeout B its path segment set last_is exchanged =
-          let nominated : AreNominatedOn (at A last_is.check.sent.following) its = search last_is.nominated in
+          (λ x has z. search (set x has z)) last_is.here.check nominated last_is.here.stays segment.plain.event segment.plain.done idle
+          (λ x has. apart_at mac answers A (part ++ timeout ∷ []) x segment.controlled has) unnumbered last_is.last (replied A path part timeout segment.controlled answer) lone
+      one_path first s log last t run before part rest timeout B its path segment set plain last_is exchanged =
+          let nominated : AreNominatedOn (at A last_is.here.check.sent.following) its = search last_is.here.nominated in
           let answer : IsExchangedOver mac B path part = search exchanged in
           let idle : request_at segment.plain.now (at B timeout.before) ≡ None = search segment.plain.serves_none in
           let lone : IsOnlyPair (at B timeout.following) path = search segment.only_pair in
+          let unnumbered : numbers (at B timeout.following) ≡ false = search plain in
           both_selected A its (reversed path) before part rest timeout segment.plain.now first last segment.new (subst (λ xs. Follow mac answers first xs last) segment.split (follows mac answers first last s t 0 log run))
-          (λ x has. apart_at mac answers B (part ++ timeout ∷ []) x segment.controlled has) (λ x has z. search (set x has z)) last_is.check nominated last_is.stays last_is.last
-          (replied B path part timeout segment.controlled answer) segment.plain.event segment.plain.done idle lone
+          (λ x has z. search (set x has z)) last_is.here.check nominated last_is.here.stays segment.plain.event segment.plain.done idle
+          (λ x has. apart_at mac answers B (part ++ timeout ∷ []) x segment.controlled has) unnumbered last_is.last (replied B path part timeout segment.controlled answer) lone
+
+    pub leading_path : GreatestAreLast {H = H} {P = P} mac answers → (first : WorldRecord H P) (s : Streams) (log : List (LoggedEvent P)) → LeadingPathIsSelected mac answers first s log
+    leading_path leads_last first s log last t run before part rest timeout A its path number segment set is leads =
+        let nominated : AreNominatedOn (at B is.check.sent.following) its = search is.nominated in
+        let idle : request_at segment.plain.now (at A timeout.before) ≡ None = search segment.plain.serves_none in
+        both_lead B its (reversed path) before part rest timeout segment.plain.now first last segment.new (subst (λ xs. Follow mac answers first xs last) segment.split (follows mac answers first last s t 0 log run))
+        (λ x has z. search (set x has z)) is.check nominated is.stays segment.plain.event segment.plain.done idle leads_last number leads
+    leading_path leads_last first s log last t run before part rest timeout B its path number segment set is leads =
+        let nominated : AreNominatedOn (at A is.check.sent.following) its = search is.nominated in
+        let idle : request_at segment.plain.now (at B timeout.before) ≡ None = search segment.plain.serves_none in
+        both_lead A its (reversed path) before part rest timeout segment.plain.now first last segment.new (subst (λ xs. Follow mac answers first xs last) segment.split (follows mac answers first last s t 0 log run))
+        (λ x has z. search (set x has z)) is.check nominated is.stays segment.plain.event segment.plain.done idle leads_last number leads

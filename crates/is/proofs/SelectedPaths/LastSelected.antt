@@ -16,8 +16,8 @@ use Rattle.is_theorems.specs.Logs.{last_selected}
 use Rattle.is_rules.specs.Steps as agent
 use Rattle.is_rules.specs.Steps.{Answer, Entry, Rejected}
 use Rattle.is_theorems.specs.RenominatingCourses.{NominatedAreLast}
-use Rattle.is.specs.declared.world.Side.{Side}
-use Rattle.is.specs.declared.world.Side.TheVariants.{A, B}
+use Rattle.is.specs.declared.world_events.Side.{Side}
+use Rattle.is.specs.declared.world_events.Side.TheVariants.{A, B}
 use Rattle.is.specs.AcceptedNominationsIn.{Occurrence, HandedCheck}
 use Rattle.is.specs.Renominations.{KeepsSelected}
 use Rattle.is.specs.Sides.{only, own_at, own_log, polled_as, received_as, acts}

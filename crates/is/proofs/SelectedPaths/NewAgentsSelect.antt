@@ -13,8 +13,8 @@ use Rattle.is_theorems.specs.RoleView.{RoleTheorem}
 use Rattle.is_rules.specs.Sending.{path_of}
 use Rattle.is_rules.specs.Sound.{FreshIsSound}
 use Rattle.is_theorems.specs.FirstChecks.{CoursesCheckFromDue}
-use Rattle.is_theorems.specs.FirstTimeouts.{CoursesReachFromDue}
-use Rattle.is.specs.declared.world.Side.{Side}
+use Rattle.is_theorems.specs.FirstTimeouts.{CoursesReachFromDue, CoursesReachUnanswered}
+use Rattle.is.specs.declared.world_events.Side.{Side}
 use Rattle.is.specs.Connections.{Asks, RoundIsAnswered}
 use Rattle.is.specs.Connects.{ChecksAreDelivered, BothSelect}
 use Rattle.is.specs.AcceptedNominationsIn.{Occurrence, HandedCheck, IsControlled, IsPlainTimeout, IsAskedOver, occurrences_in}
@@ -54,8 +54,8 @@ module _ {H P : Type 0} (mac : H → List ℕ → List ℕ → List ℕ) (answer
 
   pub both_select : PathTheorem {H = H} {P = P} mac answers → RoleTheorem {H = H} {P = P} mac answers → FreshIsSound H P → CarriedSettle {H = H} {P = P} mac answers
       → CarriedAsk {H = H} {P = P} mac answers → CarriedSucceedLater {H = H} {P = P} mac answers → AcceptedNominationsAreSelected {H = H} {P = P} mac answers → CoursesCheckFromDue {H = H} {P = P} mac answers
-      → CoursesReachFromDue {H = H} {P = P} mac answers → SuccessesSelect {H = H} {P = P} mac answers → (first : WorldRecord H P) (s : Streams) (log : List (LoggedEvent P)) → BothSelect mac answers first s log
-  both_select paths roles new_sound resolves asks succeeds announce checks reach selects first s log last t run meeting opening part rest timeout side path its is = (opened, connected) where
+      → CoursesReachFromDue {H = H} {P = P} mac answers → CoursesReachUnanswered {H = H} {P = P} mac answers → SuccessesSelect {H = H} {P = P} mac answers → (first : WorldRecord H P) (s : Streams) (log : List (LoggedEvent P)) → BothSelect mac answers first s log
+  both_select paths roles new_sound resolves asks succeeds announce checks reach unanswered selects first s log last t run meeting opening part rest timeout side path its is = (opened, connected) where
     following : List (Occurrence H P)
     following = opening ++ ((part ++ timeout ∷ []) ++ rest)
 
@@ -102,7 +102,7 @@ module _ {H P : Type 0} (mac : H → List ℕ → List ℕ → List ℕ) (answer
 
     opened : SelectsIn (other side) opening ⊎ MayEndInRounds answers (other side) its (is.opens.first ∷ is.opens.later)
     opened =
-        elim (rounds_select mac answers paths new_sound succeeds checks reach selects first s log last t run meeting is.opens.more ((part ++ timeout ∷ []) ++ rest) (other side)
+        elim (rounds_select mac answers paths new_sound succeeds checks unanswered selects first s log last t run meeting is.opens.more ((part ++ timeout ∷ []) ++ rest) (other side)
         is.opens.first is.opens.later is.opens.pair is.opens.by begins
         (λ r has sent. subst (λ xs. IsAnsweredInTime mac answers (other side) (path_of (at (other side) start) is.opens.pair) xs) is.opens.split
         (subst (λ via. IsAnsweredInTime mac answers (other side) via opening) (sym is.opens.on)

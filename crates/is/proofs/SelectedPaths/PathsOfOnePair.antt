@@ -14,7 +14,7 @@ use Rattle.is_rules.specs.Sound.{FreshIsSound}
 use Rattle.is_rules.specs.Steps as agent
 use Rattle.is_rules.specs.Steps.{Answer, Entry}
 use Rattle.is_rules.specs.Emitted.{reversed}
-use Rattle.is.specs.declared.world.Side.{Side}
+use Rattle.is.specs.declared.world_events.Side.{Side}
 use Rattle.is.specs.AcceptedNominationsIn.{Occurrence, occurrences_in}
 use Rattle.is.specs.Mirrors.{SelectsThePath, KeepsTo, LonePathsMirror}
 use Rattle.is.specs.World as world

@@ -1,7 +1,7 @@
 -- In rounds that suffice for one of its pairs, a controlling side sends a check on the pair's path, or selects a path, unless a
 -- candidate that it adds may remove the pair. If a check is answered while it is pending, it selects one. The preconditions that mutants/specifications changes are read by tactics where they are used:
 -- if one of them is weaker, that goal stays unproved.
-use Rattle.std.proofs.Common.{◌≡◌, ℕ, ◌⊎◌, Bool, true, false, not, List, [], ◌∷◌, ◌++◌, is_some, inl, inr, refl, ap, sym, ◌∙◌, subst, arith, append_assoc}
+use Rattle.std.proofs.Common.{◌≡◌, ℕ, ◌⊎◌, Bool, true, false, not, List, [], ◌∷◌, ◌++◌, is_some, inl, inr, refl, ap, sym, ◌∙◌, subst, arith, append_assoc, Ok}
 use Rattle.is_proto.specs.Lists.{Has}
 use Rattle.is_proto.specs.Packets.{Packet}
 use Rattle.is_candidate.specs.Candidates.{CandidateRecord}
@@ -9,7 +9,8 @@ use Rattle.is_pair.specs.Pairs.{PairRecord, is_valid}
 use Rattle.is_stun.specs.declared.header.Class.TheVariants.{Success}
 use Rattle.is_rules.specs.declared.emitted.Path.{Path}
 use Rattle.is_rules.specs.Agent.{AgentRecord, fresh}
-use Rattle.is_theorems.specs.AskedCourses.{EndsAlong, SuccessesSelect}
+use Rattle.is_theorems.specs.AskedCourses.{EndsAlong, IsAnsweredAlong, SuccessesSelect}
+use Rattle.is_theorems.specs.FirstTimeouts.{CoursesReachUnanswered}
 use Rattle.is_theorems.specs.Carried.{CarriedSucceedLater}
 use Rattle.is_theorems.specs.Courses.{CourseRound, SelectsAmong, CourseRounds}
 use Rattle.is_theorems.specs.Delivery.{IsTaken}
@@ -17,14 +18,12 @@ use Rattle.is_rules.specs.Effects.{PathTheorem, last_of}
 use Rattle.is_rules.specs.Issuing.{via_out}
 use Rattle.is_theorems.specs.Pending.{IsValidBy}
 use Rattle.is_theorems.specs.Progress.{Awaits, IsUnanswered}
-use Rattle.is_theorems.specs.Reached.{IsInLine, IsLasting}
 use Rattle.is_rules.specs.Sending.{path_of}
 use Rattle.is_rules.specs.Sound.{FreshIsSound}
 use Rattle.is_rules.specs.Steps as agent
 use Rattle.is_rules.specs.Steps.{Entry, Done, quiet}
 use Rattle.is_theorems.specs.FirstChecks.{SufficeForDue, CoursesCheckFromDue, times_of}
-use Rattle.is_theorems.specs.FirstTimeouts.{CoursesReachFromDue}
-use Rattle.is.specs.declared.world.Side.{Side}
+use Rattle.is.specs.declared.world_events.Side.{Side}
 use Rattle.is.specs.Connections.{Succeeds}
 use Rattle.is.specs.Deliveries.{SelectsPath}
 use Rattle.is.specs.AcceptedNominationsIn.{Occurrence, HandedCheck, IsReturned, IsReturnedInTime, MayEndAt}
@@ -38,7 +37,7 @@ use Rattle.is.proofs.TwoAgentEvents.OwnExecutions.{either_has, turn_step, Steere
 use Rattle.is.proofs.TwoAgentEvents.DeliveredPackets.{rewritten, handed, delivered}
 use Rattle.is.proofs.TwoAgentEvents.EventsOfSegments.{middle, Follow, follows, cut, state_is, meet, sound_along, acts_at, own, own_course, checked, sent_in, after_in, Awaited, awaits, removed}
 use Rattle.is.proofs.SelectedPaths.SelectedAfterNomination.{own_emitted}
-use Rattle.is.proofs.SelectedPaths.BothSelectInRounds.{round_of, rounds_of, Moves, moved, are_passed, only_polls, same_times, back, SomeChecks, reached, in_rounds, succeeds_in}
+use Rattle.is.proofs.SelectedPaths.BothSelectInRounds.{round_of, rounds_of, Moves, moved, are_passed, only_polls, same_times, back, SomeChecks, reached_unanswered, in_rounds, succeeds_in}
 
 module _ {H P : Type 0} (mac : H → List ℕ → List ℕ → List ℕ) (answers : P → CandidateRecord → ℕ → ℕ → Type 0) where
   module _ (side : Side) where
@@ -128,7 +127,7 @@ module _ {H P : Type 0} (mac : H → List ℕ → List ℕ → List ℕ) (answer
             let n = new in
             let said = selects (fresh (at side first).provider n.0 n.1) (at side start) (at side again.before) (at side again.following)
             ((agent.SetControlling n.2, quiet Done) ∷ own mac answers side before) (own mac answers side ahead) (source_of side u) turn.left now via reply.contents again.entry.outcome.entry m (n.0, n.1, refl)
-            (at side first, source_of side s, source_of side s, tt, (refl, n.3, refl), own_course mac answers side before first start led) invalid (own_course mac answers side ahead start again.before on)
+            (at side first, source_of side s, source_of side s, tt, (Ok _, refl, (refl, n.3), refl), own_course mac answers side before first start led) invalid (own_course mac answers side ahead start again.before on)
             (turn_step mac answers again.before again.following u v side call again.entry.outcome turn) brings success (roles again (subst (λ xs. Has xs again) (sym split) (middle ahead rest again))).0 in
             let y = said.0 in
             elim (either_has (own mac answers side ahead) ((call, again.entry.outcome.entry) ∷ []) y.0 y.1) [
@@ -207,7 +206,7 @@ module _ {H P : Type 0} (mac : H → List ℕ → List ℕ → List ℕ) (answer
         (subst (λ (w : WorldRecord H P). SufficeForDue by r.now (at side r.timeout.before) (at side w) (times_in rounds)) second (search each.few)) in
         elim (checks (fresh (at side first).provider n.0 n.1) (at side r.timeout.before) (at side last) ((agent.SetControlling n.2, quiet Done) ∷ own mac answers side before)
         (round_of mac answers side r) (rounds_of mac answers side rounds) p by (n.0, n.1, refl)
-        (at side first, source_of side s, source_of side s, tt, (refl, n.3, refl), own_course mac answers side before first r.timeout.before led)
+        (at side first, source_of side s, source_of side s, tt, (Ok _, refl, (refl, n.3), refl), own_course mac answers side before first r.timeout.before led)
         role waits unanswered (let from = kept.from in omega (arith, from)) own_first.done own_first.early (only_polls mac answers side by r rounds each) (
           at side r.timeout.following,
           at side c.0,
@@ -225,40 +224,22 @@ module _ {H P : Type 0} (mac : H → List ℕ → List ℕ → List ℕ) (answer
           | inr among ↦ inr (selected_in (r ∷ rounds) r.timeout.before last (same, u, v, happens, more) among)
         ]
 
-    -- a pair that is not valid has consent
-    lasts : (m : ℕ) (a : AgentRecord H P) (p : PairRecord) → IsUnanswered a p → Has a.pairs p → IsLasting m a p
-    lasts m a p unanswered has valid = let no : true ≡ false = sym valid ∙ unanswered.invalid p has in absurd (cc)
-
-    -- no pair is valid yet, so one that is due waits for its check in any rounds
-    in_line : (now by : ℕ) (a : AgentRecord H P) (p : PairRecord) → Awaits now by a p → IsUnanswered a p → IsInLine now by a p
-    in_line now by a p waits unanswered = record {
-      checking = waits.checking;
-      queue = waits.queue;
-      there = waits.there;
-      due = (let due = waits.due in omega (arith, due));
-      settled = inl (unanswered.invalid p waits.there);
-      young = (let young = unanswered.young in omega (arith, young));
-      lasting = lasts now a p unanswered waits.there;
-    }
-
   pub rounds_select : PathTheorem {H = H} {P = P} mac answers → FreshIsSound H P → CarriedSucceedLater {H = H} {P = P} mac answers → CoursesCheckFromDue {H = H} {P = P} mac answers
-      → CoursesReachFromDue {H = H} {P = P} mac answers → SuccessesSelect {H = H} {P = P} mac answers → (first : WorldRecord H P) (s : Streams) (log : List (LoggedEvent P)) → DeliveredRoundsSelect mac answers first s log
-  rounds_select paths new_sound succeeds checks reach selects first s log last t run before more rest side r rounds p by segment answers_so =
+      → CoursesReachUnanswered {H = H} {P = P} mac answers → SuccessesSelect {H = H} {P = P} mac answers → (first : WorldRecord H P) (s : Streams) (log : List (LoggedEvent P)) → DeliveredRoundsSelect mac answers first s log
+  rounds_select paths new_sound succeeds checks unanswered selects first s log last t run before more rest side r rounds p by segment answers_so =
       elim segment.enough [
         | inl each ↦ inl (elim (polled side checks first begun.0 s before r rounds p by (segment.new side) to begun.1 segment.role
             (λ x has. (steady x (Has-front (all_of (r ∷ rounds)) more x has)).0) segment.waits segment.unanswered segment.kept each) [
               | inl sent ↦ sends sent
               | inr (x, has, selected_paths) ↦ (x, Has-front (all_of (r ∷ rounds)) more x has, selected_paths)
             ])
-        | inr many ↦ elim (reached mac answers reach side first begun.0 s (own mac answers side before) r rounds p by (segment.new side) (own_course mac answers side before first start to) begun.1
-            (in_line side r.now by (at side start) p segment.waits segment.unanswered) segment.kept
-            (λ x has. lasts side x.now (at side start) p segment.unanswered segment.waits.there)
+        | inr many ↦ elim (reached_unanswered mac answers unanswered side first begun.0 s (own mac answers side before) r rounds p by (segment.new side) (own_course mac answers side before first start to) begun.1
+            segment.role segment.waits segment.unanswered segment.kept
             (subst (λ (w : WorldRecord H P). SideRoundsSuffice side by r rounds w) (state_is mac answers (all_of (r ∷ rounds)) start begun.0 begun.1) many)) [
-              | inl sent ↦ inl (sends sent)
-              | inr (inl (x, has, is)) ↦ inl (let y = succeeds_in mac answers side path x.following is in
-                  accepted side paths succeeds selects first start on.0 s before part (segment.new side) sound to on.1 segment.role steady segment.unanswered.invalid path y.0
-                  (Has-front (all_of (r ∷ rounds)) more y.0 (in_rounds mac answers (r ∷ rounds) x y.0 has y.1)) y.2)
-              | inr (inr ended) ↦ inr (search ended)
+              | inl (x, has, (its, is)) ↦ inl (succeeded_on its x has is)
+              | inr (inl sent) ↦ inl (sends sent)
+              | inr (inr (inl (x, has, is))) ↦ inl (succeeded_on path x has is)
+              | inr (inr (inr ended)) ↦ inr (search ended)
             ]
       ] where
         part : List (Occurrence H P)
@@ -287,6 +268,12 @@ module _ {H P : Type 0} (mac : H → List ℕ → List ℕ → List ℕ) (answer
 
         steady : (x : Occurrence H P) → Has part x → Leads side x.following
         steady x has = leads_at side part x segment.controlling has
+
+        succeeded_on : (its : Path) (x : SideRound H P) → Has (r ∷ rounds) x → IsAnsweredAlong (own mac answers side x.following) its → (y : Occurrence H P) × Has part y × SelectsPath side y.entry
+        succeeded_on its x has is =
+            let y = succeeds_in mac answers side its x.following is in
+            accepted side paths succeeds selects first start on.0 s before part (segment.new side) sound to on.1 segment.role steady segment.unanswered.invalid its y.0
+            (Has-front (all_of (r ∷ rounds)) more y.0 (in_rounds mac answers (r ∷ rounds) x y.0 has y.1)) y.2
 
         sends : SomeChecks mac answers path (r ∷ rounds) → (x : Occurrence H P) × Has part x × SelectsPath side x.entry
         sends (x, has, sent) = answered side paths succeeds selects first start on.0 s before part (segment.new side) sound to on.1 segment.role steady segment.unanswered.invalid path (search (answers_so x has sent))

@@ -6,8 +6,8 @@ use Rattle.is_candidate.specs.Candidates.{CandidateRecord}
 use Rattle.is_rules.specs.declared.emitted.Path.{Path}
 use Rattle.is_theorems.specs.Delivery.{Delivered}
 use Rattle.is_rules.specs.Steps as agent
-use Rattle.is.specs.declared.world.Side.{Side}
-use Rattle.is.specs.declared.world.Side.TheVariants.{A, B}
+use Rattle.is.specs.declared.world_events.Side.{Side}
+use Rattle.is.specs.declared.world_events.Side.TheVariants.{A, B}
 use Rattle.is.specs.Deliveries.{Hands}
 use Rattle.is.specs.Sides.{only, received_as, acts}
 use Rattle.is.specs.World as world

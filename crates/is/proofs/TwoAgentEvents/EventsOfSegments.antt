@@ -18,8 +18,8 @@ use Rattle.is_theorems.specs.Pending.{is_check_on, checks_on, KeepsAlong}
 use Rattle.is_theorems.specs.Reached.{is_in_round}
 use Rattle.is_rules.specs.Steps as agent
 use Rattle.is_rules.specs.Steps.{Answer, Entry, Rejected, Step}
-use Rattle.is.specs.declared.world.Side.{Side}
-use Rattle.is.specs.declared.world.Side.TheVariants.{A, B}
+use Rattle.is.specs.declared.world_events.Side.{Side}
+use Rattle.is.specs.declared.world_events.Side.TheVariants.{A, B}
 use Rattle.is.specs.Deliveries.{MakesPolls, MakesInRound, Hands}
 use Rattle.is.specs.AcceptedNominationsIn.{is_of, check_count, Occurrence, HandedCheck, checks_of, IsReturned, MayEndAt, occurrences_in}
 use Rattle.is.specs.Selections.{state_after}

@@ -1,8 +1,8 @@
 -- The log of a two-agent network model grows by an event and its entry.
 use Rattle.std.proofs.Common.{◌≡◌, ℕ, suc, List, [], ◌∷◌, ◌++◌, length, ◌+◌, refl, ap, ◌∙◌, subst, arith}
 use Rattle.is_candidate.specs.Candidates.{CandidateRecord}
-use Rattle.is.specs.declared.world.TwoAgentsEvent.{TwoAgentsEvent}
-use Rattle.is.specs.declared.world.WorldEntry.{WorldEntry}
+use Rattle.is.specs.declared.world_events.TwoAgentsEvent.{TwoAgentsEvent}
+use Rattle.is.specs.declared.world_events.WorldEntry.{WorldEntry}
 use Rattle.is.specs.World.{WorldRecord, LoggedEvent, logged_as, logged, WorldRun, Happens, Streams}
 
 pub logged-push : {P : Type 0} (events : List (TwoAgentsEvent P)) (entries : List WorldEntry) (v : TwoAgentsEvent P) (e : WorldEntry) → length entries ≡ length events → logged (events ++ v ∷ []) (entries ++ e ∷ []) ≡ logged events entries ++ logged_as v e ∷ []

@@ -16,8 +16,8 @@ use Rattle.is_theorems.specs.Rounds.{is_between, is_poll}
 use Rattle.is_rules.specs.Sound.{IsSound}
 use Rattle.is_rules.specs.Steps as agent
 use Rattle.is_rules.specs.Steps.{Answer, Entry, Polled, Rejected, quiet, Step}
-use Rattle.is.specs.declared.world.Side.{Side}
-use Rattle.is.specs.declared.world.Side.TheVariants.{A, B}
+use Rattle.is.specs.declared.world_events.Side.{Side}
+use Rattle.is.specs.declared.world_events.Side.TheVariants.{A, B}
 use Rattle.is.specs.Deliveries.{MakesPolls, MakesInRound, SelectsPath}
 use Rattle.is.specs.Sides.{only, first_packet, polled_as, received_as, acts}
 use Rattle.is.specs.World as world

@@ -11,8 +11,8 @@ use Rattle.is_theorems.specs.Logs as agent_log
 use Rattle.is_rules.specs.Steps as agent
 use Rattle.is_rules.specs.Steps.{Answer, Entry, Rejected}
 use Rattle.is_theorems.specs.Shared.{SharedRun, BeforeEach}
-use Rattle.is.specs.declared.world.Side.{Side}
-use Rattle.is.specs.declared.world.Side.TheVariants.{A, B}
+use Rattle.is.specs.declared.world_events.Side.{Side}
+use Rattle.is.specs.declared.world_events.Side.TheVariants.{A, B}
 use Rattle.is.specs.AcceptedNominationsIn.{Occurrence}
 use Rattle.is.specs.Sides.{only, polled_as, received_as, acts, own_at, own_log}
 use Rattle.is.specs.World as world

@@ -7,8 +7,8 @@ use Rattle.is_rules.specs.declared.emitted.Path.{Path}
 use Rattle.is_rules.specs.Agent.{AgentRecord}
 use Rattle.is_rules.specs.Steps as agent
 use Rattle.is_rules.specs.Steps.{quiet, Step, Receives, Answer, NoSuchPacket}
-use Rattle.is.specs.declared.world.Side.{Side}
-use Rattle.is.specs.declared.world.Side.TheVariants.{A, B}
+use Rattle.is.specs.declared.world_events.Side.{Side}
+use Rattle.is.specs.declared.world_events.Side.TheVariants.{A, B}
 use Rattle.is_rules.specs.Sound.{GivesBased}
 use Rattle.is_stun.specs.declared.header.Class.{Class}
 use Rattle.is_stun.specs.declared.trans_id.TransId.{TransId}
@@ -66,7 +66,7 @@ module _ {H P : Type 0} (mac : H → List ℕ → List ℕ → List ℕ) (answer
   put_same B w new is = ap (λ (r : AgentRecord H P). put B r w) is
 
   pub strayed : (side : Side) (w : WorldRecord H P) (s : Streams) (now : ℕ) (path : Path) (bytes : List ℕ) (new : AgentRecord H P) (answer : Answer) (entry : agent.Entry) (e : Outcome)
-      → new ≡ at side w → LeavesOut mac (at side w) path bytes answer → entry ≡ quiet answer
+      → new ≡ at side w → LeavesOut mac answers now (at side w) path bytes answer → entry ≡ quiet answer
       → e ≡ record { entry = entry; controlling = roles_of (put side new w); side = Some side; clear = false; moved = None }
       → Happens mac answers w s (Stray side now path bytes) e (put side new w) s
   strayed side w s now path bytes new answer entry e same left quiet_is is =

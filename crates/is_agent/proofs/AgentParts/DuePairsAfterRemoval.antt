@@ -11,11 +11,12 @@ use Rattle.rand_core.specs.Stream.{Stream}
 use Rattle.is_rules.specs.declared.credentials.IceCreds.{IceCreds}
 use Rattle.is_rules.specs.declared.emitted.Issued.{Issued}
 use Rattle.is_rules.specs.Agent.{AgentRecord}
-use Rattle.is_rules.specs.Checking.{all_asked, all_heard, is_ahead_turn, precedence, IsNextToCheck, ChecksNext, MayCheck}
-use Rattle.is_rules.specs.Due.{awaits_nomination, falls_due}
+use Rattle.is_rules.specs.Checking.{all_asked, all_heard, is_ahead_turn, precedence, IsNextInTurn, IsNextToCheck, ChecksNext, MayCheck}
+use Rattle.is_rules.specs.Due.{awaits_nomination, falls_due, may_nominate}
 use Rattle.is_rules.specs.Kinds.{IsNextAhead}
+use Rattle.is_rules.specs.Nominating.{nominates_at_once, numbers, pair_selected}
 use Rattle.is_rules.proofs.PairLists.PairsByNumber.{numbered-found}
-use Rattle.is_agent.proofs.AgentParts.PairsByNumber.{has-any}
+use Rattle.is_agent.proofs.AgentParts.PairsByNumber.{find-Some, has-any}
 
 or-right : (a b : Bool) → b ≡ true → a || b ≡ true
 or-right true b h = refl
@@ -42,6 +43,25 @@ falls-asked controlling now t (p ∷ ps) h =
       | false ↦ λ k. or-right (not (is_some p.due) && awaits_nomination controlling p) (list_any (falls_due controlling now t) ps) (falls-asked controlling now t ps k)
     ] h
 
+-- the facts are replaced by weaker ones
+pub or-both : (a b c d : Bool) → (a ≡ true → c ≡ true) → (b ≡ true → d ≡ true) → a || b ≡ true → c || d ≡ true
+or-both true b c d one other h = rw (one refl) refl
+or-both false b c d one other h = or-right c d (other h)
+
+-- a nomination that is due at once may be due
+pub nominates-may : {H P : Type 0} (a : AgentRecord H P) → nominates_at_once a ≡ true → may_nominate a ≡ true
+nominates-may a h = by a.controlling (not a.lite) (numbers a) h where
+  by : (c l n : Bool) → c && l && n && a.nomination_due && is_some (pair_selected a.selected_pair a.pairs) ≡ true → c && l && n ≡ true
+  by true true true h = refl
+  by true true false h = h
+  by true false n h = h
+  by false l n h = h
+
+-- the second of two facts is replaced by a weaker one
+pub or-second : (a b c : Bool) → (c ≡ true → b ≡ true) → a || c ≡ true → a || b ≡ true
+or-second true b c weaker h = refl
+or-second false b c weaker h = weaker h
+
 -- the last of three facts is replaced by a weaker one
 pub and-third : (a b c d : Bool) → (d ≡ true → c ≡ true) → a && b && d ≡ true → a && b && c ≡ true
 and-third true true c d weaker h = weaker h
@@ -51,20 +71,37 @@ and-third false b c d weaker h = h
 pub all-three : (a b c : Bool) → a ≡ true → b ≡ true → c ≡ true → a && b && c ≡ true
 all-three a b c x y z = rw (x, y) z
 
--- the pair that is checked next is in the list and due, also if the check goes ahead
-next-is-due : {H P : Type 0} (a : AgentRecord H P) (now : ℕ) (p : PairRecord) → IsNextToCheck now a (Some p) → Has a.pairs p × (is_due now a.timing p ≡ true)
-next-is-due a now p is =
+-- the pair that is checked in its turn is in the list and due, also if the check goes ahead
+turn-is-due : {H P : Type 0} (a : AgentRecord H P) (now : ℕ) (p : PairRecord) → IsNextInTurn now a (Some p) → Has a.pairs p × (is_due now a.timing p ≡ true)
+turn-is-due a now p is =
     elim (is_ahead_turn now a) as (λ b. MatchBool b (IsNextAhead a.local a.remote (precedence a) a.next_kind now a.timing a.pairs (Some p)) (IsNextDue now a.timing a.pairs (Some p))
     → Has a.pairs p × (is_due now a.timing p ≡ true)) [
       | true ↦ λ ahead. (ahead.0, ahead.1)
       | false ↦ λ first. (first.0.0, first.1)
     ] is
 
--- if the pair that is checked next has a number, it is due
+-- the pair with the selected number is in the list
+selected-has : (number : Option ℕ) (ps : List PairRecord) (p : PairRecord) → Some p ≡ pair_selected number ps → Has ps p
+selected-has None ps p is = absurd (cc)
+selected-has (Some n) ps p is = (find-Some (is_numbered n) ps p (sym is)).0
+
+-- the pair that is checked next is in the list
+next-is-there : {H P : Type 0} (a : AgentRecord H P) (now : ℕ) (p : PairRecord) → IsNextToCheck now a (Some p) → Has a.pairs p
+next-is-there a now p is =
+    elim (nominates_at_once a) as (λ b. MatchBool b (Some p ≡ pair_selected a.selected_pair a.pairs) (IsNextInTurn now a (Some p)) → Has a.pairs p) [
+      | true ↦ λ selected. selected-has a.selected_pair a.pairs p selected
+      | false ↦ λ turn. (turn-is-due a now p turn).0
+    ] is
+
+-- if the pair that is checked next has a number, it is due, or its nomination is
 pub due-there : {H P : Type 0} (a : AgentRecord H P) (now : ℕ) (next : Option PairRecord) (n : ℕ) → IsNextToCheck now a next
-    → option_map (λ p. p.number) next ≡ Some n → list_any (is_due now a.timing) a.pairs ≡ true
+    → option_map (λ p. p.number) next ≡ Some n → nominates_at_once a || list_any (is_due now a.timing) a.pairs ≡ true
 due-there a now None n is numbered = absurd (cc)
-due-there a now (Some p) n is numbered = let its = next-is-due a now p is in has-any (is_due now a.timing) a.pairs p its.0 its.1
+due-there a now (Some p) n is numbered =
+    elim (nominates_at_once a) as (λ b. MatchBool b (Some p ≡ pair_selected a.selected_pair a.pairs) (IsNextInTurn now a (Some p)) → b || list_any (is_due now a.timing) a.pairs ≡ true) [
+      | true ↦ λ _. refl
+      | false ↦ λ turn. let its = turn-is-due a now p turn in has-any (is_due now a.timing) a.pairs p its.0 its.1
+    ] is
 
 -- and it is found by that number
 pub next-found : {H P : Type 0} (a : AgentRecord H P) (now : ℕ) (next : Option PairRecord) (n : ℕ) → rises a.pairs ≡ true → IsNextToCheck now a next
@@ -72,11 +109,11 @@ pub next-found : {H P : Type 0} (a : AgentRecord H P) (now : ℕ) (next : Option
 next-found a now None n rising is numbered = absurd (cc)
 next-found a now (Some p) n rising is numbered =
     let same : p.number ≡ n = cc in
-    (p, refl, same, subst (λ m. pair_numbered m a.pairs ≡ Some p) same (numbered-found a.pairs p rising (next-is-due a now p is).0))
+    (p, refl, same, subst (λ m. pair_numbered m a.pairs ≡ Some p) same (numbered-found a.pairs p rising (next-is-there a now p is)))
 
 -- it is there, also if the numbers do not rise
 pub next-has : {H P : Type 0} (a : AgentRecord H P) (now : ℕ) (p : PairRecord) → IsNextToCheck now a (Some p) → has_number p.number a.pairs ≡ true
-next-has a now p is = has-any (is_numbered p.number) a.pairs p (next-is-due a now p is).0 (eq-eqb p.number p.number refl)
+next-has a now p is = has-any (is_numbered p.number) a.pairs p (next-is-there a now p is) (eq-eqb p.number p.number refl)
 
 -- with the peer's credentials, and if the agent is not ICE-lite, the next pair is checked once all due times are
 -- fixed

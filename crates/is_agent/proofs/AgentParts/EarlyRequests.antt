@@ -21,7 +21,7 @@ use Rattle.is_agent.specs.Ready.{IsPlan}
 use Rattle.is_rules.specs.Places.{local_place}
 use Rattle.is_rules.specs.Serving.{lacks_number, AlwaysLacksNumber, MayFailAtRequest}
 use Rattle.is_proto.specs.declared.error.IceError.{IceError}
-use Rattle.is_proto.specs.declared.error.IceError.TheVariants.{BadCandidate, OutOfMemory, PairIdsExhausted, MtuTooSmall, CredentialsTooLong, PriorityTooHigh}
+use Rattle.is_proto.specs.declared.error.IceError.TheVariants.{BadCandidate, OutOfMemory, PairIdsExhausted, MtuTooSmall, CredentialsTooLong, PriorityTooHigh, LiteStaysControlled}
 
 -- as many models pass at the front
 pub front-views : {X Y : Type 0} (view : X → Y) (test : Y → Bool) (xs : List X) → length (take_while (λ x. test (view x)) xs) ≡ length (take_while test (map view xs))
@@ -123,6 +123,7 @@ module _ {H P : Type 0} where
   rejected-timeout_begun now a q MtuTooSmall may = may
   rejected-timeout_begun now a q CredentialsTooLong may = may
   rejected-timeout_begun now a q PriorityTooHigh may = may
+  rejected-timeout_begun now a q LiteStaysControlled may = may
 
   -- why the call that serves this request fails
   pub rejected-late : (now : ℕ) (a : AgentRecord H P) (o : Option RequestRecord) (error : IceError) → o ≡ request_at now a

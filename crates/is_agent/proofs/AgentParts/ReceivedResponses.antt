@@ -1,10 +1,11 @@
 -- What an agent does with a response is its rule, from what the pair of its transaction stores.
 use Rattle.std.proofs.Common.{◌≡◌, ℕ, Bool, true, false, List, Option, Some, None, unwrap_or, refl, sym, ap, subst, ◌∙◌}
-use Rattle.std.specs.Prelude.{slice_set, MatchBool, Result, Ok, Err}
+use Rattle.std.specs.Prelude.{◌&&◌, not, slice_set, MatchBool, Result, Ok, Err}
 use Rattle.std.proofs.lemmas.Bool.{eqb-true}
 use Rattle.is_candidate.specs.Candidates.{CandidateRecord}
 use Rattle.is_pair.specs.Multiset.{is_numbered, pair_numbered, rises}
 use Rattle.is_pair.specs.Pairs.{PairRecord, TakesAnswer}
+use Rattle.is_proto.specs.Lists.{same}
 use Rattle.is_proto.specs.declared.error.IceError.{IceError}
 use Rattle.is_stun.specs.declared.header.Class.{Class}
 use Rattle.is_stun.specs.declared.header.Class.TheVariants.{Failure}
@@ -17,28 +18,40 @@ use Rattle.is_rules.specs.declared.emitted.Emitted.{Emitted}
 use Rattle.is_rules.specs.Agent.{AgentRecord}
 use Rattle.is_rules.specs.Emitted.{nothing_emitted}
 use Rattle.is_rules.specs.Due.{IsRecorded, IsSentUnder}
-use Rattle.is_rules.specs.Roles.{switched}
+use Rattle.is_rules.specs.Roles.{keeps_role, switched}
 use Rattle.is_rules.specs.Serving.{Drops}
 use Rattle.is_rules.specs.Accepting.{IsAcceptedAs, IsAcceptedOn, Arrives}
 use Rattle.is_rules.specs.Answers.{keeps_check_on, local_with, success_counted, Concludes, LeavesRole, TakesSuccess}
 
-pub role-expired : {H P : Type 0} (old new : AgentRecord H P) (path : Path) (m : Message) (number : ℕ) (p : PairRecord) (present : Bool)
+pub role-expired : {H P : Type 0} (old new : AgentRecord H P) (path : Path) (m : Message) (number : ℕ) (p : PairRecord) (present keeps : Bool)
     → pair_numbered number old.pairs ≡ Some p → keeps_check_on old path m.id p ≡ true
-    → IsSentUnder p m.id old.controlling present → MatchBool present (new ≡ switched old) (new ≡ old)
+    → IsSentUnder p m.id old.controlling present → keeps ≡ keeps_role old → MatchBool (present && not keeps) (new ≡ switched old) (new ≡ old)
     → LeavesRole old path m nothing_emitted new
-role-expired old new path m number p present found kept w becomes =
-    let drops : MatchBool present (Drops (switched old) nothing_emitted new) (Drops old nothing_emitted new) = dropped present becomes in (
+role-expired old new path m number p present keeps found kept w is becomes =
+    let drops : MatchBool (present && not keeps) (Drops (switched old) nothing_emitted new) (Drops old nothing_emitted new) = dropped (present && not keeps) becomes in
+    let by_role = subst (λ b. MatchBool (b && not keeps) (Drops (switched old) nothing_emitted new) (Drops old nothing_emitted new)) w.3 drops in (
       p,
       w.0,
       (find-Some (is_numbered number) old.pairs p found).0,
       kept,
       w.1,
       w.2,
-      subst (λ b. MatchBool b (Drops (switched old) nothing_emitted new) (Drops old nothing_emitted new)) w.3 drops,
+      subst (λ b. MatchBool (same w.0.controlling old.controlling && not b) (Drops (switched old) nothing_emitted new) (Drops old nothing_emitted new)) is by_role,
     ) where
       dropped : (b : Bool) → MatchBool b (new ≡ switched old) (new ≡ old) → MatchBool b (Drops (switched old) nothing_emitted new) (Drops old nothing_emitted new)
       dropped true h = (refl, h)
       dropped false h = (refl, h)
+
+-- whether the role is switched, by both conditions
+pub role-switches : {A : Type 0} (old new next : A) (present keeps : Bool) → present ≡ true → keeps ≡ false → new ≡ next → MatchBool (present && not keeps) (new ≡ next) (new ≡ old)
+role-switches old new next present keeps p k is = rw (p, k) is
+
+pub role-kept : {A : Type 0} (old next : A) (present keeps : Bool) → keeps ≡ true → MatchBool (present && not keeps) (old ≡ next) (old ≡ old)
+role-kept old next true keeps k = rw k refl
+role-kept old next false keeps k = refl
+
+pub role-stays : {A : Type 0} (old next : A) (present keeps : Bool) → present ≡ false → MatchBool (present && not keeps) (old ≡ next) (old ≡ old)
+role-stays old next present keeps p = rw p refl
 
 same-pair : (number : ℕ) (ps : List PairRecord) (p q : PairRecord) → pair_numbered number ps ≡ Some p → pair_numbered number ps ≡ Some q → q ≡ p
 same-pair number ps p q one other = ap (λ o. unwrap_or o p) (sym other ∙ one)

@@ -1,4 +1,4 @@
-//! What an agent does beyond the original's behaviour.
+//! What an agent does beyond the original's behavior.
 
 use crate::codes;
 use crate::making::{is_ice_agent_free, is_ice_agent_new};
@@ -17,6 +17,8 @@ const OFF: AgentRules = AgentRules {
     strict_consent: false,
     selected_first: false,
     timeout_after_requests: false,
+    lite_keeps_role: false,
+    numbered_nominations: false,
 };
 
 const ON: AgentRules = AgentRules {
@@ -29,6 +31,8 @@ const ON: AgentRules = AgentRules {
     strict_consent: false,
     selected_first: true,
     timeout_after_requests: true,
+    lite_keeps_role: true,
+    numbered_nominations: true,
 };
 
 fn are_same(one: &AgentRules, other: &AgentRules) -> bool {
@@ -41,6 +45,8 @@ fn are_same(one: &AgentRules, other: &AgentRules) -> bool {
         && one.strict_consent == other.strict_consent
         && one.selected_first == other.selected_first
         && one.timeout_after_requests == other.timeout_after_requests
+        && one.lite_keeps_role == other.lite_keeps_role
+        && one.numbered_nominations == other.numbered_nominations
 }
 
 #[test]

@@ -7,12 +7,13 @@ use super::CandidatePair;
 use super::consent::last_of;
 
 impl CandidatePair {
-    /// Copies what a pair of the same path that this one replaces has reached: that it is valid, since when, and its nomination.
-    /// If the other's nominating check was in flight, this pair still has to send one.
+    /// Copies what a pair of the same path that this one replaces has reached: that it is valid, since when, and its nomination with the
+    /// greatest number. If the other's nominating check was in flight, this pair still has to send one.
     pub fn copy_nominated_and_success_state(&mut self, other: &CandidatePair)
         ensures { self.new ≡ with_success_of other.now self.old }
     {
         self.nomination_state = self.nomination_state.replacing(other.nomination_state);
+        self.greatest_number = other.greatest_number.max(self.greatest_number);
         self.state = self.state.replacing(other.state);
         self.consented = last_of(other.consented, self.consented);
     }

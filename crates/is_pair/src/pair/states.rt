@@ -1,7 +1,7 @@
 //! The check state and the nomination state of a pair.
 
 ghost use Rattle.std.specs.Prelude.{◌≡◌};
-ghost use Rattle.is_pair.specs.States.{is_nominating, state_once_sent, state_once_answered, state_from, nomination_once_sent, nomination_once_answered};
+ghost use Rattle.is_pair.specs.States.{is_nominating, state_once_sent, state_once_answered, state_from, nomination_once_sent, nomination_again, nomination_once_answered};
 ghost use Rattle.is_pair.specs.States.{nomination_from};
 
 /// The check state of a pair (RFC 8445, section 6.1.2.6). There is no Frozen state, because every new pair may be
@@ -78,6 +78,17 @@ impl NominationState {
         match self {
             NominationState::Nominated => NominationState::Attempt,
             NominationState::None | NominationState::Attempt | NominationState::Success => self,
+        }
+    }
+
+    /// Returns the state of a pair whose nomination begins again.
+    pub(crate) fn again(self) -> NominationState
+        ensures { result ≡ nomination_again self }
+    {
+        match self {
+            NominationState::None => NominationState::None,
+            NominationState::Nominated | NominationState::Attempt | NominationState::Success =>
+                NominationState::Nominated,
         }
     }
 

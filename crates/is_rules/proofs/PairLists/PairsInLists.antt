@@ -1,17 +1,18 @@
 -- The indices of pairs are in the lists of candidates: what follows, and what keeps it.
-use Rattle.std.proofs.Common.{if◌then◌else◌, ◌≡◌, ℕ, ◌<◌, ◌≤◌, ◌&&◌, Bool, true, false, not, nat_lt, List, [], ◌∷◌, ◌++◌, filter, map, length, Option, Some, None, inl, inr, refl, sym, ap, ◌∙◌, arith}
+use Rattle.std.proofs.Common.{if◌then◌else◌, ◌≡◌, ℕ, ◌<◌, ◌≤◌, ◌&&◌, ◌||◌, Bool, true, false, not, nat_lt, List, [], ◌∷◌, ◌++◌, filter, map, length, Option, Some, None, inl, inr, refl, sym, ap, ◌∙◌, arith}
 use Rattle.std.specs.List.{list_any, list_all}
 use Rattle.std.proofs.lemmas.Bool.Decides.{nat_tests}
 use Rattle.std.proofs.lemmas.List.Folds.{list_all-append}
 use Rattle.is_proto.specs.Lists.{Has}
 use Rattle.is_candidate.specs.Candidates.{CandidateRecord}
-use Rattle.is_pair.specs.Pairs.{PairRecord, nominated, taking_over, validated, with_request}
+use Rattle.is_pair.specs.Checks.{Check}
+use Rattle.is_pair.specs.Pairs.{PairRecord, is_nominated, nominated, numbered, renominated, taking_over, validated, with_request}
 use Rattle.is_pair.specs.Due.{is_triggered, moved_up, triggered}
-use Rattle.is_pair.specs.Multiset.{is_numbered, change_at, change_pair, is_awaiting, keeps_check, without, IsAwaiting, IsGreatest}
+use Rattle.is_pair.specs.Multiset.{has_number, is_numbered, change_at, change_pair, is_awaiting, keeps_check, without, IsAwaiting, IsGreatest, KeepsKeys}
 use Rattle.is_rules.specs.Kept.{is_placed, are_placed}
 use Rattle.is_rules.specs.Nominating.{nominated_by_self}
 use Rattle.is_rules.specs.Request.{RequestRecord}
-use Rattle.is_rules.specs.Serving.{served, validated_by_peer}
+use Rattle.is_rules.specs.Serving.{nominated_by_peer, numbered_by_peer, served, validated_by_peer}
 use Rattle.is_rules.proofs.PairLists.PairsByNumber.{both}
 use Rattle.is_rules.proofs.PairLists.RemovedInTurn.{Removes, RemovesInTurn}
 
@@ -130,6 +131,15 @@ placed-changed local remote n f ps keeps all = placed-mapped local remote (chang
   remote = λ p. elim (is_numbered n p) as (λ b. (if b then f p else p).remote ≡ p.remote) [ true ↦ keeps.remote p | false ↦ refl ];
 }) all
 
+-- a pair that is nominated again has its number
+pub changed-has : (n : ℕ) (ps : List PairRecord) → has_number n (change_pair n renominated ps) ≡ has_number n ps
+changed-has n [] = refl
+changed-has n (p ∷ ps) =
+    elim (is_numbered n p) as (λ b. is_numbered n (if b then renominated p else p) || has_number n (change_pair n renominated ps) ≡ is_numbered n p || has_number n ps) [
+      | true ↦ ap (λ b. is_numbered n p || b) (changed-has n ps)
+      | false ↦ ap (λ b. is_numbered n p || b) (changed-has n ps)
+    ]
+
 pub placed-push : (local remote : List CandidateRecord) (ps : List PairRecord) (p : PairRecord) → are_placed local remote ps ≡ true
     → p.local < length local → p.remote < length remote → are_placed local remote (ps ++ p ∷ []) ≡ true
 placed-push local remote ps p all l r = all-push (is_placed local remote) ps p all (in-is local remote p l r)
@@ -166,13 +176,28 @@ triggered-places (Some most) at = record {
   remote = λ p. if-kept (λ (x : PairRecord). x.remote) (is_triggered most p) (moved_up at p) p refl;
 }
 
-served-places : (controlling lite : Bool) (q : RequestRecord) → KeepsPlaces (served controlling lite q)
-served-places controlling lite q = record {
+nominated-by-peer-places : (controlling lite : Bool) (q : RequestRecord) → KeepsPlaces (λ p. nominated_by_peer controlling lite q (validated_by_peer controlling lite (with_request q.time p)))
+nominated-by-peer-places controlling lite q = record {
   local = λ p. if-kept (λ (x : PairRecord). x.local) _ (nominated lite (validated_by_peer controlling lite (with_request q.time p))) _ (nominated-places lite _).0
       ∙ if-kept (λ (x : PairRecord). x.local) (lite && not controlling) (validated (with_request q.time p)) (with_request q.time p) refl;
   remote = λ p. if-kept (λ (x : PairRecord). x.remote) _ (nominated lite (validated_by_peer controlling lite (with_request q.time p))) _ (nominated-places lite _).1
       ∙ if-kept (λ (x : PairRecord). x.remote) (lite && not controlling) (validated (with_request q.time p)) (with_request q.time p) refl;
 }
+
+numbered-places : (controlling : Bool) (o : Option ℕ) → KeepsPlaces (numbered_by_peer controlling o)
+numbered-places controlling None = record { local = λ p. refl; remote = λ p. refl }
+numbered-places controlling (Some n) = record {
+  local = λ p. if-kept (λ (x : PairRecord). x.local) controlling p (numbered n p) refl;
+  remote = λ p. if-kept (λ (x : PairRecord). x.remote) controlling p (numbered n p) refl;
+}
+
+served-places : (controlling lite : Bool) (q : RequestRecord) → KeepsPlaces (served controlling lite q)
+served-places controlling lite q =
+    let first = nominated-by-peer-places controlling lite q in
+    let own = numbered-places controlling q.nomination in record {
+      local = λ p. own.local _ ∙ first.local p;
+      remote = λ p. own.remote _ ∙ first.remote p;
+    }
 
 -- what a request, which may trigger a check, leaves of a pair
 pub request-places : (controlling lite : Bool) (q : RequestRecord) (most : Option ℕ) (at : ℕ)
@@ -183,6 +208,36 @@ request-places controlling lite q most at =
       local = λ p. own.local (triggered most at p) ∙ first.local p;
       remote = λ p. own.remote (triggered most at p) ∙ first.remote p;
     }
+
+-- the same of what a checklist finds its pairs by
+
+abbrev keys-of : PairRecord → ℕ × ℕ × List Check
+keys-of p = (p.number, p.priority, p.checks)
+
+nominated-keys : (lite : Bool) (p : PairRecord) → keys-of (nominated lite p) ≡ keys-of p
+nominated-keys true p = refl
+nominated-keys false p = refl
+
+triggered-keys : (most : Option ℕ) (at : ℕ) (p : PairRecord) → keys-of (triggered most at p) ≡ keys-of p
+triggered-keys None at p = refl
+triggered-keys (Some most) at p = if-kept keys-of (is_triggered most p) (moved_up at p) p refl
+
+numbered-keys : (controlling : Bool) (o : Option ℕ) (p : PairRecord) → keys-of (numbered_by_peer controlling o p) ≡ keys-of p
+numbered-keys controlling None p = refl
+numbered-keys true (Some n) p = refl
+numbered-keys false (Some n) p = refl
+
+served-keys : (controlling lite : Bool) (q : RequestRecord) (p : PairRecord) → keys-of (served controlling lite q p) ≡ keys-of p
+served-keys controlling lite q p =
+    let valid = validated_by_peer controlling lite (with_request q.time p) in
+    numbered-keys controlling q.nomination (nominated_by_peer controlling lite q valid)
+    ∙ (if-kept keys-of (not controlling && q.use_candidate && not (is_nominated valid)) (nominated lite valid) valid (nominated-keys lite valid)
+    ∙ if-kept keys-of (lite && not controlling) (validated (with_request q.time p)) (with_request q.time p) refl)
+
+pub request-keys : (controlling lite : Bool) (q : RequestRecord) (most : Option ℕ) (at : ℕ) → KeepsKeys (λ p. served controlling lite q (triggered most at p))
+request-keys controlling lite q most at = λ p.
+    let same = served-keys controlling lite q (triggered most at p) ∙ triggered-keys most at p in
+    (ap (λ (k : ℕ × ℕ × List Check). k.0) same, ap (λ (k : ℕ × ℕ × List Check). k.1) same, ap (λ (k : ℕ × ℕ × List Check). k.2) same)
 
 pub self-places : (controlling lite : Bool) → KeepsPlaces (nominated_by_self controlling lite)
 self-places controlling lite = record {

@@ -8,8 +8,9 @@ use Rattle.is_proto.specs.Times.{MAX, SECOND, later}
 use Rattle.is_pair.specs.Pairs.{PairRecord}
 use Rattle.is_pair.specs.Due.{asked, call_time_of}
 use Rattle.is_rules.specs.Agent.{AgentRecord}
+use Rattle.is_rules.specs.Nominating.{is_pressing}
 use Rattle.is_rules.specs.Polls.{PollsTimeout, NextTimeoutFrom, NextTimeouts, IdleTimeout, is_waiting, is_idle, soon, earliest_call}
-use Rattle.is_rules.specs.TimeoutTimes.{soonest, TimeoutIsAhead, TimeoutIsInTime, TimeoutIsGiven}
+use Rattle.is_rules.specs.TimeoutTimes.{soonest, TimeoutIsAhead, TimeoutIsInTime, TimeoutIsGiven, TimeoutIsSoon}
 
 pub either : (b : Bool) {P Q R : Type 0} → MatchBool b P Q → (b ≡ true → P → R) → (b ≡ false → Q → R) → R
 either true h f g = f refl h
@@ -83,6 +84,13 @@ module _ {H P : Type 0} where
       let is = l.0 in let least = least-below (call_time_of last old.timing) MAX old.pairs p has in
       omega (arith, is, least))))
 
+  pub timeouts-soon : TimeoutIsSoon H P
+  timeouts-soon old new None h = tt
+  timeouts-soon old new (Some deadline) h = λ last is presses.
+      either (is_waiting old) (timeouts-from old new last deadline is h)
+      (λ _ k. (let is = k.0 in omega (arith, is)))
+      (λ calm _. absurd (let no : ⊥ = grind (arith, presses, calm) in no))
+
   given-from : (last deadline : Option ℕ) (old new : AgentRecord H P) → NextTimeoutFrom last old deadline new → is_some deadline ≡ is_some last
   given-from None deadline old new h = let is = h.0 in cc
   given-from (Some last) None old new h = absurd h
@@ -103,17 +111,17 @@ module _ {H P : Type 0} where
   pub paced-from : (old new : AgentRecord H P) (last : ℕ) (deadline : Option ℕ) → old.last_time ≡ Some last → PollsTimeout old deadline new → IsSomeAnd deadline (λ at. NextTimeouts old last at new)
   paced-from old new last deadline is h = subst (λ o. NextTimeoutFrom o old deadline new) is h
 
-  not-waiting : (a : AgentRecord H P) → a.packets ≡ [] → a.queue ≡ [] → is_waiting a ≡ false
-  not-waiting a no_packets no_queue =
-      ap (λ ps. not (is_empty ps) || not (is_empty a.queue)) no_packets ∙ ap (λ qs. not (is_empty qs)) no_queue
+  not-waiting : (a : AgentRecord H P) → a.packets ≡ [] → a.queue ≡ [] → is_pressing a ≡ false → is_waiting a ≡ false
+  not-waiting a no_packets no_queue calm =
+      ap (λ ps. not (is_empty ps) || not (is_empty a.queue) || is_pressing a) no_packets ∙ ap (λ qs. not (is_empty qs) || is_pressing a) no_queue ∙ calm
 
-  -- if no request is stored and there is a pair to check, the due times of all pairs are fixed
+  -- if no request is stored, no path is to be selected or nominated at once, and there is a pair to check, the due times of all pairs are fixed
   pub all-are-asked : (old new : AgentRecord H P) (last deadline : ℕ) → old.last_time ≡ Some last → old.lite ≡ false → old.packets ≡ [] → old.queue ≡ []
-      → is_empty old.pairs ≡ false → PollsTimeout old (Some deadline) new
+      → is_pressing old ≡ false → is_empty old.pairs ≡ false → PollsTimeout old (Some deadline) new
       → (deadline ≡ max (earliest_call old last) (soon old last)) × (new ≡ record old { pairs = map (asked last old.timing) old.pairs })
-  all-are-asked old new last deadline is full no_packets no_queue some h =
+  all-are-asked old new last deadline is full no_packets no_queue calm some h =
       let w : IdleTimeout old last deadline new =
-      subst (λ b. MatchBool b ((deadline ≡ soon old last) × (new ≡ old)) (IdleTimeout old last deadline new)) (not-waiting old no_packets no_queue) (timeouts-from old new last deadline is h) in
+      subst (λ b. MatchBool b ((deadline ≡ soon old last) × (new ≡ old)) (IdleTimeout old last deadline new)) (not-waiting old no_packets no_queue calm) (timeouts-from old new last deadline is h) in
       subst (λ b. MatchBool b ((deadline ≡ later last (3 * SECOND)) × (new ≡ old))
       ((deadline ≡ max (earliest_call old last) (soon old last)) × (new ≡ record old { pairs = map (asked last old.timing) old.pairs })))
       (not-idle old.lite old.pairs full some) w

@@ -183,6 +183,7 @@ attributes_spelled id cs fine =
       ice_controlled = reading (number w64 ControlledLength) (last_of ICE_CONTROLLED first) (at ICE_CONTROLLED);
       ice_controlling = reading (number w64 ControllingLength) (last_of ICE_CONTROLLING first) (at ICE_CONTROLLING);
       network_cost = refl;
+      nomination = refl;
       fingerprint = reading (number w32 FingerprintLength) (last_of FINGERPRINT cs) (λ v e. last_fine FINGERPRINT cs v fine.1 e);
     }
 
@@ -209,6 +210,7 @@ attributes_read id cs a fine h =
       field_is (number w64 ControlledLength) (last_of ICE_CONTROLLED first) a.ice_controlled h.ice_controlled,
       field_is (number w64 ControllingLength) (last_of ICE_CONTROLLING first) a.ice_controlling h.ice_controlling,
       ← h.network_cost,
+      ← h.nomination,
       field_is (number w32 FingerprintLength) (last_of FINGERPRINT cs) a.fingerprint h.fingerprint,
     ) refl
 

@@ -7,9 +7,9 @@ use Rattle.std.specs.Int.{w32, w64}
 use Rattle.std.proofs.lemmas.Bool.{eqb-true}
 use Rattle.is_proto.specs.declared.error.ParseFault.{ParseFault}
 use Rattle.is_proto.specs.declared.error.ParseFault.TheVariants.{LifetimeLength, PriorityLength, UseCandidateLength, FingerprintLength, ControlledLength, ControllingLength}
-use Rattle.is_stun.specs.Numbers.{USERNAME, ERROR_CODE, CHANNEL_NUMBER, LIFETIME, XOR_PEER_ADDRESS, DATA, REALM, NONCE, XOR_RELAYED_ADDRESS, XOR_MAPPED_ADDRESS, SOFTWARE, PRIORITY, USE_CANDIDATE, FINGERPRINT, ICE_CONTROLLED, ICE_CONTROLLING, NETWORK_COST, USERNAME_LIMIT, TEXT_LIMIT}
+use Rattle.is_stun.specs.Numbers.{USERNAME, ERROR_CODE, CHANNEL_NUMBER, LIFETIME, XOR_PEER_ADDRESS, DATA, REALM, NONCE, XOR_RELAYED_ADDRESS, XOR_MAPPED_ADDRESS, SOFTWARE, PRIORITY, USE_CANDIDATE, FINGERPRINT, ICE_CONTROLLED, ICE_CONTROLLING, NETWORK_COST, NOMINATION, USERNAME_LIMIT, TEXT_LIMIT}
 use Rattle.is_stun.specs.Tlv.{Tlv, tlvs_of}
-use Rattle.is_stun.specs.Kinds.{text, number, bytes_of_len, error_code, channel_number, network_cost}
+use Rattle.is_stun.specs.Kinds.{text, number, bytes_of_len, error_code, channel_number, network_cost, nomination}
 use Rattle.is_stun.specs.Address.{address_in}
 use Rattle.is_stun.specs.Integrity.{is_integrity, before_integrity, first_integrity}
 use Rattle.is_stun.specs.Message.{AttributesRecord, no_attributes}
@@ -57,6 +57,7 @@ all_over id first cs a =
       ice_controlled = over (λ v. result_ok (number w64 ControlledLength v)) (last_of ICE_CONTROLLED first) a.ice_controlled;
       ice_controlling = over (λ v. result_ok (number w64 ControllingLength v)) (last_of ICE_CONTROLLING first) a.ice_controlling;
       network_cost = over network_cost (last_of NETWORK_COST first) a.network_cost;
+      nomination = over nomination (last_of NOMINATION first) a.nomination;
       fingerprint = over (λ v. result_ok (number w32 FingerprintLength v)) (last_of FINGERPRINT cs) a.fingerprint;
     }
 
@@ -83,6 +84,7 @@ all_over-cons id first cs c a =
       over-cons (λ v. result_ok (number w64 ControlledLength v)) ICE_CONTROLLED first c a.ice_controlled,
       over-cons (λ v. result_ok (number w64 ControllingLength v)) ICE_CONTROLLING first c a.ice_controlling,
       over-cons network_cost NETWORK_COST first c a.network_cost,
+      over-cons nomination NOMINATION first c a.nomination,
       over-cons (λ v. result_ok (number w32 FingerprintLength v)) FINGERPRINT cs c a.fingerprint,
     ) refl
 
@@ -128,9 +130,9 @@ over-flag : (read : List ℕ → Result (List ℕ) ParseFault) (o : Option (List
 over-flag read None = refl
 over-flag read (Some v) = refl
 
-over-cost : (o : Option (List ℕ)) → over network_cost o None ≡ option_and_then network_cost o
-over-cost None = refl
-over-cost (Some v) = refl
+over-option : {A : Type 0} (read : List ℕ → Option A) (o : Option (List ℕ)) → over read o None ≡ option_and_then read o
+over-option read None = refl
+over-option read (Some v) = refl
 
 pub merged-all : (id : List ℕ) (cs : List Tlv) → merged false id cs no_attributes ≡ attributes_of id cs
 unfolding attributes_of
@@ -152,7 +154,8 @@ merged-all id cs =
       over-flag (bytes_of_len 0 UseCandidateLength) (last_of USE_CANDIDATE first),
       over-none (number w64 ControlledLength) (last_of ICE_CONTROLLED first),
       over-none (number w64 ControllingLength) (last_of ICE_CONTROLLING first),
-      over-cost (last_of NETWORK_COST first),
+      over-option network_cost (last_of NETWORK_COST first),
+      over-option nomination (last_of NOMINATION first),
       over-none (number w32 FingerprintLength) (last_of FINGERPRINT cs),
     ) refl
 
@@ -237,7 +240,7 @@ pub passes_within : {A : Type 0} (view : A → Tlv) (id body : List ℕ) (left :
 passes_within view id body left met a e p =
     within_first view body met (passes_first id (tlvs_of body) left (option_map view met) a e p) (passes_none id (tlvs_of body) left (option_map view met) a e p)
 
--- ---- a network cost of another length leaves what was read
+-- ---- a network cost, or a nomination, of another length leaves what was read
 
 cost_by : (id : List ℕ) (c : Tlv) (a : AttributesRecord) (o : Option (ℕ × ℕ)) (b : Bool) → eqb (length c.value) 4 ≡ b → c.code ≡ 0xC057 → o ≡ network_cost c.value → record a { network_cost = option_or o a.network_cost } ≡ kept id c a
 unfolding kept network_cost
@@ -246,3 +249,11 @@ cost_by id c a o false is code e = rw (e, code, is) refl
 
 pub kept-cost : (id : List ℕ) (c : Tlv) (a : AttributesRecord) (o : Option (ℕ × ℕ)) → c.code ≡ 0xC057 → o ≡ network_cost c.value → record a { network_cost = option_or o a.network_cost } ≡ kept id c a
 kept-cost id c a o code e = cost_by id c a o (eqb (length c.value) 4) refl code e
+
+nomination_by : (id : List ℕ) (c : Tlv) (a : AttributesRecord) (o : Option ℕ) (b : Bool) → eqb (length c.value) 4 ≡ b → c.code ≡ 0xC001 → o ≡ nomination c.value → record a { nomination = option_or o a.nomination } ≡ kept id c a
+unfolding kept nomination
+nomination_by id c a o true is code e = rw (e, code, is) refl
+nomination_by id c a o false is code e = rw (e, code, is) refl
+
+pub kept-nomination : (id : List ℕ) (c : Tlv) (a : AttributesRecord) (o : Option ℕ) → c.code ≡ 0xC001 → o ≡ nomination c.value → record a { nomination = option_or o a.nomination } ≡ kept id c a
+kept-nomination id c a o code e = nomination_by id c a o (eqb (length c.value) 4) refl code e

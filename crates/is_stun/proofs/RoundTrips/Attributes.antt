@@ -7,7 +7,7 @@ use Rattle.std.specs.Str.{IsUtf8}
 use Rattle.std.specs.Int.{w32, w64, to_be_bytes}
 use Rattle.std.proofs.lemmas.Bool.{ltb-false}
 use Rattle.is_proto.specs.declared.error.ParseFault.TheVariants.{XorAddress, LifetimeLength, PriorityLength, UseCandidateLength, ControlledLength, ControllingLength}
-use Rattle.is_stun.specs.Kinds.{text, number, bytes_of_len, error_code, channel_number, network_cost, value_fault, address_fault, fault_in}
+use Rattle.is_stun.specs.Kinds.{text, number, bytes_of_len, error_code, channel_number, network_cost, nomination, value_fault, address_fault, fault_in}
 use Rattle.is_stun.specs.Address.{xor_address, address_in, is_ipv4_value, is_ipv6_value}
 use Rattle.is_stun.specs.ErrorCode.{error_value}
 use Rattle.is_stun.specs.Message.{AttributesRecord}
@@ -19,7 +19,7 @@ use Rattle.is_stun.proofs.MessageReading.FirstAttribute.{option_or-none}
 use Rattle.is_stun.proofs.RoundTrips.Rows.{FitsRow, last_row}
 use Rattle.is_stun.proofs.RoundTrips.MessageParts.{row_attributes}
 use Rattle.is_stun.proofs.RoundTrips.XorAddresses.{address_trips}
-use Rattle.is_stun.proofs.RoundTrips.ValuesByKind.{Trips, text_trips, u32_trips, u64_trips, channel_trips, error_trips, if_both, if_all, fits_row, comes_back, text_fits, text_back, data_fits, flag_fits, flag_back, cost_fits, cost_back}
+use Rattle.is_stun.proofs.RoundTrips.ValuesByKind.{Trips, text_trips, u32_trips, u64_trips, channel_trips, error_trips, if_both, if_all, fits_row, comes_back, text_fits, text_back, data_fits, flag_fits, flag_back, cost_fits, cost_back, nomination_fits, nomination_back}
 
 -- ---- values that are written
 
@@ -84,6 +84,7 @@ pub record AllTrip (id : List ℕ) (a : AttributesRecord) : Type 0 where
   pub error_code : IfSome a.error_code (λ x. Trips error_code (error_value x) x)
   pub software : IfSome a.software (λ t. Trips (text TEXT_LIMIT) t t)
   pub network_cost : IfSome a.network_cost (λ c. (c.0 < 2 ^ 16) × (c.1 < 2 ^ 16))
+  pub nomination : IfSome a.nomination (λ n. n < 2 ^ 32)
 
 error_by : (o : Option (ℕ × List ℕ)) → IfSome o (λ e. (300 ≤ e.0) × (e.0 ≤ 699)) → IfSome o (λ e. length e.1 ≤ WRITTEN_TEXT_LIMIT) → IfSome o (λ e. IsUtf8 e.1) → IfSome o (λ e. Trips error_code (error_value e) e)
 error_by None code short utf8 = tt
@@ -106,6 +107,7 @@ all_trip id a id_is short values = record {
   error_code = error_by a.error_code short.code short.reason values.error_code;
   software = if_both a.software (λ t short utf8. text_trips TEXT_LIMIT t (omega arith) (omega (arith, short)) utf8) short.software values.software;
   network_cost = values.network_cost;
+  nomination = values.nomination;
 }
 
 -- ---- the rows fit
@@ -154,7 +156,10 @@ rows_fit id a trips = (
                               text_fits 0x22 (text TEXT_LIMIT) a.software (omega arith) (λ (e : 0x22 ≡ 8). absurd (omega (arith, e))) (λ v. refl) (λ v. refl) trips.software,
                               (
                                 cost_fits a.network_cost,
-                                tt,
+                                (
+                                  nomination_fits a.nomination,
+                                  tt,
+                                ),
                               ),
                             ),
                           ),
@@ -238,6 +243,10 @@ network_cost_row : (id : List ℕ) (a : AttributesRecord) → last_row 0xC057 (r
 unfolding last_row
 network_cost_row id a = simp option_or-none
 
+nomination_row : (id : List ℕ) (a : AttributesRecord) → last_row 0xC001 (rows_of id a) ≡ option_map (to_be_bytes w32) a.nomination
+unfolding last_row
+nomination_row id a = simp option_or-none
+
 pub attributes_back : (id : List ℕ) (a : AttributesRecord) → AllTrip id a → row_attributes id (rows_of id a) ≡ record a { fingerprint = None }
 attributes_back id a trips =
     let rows : List Row = rows_of id a in
@@ -257,4 +266,5 @@ attributes_back id a trips =
     let ice_controlled_is : value_in (number w64 ControlledLength) (last_row 0x8029 rows) ≡ a.ice_controlled = ap (value_in (number w64 ControlledLength)) (ice_controlled_row id a) ∙ comes_back (number w64 ControlledLength) (to_be_bytes w64) a.ice_controlled trips.ice_controlled in
     let ice_controlling_is : value_in (number w64 ControllingLength) (last_row 0x802A rows) ≡ a.ice_controlling = ap (value_in (number w64 ControllingLength)) (ice_controlling_row id a) ∙ comes_back (number w64 ControllingLength) (to_be_bytes w64) a.ice_controlling trips.ice_controlling in
     let network_cost_is : option_and_then network_cost (last_row 0xC057 rows) ≡ a.network_cost = ap (option_and_then network_cost) (network_cost_row id a) ∙ cost_back a.network_cost trips.network_cost in
-    rw (username_is, error_code_is, channel_number_is, lifetime_is, xor_peer_address_is, bytes_is, realm_is, nonce_is, xor_relayed_address_is, xor_mapped_address_is, software_is, priority_is, use_candidate_is, ice_controlled_is, ice_controlling_is, network_cost_is) refl
+    let nomination_is : option_and_then nomination (last_row 0xC001 rows) ≡ a.nomination = ap (option_and_then nomination) (nomination_row id a) ∙ nomination_back a.nomination trips.nomination in
+    rw (username_is, error_code_is, channel_number_is, lifetime_is, xor_peer_address_is, bytes_is, realm_is, nonce_is, xor_relayed_address_is, xor_mapped_address_is, software_is, priority_is, use_candidate_is, ice_controlled_is, ice_controlling_is, network_cost_is, nomination_is) refl

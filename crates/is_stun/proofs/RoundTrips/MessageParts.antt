@@ -11,7 +11,7 @@ use Rattle.is_stun.specs.Address.{address_in}
 use Rattle.is_proto.specs.declared.error.ParseFault.TheVariants.{LifetimeLength, PriorityLength, UseCandidateLength, ControlledLength, ControllingLength}
 use Rattle.is_stun.specs.Numbers.{MAGIC, TEXT_LIMIT, USERNAME_LIMIT}
 use Rattle.is_stun.specs.Tlv.{Tlv, attribute_len, tlvs_after, tlvs_of}
-use Rattle.is_stun.specs.Kinds.{value_fault, text, number, bytes_of_len, error_code, channel_number, network_cost}
+use Rattle.is_stun.specs.Kinds.{value_fault, text, number, bytes_of_len, error_code, channel_number, network_cost, nomination}
 use Rattle.is_stun.specs.Message.{AttributesRecord}
 use Rattle.is_stun.specs.Writing.{Row, attribute, row_text, rows_text, optional_attribute}
 use Rattle.is_stun.specs.Header.{header, header_fault, length_field, magic_of, type_of, body_of, method_of, class_of}
@@ -132,13 +132,14 @@ row_attributes id rows =
       ice_controlled = value_in (number w64 ControlledLength) (last_row 0x8029 rows);
       ice_controlling = value_in (number w64 ControllingLength) (last_row 0x802A rows);
       network_cost = option_and_then network_cost (last_row 0xC057 rows);
+      nomination = option_and_then nomination (last_row 0xC001 rows);
       fingerprint = None;
     }
 
 pub attributes_by : (id : List ℕ) (rows : List Row) (cs : List Tlv) → ((code : ℕ) → last_of code (before_integrity cs) ≡ last_row code rows) → record (attributes_of id cs) { fingerprint = None } ≡ row_attributes id rows
 unfolding attributes_of
 attributes_by id rows cs h =
-    rw (h 6, h 9, h 0x0C, h 0x0D, h 0x12, h 0x13, h 0x14, h 0x15, h 0x16, h 0x20, h 0x22, h 0x24, h 0x25, h 0x8029, h 0x802A, h 0xC057) refl
+    rw (h 6, h 9, h 0x0C, h 0x0D, h 0x12, h 0x13, h 0x14, h 0x15, h 0x16, h 0x20, h 0x22, h 0x24, h 0x25, h 0x8029, h 0x802A, h 0xC057, h 0xC001) refl
 
 -- what the bytes of rows spell
 pub spelled_by : (typ len : ℕ) (id : List ℕ) (rows : List Row) (mac fingerprint : List ℕ) → typ < 2 ^ 16 → len < 2 ^ 16 → length id ≡ 12 → length mac ≡ 20 → length fingerprint ≡ 4

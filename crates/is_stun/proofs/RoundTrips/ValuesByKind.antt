@@ -9,7 +9,7 @@ use Rattle.std.proofs.lemmas.Bool.{le-ltb, eq-eqb}
 use Rattle.std.proofs.lemmas.Nat.{from_be_bytes-to_be_bytes_2, from_be_bytes-to_be_bytes_4, from_be_bytes-to_be_bytes_8}
 use Rattle.is_proto.specs.declared.error.ParseFault.{ParseFault}
 use Rattle.is_proto.specs.declared.error.ParseFault.TheVariants.{ChannelRange, UseCandidateLength}
-use Rattle.is_stun.specs.Kinds.{text, number, bytes_of_len, error_code, channel_number, network_cost, fault_in, value_fault}
+use Rattle.is_stun.specs.Kinds.{text, number, bytes_of_len, error_code, channel_number, network_cost, nomination, fault_in, value_fault}
 use Rattle.is_stun.specs.ErrorCode.{error_value}
 use Rattle.is_stun.specs.Writing.{row, channel_value, network_cost_value, if_set}
 use Rattle.is_stun.specs.Numbers.{DATA_LIMIT, TEXT_LIMIT, WRITTEN_TEXT_LIMIT}
@@ -115,3 +115,14 @@ cost_back None fits = refl
 cost_back (Some c) fits =
     ap (λ (n : ℕ). Some (n, from_be_bytes w16 (to_be_bytes w16 c.1))) (from_be_bytes-to_be_bytes_2 c.0 fits.0)
     ∙ ap (λ (n : ℕ). Some (c.0, n)) (from_be_bytes-to_be_bytes_2 c.1 fits.1)
+
+-- the number of a nomination
+pub nomination_fits : (o : Option ℕ) → FitsRow (row 0xC001 (option_map (to_be_bytes w32) o))
+unfolding value_fault
+nomination_fits None = (omega arith, (λ (e : 0xC001 ≡ 8). absurd (omega (arith, e))), tt)
+nomination_fits (Some n) = (omega arith, (λ (e : 0xC001 ≡ 8). absurd (omega (arith, e))), record { short = omega arith; sound = refl; counted = refl })
+
+pub nomination_back : (o : Option ℕ) → IfSome o (λ n. n < 2 ^ 32) → option_and_then nomination (option_map (to_be_bytes w32) o) ≡ o
+unfolding nomination
+nomination_back None fits = refl
+nomination_back (Some n) fits = ap Some (from_be_bytes-to_be_bytes_4 n fits)

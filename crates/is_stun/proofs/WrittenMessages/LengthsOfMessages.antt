@@ -7,13 +7,13 @@ use Rattle.std.specs.declared.net.socket_addr.SocketAddr.TheVariants.{V4, V6}
 use Rattle.std.proofs.lemmas.Bool.{le-ltb, lt-ltb}
 use Rattle.is_proto.specs.declared.error.StunError.{StunError}
 use Rattle.is_proto.specs.declared.error.StunError.TheVariants.{BufferTooShort}
-use Rattle.is_stun.specs.Numbers.{USERNAME, ICE_CONTROLLED, ICE_CONTROLLING, PRIORITY, USE_CANDIDATE, WRITTEN_USERNAME_LIMIT}
+use Rattle.is_stun.specs.Numbers.{USERNAME, ICE_CONTROLLED, ICE_CONTROLLING, PRIORITY, USE_CANDIDATE, NOMINATION, WRITTEN_USERNAME_LIMIT}
 use Rattle.is_stun.specs.Address.{xor_address}
-use Rattle.is_stun.specs.Checks.{binding_request, binding_reply, binding_role_conflict_reply}
+use Rattle.is_stun.specs.Checks.{binding_request, binding_reply, binding_role_conflict_reply, with_nomination}
 use Rattle.is_stun.specs.Message.{Message}
 use Rattle.is_stun.specs.Tlv.{padded_len}
 use Rattle.is_stun.specs.Writing.{Row, attribute, rows_text, rows_of, value_rejection, rows_rejection, rejection}
-use Rattle.is_stun.specs.Theorems.{TakesBytes, FitsInto, CheckTakes, LONGEST_CHECK, LONGEST_REPLY, reply_len, check_len}
+use Rattle.is_stun.specs.Theorems.{TakesBytes, FitsInto, CheckTakes, LONGEST_CHECK, LONGEST_NUMBERED_CHECK, LONGEST_REPLY, reply_len, check_len}
 use Rattle.is_stun.proofs.WrittenMessages.ConsecutiveRows.{attribute_length}
 
 -- rows of n bytes want n + 52 bytes of room: header, integrity and fingerprint
@@ -103,5 +103,63 @@ check_fits key id name controlling tie prio nominates short room fits =
     (check_takes key id name controlling tie prio nominates short).fits room (within nominates)
   where
     within : (b : Bool) → check_len name b ≤ room
+    within true = omega (arith, short, fits)
+    within false = omega (arith, short, fits)
+
+-- ---- checks with NOMINATION
+
+joined_length-5 : (a b c d e : List ℕ) → length (a ++ (b ++ (c ++ (d ++ (e ++ []))))) ≡ length a + (length b + (length c + (length d + length e)))
+joined_length-5 a b c d e = omega (arith, length-append a (b ++ (c ++ (d ++ (e ++ [])))), joined_length b c d e)
+
+with_flag_and_number : (name : List ℕ) (code tie prio n : ℕ)
+    → length (attribute USERNAME name ++ (attribute code (to_be_bytes w64 tie) ++ (attribute PRIORITY (to_be_bytes w32 prio) ++ (attribute USE_CANDIDATE [] ++ (attribute NOMINATION (to_be_bytes w32 n) ++ [])))))
+    ≡ 36 + padded_len (length name)
+with_flag_and_number name code tie prio n =
+    omega (
+      arith,
+      joined_length-5 (attribute USERNAME name) (attribute code (to_be_bytes w64 tie)) (attribute PRIORITY (to_be_bytes w32 prio)) (attribute USE_CANDIDATE []) (attribute NOMINATION (to_be_bytes w32 n)),
+      attribute_length USERNAME name,
+      attribute_length code (to_be_bytes w64 tie),
+      attribute_length PRIORITY (to_be_bytes w32 prio),
+      attribute_length USE_CANDIDATE [],
+      attribute_length NOMINATION (to_be_bytes w32 n),
+    )
+
+with_number : (name : List ℕ) (code tie prio n : ℕ)
+    → length (attribute USERNAME name ++ (attribute code (to_be_bytes w64 tie) ++ (attribute PRIORITY (to_be_bytes w32 prio) ++ (attribute NOMINATION (to_be_bytes w32 n) ++ [])))) ≡ 32 + padded_len (length name)
+with_number name code tie prio n =
+    omega (
+      arith,
+      joined_length (attribute USERNAME name) (attribute code (to_be_bytes w64 tie)) (attribute PRIORITY (to_be_bytes w32 prio)) (attribute NOMINATION (to_be_bytes w32 n)),
+      attribute_length USERNAME name,
+      attribute_length code (to_be_bytes w64 tie),
+      attribute_length PRIORITY (to_be_bytes w32 prio),
+      attribute_length NOMINATION (to_be_bytes w32 n),
+    )
+
+numbered_value_fits : (id name : List ℕ) (controlling : Bool) (tie prio : ℕ) (nominates : Bool) (n : ℕ) → length name ≤ WRITTEN_USERNAME_LIMIT
+    → value_rejection (with_nomination (Some n) (binding_request name id controlling tie prio nominates)) ≡ None
+unfolding value_rejection
+numbered_value_fits id name controlling tie prio nominates n short = rw (le-ltb WRITTEN_USERNAME_LIMIT (length name) short) refl
+
+numbered_takes : (key id name : List ℕ) (controlling : Bool) (tie prio : ℕ) (nominates : Bool) (n : ℕ) → length name ≤ WRITTEN_USERNAME_LIMIT
+    → TakesBytes key (check_len name nominates + 8) (with_nomination (Some n) (binding_request name id controlling tie prio nominates))
+unfolding rows_text
+numbered_takes key id name true tie prio true n short =
+    as_takes (36 + padded_len (length name)) (omega arith) (takes_by key _ (36 + padded_len (length name)) (numbered_value_fits id name true tie prio true n short) (with_flag_and_number name ICE_CONTROLLING tie prio n) (omega (arith, short)))
+numbered_takes key id name true tie prio false n short =
+    as_takes (32 + padded_len (length name)) (omega arith) (takes_by key _ (32 + padded_len (length name)) (numbered_value_fits id name true tie prio false n short) (with_number name ICE_CONTROLLING tie prio n) (omega (arith, short)))
+numbered_takes key id name false tie prio true n short =
+    as_takes (36 + padded_len (length name)) (omega arith) (takes_by key _ (36 + padded_len (length name)) (numbered_value_fits id name false tie prio true n short) (with_flag_and_number name ICE_CONTROLLED tie prio n) (omega (arith, short)))
+numbered_takes key id name false tie prio false n short =
+    as_takes (32 + padded_len (length name)) (omega arith) (takes_by key _ (32 + padded_len (length name)) (numbered_value_fits id name false tie prio false n short) (with_number name ICE_CONTROLLED tie prio n) (omega (arith, short)))
+
+pub numbered_fits : (key id name : List ℕ) (controlling : Bool) (tie prio : ℕ) (nominates : Bool) (number : Option ℕ) → length name ≤ WRITTEN_USERNAME_LIMIT
+    → FitsInto key LONGEST_NUMBERED_CHECK (with_nomination number (binding_request name id controlling tie prio nominates))
+numbered_fits key id name controlling tie prio nominates None short room fits = check_fits key id name controlling tie prio nominates short room (omega (arith, fits))
+numbered_fits key id name controlling tie prio nominates (Some n) short room fits =
+    (numbered_takes key id name controlling tie prio nominates n short).fits room (within nominates)
+  where
+    within : (b : Bool) → check_len name b + 8 ≤ room
     within true = omega (arith, short, fits)
     within false = omega (arith, short, fits)

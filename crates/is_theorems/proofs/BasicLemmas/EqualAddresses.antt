@@ -1,6 +1,6 @@
 -- The Boolean tests of addresses and protocols decide equality.
 use Rattle.std.proofs.Common.{◌≡◌, ℕ, zero, suc, ◌==◌, ◌&&◌, Bool, true, false, List, bytes_eq, refl, ap, sym, ◌∙◌}
-use Rattle.std.proofs.lemmas.Bool.{eqb-true}
+use Rattle.std.proofs.lemmas.Bool.{eq-eqb, eqb-true}
 use Rattle.std.proofs.lemmas.Slice.Eq.{bytes_eq-Decides}
 use Rattle.std.specs.declared.net.socket_addr.SocketAddrV4.{SocketAddrV4}
 use Rattle.std.specs.declared.net.socket_addr.SocketAddrV6.{SocketAddrV6}
@@ -44,6 +44,21 @@ same_address-sound (V6 a) (V6 b) h =
     ap V6 (v6 a b (same_bytes _ _ m.0) (eqb-true _ _ m.1) (eqb-true _ _ l.1) (eqb-true _ _ k.1))
 same_address-sound (V4 a) (V6 b) h = absurd (cc)
 same_address-sound (V6 a) (V4 b) h = absurd (cc)
+
+both-hold : (a b : Bool) → a ≡ true → b ≡ true → (a && b) ≡ true
+both-hold true b one two = two
+both-hold false b one two = cc
+
+bytes-same : (a : List ℕ) → bytes_eq a a ≡ true
+bytes-same a = (bytes_eq-Decides a a).1 refl
+
+pub same_address-same : (a : SocketAddr) → same_address a a ≡ true
+same_address-same (V4 a) = both-hold (bytes_eq (ipv4_octets (v4_ip a)) (ipv4_octets (v4_ip a))) (v4_port a == v4_port a) (bytes-same (ipv4_octets (v4_ip a))) (eq-eqb (v4_port a) (v4_port a) refl)
+same_address-same (V6 a) =
+    both-hold (bytes_eq (ipv6_segments (v6_ip a)) (ipv6_segments (v6_ip a)) && v6_port a == v6_port a && v6_flowinfo a == v6_flowinfo a) (v6_scope_id a == v6_scope_id a)
+    (both-hold (bytes_eq (ipv6_segments (v6_ip a)) (ipv6_segments (v6_ip a)) && v6_port a == v6_port a) (v6_flowinfo a == v6_flowinfo a)
+    (both-hold (bytes_eq (ipv6_segments (v6_ip a)) (ipv6_segments (v6_ip a))) (v6_port a == v6_port a) (bytes-same (ipv6_segments (v6_ip a))) (eq-eqb (v6_port a) (v6_port a) refl))
+    (eq-eqb (v6_flowinfo a) (v6_flowinfo a) refl)) (eq-eqb (v6_scope_id a) (v6_scope_id a) refl)
 
 -- the protocol of a number
 numbered : ℕ → Protocol

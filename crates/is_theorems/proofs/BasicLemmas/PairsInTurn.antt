@@ -1,31 +1,170 @@
--- The pair that is checked next, whether it goes ahead or not.
-use Rattle.std.proofs.Common.{◌≡◌, ℕ, Bool, true, false, Option, Some, None, subst}
+-- The pair that is checked next, whether it goes ahead or not, and what its check leaves of the pairs.
+use Rattle.std.proofs.Common.{◌≡◌, ℕ, ◌&&◌, Bool, true, false, not, List, [], ◌∷◌, Option, Some, None, is_some, refl, ap, sym, ◌∙◌, subst, if◌then◌else◌}
 use Rattle.std.specs.Prelude.{MatchBool}
 use Rattle.is_proto.specs.Lists.{Has, NonePass}
+use Rattle.is_stun.specs.declared.timing.StunTiming.{StunTiming}
 use Rattle.is_pair.specs.Due.{is_due, IsNextDue}
-use Rattle.is_pair.specs.Pairs.{PairRecord}
+use Rattle.is_pair.specs.Multiset.{change_at, change_pair, is_numbered}
+use Rattle.is_pair.specs.Pairs.{PairRecord, checked, is_nominated, renominated}
+use Rattle.is_pair.specs.States.{is_nominated_state, nomination_again, nomination_once_sent}
+use Rattle.is_pair.specs.declared.pair.states.NominationState.{NominationState}
+use Rattle.is_pair.specs.declared.pair.states.NominationState.TheVariants.{None as Unnominated, Nominated, Attempt, Success}
+use Rattle.is_rules.proofs.PairLists.ChosenPair.{found-in}
+use Rattle.is_rules.specs.declared.credentials.IceCreds.{IceCreds}
 use Rattle.is_rules.specs.Agent.{AgentRecord}
-use Rattle.is_rules.specs.Checking.{is_ahead_turn, precedence, IsNextToCheck}
+use Rattle.is_rules.specs.Checking.{check_sent, is_ahead_turn, precedence, IsNextInTurn, IsNextToCheck}
 use Rattle.is_rules.specs.Kinds.{IsNextAhead}
+use Rattle.is_rules.specs.Nominating.{nominates_at_once, numbers, pair_selected}
+
+-- ---- which pair
+
+-- the pair with the selected number is in the list
+selected-has : (number : Option ℕ) (ps : List PairRecord) (p : PairRecord) → Some p ≡ pair_selected number ps → Has ps p
+selected-has None ps p is = absurd (let no : Some p ≡ None = is in cc)
+selected-has (Some n) ps p is = (found-in (is_numbered n) ps p (sym is)).0
+
+last-fact : (a b c d e : Bool) → (a && b && c && d && e) ≡ true → e ≡ true
+last-fact true true true true e h = h
+last-fact true true true false e h = absurd (let no : false ≡ true = h in cc)
+last-fact true true false d e h = absurd (let no : false ≡ true = h in cc)
+last-fact true false c d e h = absurd (let no : false ≡ true = h in cc)
+last-fact false b c d e h = absurd (let no : false ≡ true = h in cc)
+
+none-selected : (o : Option PairRecord) → None ≡ o → is_some o ≡ true → ⊥
+none-selected None is some = let no : false ≡ true = some in cc
+none-selected (Some p) is some = let no : None ≡ Some p = is in cc
+
+first-fact : (a b c d e : Bool) → (a && b && c && d && e) ≡ true → a ≡ true
+first-fact true b c d e h = refl
+first-fact false b c d e h = absurd (let no : false ≡ true = h in cc)
+
+both-facts : (a b c d e : Bool) → (a && c) ≡ false → (a && b && c && d && e) ≡ false
+both-facts true true true d e h = absurd (let no : true ≡ false = h in cc)
+both-facts true true false d e h = refl
+both-facts true false c d e h = refl
+both-facts false b c d e h = refl
+
+never-both : (b c : Bool) → c ≡ false → (b && c) ≡ false
+never-both true c is = is
+never-both false c is = refl
+
+-- an agent without numbers nominates no path at once
+pub checks-in-turn : {H P : Type 0} (a : AgentRecord H P) → numbers a ≡ false → (a.controlling && numbers a) ≡ false
+checks-in-turn a is = never-both a.controlling (numbers a) is
 
 module _ {H P : Type 0} (now : ℕ) (a : AgentRecord H P) where
+  abbrev Turn : Option PairRecord → Type 0
+  Turn next = IsNextInTurn now a next
+
+  -- a controlled agent, and one without numbers, nominates no path at once
+  pub none-at-once : (a.controlling && numbers a) ≡ false → nominates_at_once a ≡ false
+  none-at-once h = both-facts a.controlling (not a.lite) (numbers a) a.nomination_due (is_some (pair_selected a.selected_pair a.pairs)) h
+
+  -- only a controlling agent does
+  pub at-once-controls : nominates_at_once a ≡ true → a.controlling ≡ true
+  at-once-controls h = first-fact a.controlling (not a.lite) (numbers a) a.nomination_due (is_some (pair_selected a.selected_pair a.pairs)) h
+
+  -- then the next pair is the one whose turn it is
+  pub in-turn : (next : Option PairRecord) → nominates_at_once a ≡ false → IsNextToCheck now a next → IsNextInTurn now a next
+  in-turn next calm h = subst (λ b. MatchBool b (next ≡ pair_selected a.selected_pair a.pairs) (IsNextInTurn now a next)) calm h
+
   -- if there is none, no pair is due
   pub none-is-due : IsNextToCheck now a None → NonePass (is_due now a.timing) a.pairs
-  none-is-due h = by (is_ahead_turn now a) h where
+  none-is-due h = at-once (nominates_at_once a) refl h where
     by : (b : Bool) → MatchBool b (IsNextAhead a.local a.remote (precedence a) a.next_kind now a.timing a.pairs None) (IsNextDue now a.timing a.pairs None)
         → NonePass (is_due now a.timing) a.pairs
     by true none = none
     by false none = none
 
-  -- otherwise it is one of the pairs, and due
-  pub next-is-due : (p : PairRecord) → IsNextToCheck now a (Some p) → Has a.pairs p × (is_due now a.timing p ≡ true)
-  next-is-due p h = by (is_ahead_turn now a) h where
+    at-once : (b : Bool) → nominates_at_once a ≡ b → MatchBool b (None ≡ pair_selected a.selected_pair a.pairs) (IsNextInTurn now a None) → NonePass (is_due now a.timing) a.pairs
+    at-once true is none = absurd (none-selected (pair_selected a.selected_pair a.pairs) none
+        (last-fact a.controlling (not a.lite) (numbers a) a.nomination_due (is_some (pair_selected a.selected_pair a.pairs)) is))
+    at-once false is turn = by (is_ahead_turn now a) turn
+
+  -- nor is a nomination to be sent at once
+  pub none-to-send : IsNextToCheck now a None → nominates_at_once a ≡ true → ⊥
+  none-to-send h due = none-selected (pair_selected a.selected_pair a.pairs)
+      (subst (λ b. MatchBool b (None ≡ pair_selected a.selected_pair a.pairs) (IsNextInTurn now a None)) due h)
+      (last-fact a.controlling (not a.lite) (numbers a) a.nomination_due (is_some (pair_selected a.selected_pair a.pairs)) due)
+
+  turn-is-due : (p : PairRecord) → IsNextInTurn now a (Some p) → Has a.pairs p × (is_due now a.timing p ≡ true)
+  turn-is-due p h = by (is_ahead_turn now a) h where
     by : (b : Bool) → MatchBool b (IsNextAhead a.local a.remote (precedence a) a.next_kind now a.timing a.pairs (Some p)) (IsNextDue now a.timing a.pairs (Some p))
         → Has a.pairs p × (is_due now a.timing p ≡ true)
     by true (has, due, first) = (has, due)
     by false ((has, first), due) = (has, due)
 
+  -- otherwise it is one of the pairs
+  pub next-has : (p : PairRecord) → IsNextToCheck now a (Some p) → Has a.pairs p
+  next-has p h = by (nominates_at_once a) h where
+    by : (b : Bool) → MatchBool b (Some p ≡ pair_selected a.selected_pair a.pairs) (IsNextInTurn now a (Some p)) → Has a.pairs p
+    by true selected = selected-has a.selected_pair a.pairs p selected
+    by false turn = (turn-is-due p turn).0
+
   -- unless the check goes ahead, it is the pair that is due first
-  pub next-in-turn : (next : Option PairRecord) → is_ahead_turn now a ≡ false → IsNextToCheck now a next → IsNextDue now a.timing a.pairs next
-  next-in-turn next off h =
-      subst (λ b. MatchBool b (IsNextAhead a.local a.remote (precedence a) a.next_kind now a.timing a.pairs next) (IsNextDue now a.timing a.pairs next)) off h
+  pub next-in-turn : (next : Option PairRecord) → nominates_at_once a ≡ false → is_ahead_turn now a ≡ false → IsNextToCheck now a next → IsNextDue now a.timing a.pairs next
+  next-in-turn next calm off h =
+      subst (λ b. MatchBool b (IsNextAhead a.local a.remote (precedence a) a.next_kind now a.timing a.pairs next) (IsNextDue now a.timing a.pairs next)) off (in-turn next calm h)
+
+-- ---- the pairs after the check
+
+-- the pair that is checked; if its nomination begins, it is nominated again before
+abbrev pub sent_at : Bool → ℕ → StunTiming → Bool → List ℕ → PairRecord → PairRecord
+sent_at begins now t c id p = checked now t c id (if begins then renominated p else p)
+
+once : (n : NominationState) → is_nominated_state (nomination_once_sent n) ≡ is_nominated_state n
+once Unnominated = refl
+once Nominated = refl
+once Attempt = refl
+once Success = refl
+
+-- what holds of it in both cases
+pub by-begins : (begins : Bool) (Holds : PairRecord → Type 0) (now : ℕ) (t : StunTiming) (c : Bool) (id : List ℕ) (p : PairRecord)
+    → Holds (checked now t c id (renominated p)) → Holds (checked now t c id p) → Holds (sent_at begins now t c id p)
+by-begins true Holds now t c id p again plain = again
+by-begins false Holds now t c id p again plain = plain
+
+pub sent-number : (begins : Bool) (now : ℕ) (t : StunTiming) (c : Bool) (id : List ℕ) (p : PairRecord) → (sent_at begins now t c id p).number ≡ p.number
+sent-number true now t c id p = refl
+sent-number false now t c id p = refl
+
+-- two changes of one pair are one
+fused-at : (n : ℕ) (g : PairRecord → PairRecord) (p : PairRecord) → change_at n g (change_at n renominated p) ≡ change_at n (λ x. g (renominated x)) p
+fused-at n g p =
+    ap (λ c. if c then g (change_at n renominated p) else change_at n renominated p) (numbered (is_numbered n p)) ∙ at (is_numbered n p) where
+      numbered : (b : Bool) → is_numbered n (if b then renominated p else p) ≡ is_numbered n p
+      numbered true = refl
+      numbered false = refl
+
+      at : (b : Bool) → (if b then g (if b then renominated p else p) else (if b then renominated p else p)) ≡ (if b then g (renominated p) else p)
+      at true = refl
+      at false = refl
+
+fused : (n : ℕ) (g : PairRecord → PairRecord) (ps : List PairRecord) → change_pair n g (change_pair n renominated ps) ≡ change_pair n (λ x. g (renominated x)) ps
+fused n g [] = refl
+fused n g (p ∷ ps) =
+    ap (λ x. x ∷ change_pair n g (change_pair n renominated ps)) (fused-at n g p)
+    ∙ ap (λ xs. change_at n (λ x. g (renominated x)) p ∷ xs) (fused n g ps)
+
+-- A pair that is nominated after its check was before.
+pub nominated-before : (begins : Bool) (now : ℕ) (t : StunTiming) (c : Bool) (id : List ℕ) (p : PairRecord) → is_nominated (sent_at begins now t c id p) ≡ is_nominated p
+nominated-before true now t c id p = once (nomination_again p.nomination) ∙ again p.nomination where
+  again : (n : NominationState) → is_nominated_state (nomination_again n) ≡ is_nominated_state n
+  again Unnominated = refl
+  again Nominated = refl
+  again Attempt = refl
+  again Success = refl
+nominated-before false now t c id p = once p.nomination
+
+pub sent-pairs : (begins : Bool) (n now : ℕ) (t : StunTiming) (c : Bool) (id : List ℕ) (ps : List PairRecord)
+    → change_pair n (checked now t c id) (if begins then change_pair n renominated ps else ps) ≡ change_pair n (sent_at begins now t c id) ps
+sent-pairs true n now t c id ps = fused n (checked now t c id) ps
+sent-pairs false n now t c id ps = refl
+
+module _ {H P : Type 0} (mac : H → List ℕ → List ℕ → List ℕ) (now : ℕ) (peer : IceCreds) (p : PairRecord) (id : List ℕ) (a new : AgentRecord H P) where
+  -- one pair is changed
+  pub pairs-sent : new ≡ check_sent mac now peer p id a → new.pairs ≡ change_pair p.number (sent_at (nominates_at_once a) now a.timing a.controlling id) a.pairs
+  pairs-sent made = ap (λ (x : AgentRecord H P). x.pairs) made ∙ sent-pairs (nominates_at_once a) p.number now a.timing a.controlling id a.pairs
+
+  pub pairs-checked : nominates_at_once a ≡ false → new ≡ check_sent mac now peer p id a → new.pairs ≡ change_pair p.number (checked now a.timing a.controlling id) a.pairs
+  pairs-checked calm made = pairs-sent made ∙ ap (λ b. change_pair p.number (sent_at b now a.timing a.controlling id) a.pairs) calm

@@ -10,7 +10,7 @@ use Rattle.is_rules.specs.Emitted.{nothing_emitted}
 use Rattle.is_rules.specs.Sound.{KeepsChecks}
 use Rattle.is_rules.specs.Agent.{AgentRecord}
 use Rattle.is_rules.specs.Forming.{Combination, FormsAll}
-use Rattle.is_rules.specs.Settings.{with_rules, SetsMtu, with_rtos, with_retransmits, with_lite_timeout}
+use Rattle.is_rules.specs.Settings.{with_rules, SetsControlling, SetsMtu, with_rtos, with_retransmits, with_lite_timeout}
 use Rattle.is_rules.specs.Credentials.{SetsLocal, SetsRemote}
 use Rattle.is_rules.specs.Discarding.{change_place, discarded, local_discarded, remote_discarded, place_to_discard, InvalidatesAt}
 use Rattle.is_rules.specs.Local.{enabled, enabled_again, appended, AddsLocal}
@@ -18,7 +18,7 @@ use Rattle.is_rules.specs.Remote.{as_remote, with_remote, AddsRemote}
 use Rattle.is_rules.specs.Restarting.{with_ufrag, kept_local, restarted, emptied, Restarts, Recreates}
 use Rattle.is_rules.specs.Steps.{Call, SetMtu, SetControlTieBreaker, SetMaxCandidatePairs, SetMaxDiscovered, SetIceLite, SetRenomination, SetRules, SetTimingAdvance, SetInitialStunRto, SetMaxStunRto, SetMaxStunRetransmits, SetLiteTimeout, SetLocalPreference, SetControlling, SetLocalCredentials, SetRemoteCredentials, SkipPairIds, AddLocalCandidate, AddRemoteCandidate, InvalidateCandidate, RestartIce, RecreateCandidatePairs, ReceivePacket, HandleTimeout, PollTransmit, PollTimeout, PollEvent, Becomes, MayDo, Step}
 use Rattle.is_rules.specs.Sound.{GivesBased}
-use Rattle.is_theorems.proofs.CallEffects.FailedCallsAndNewAgents.{mtu_kept, local_kept, remote_kept, restart_kept, recreation_kept, enrolment_kept, storing_kept}
+use Rattle.is_theorems.proofs.CallEffects.FailedCallsAndNewAgents.{mtu_kept, controlling_kept, local_kept, remote_kept, restart_kept, recreation_kept, enrolment_kept, storing_kept}
 use Rattle.is_theorems.proofs.CallEffects.AddedCandidates.{by_adding_local, by_adding_remote, by_waking}
 use Rattle.is_theorems.proofs.RuleEffects.EarlierAndNewPairs.{Has-push}
 use Rattle.is_theorems.proofs.RuleEffects.ChangedPairs.{Has-map}
@@ -144,7 +144,8 @@ module _ {H P : Type 0} where
     calm (SetMaxStunRetransmits n) is h = retransmits (n == 0) n refl h
     calm (SetLiteTimeout by) is h = becomes (SetLiteTimeout by) (with_lite_timeout by old) (record { selected_paths = refl; last = refl; checks = λ k. k; based = λ _ b. b }) h
     calm (SetLocalPreference object) is h = becomes (SetLocalPreference object) _ (local_alike (Unit {0}) old _ refl refl refl refl) h
-    calm (SetControlling controlling) is h = becomes (SetControlling controlling) _ (local_alike (Unit {0}) old _ refl refl refl refl) h
+    calm (SetControlling controlling) is h = done_or (SetControlling controlling) (SetsControlling old controlling)
+        (λ k. becoming (Unit {0}) old _ new (local_alike (Unit {0}) old _ refl refl refl refl) k.1) (λ error k. controlling_kept old new controlling error k) h
     calm (SetLocalCredentials creds) is h = done_or (SetLocalCredentials creds) (SetsLocal old creds)
         (λ k. becoming (Unit {0}) old _ new (local_alike (Unit {0}) old _ refl refl refl refl) k.1) (λ error k. local_kept old new creds error k) h
     calm (SetRemoteCredentials creds) is h = done_or (SetRemoteCredentials creds) (SetsRemote old creds)

@@ -38,7 +38,7 @@ kept_at f (c ∷ cs) zero (suc k) y same = refl
 kept_at f (c ∷ cs) (suc i) zero y same = refl
 kept_at f (c ∷ cs) (suc i) (suc k) y same = kept_at f cs i k y same
 
-module _ (asks met : Path → Type 0) (sent : Path → List ℕ → Bool → Type 0) where
+module _ (asks : Path → ℕ → Type 0) (met : Path → Type 0) (sent : Path → List ℕ → Bool → Type 0) where
   -- the lists change, but no index is removed or gets another path
   relisted : (x : Parts) (local remote : List CandidateRecord) → Fit x → length local ≡ length x.local → length remote ≡ length x.remote
       → ((k : ℕ) → (candidate_at local k).proto ≡ (candidate_at x.local k).proto) → ((k : ℕ) → base_of (candidate_at local k) ≡ base_of (candidate_at x.local k))
@@ -56,6 +56,7 @@ module _ (asks met : Path → Type 0) (sent : Path → List ℕ → Bool → Typ
       checks = λ k keeps. inl (k, keeps, refl, refl);
       valid = λ is. inl is;
       asked = λ is. inl is;
+      numbered = λ m le. inl le;
       still_valid = λ is. is;
       still_nominated = λ is. is;
     });
@@ -94,6 +95,7 @@ module _ (asks met : Path → Type 0) (sent : Path → List ℕ → Bool → Typ
     checks = λ c keeps. inl (c, keeps, refl, refl);
     valid = λ is. inl is;
     asked = λ is. inl is;
+    numbered = λ m le. inl le;
     still_valid = λ is. is;
     still_nominated = λ is. is;
     started = λ s. s;

@@ -1,5 +1,5 @@
 -- The effects of checks and responses on pairs, and the effects of `handle_timeout` calls and success responses.
-use Rattle.std.proofs.Common.{◌≡◌, ℕ, zero, suc, ◌+◌, ◌<◌, Bool, true, false, List, [], ◌∷◌, ◌++◌, drop, length, Option, Some, None, inl, inr, ◌⊎◌, refl, ap, sym, ◌∙◌, subst, arith, if◌then◌else◌}
+use Rattle.std.proofs.Common.{◌≡◌, ℕ, zero, suc, ◌+◌, ◌<◌, Bool, true, false, List, [], ◌∷◌, ◌++◌, drop, length, Option, Some, None, inl, inr, ◌⊎◌, refl, ap, sym, ◌∙◌, subst, arith, if◌then◌else◌, ◌||◌}
 use Rattle.std.specs.Prelude.{slice_set, slice_get}
 use Rattle.std.proofs.lemmas.List.{length-append}
 use Rattle.rand_core.specs.Stream.{Stream}
@@ -10,9 +10,9 @@ use Rattle.is_pair.specs.declared.pair.states.CheckState.{CheckState}
 use Rattle.is_pair.specs.declared.pair.states.CheckState.TheVariants.{Waiting, InProgress, Succeeded}
 use Rattle.is_pair.specs.declared.pair.states.NominationState.{NominationState}
 use Rattle.is_pair.specs.declared.pair.states.NominationState.TheVariants.{None as Unnominated, Nominated, Attempt, Success}
-use Rattle.is_pair.specs.States.{is_valid_state, is_nominated_state, state_once_sent, state_once_answered, nomination_once_sent, nomination_once_answered}
+use Rattle.is_pair.specs.States.{is_valid_state, is_nominated_state, state_once_sent, state_once_answered, nomination_once_sent, nomination_again, nomination_once_answered}
 use Rattle.is_pair.specs.Checks.{Check, answered_at, IsCheckAt}
-use Rattle.is_pair.specs.Pairs.{PairRecord, check_of, checked, answered, heard, heard_at}
+use Rattle.is_pair.specs.Pairs.{PairRecord, check_of, checked, answered, heard, heard_at, renominated}
 use Rattle.is_pair.specs.Due.{asked}
 use Rattle.is_rules.specs.declared.credentials.IceCreds.{IceCreds}
 use Rattle.is_rules.specs.declared.emitted.Path.{Path}
@@ -34,7 +34,8 @@ use Rattle.is_theorems.proofs.RuleEffects.SelectedPaths.{one_pair, some_is}
 use Rattle.is_theorems.proofs.RuleEffects.EarlierAndNewPairs.{Parts, path_in, Fit, Onward, here, onward, Has-push}
 use Rattle.is_theorems.proofs.RuleEffects.ChangedPairs.{Changed, unchanged, mapped, one_changed, parts_of}
 use Rattle.is_theorems.proofs.BasicLemmas.CandidatesByIndex.{at-append}
-use Rattle.is_theorems.proofs.BasicLemmas.PairsInTurn.{next-is-due}
+use Rattle.is_theorems.proofs.BasicLemmas.PairsInTurn.{at-once-controls, next-has, sent_at, sent-pairs}
+use Rattle.is_rules.specs.Nominating.{nominates_at_once}
 
 pub Has-drop : {X : Type 0} (n : ℕ) (xs : List X) (x : X) → Has (drop n xs) x → Has xs x
 Has-drop zero xs x h = h
@@ -65,6 +66,13 @@ sent_nominated Unnominated = refl
 sent_nominated Nominated = refl
 sent_nominated Attempt = refl
 sent_nominated Success = refl
+
+-- also if its nomination begins again
+pub again_nominated : (n : NominationState) → is_nominated_state (nomination_again n) ≡ is_nominated_state n
+again_nominated Unnominated = refl
+again_nominated Nominated = refl
+again_nominated Attempt = refl
+again_nominated Success = refl
 
 answered_still : (s : CheckState) → is_valid_state s ≡ true → is_valid_state (state_once_answered s) ≡ true
 answered_still Waiting h = h
@@ -128,7 +136,7 @@ put_at (q ∷ qs) (suc i) p after rising at same =
     ∙ sym (ap (λ b. (if b then after else q) ∷ change_pair after.number (λ _. after) qs)
     (not_numbered after.number q (λ is. (let none : ⊥ = omega (arith, lt, is, same) in none))))
 
-module _ (asks met : Path → Type 0) (sent : Path → List ℕ → Bool → Type 0) where
+module _ (asks : Path → ℕ → Type 0) (met : Path → Type 0) (sent : Path → List ℕ → Bool → Type 0) where
   -- a check is sent
   pub check_changes : (path : Path) (now : ℕ) (t : StunTiming) (controlling : Bool) (id : List ℕ) (p : PairRecord) → sent path id controlling
       → Changed asks met sent path p (checked now t controlling id p)
@@ -142,11 +150,38 @@ module _ (asks met : Path → Type 0) (sent : Path → List ℕ → Bool → Typ
     ];
     valid = λ is. inl (sent_valid p.state is);
     asked = λ is. inl (sym (sent_nominated p.nomination) ∙ is);
+    numbered = λ m le. inl le;
     still_valid = λ is. sent_still p.state is;
     still_nominated = λ is. sent_nominated p.nomination ∙ is;
     started = λ _ c keeps. sent_started p.state;
     consented = λ _ had is. sent_still p.state (had is);
   }
+
+  -- its nomination begins again before
+  check_again : (path : Path) (now : ℕ) (t : StunTiming) (controlling : Bool) (id : List ℕ) (p : PairRecord) → asks path 0 → sent path id controlling
+      → Changed asks met sent path p (checked now t controlling id (renominated p))
+  check_again path now t controlling id p asking out = record {
+    number = refl;
+    local = refl;
+    remote = refl;
+    checks = λ c keeps.
+        elim (Has-push p.checks (check_of now controlling id (renominated p)) c (Has-drop _ (p.checks ++ check_of now controlling id (renominated p) ∷ []) c keeps)) [
+          | inl was ↦ inl (c, was, refl, refl)
+          | inr same ↦ inr (subst (λ (k : Check). sent path k.id k.controlling) same out)
+        ];
+    valid = λ is. inl (sent_valid p.state is);
+    asked = λ _. inr asking;
+    numbered = λ m le. inl le;
+    still_valid = λ is. sent_still p.state is;
+    still_nominated = λ is. sent_nominated (nomination_again p.nomination) ∙ (again_nominated p.nomination ∙ is);
+    started = λ _ c keeps. sent_started p.state;
+    consented = λ _ had is. sent_still p.state (had is);
+  }
+
+  sent_changes : (begins : Bool) (path : Path) (now : ℕ) (t : StunTiming) (controlling : Bool) (id : List ℕ) (p : PairRecord) → (begins ≡ true → asks path 0) → sent path id controlling
+      → Changed asks met sent path p (sent_at begins now t controlling id p)
+  sent_changes true path now t controlling id p asking out = check_again path now t controlling id p (asking refl) out
+  sent_changes false path now t controlling id p asking out = check_changes path now t controlling id p out
 
   -- a pending transaction is answered
   pub answer_changes : (path : Path) (now place : ℕ) (c : Check) (p : PairRecord) → IsCheckAt p.checks c.id place c → met path
@@ -161,6 +196,7 @@ module _ (asks met : Path → Type 0) (sent : Path → List ℕ → Bool → Typ
     ];
     valid = λ is. inr answers;
     asked = λ is. inl (sym (answered_nominated c.nominated p.nomination) ∙ is);
+    numbered = λ m le. inl le;
     still_valid = λ is. answered_still p.state is;
     still_nominated = λ is. answered_nominated c.nominated p.nomination ∙ is;
     started = λ was k keeps. answered_started p.state (was c (Has-get p.checks place c at.0));
@@ -175,6 +211,7 @@ module _ (asks met : Path → Type 0) (sent : Path → List ℕ → Bool → Typ
     checks = λ c keeps. inl (c, keeps, refl, refl);
     valid = λ is. inl is;
     asked = λ is. inl is;
+    numbered = λ m le. inl le;
     still_valid = λ is. is;
     still_nominated = λ is. is;
     started = λ s. s;
@@ -190,6 +227,7 @@ module _ (asks met : Path → Type 0) (sent : Path → List ℕ → Bool → Typ
     checks = λ c keeps. inl (c, keeps, refl, refl);
     valid = λ is. inl is;
     asked = λ is. inl is;
+    numbered = λ m le. inl le;
     still_valid = λ is. is;
     still_nominated = λ is. is;
     started = λ s. s;
@@ -210,6 +248,7 @@ module _ (asks met : Path → Type 0) (sent : Path → List ℕ → Bool → Typ
           checks = λ k keeps. inl (k, keeps, refl, refl);
           valid = λ is. inl is;
           asked = λ is. inl is;
+          numbered = λ m le. inl le;
           still_valid = λ is. is;
           still_nominated = λ is. is;
         });
@@ -254,11 +293,12 @@ module _ (asks met : Path → Type 0) (sent : Path → List ℕ → Bool → Typ
 
     -- a `handle_timeout` call may send a check on its path
     pub check_moves : (mac : H → List ℕ → List ℕ → List ℕ) (now : ℕ) (remote : Option IceCreds) (old new : AgentRecord H P) (s t : Stream) (issued : Option Issued)
+        → ((old.controlling || old.lite) ≡ true → (p : Path) (m : ℕ) → asks p m)
         → ((path : Path) (id : List ℕ) → issued ≡ Some (issued_as path class.Request id) → sent path id old.controlling) → Fit (parts_of asks met sent old)
         → MayCheck mac now remote old s issued new t → Onward asks met sent (parts_of asks met sent old) (parts_of asks met sent new)
-    check_moves mac now None old new s t issued sends fit (is, made, drawn) =
+    check_moves mac now None old new s t issued free sends fit (is, made, drawn) =
         subst (λ (a : AgentRecord H P). Onward asks met sent (parts_of asks met sent old) (parts_of asks met sent a)) (sym made) (here asks met sent (parts_of asks met sent old) fit)
-    check_moves mac now (Some remote) old new s t issued sends fit h = either old.lite h
+    check_moves mac now (Some remote) old new s t issued free sends fit h = either old.lite h
         (λ _ k. subst (λ (a : AgentRecord H P). Onward asks met sent (parts_of asks met sent old) (parts_of asks met sent a)) (sym k.1)
         (mapped asks met sent (parts_of asks met sent old) (heard now) fit (λ p has. heard_changes (path_of old p) now p.last_request p)))
         (λ _ k. next k.0 k.1 k.2) where
@@ -274,13 +314,18 @@ module _ (asks met : Path → Type 0) (sent : Path → List ℕ → Bool → Typ
               subst (λ (a : AgentRecord H P). Onward asks met sent (parts_of asks met sent old) (parts_of asks met sent a)) (sym made) asks_all
           next (Some p) chosen (id, drawn, values, is, made) =
               let all : AgentRecord H P = all_asked now old in
-              let has : Has all.pairs p = (next-is-due now all p chosen).0 in
+              let has : Has all.pairs p = next-has now all p chosen in
+              let begins : Bool = nominates_at_once all in
+              let change : PairRecord → PairRecord = sent_at begins now old.timing old.controlling id in
+              let asking : begins ≡ true → (path : Path) → asks path 0 = λ at path. free (ap (λ c. c || old.lite) (at-once-controls now all at)) path 0 in
               let y : Parts = parts_of asks met sent all in
-              let check : Onward asks met sent y (parts_of asks met sent (record all { pairs = change_pair p.number (checked now old.timing old.controlling id) all.pairs })) =
-              one_changed asks met sent y p.number (checked now old.timing old.controlling id) asks_all.fit
+              let check : Onward asks met sent y (record y { pairs = change_pair p.number change all.pairs }) =
+              one_changed asks met sent y p.number change asks_all.fit
               (λ q there same. (
               let equal : p ≡ q = one_pair all.pairs p q asks_all.fit.rising has there (sym (numbered p.number q same)) in
-              subst (λ (r : PairRecord). Changed asks met sent (path_in y r) r (checked now old.timing old.controlling id r)) equal
-              (check_changes (path_in y p) now old.timing old.controlling id p (sends (path_in y p) id is)))) in
+              subst (λ (r : PairRecord). Changed asks met sent (path_in y r) r (change r)) equal
+              (sent_changes begins (path_in y p) now old.timing old.controlling id p (λ at. asking at (path_in y p)) (sends (path_in y p) id is)))) in
               subst (λ (a : AgentRecord H P). Onward asks met sent (parts_of asks met sent old) (parts_of asks met sent a)) (sym made)
-              (onward asks met sent (parts_of asks met sent old) y (parts_of asks met sent (record all { pairs = change_pair p.number (checked now old.timing old.controlling id) all.pairs })) asks_all check)
+              (subst (λ (ps : List PairRecord). Onward asks met sent (parts_of asks met sent old) (record y { pairs = ps }))
+              (sym (sent-pairs begins p.number now old.timing old.controlling id all.pairs))
+              (onward asks met sent (parts_of asks met sent old) y (record y { pairs = change_pair p.number change all.pairs }) asks_all check))

@@ -1,12 +1,12 @@
 -- The guarantees for the agent at the other end, from the two theorems about effects only.
-use Rattle.std.proofs.Common.{◌≡◌, ℕ, suc, Bool, true, false, not, nat_lt, nat_le, List, [], ◌∷◌, ◌++◌, map, Option, Some, None, is_some, option_map, inl, inr, ◌⊎◌, refl, ap, sym, ◌∙◌, subst, arith, if◌then◌else◌}
+use Rattle.std.proofs.Common.{◌≡◌, ℕ, suc, ◌&&◌, ◌||◌, Bool, true, false, not, nat_lt, nat_le, List, [], ◌∷◌, ◌++◌, map, Option, Some, None, is_some, option_map, inl, inr, ◌⊎◌, refl, ap, sym, ◌∙◌, subst, arith, if◌then◌else◌}
 use Rattle.std.specs.Option.{option_map_or}
 use Rattle.std.proofs.lemmas.Bool.Decides.{leb_tells}
 use Rattle.is_candidate.specs.Addresses.{same_address}
 use Rattle.is_stun.specs.Message.{AttributesRecord}
 use Rattle.is_rules.specs.declared.emitted.Emitted.{Emitted}
 use Rattle.is_rules.specs.declared.roles.Conflict.TheVariants.{Absent, Send487, SwitchRole}
-use Rattle.is_rules.specs.Roles.{conflict_by, rival}
+use Rattle.is_rules.specs.Roles.{conflict_by, keeps_role, rival}
 use Rattle.is_rules.specs.Serving.{names_another}
 use Rattle.is_rules.specs.Issuing.{Says, IsIssued, via_out}
 use Rattle.is_theorems.proofs.CallEffects.PathAndTradeEffects.{path_theorem, trade_theorem}
@@ -200,21 +200,24 @@ sends_487_if : (b : Bool) → (if b then Send487 else SwitchRole) ≡ Send487 �
 sends_487_if true h = refl
 sends_487_if false h = absurd (let wrong : SwitchRole ≡ Send487 = h in cc)
 
-switches_role_by : (own : ℕ) (o : Option ℕ) → conflict_by own o ≡ SwitchRole → option_map_or (λ tie. nat_lt own tie) o false ≡ true
-switches_role_by own None h = absurd (let wrong : Absent ≡ SwitchRole = h in cc)
-switches_role_by own (Some r) h = opposite own r ∙ switches_role_if (nat_le r own) h
+switches_role_by : (keeps : Bool) (own : ℕ) (o : Option ℕ) → conflict_by keeps own o ≡ SwitchRole → option_map_or (λ tie. not keeps && nat_lt own tie) o false ≡ true
+switches_role_by keeps own None h = absurd (let wrong : Absent ≡ SwitchRole = h in cc)
+switches_role_by true own (Some r) h = absurd (let wrong : Send487 ≡ SwitchRole = h in cc)
+switches_role_by false own (Some r) h = opposite own r ∙ switches_role_if (nat_le r own) h
 
-sends_487_by : (own : ℕ) (o : Option ℕ) → conflict_by own o ≡ Send487 → option_map_or (λ tie. nat_le tie own) o false ≡ true
-sends_487_by own None h = absurd (let wrong : Absent ≡ Send487 = h in cc)
-sends_487_by own (Some r) h = sends_487_if (nat_le r own) h
+sends_487_by : (keeps : Bool) (own : ℕ) (o : Option ℕ) → conflict_by keeps own o ≡ Send487 → option_map_or (λ tie. keeps || nat_le tie own) o false ≡ true
+sends_487_by keeps own None h = absurd (let wrong : Absent ≡ Send487 = h in cc)
+sends_487_by true own (Some r) h = refl
+sends_487_by false own (Some r) h = sends_487_if (nat_le r own) h
 
 role_if : (b c : Bool) → role_once (if b then Send487 else SwitchRole) c ≡ (if not b then not c else c)
 role_if true c = refl
 role_if false c = refl
 
-role_by : (own : ℕ) (o : Option ℕ) (c : Bool) → role_once (conflict_by own o) c ≡ (if option_map_or (λ tie. nat_lt own tie) o false then not c else c)
-role_by own None c = refl
-role_by own (Some r) c = role_if (nat_le r own) c ∙ ap (λ b. if b then not c else c) (sym (opposite own r))
+role_by : (keeps : Bool) (own : ℕ) (o : Option ℕ) (c : Bool) → role_once (conflict_by keeps own o) c ≡ (if option_map_or (λ tie. not keeps && nat_lt own tie) o false then not c else c)
+role_by keeps own None c = refl
+role_by true own (Some r) c = refl
+role_by false own (Some r) c = role_if (nat_le r own) c ∙ ap (λ b. if b then not c else c) (sym (opposite own r))
 
 placed_at : (o : Option ℕ) → is_some o ≡ true → (l : ℕ) × (o ≡ Some l)
 placed_at None h = absurd (let wrong : false ≡ true = h in cc)
@@ -280,7 +283,7 @@ module _ {H P : Type 0} (mac : H → List ℕ → List ℕ → List ℕ) (old ne
     out c i = ap (option_map sent_as) emitted ∙ ap (λ k. Some (sent_of (via_out packet) k m.id)) (sym c) ∙ ap (λ k. Some (sent_of (via_out packet) n.class k)) (sym i)
 
     by : (c : Class) → m.class ≡ c → Says c old call e packet.contents m (via_out packet) new.controlling → roles.IsPosted (role_state_of old) D (mail_of n) new.controlling
-    by class.Request is_c (peer, cand, uses, known, has, m_is, put, role, leads) =
+    by class.Request is_c (peer, cand, uses, number, known, has, m_is, put, role, leads, its) =
         let same : SameMessage n m = put.reads n reads in record {
           path = via_out packet;
           issued = out same.class same.id;
@@ -303,7 +306,7 @@ module _ {H P : Type 0} (mac : H → List ℕ → List ℕ → List ℕ) (old ne
           path = via_out packet;
           issued = out same.class same.id;
           says = subst (λ k. roles.Conveys k (role_state_of old) D (mail_of n) new.controlling) (sym (same.class ∙ is_c))
-              (q, serves_to old call e q serving, sym (same.id ∙ ap (λ (k : Message). k.id) m_is), sends_487_by old.tie_breaker (rival old q) sends_487, role);
+              (q, serves_to old call e q serving, sym (same.id ∙ ap (λ (k : Message). k.id) m_is), sends_487_by (keeps_role old) old.tie_breaker (rival old q) sends_487, role);
         }
     by class.Indication is_c h = absurd h
     by class.Unknown is_c h = absurd h
@@ -342,16 +345,16 @@ module _ {H P : Type 0} (mac : H → List ℕ → List ℕ → List ℕ) (old ne
     role = λ h. elim t.role [
       | inl same ↦ inl same
       | inr k ↦ elim k [
-        | inl (q, serving, switches_role, reversed) ↦ inr (inl (q, serves_to old call e q serving, switches_role_by old.tie_breaker (rival old q) switches_role, reversed))
+        | inl (q, serving, switches_role, reversed) ↦ inr (inl (q, serves_to old call e q serving, switches_role_by (keeps_role old) old.tie_breaker (rival old q) switches_role, reversed))
         | inr z ↦ elim z [ inl by ↦ inr (inr (rejected by)) | inr set ↦ absurd (unset call new.controlling h set) ]
       ]
     ];
     settled = λ q is passes. (
         let two = both (not (names_another old q)) (is_some (local_place old.local q)) passes in
-        t.settled q (serves_is old call e q is) (not_it (names_another old q) two.0, placed_at (local_place old.local q) two.1) ∙ role_by old.tie_breaker (rival old q) old.controlling);
-    expired = λ x is failure conflict. (
+        t.settled q (serves_is old call e q is) (not_it (names_another old q) two.0, placed_at (local_place old.local q) two.1) ∙ role_by (keeps_role old) old.tie_breaker (rival old q) old.controlling);
+    expired = λ unkept x is failure conflict. (
         let k = brings_is call e x is in
-        rejected (t.expired k.0 k.1 k.2 k.3 (ap (λ (y : Mail). y.class) k.4 ∙ failure) (ap (λ (y : Mail). y.is_conflict) k.4 ∙ conflict)));
+        rejected (t.expired unkept k.0 k.1 k.2 k.3 (ap (λ (y : Mail). y.class) k.4 ∙ failure) (ap (λ (y : Mail). y.is_conflict) k.4 ∙ conflict)));
   }
 
 module _ {H P : Type 0} (mac : H → List ℕ → List ℕ → List ℕ) (answers : P → CandidateRecord → ℕ → ℕ → Type 0) where

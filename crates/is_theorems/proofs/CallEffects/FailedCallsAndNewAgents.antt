@@ -3,13 +3,13 @@ use Rattle.std.proofs.Common.{◌≡◌, ℕ, ◌==◌, Bool, true, false, List,
 use Rattle.std.specs.Prelude.{MatchBool, nat_lt, position, length}
 use Rattle.rand_core.specs.Stream.{Stream}
 use Rattle.is_proto.specs.declared.error.IceError.{IceError}
-use Rattle.is_proto.specs.declared.error.IceError.TheVariants.{BadCandidate, OutOfMemory, PairIdsExhausted, MtuTooSmall, CredentialsTooLong, PriorityTooHigh}
+use Rattle.is_proto.specs.declared.error.IceError.TheVariants.{BadCandidate, OutOfMemory, PairIdsExhausted, MtuTooSmall, CredentialsTooLong, PriorityTooHigh, LiteStaysControlled}
 use Rattle.is_candidate.specs.Candidates.{CandidateRecord}
 use Rattle.is_rules.specs.declared.credentials.IceCreds.{IceCreds}
 use Rattle.is_rules.specs.declared.emitted.Path.{Path}
 use Rattle.is_rules.specs.Steps.{Answer, Done, Flag, Polled, Happened, NextTimeout, NotCalled, Entry, quiet, added, is_rejection}
 use Rattle.is_rules.specs.Agent.{AgentRecord}
-use Rattle.is_rules.specs.Settings.{SetsMtu, with_retransmits}
+use Rattle.is_rules.specs.Settings.{SetsControlling, SetsMtu, with_retransmits}
 use Rattle.is_rules.specs.Credentials.{SetsLocal, SetsRemote}
 use Rattle.is_rules.specs.Remote.{as_remote, is_ignored, JoinsRemote, AddsRemote}
 use Rattle.is_rules.specs.Restarting.{Restarts, Recreates}
@@ -42,6 +42,16 @@ module _ {H P : Type 0} where
   mtu_kept old new target warn PairIdsExhausted h = absurd h
   mtu_kept old new target warn CredentialsTooLong h = absurd h
   mtu_kept old new target warn PriorityTooHigh h = absurd h
+  mtu_kept old new target warn LiteStaysControlled h = absurd h
+
+  pub controlling_kept : (old new : AgentRecord H P) (controlling : Bool) (error : IceError) → SetsControlling old controlling (Err error) new → new ≡ old
+  controlling_kept old new controlling LiteStaysControlled h = h.1
+  controlling_kept old new controlling (BadCandidate text) h = absurd h
+  controlling_kept old new controlling OutOfMemory h = absurd h
+  controlling_kept old new controlling PairIdsExhausted h = absurd h
+  controlling_kept old new controlling MtuTooSmall h = absurd h
+  controlling_kept old new controlling CredentialsTooLong h = absurd h
+  controlling_kept old new controlling PriorityTooHigh h = absurd h
 
   pub local_kept : (old new : AgentRecord H P) (creds : IceCreds) (error : IceError) → SetsLocal old creds (Err error) new → new ≡ old
   local_kept old new creds CredentialsTooLong h = h.1
@@ -50,6 +60,7 @@ module _ {H P : Type 0} where
   local_kept old new creds PairIdsExhausted h = absurd h
   local_kept old new creds MtuTooSmall h = absurd h
   local_kept old new creds PriorityTooHigh h = absurd h
+  local_kept old new creds LiteStaysControlled h = absurd h
 
   pub remote_kept : (old new : AgentRecord H P) (creds : IceCreds) (error : IceError) → SetsRemote old creds (Err error) new → new ≡ old
   remote_kept old new creds CredentialsTooLong h = h.1
@@ -58,6 +69,7 @@ module _ {H P : Type 0} where
   remote_kept old new creds PairIdsExhausted h = absurd h
   remote_kept old new creds MtuTooSmall h = absurd h
   remote_kept old new creds PriorityTooHigh h = absurd h
+  remote_kept old new creds LiteStaysControlled h = absurd h
 
   pub restart_kept : (old new : AgentRecord H P) (creds : IceCreds) (keep : Bool) (error : IceError) → Restarts old creds keep (Err error) new → new ≡ old
   restart_kept old new creds keep CredentialsTooLong h = h.1
@@ -66,6 +78,7 @@ module _ {H P : Type 0} where
   restart_kept old new creds keep PairIdsExhausted h = absurd h
   restart_kept old new creds keep MtuTooSmall h = absurd h
   restart_kept old new creds keep PriorityTooHigh h = absurd h
+  restart_kept old new creds keep LiteStaysControlled h = absurd h
 
   pub recreation_kept : (old new : AgentRecord H P) (error : IceError) → Recreates old (Err error) new → new ≡ old
   recreation_kept old new PairIdsExhausted h = h.1
@@ -74,6 +87,7 @@ module _ {H P : Type 0} where
   recreation_kept old new CredentialsTooLong h = absurd h
   recreation_kept old new MtuTooSmall h = absurd h
   recreation_kept old new PriorityTooHigh h = absurd h
+  recreation_kept old new LiteStaysControlled h = absurd h
 
   entry_kept : (old mid new : AgentRecord H P) (c : CandidateRecord) (place : ℕ) (error : IceError) → Enters old c place mid (Err error) new → new ≡ old
   entry_kept old mid new c place PairIdsExhausted h = h.1
@@ -82,6 +96,7 @@ module _ {H P : Type 0} where
   entry_kept old mid new c place CredentialsTooLong h = absurd h
   entry_kept old mid new c place MtuTooSmall h = absurd h
   entry_kept old mid new c place PriorityTooHigh h = absurd h
+  entry_kept old mid new c place LiteStaysControlled h = absurd h
 
   enrols_kept : (old new : AgentRecord H P) (c : CandidateRecord) (at : Option ℕ) (error : IceError) → EnrolsAt old c at (Err error) new → new ≡ old
   enrols_kept old new c None error h = entry_kept old (appended (as_own old c) old) new (as_own old c) (length old.local) error h
@@ -106,6 +121,7 @@ module _ {H P : Type 0} where
   joining_kept old new c CredentialsTooLong h = absurd h
   joining_kept old new c MtuTooSmall h = absurd h
   joining_kept old new c PriorityTooHigh h = absurd h
+  joining_kept old new c LiteStaysControlled h = absurd h
 
   pub storing_kept : (old new : AgentRecord H P) (c : CandidateRecord) (error : IceError) → AddsRemote old c (Err error) new → new ≡ old
   storing_kept old new c error h = either (is_ignored old c) h (λ _ k. absurd k) (λ _ k. joining_kept old new (as_remote c) error k)
@@ -146,7 +162,7 @@ module _ {H P : Type 0} where
     kept (SetMaxStunRetransmits n) h r = retransmits (n == 0) n h r
     kept (SetLiteTimeout by) h r = silent Done h.0 refl r
     kept (SetLocalPreference object) h r = silent Done h.0 refl r
-    kept (SetControlling controlling) h r = silent Done h.0 refl r
+    kept (SetControlling controlling) h r = does (SetsControlling old controlling) (controlling_kept old new controlling) h r
     kept (SetLocalCredentials creds) h r = does (SetsLocal old creds) (local_kept old new creds) h r
     kept (SetRemoteCredentials creds) h r = does (SetsRemote old creds) (remote_kept old new creds) h r
     kept (SkipPairIds n) h r = silent Done h.0 refl r

@@ -1,5 +1,5 @@
 -- For each call: its effect on pairs, and which paths are selected.
-use Rattle.std.proofs.Common.{if◌then◌else◌, [], ◌∷◌, ◌++◌, ◌≡◌, ℕ, ◌==◌, ◌&&◌, ◌||◌, Bool, true, false, not, List, Option, Some, None, is_some, Result, Ok, Err, inl, inr, ◌⊎◌, refl, ap, sym, ◌∙◌, subst}
+use Rattle.std.proofs.Common.{if◌then◌else◌, [], ◌∷◌, ◌++◌, ◌≡◌, ℕ, ◌==◌, ◌≤◌, ◌&&◌, ◌||◌, Bool, true, false, not, List, Option, Some, None, is_some, Result, Ok, Err, inl, inr, ◌⊎◌, refl, ap, sym, ◌∙◌, subst}
 use Rattle.std.specs.Prelude.{MatchBool, MatchOption, IsSomeAnd}
 use Rattle.rand_core.specs.Stream.{Stream}
 use Rattle.is_proto.specs.Lists.{Has, same}
@@ -26,13 +26,13 @@ use Rattle.is_stun.specs.Writing.{written}
 use Rattle.is_rules.specs.declared.roles.Conflict.TheVariants.{Send487}
 use Rattle.is_rules.specs.Agent.{AgentRecord}
 use Rattle.is_rules.specs.Sending.{path_of, carried}
-use Rattle.is_rules.specs.Roles.{conflict_by, conflict_of, switched}
-use Rattle.is_rules.specs.Settings.{SetsMtu, with_retransmits}
+use Rattle.is_rules.specs.Roles.{conflict_by, conflict_of, switched, keeps_role}
+use Rattle.is_rules.specs.Settings.{SetsControlling, SetsMtu, with_retransmits}
 use Rattle.is_rules.specs.Credentials.{SetsLocal, SetsRemote}
 use Rattle.is_rules.specs.Discarding.{place_to_discard}
 use Rattle.is_rules.specs.Remote.{AddsRemote}
 use Rattle.is_rules.specs.Restarting.{Restarts, Recreates}
-use Rattle.is_rules.specs.Serving.{Drops, Serves}
+use Rattle.is_rules.specs.Serving.{Drops, Serves, as_taken}
 use Rattle.is_rules.specs.Queue.{queued, first_taken, request_at}
 use Rattle.is_pair.specs.Multiset.{keeps_check}
 use Rattle.is_rules.specs.Answers.{keeps_check_on, goes_back, is_role_conflict, TakesSuccess, TakesFailure, LeavesRole}
@@ -40,8 +40,9 @@ use Rattle.is_rules.specs.Accepting.{Takes, IsAcceptedAs, IsAcceptedOn, discover
 use Rattle.is_rules.specs.Timeouts.{at_request, timeout_begun, MaintainsPairs, ServesQueued, TimesOut}
 use Rattle.is_rules.specs.Steps.{Call, SetMtu, SetControlTieBreaker, SetMaxCandidatePairs, SetMaxDiscovered, SetIceLite, SetRenomination, SetRules, SetTimingAdvance, SetInitialStunRto, SetMaxStunRto, SetMaxStunRetransmits, SetLiteTimeout, SetLocalPreference, SetControlling, SetLocalCredentials, SetRemoteCredentials, SkipPairIds, AddLocalCandidate, AddRemoteCandidate, InvalidateCandidate, RestartIce, RecreateCandidatePairs, ReceivePacket, HandleTimeout, PollTransmit, PollTimeout, PollEvent, Becomes, MayDo, Receives, Step}
 use Rattle.is_rules.specs.Sound.{IsSound}
-use Rattle.is_rules.specs.Brought.{Brings, IsServing, IsNominatedByPeer, IsAnswered}
-use Rattle.is_theorems.proofs.CallEffects.FailedCallsAndNewAgents.{mtu_kept, local_kept, remote_kept, restart_kept, recreation_kept, enrolment_kept, storing_kept}
+use Rattle.is_rules.specs.Brought.{Brings, IsServing, IsAnswered}
+use Rattle.is_theorems.specs.Numbered.{IsNumberedByPeer, given}
+use Rattle.is_theorems.proofs.CallEffects.FailedCallsAndNewAgents.{mtu_kept, controlling_kept, local_kept, remote_kept, restart_kept, recreation_kept, enrolment_kept, storing_kept}
 use Rattle.is_theorems.proofs.RuleEffects.UnchangedSettings.{Frame, frame_of, packet_along, either}
 use Rattle.is_theorems.proofs.CallEffects.SettingsRoleAndQueues as frames
 use Rattle.is_theorems.proofs.RuleEffects.EarlierAndNewPairs.{Parts, Fit, IsNominatedIn, Onward, here}
@@ -51,6 +52,7 @@ use Rattle.is_theorems.proofs.CallEffects.CallsThatEmitNothing.{Calm, calm, is_c
 use Rattle.is_theorems.proofs.CallEffects.TimeoutsAndSuccesses.{CheckOut, maintains_pairs, succeeds}
 use Rattle.is_theorems.proofs.CallEffects.ServedRequests.{Replied, ConflictSent, AcceptedNominations, serves_does, switches}
 use Rattle.is_theorems.proofs.CallEffects.ChangedCandidates.{adds_local_goes, adds_remote_goes, invalidates_goes, recreates_goes, restarts_goes, skips_goes, rtos_goes, polls_goes}
+use Rattle.is_rules.specs.Nominating.{numbers}
 
 or_true : (a b : Bool) → (a || b) ≡ true → (a ≡ true) ⊎ (b ≡ true)
 or_true true b h = inl refl
@@ -69,8 +71,8 @@ not_false true h = refl
 not_false false h = sym h
 
 module _ {H P : Type 0} (mac : H → List ℕ → List ℕ → List ℕ) (answers : P → CandidateRecord → ℕ → ℕ → Type 0) (old new : AgentRecord H P) (s t : Stream) (e : Entry) where
-  abbrev pub Asks : Call P → Path → Type 0
-  Asks call path = IsNominatedByPeer old call e path ⊎ ((old.lite ≡ true) ⊎ ((old.controlling ≡ true) ⊎ (new.controlling ≡ true)))
+  abbrev pub Asks : Call P → Path → ℕ → Type 0
+  Asks call path m = IsNumberedByPeer old call e path m ⊎ ((old.lite ≡ true) ⊎ ((old.controlling ≡ true) ⊎ (new.controlling ≡ true)))
 
   abbrev pub Met : Call P → Path → Type 0
   Met call path = IsAnswered mac old call e path ⊎ (old.lite ≡ true)
@@ -124,37 +126,38 @@ module _ {H P : Type 0} (mac : H → List ℕ → List ℕ → List ℕ) (answer
     done_or Does goes kept calm (Ok _, is, h, drawn) = quietly Done is calm (goes h)
     done_or Does goes kept calm (Err error, is, h, drawn) = quietly (Rejected error) is calm (unmoved (kept error h))
 
-    sends_487_of : (a : AgentRecord H P) → a.tie_breaker ≡ old.tie_breaker → a.controlling ≡ old.controlling → (q : RequestRecord) → conflict_of a q ≡ Send487 → conflict_of old q ≡ Send487
-    sends_487_of a tie role q is =
-        sym (ap (λ n. conflict_by n (if a.controlling then q.ice_controlling else q.ice_controlled)) tie ∙ ap (λ c. conflict_by old.tie_breaker (if c then q.ice_controlling else q.ice_controlled)) role) ∙ is
+    sends_487_of : (a : AgentRecord H P) → a.tie_breaker ≡ old.tie_breaker → a.controlling ≡ old.controlling → keeps_role a ≡ keeps_role old → (q : RequestRecord) → conflict_of a q ≡ Send487 → conflict_of old q ≡ Send487
+    sends_487_of a tie role keeps q is =
+        sym (ap (λ k. conflict_by k a.tie_breaker (if a.controlling then q.ice_controlling else q.ice_controlled)) keeps
+        ∙ (ap (λ n. conflict_by (keeps_role old) n (if a.controlling then q.ice_controlling else q.ice_controlled)) tie ∙ ap (λ c. conflict_by (keeps_role old) old.tie_breaker (if c then q.ice_controlling else q.ice_controlled)) role)) ∙ is
 
     -- a request that is served, with its reverse path
-    accepts_nomination : (q : RequestRecord) (a : AgentRecord H P) → a.lite ≡ old.lite → a.controlling ≡ old.controlling → IsServing old call e q
+    accepts_nomination : (q : RequestRecord) (a : AgentRecord H P) → a.lite ≡ old.lite → a.controlling ≡ old.controlling → numbers a ≡ numbers old → IsServing old call e q
         → AcceptedNominations (Asks call) (Met call) Sent mac q a
-    accepts_nomination q a lite role serving = record {
+    accepts_nomination q a lite role numbered serving = record {
       valid = λ h. inr (sym lite ∙ and_left a.lite (not a.controlling) h);
-      asking = λ c u. inl (q, serving, u, refl);
-      free = λ h p. elim (or_true a.controlling a.lite h) [ inl c ↦ inr (inr (inl (sym role ∙ c))) | inr l ↦ inr (inl (sym lite ∙ l)) ];
+      asking = λ c u m le. inl (q, serving, sym (ap (λ b. (as_taken b q).use_candidate) numbered) ∙ u, refl, subst (λ b. m ≤ given (as_taken b q).nomination) numbered le);
+      free = λ h p m. elim (or_true a.controlling a.lite h) [ inl c ↦ inr (inr (inl (sym role ∙ c))) | inr l ↦ inr (inl (sym lite ∙ l)) ];
     }
 
-    accepts_nomination_switched : (q : RequestRecord) (a : AgentRecord H P) → a.lite ≡ old.lite → new.controlling ≡ not a.controlling → IsServing old call e q
+    accepts_nomination_switched : (q : RequestRecord) (a : AgentRecord H P) → a.lite ≡ old.lite → new.controlling ≡ not a.controlling → numbers a ≡ numbers old → IsServing old call e q
         → AcceptedNominations (Asks call) (Met call) Sent mac q (switched a)
-    accepts_nomination_switched q a lite role serving = record {
+    accepts_nomination_switched q a lite role numbered serving = record {
       valid = λ h. inr (sym lite ∙ and_left a.lite (not (not a.controlling)) h);
-      asking = λ c u. inl (q, serving, u, refl);
-      free = λ h p. elim (or_true (not a.controlling) a.lite h) [ inl c ↦ inr (inr (inr (role ∙ c))) | inr l ↦ inr (inl (sym lite ∙ l)) ];
+      asking = λ c u m le. inl (q, serving, sym (ap (λ b. (as_taken b q).use_candidate) numbered) ∙ u, refl, subst (λ b. m ≤ given (as_taken b q).nomination) numbered le);
+      free = λ h p m. elim (or_true (not a.controlling) a.lite h) [ inl c ↦ inr (inr (inr (role ∙ c))) | inr l ↦ inr (inl (sym lite ∙ l)) ];
     }
 
     serves_pairs : (q : RequestRecord) (a b : AgentRecord H P) (emitted : Emitted) → parts_of (Asks call) (Met call) Sent a ≡ parts_of (Asks call) (Met call) Sent old
         → parts_of (Asks call) (Met call) Sent new ≡ parts_of (Asks call) (Met call) Sent b → ((c : CandidateRecord) → Has a.local c → IsBased c)
         → a.lite ≡ old.lite → a.controlling ≡ old.controlling → new.controlling ≡ b.controlling
         → a.selected_pair ≡ old.selected_pair → new.selected_pair ≡ b.selected_pair → a.packets ≡ old.packets → new.packets ≡ b.packets
-        → (a.provider ≡ old.provider) × (a.local_creds ≡ old.local_creds) × (a.tie_breaker ≡ old.tie_breaker)
+        → (a.provider ≡ old.provider) × (a.local_creds ≡ old.local_creds) × (a.tie_breaker ≡ old.tie_breaker) × (keeps_role a ≡ keeps_role old) × (numbers a ≡ numbers old)
         → IsServing old call e q → e.emitted ≡ emitted → Serves mac q a emitted b → PairEffect call
-    serves_pairs q a b emitted parts following based lite role after number number_after packets packets_after (provider, creds, tie) serving is h =
+    serves_pairs q a b emitted parts following based lite role after number number_after packets packets_after (provider, creds, tie, keeps, numbered) serving is h =
         let fit_a : Fit (parts_of (Asks call) (Met call) Sent a) = subst (λ (x : Parts). Fit x) (sym parts) fit in
-        let k = serves_does (Asks call) (Met call) Sent mac q a b emitted based fit_a (λ _. accepts_nomination q a lite role serving)
-        (λ _ switched_role. accepts_nomination_switched q a lite (after ∙ switched_role) serving) h in
+        let k = serves_does (Asks call) (Met call) Sent mac q a b emitted based fit_a (λ _. accepts_nomination q a lite role numbered serving)
+        (λ _ switched_role. accepts_nomination_switched q a lite (after ∙ switched_role) numbered serving) h in
         let x : Parts = parts_of (Asks call) (Met call) Sent old in
         let y : Parts = parts_of (Asks call) (Met call) Sent b in
         let bytes : (m : Message) → written (mac a.provider) (Some a.local_creds.pass) m ≡ written (mac old.provider) (Some old.local_creds.pass) m =
@@ -183,7 +186,7 @@ module _ {H P : Type 0} (mac : H → List ℕ → List ℕ → List ℕ) (answer
                       issued,
                       subst (λ w. IsPut w (binding_reply q.id (carried q.path.source))) (bytes (binding_reply q.id q.path.source)) values,
                       out (binding_reply q.id q.path.source) put,
-                      (λ uses controlled. subst (λ (z : Parts). IsNominatedIn z (reversed q.path)) (sym following) (nominates_it uses (sym after ∙ controlled))),
+                      (λ uses controlled. subst (λ (z : Parts). IsNominatedIn z (reversed q.path)) (sym following) (nominates_it (ap (λ b. (as_taken b q).use_candidate) numbered ∙ uses) (sym after ∙ controlled))),
                     )),
                   ))
                 ]
@@ -194,7 +197,7 @@ module _ {H P : Type 0} (mac : H → List ℕ → List ℕ → List ℕ) (answer
                     issued,
                     subst (λ w. IsPut w (binding_role_conflict_reply q.id)) (bytes (binding_role_conflict_reply q.id)) values,
                     out (binding_role_conflict_reply q.id) put,
-                    sends_487_of a tie role q sends_487,
+                    sends_487_of a tie role keeps q sends_487,
                     after ∙ stays ∙ role,
                   ),
                 ))
@@ -212,7 +215,7 @@ module _ {H P : Type 0} (mac : H → List ℕ → List ℕ → List ℕ) (answer
       let role : new.controlling ≡ old.controlling = ap (λ (f : Frame H). f.controlling) frame.0 in
       let emitted_is : e.emitted ≡ emitted = ap (λ (x : Entry). x.emitted) e_is in
       let k = maintains_pairs (Asks call) (Met call) Sent mac now (timeout_begun now old) new s t emitted
-      (λ allowed p. elim (or_true old.controlling old.lite allowed) [ inl c ↦ inr (inr (inl c)) | inr l ↦ inr (inl l) ])
+      (λ allowed p m. elim (or_true old.controlling old.lite allowed) [ inl c ↦ inr (inr (inl c)) | inr l ↦ inr (inl l) ])
       (λ path id out. (ap (λ (x : Emitted). x.issued) emitted_is ∙ out, refl, role)) fit h in (
         k.0,
         subst (λ (x : Emitted). Returns (Asks call) (Met call) Sent (parts_of (Asks call) (Met call) Sent old) (parts_of (Asks call) (Met call) Sent new) old.selected_pair new.selected_pair x.selected_paths) (sym emitted_is) k.1,
@@ -223,7 +226,7 @@ module _ {H P : Type 0} (mac : H → List ℕ → List ℕ → List ℕ) (answer
         )),
       )
   timeout_by now sound fit emitted (Some q) is e_is (h, drawn) =
-      serves_pairs (HandleTimeout now) fit q (first_taken (at_request now (timeout_begun now old))) new emitted refl refl sound.based refl refl refl refl refl refl refl (refl, refl, refl)
+      serves_pairs (HandleTimeout now) fit q (first_taken (at_request now (timeout_begun now old))) new emitted refl refl sound.based refl refl refl refl refl refl refl (refl, refl, refl, refl, refl)
       (is, ap (λ (x : Entry). x.answer) e_is) (ap (λ (x : Entry). x.emitted) e_is) h
 
   -- ---- packets
@@ -264,7 +267,7 @@ module _ {H P : Type 0} (mac : H → List ℕ → List ℕ → List ℕ) (answer
         (moved_on (subst (λ (x : AgentRecord H P). Moves packet x) (sym same_is) (resting packet fit)))
     request_pairs (Some peer) known is h =
         serves_pairs packet fit (request_in now via m) old mid emitted refl following sound.based refl refl (ap (λ (a : AgentRecord H P). a.controlling) made)
-        refl (ap (λ (a : AgentRecord H P). a.selected_pair) made) refl (ap (λ (a : AgentRecord H P). a.packets) made) (refl, refl, refl)
+        refl (ap (λ (a : AgentRecord H P). a.selected_pair) made) refl (ap (λ (a : AgentRecord H P). a.packets) made) (refl, refl, refl, refl, refl)
         (now, via, m, brought, is, ap is_some known, refl) emitted_is h
 
     awaited : (c : Class) → m.class ≡ c → IsAcceptedAs mac c (keeps_check_on old via m.id) old m
@@ -287,7 +290,7 @@ module _ {H P : Type 0} (mac : H → List ℕ → List ℕ → List ℕ) (answer
         (λ _ k. gives k)
         (λ _ k. drops_pairs old (resting packet fit) refl k) where
           gives : LeavesRole old via m emitted mid → PairEffect packet
-          gives (p, c, has, on, keeps, id_is, k) = either (same c.controlling old.controlling) k
+          gives (p, c, has, on, keeps, id_is, k) = either (same c.controlling old.controlling && not (keeps_role old)) k
               (λ _ z. drops_pairs (switched old) (switches (Asks packet) (Met packet) Sent old fit) refl z)
               (λ _ z. drops_pairs old (resting packet fit) refl z)
 
@@ -298,7 +301,7 @@ module _ {H P : Type 0} (mac : H → List ℕ → List ℕ → List ℕ) (answer
     taken class.Request is h = request_pairs old.remote_creds refl is h
     taken class.Success is h =
         let k = succeeds (Asks packet) (Met packet) Sent now old mid via m emitted
-        (λ allowed p. elim (or_true old.controlling old.lite allowed) [ inl c ↦ inr (inr (inl c)) | inr l ↦ inr (inl l) ])
+        (λ allowed p m. elim (or_true old.controlling old.lite allowed) [ inl c ↦ inr (inr (inl c)) | inr l ↦ inr (inl l) ])
         (answers_path is) fit h in
         (moved_on k.0, rounds_to_select mid.selected_pair refl k.1, inl (ap (λ (x : Emitted). x.issued) emitted_is ∙ quiet_success h))
     taken class.Failure is h = failure_pairs h
@@ -355,7 +358,8 @@ module _ {H P : Type 0} (mac : H → List ℕ → List ℕ → List ℕ) (answer
   paired (SetMaxStunRetransmits n) sound h = retransmits (n == 0) n (fits (SetMaxStunRetransmits n) sound) (calms (SetMaxStunRetransmits n) refl h) h
   paired (SetLiteTimeout by) sound h = becomes (SetLiteTimeout by) (fits (SetLiteTimeout by) sound) _ (as_it_was (SetLiteTimeout by) sound) (calms (SetLiteTimeout by) refl h) h
   paired (SetLocalPreference object) sound h = becomes (SetLocalPreference object) (fits (SetLocalPreference object) sound) _ (as_it_was (SetLocalPreference object) sound) (calms (SetLocalPreference object) refl h) h
-  paired (SetControlling controlling) sound h = becomes (SetControlling controlling) (fits (SetControlling controlling) sound) _ (as_it_was (SetControlling controlling) sound) (calms (SetControlling controlling) refl h) h
+  paired (SetControlling controlling) sound h = done_or (SetControlling controlling) (fits (SetControlling controlling) sound) (SetsControlling old controlling)
+      (λ k. subst (λ (a : AgentRecord H P). Moves (SetControlling controlling) a) (sym k.1) (as_it_was (SetControlling controlling) sound)) (λ error k. controlling_kept old new controlling error k) (calms (SetControlling controlling) refl h) h
   paired (SetLocalCredentials creds) sound h = done_or (SetLocalCredentials creds) (fits (SetLocalCredentials creds) sound) (SetsLocal old creds)
       (λ k. subst (λ (a : AgentRecord H P). Moves (SetLocalCredentials creds) a) (sym k.1) (as_it_was (SetLocalCredentials creds) sound)) (λ error k. local_kept old new creds error k) (calms (SetLocalCredentials creds) refl h) h
   paired (SetRemoteCredentials creds) sound h = done_or (SetRemoteCredentials creds) (fits (SetRemoteCredentials creds) sound) (SetsRemote old creds)

@@ -1,5 +1,5 @@
 -- The two theorems about effects, for every call.
-use Rattle.std.proofs.Common.{◌≡◌, ℕ, Bool, true, false, List, [], ◌∷◌, ◌++◌, Option, Some, None, Ok, Err, inl, inr, ◌⊎◌, refl, ap, sym, ◌∙◌, subst, if◌then◌else◌}
+use Rattle.std.proofs.Common.{◌≡◌, ℕ, Bool, true, false, List, [], ◌∷◌, ◌++◌, Option, Some, None, Ok, Err, inl, inr, ◌⊎◌, refl, ap, sym, ◌∙◌, subst, if◌then◌else◌, ◌&&◌, not}
 use Rattle.std.specs.Prelude.{MatchOption}
 use Rattle.rand_core.specs.Stream.{Stream}
 use Rattle.is_proto.specs.Lists.{Has, same}
@@ -42,6 +42,8 @@ use Rattle.is_theorems.proofs.CallEffects.PairsAndSelectedPaths.{Posted}
 use Rattle.is_theorems.proofs.CallEffects.PathEffects.{path_effect}
 use Rattle.is_theorems.proofs.CallEffects.ReceivedAndOwed.{accepts, leaves_unaccepted, rejects, waits_has, waits_short, brought_or_waited, owes, clears_pairs, clears_quiet}
 use Rattle.is_theorems.proofs.PathSelection.NominationPoints.{takes_valid, points_top}
+use Rattle.is_rules.specs.Nominating.{numbers}
+use Rattle.is_rules.specs.Roles.{keeps_role}
 
 module _ {H P : Type 0} (mac : H → List ℕ → List ℕ → List ℕ) (answers : P → CandidateRecord → ℕ → ℕ → Type 0) where
   -- ---- limits and bases
@@ -92,7 +94,7 @@ module _ {H P : Type 0} (mac : H → List ℕ → List ℕ → List ℕ) (answer
       (λ _ k. gives k)
       (λ _ k. drops_persist old new emitted k) where
         gives : LeavesRole old via m emitted new → Persists old new
-        gives (p, c, has, on, keeps, id_is, k) = either (same c.controlling old.controlling) k
+        gives (p, c, has, on, keeps, id_is, k) = either (same c.controlling old.controlling && not (keeps_role old)) k
             (λ _ z. rests old new (ap (λ (a : AgentRecord H P). rest_of a) z.1))
             (λ _ z. drops_persist old new emitted z)
 
@@ -140,6 +142,7 @@ module _ {H P : Type 0} (mac : H → List ℕ → List ℕ → List ℕ) (answer
         record {
           provider = f.provider;
           lite = f.lite;
+          keeping = f.keeping;
           remote_creds = f.remote_creds;
           accepted = accepts mac answers old new s t e call h;
           queue = λ q has. waits_has mac answers old new s t e call q f.waits has;
@@ -200,8 +203,8 @@ module _ {H P : Type 0} (mac : H → List ℕ → List ℕ → List ℕ) (answer
     pub issues : Posted mac answers old new s t e call → (e.emitted.issued ≡ None) ⊎ Issues
     issues (inl none) = inl none
     issues (inr (inl (role, inl none))) = inl none
-    issues (inr (inl (role, inr (path, id, peer, c, names, out, known, has, values, put, leads)))) =
-        let m : Message = asks_with (frame_of old) peer id c names in
+    issues (inr (inl (role, inr (path, id, peer, c, names, number, out, known, has, values, put, leads, with_number)))) =
+        let m : Message = asks_with (frame_of old) peer id c names number in
         let packet : Packet = packet_along path (written (mac old.provider) (Some peer.pass) m) in
         inr (
           packet,
@@ -210,7 +213,7 @@ module _ {H P : Type 0} (mac : H → List ℕ → List ℕ → List ℕ) (answer
             m,
             ap (λ o. written (mac old.provider) (Some (key_for class.Request old.local_creds o)) m) (sym known),
             out,
-            (peer, c, names, known, has, refl, values, role, leads),
+            (peer, c, names, number, known, has, refl, values, role, leads, with_number),
           ),
         )
     issues (inr (inr (q, serves, inl (inl none)))) = inl none.0
@@ -263,5 +266,6 @@ module _ {H P : Type 0} (mac : H → List ℕ → List ℕ → List ℕ) (answer
         waits = f.waits;
         role = f.role;
         settled = f.settled;
+        keeps = f.keeps;
         expired = f.expired;
       }

@@ -22,6 +22,7 @@ use Rattle.is_theorems.proofs.RuleEffects.EarlierAndNewPairs.{Fit}
 use Rattle.is_theorems.proofs.RuleEffects.ChangedPairs.{parts_of}
 use Rattle.is_theorems.proofs.RuleEffects.SelectedPaths.{some_is}
 use Rattle.is_theorems.proofs.CallEffects.PairsAndSelectedPaths.{Asks, Met, Sent, Posted, PairEffect, paired}
+use Rattle.is_rules.specs.Serving.{nominates}
 
 never : {A : Type 0} → false ≡ true → A
 never h = cc
@@ -55,7 +56,7 @@ module _ {H P : Type 0} (mac : H → List ℕ → List ℕ → List ℕ) where
         → IsNominatedOn old path ⊎ IsNominatedByPeer old call e path
     pub replied : (issued : Issued) → e.emitted.issued ≡ Some issued → issued.class ≡ class.Success
         → (q : RequestRecord) × IsServing old call e q × (issued ≡ issued_as (reversed q.path) class.Success q.id)
-        × (q.use_candidate ≡ true → new.controlling ≡ false → IsNominatedOn new (reversed q.path))
+        × (nominates old q ≡ true → new.controlling ≡ false → IsNominatedOn new (reversed q.path))
     pub number_stays : last_of e.emitted.selected_paths ≡ None → new.selected_pair ≡ old.selected_pair
     pub number_names : (path : Path) → last_of e.emitted.selected_paths ≡ Some path
         → (p : PairRecord) → Has new.pairs p → new.selected_pair ≡ Some p.number
@@ -66,7 +67,7 @@ module _ {H P : Type 0} (mac : H → List ℕ → List ℕ → List ℕ) where
     abbrev M : Path → Type 0
     M = Met mac answers old new s t e call
 
-    abbrev A : Path → Type 0
+    abbrev A : Path → ℕ → Type 0
     A = Asks mac answers old new s t e call
 
     abbrev S : Path → List ℕ → Bool → Type 0
@@ -76,23 +77,23 @@ module _ {H P : Type 0} (mac : H → List ℕ → List ℕ → List ℕ) where
     met_is plain path (inl h) = h
     met_is plain path (inr h) = never (sym plain ∙ h)
 
-    asks_is : old.lite ≡ false → old.controlling ≡ false → new.controlling ≡ false → (path : Path) → A path → IsNominatedByPeer old call e path
-    asks_is plain before following path (inl h) = h
+    asks_is : old.lite ≡ false → old.controlling ≡ false → new.controlling ≡ false → (path : Path) → A path 0 → IsNominatedByPeer old call e path
+    asks_is plain before following path (inl h) = (h.0, h.1, h.2, h.3)
     asks_is plain before following path (inr (inl h)) = never (sym plain ∙ h)
     asks_is plain before following path (inr (inr (inl h))) = never (sym before ∙ h)
     asks_is plain before following path (inr (inr (inr h))) = never (sym following ∙ h)
 
     replied_on : Posted mac answers old new s t e call → (issued : Issued) → e.emitted.issued ≡ Some issued → issued.class ≡ class.Success
         → (q : RequestRecord) × IsServing old call e q × (issued ≡ issued_as (reversed q.path) class.Success q.id)
-        × (q.use_candidate ≡ true → new.controlling ≡ false → IsNominatedOn new (reversed q.path))
+        × (nominates old q ≡ true → new.controlling ≡ false → IsNominatedOn new (reversed q.path))
     replied_on (inl none) issued is success = let no : None ≡ Some issued = sym none ∙ is in absurd (cc)
     replied_on (inr (inl (role, inl none))) issued is success = let no : None ≡ Some issued = sym none ∙ is in absurd (cc)
-    replied_on (inr (inl (role, inr (path, id, peer, c, names, out, known, has, values, put, leads)))) issued is success =
+    replied_on (inr (inl (role, inr (path, id, peer, c, names, number, out, known, has, values, put, leads, with_number)))) issued is success =
         no_class path class.Request id issued (sym out ∙ is) success (λ (h : class.Request ≡ class.Success). cc)
     replied_on (inr (inr (r, serves, inl (inl none)))) issued is success = let no : None ≡ Some issued = sym none.0 ∙ is in absurd (cc)
-    replied_on (inr (inr (r, serves, inl (inr (out, values, put, nominates))))) issued is success =
+    replied_on (inr (inr (r, serves, inl (inr (out, values, put, named))))) issued is success =
         let both : Some issued ≡ Some (issued_as (reversed r.path) class.Success r.id) = sym is ∙ out in
-        (r, serves, some_is issued (issued_as (reversed r.path) class.Success r.id) both, nominates)
+        (r, serves, some_is issued (issued_as (reversed r.path) class.Success r.id) both, named)
     replied_on (inr (inr (r, serves, inr (out, values, put, sends_487, stays)))) issued is success =
         no_class (reversed r.path) class.Failure r.id issued (sym out ∙ is) success (λ (h : class.Failure ≡ class.Success). cc)
 
@@ -116,8 +117,8 @@ module _ {H P : Type 0} (mac : H → List ℕ → List ℕ → List ℕ) where
         | inr j ↦ elim (j.valid is) [ inl v ↦ inl (v.0, v.1, v.2, v.3 ∙ path_is) | inr m ↦ inr (met_is plain path (subst M path_is m)) ]
       ];
       nominated = λ plain before following path (p, has, is, path_is). elim (o.pairs p has) [
-        | inl k ↦ elim (k.asked is) [ inl v ↦ inl (k.was, k.there, v, k.path ∙ path_is) | inr m ↦ inr (asks_is plain before following path (subst A path_is m)) ]
-        | inr j ↦ elim (j.asked is) [ inl v ↦ inl (v.0, v.1, v.2, v.3 ∙ path_is) | inr m ↦ inr (asks_is plain before following path (subst A path_is m)) ]
+        | inl k ↦ elim (k.asked is) [ inl v ↦ inl (k.was, k.there, v, k.path ∙ path_is) | inr m ↦ inr (asks_is plain before following path (subst (λ z. A z 0) path_is m)) ]
+        | inr j ↦ elim (j.asked is) [ inl v ↦ inl (v.0, v.1, v.2, v.3 ∙ path_is) | inr m ↦ inr (asks_is plain before following path (subst (λ z. A z 0) path_is m)) ]
       ];
       selected_paths = λ plain path has. elim (emitted.valid path has) [ inl v ↦ inl v | inr m ↦ inr (met_is plain path m) ];
       counter = o.counter;

@@ -154,7 +154,7 @@ module _ {H P : Type 0} (mac : H → List ℕ → List ℕ → List ℕ) (answer
     counted : (call : Call P) → Posted mac answers old new s t e call → Counted call
     counted call (inl none) = inl (ap (λ i. count test (reply_of i)) none)
     counted call (inr (inl (role, inl none))) = inl (ap (λ i. count test (reply_of i)) none)
-    counted call (inr (inl (role, inr (path, id, peer, c, names, out, known, has, values, put, leads)))) = inl (ap (λ i. count test (reply_of i)) out)
+    counted call (inr (inl (role, inr (path, id, peer, c, names, number, out, known, has, values, put, leads, with_number)))) = inl (ap (λ i. count test (reply_of i)) out)
     counted call (inr (inr (q, serves, inl (inl none)))) = inl (ap (λ i. count test (reply_of i)) none.0)
     counted call (inr (inr (q, serves, inl (inr (out, values, put, nominates))))) = inr (q, serves, counts_reply e.emitted.issued q (ap (λ i. count test (reply_of i)) out))
     counted call (inr (inr (q, serves, inr (out, values, put, sends_487, stays)))) = inr (q, serves, counts_reply e.emitted.issued q (ap (λ i. count test (reply_of i)) out))
@@ -223,6 +223,9 @@ module _ {H P : Type 0} (mac : H → List ℕ → List ℕ → List ℕ) (answer
 
   -- ---- clears
 
+  abbrev NeverBy : Path → ℕ → Type 0
+  NeverBy path m = ⊥
+
   abbrev Never : Path → Type 0
   Never path = ⊥
 
@@ -243,7 +246,7 @@ module _ {H P : Type 0} (mac : H → List ℕ → List ℕ → List ℕ) (answer
   recreated : Recreates old (Ok _) new → (p : PairRecord) → Has new.pairs p → IsNewPair p
   recreated h p has =
       let bare : AgentRecord H P = record old { pairs = [] } in
-      let o = recreates_goes Never Never NeverSent bare new (record { placed = λ p none. absurd none; rising = tt; below = λ p none. absurd none; started = λ p none. absurd none; consented = λ p none. absurd none }) h in
+      let o = recreates_goes NeverBy Never NeverSent bare new (record { placed = λ p none. absurd none; rising = tt; below = λ p none. absurd none; started = λ p none. absurd none; consented = λ p none. absurd none }) h in
       elim (o.pairs p has) [
         | inl k ↦ absurd k.there
         | inr j ↦ (

@@ -1,11 +1,11 @@
 -- The effects of serving a request on pairs, and which path it selects.
-use Rattle.std.proofs.Common.{◌≡◌, ◌≢◌, ℕ, ◌+◌, ◌<◌, ◌&&◌, ◌||◌, Bool, true, false, not, List, [], ◌∷◌, ◌++◌, length, map, position, Option, Some, None, inl, inr, ◌⊎◌, refl, ap, sym, ◌∙◌, subst, arith, if◌then◌else◌}
+use Rattle.std.proofs.Common.{◌≡◌, ◌≢◌, ℕ, ◌+◌, ◌<◌, ◌≤◌, ◌&&◌, ◌||◌, Bool, true, false, not, List, [], ◌∷◌, ◌++◌, length, map, position, Option, Some, None, inl, inr, ◌⊎◌, refl, ap, sym, ◌∙◌, subst, arith, if◌then◌else◌}
 use Rattle.std.specs.Prelude.{MatchOption, slice_set}
 use Rattle.std.proofs.lemmas.Bool.{eqb-true, eq-eqb}
 use Rattle.std.proofs.lemmas.List.{length-append}
 use Rattle.is_proto.specs.Lists.{Has}
 use Rattle.is_candidate.specs.Candidates.{CandidateRecord, IsBased, base_of, candidate_at}
-use Rattle.is_pair.specs.Pairs.{PairRecord, is_nominated, with_request, validated, nominated}
+use Rattle.is_pair.specs.Pairs.{PairRecord, is_nominated, with_request, validated, nominated, numbered as with_number}
 use Rattle.is_stun.specs.Theorems.{IsPut}
 use Rattle.is_rules.specs.declared.emitted.Path.{Path}
 use Rattle.is_rules.specs.declared.emitted.Emitted.{Emitted}
@@ -30,19 +30,22 @@ use Rattle.is_rules.specs.Agent.{AgentRecord}
 use Rattle.is_pair.specs.Multiset.{change_at, is_between, is_numbered, is_valid_at, IsPairBetween}
 use Rattle.is_rules.specs.Sending.{path_between, path_of, carried}
 use Rattle.is_rules.specs.Forming.{formed, with_pair}
-use Rattle.is_rules.specs.Nominating.{nominated_by_self, followed, remains, selection_of, NominatesWhere}
+use Rattle.is_rules.specs.Nominating.{nominated_by_self, followed, remains, selection_of, NominatesWhere, numbers}
 use Rattle.is_rules.specs.Roles.{conflict_of, switched, switched_sides, with_priority_in}
-use Rattle.is_rules.specs.Serving.{selects_at_requests, after_request, validated_by_peer, nominated_by_peer, served, with_sender, with_sender_at, sender_candidate, request_counted, pair_served, is_misled, Drops, names_another, RecordsAndResponds, FindsOrAddsPair, AddsUnknownSender, CountsAndServes, ResolvesRoleConflictBy, ResolvesRoleConflict, Serves}
+use Rattle.is_rules.specs.Serving.{selects_at_requests, after_request, validated_by_peer, nominated_by_peer, served, with_sender, with_sender_at, sender_candidate, request_counted, pair_served, is_misled, Drops, names_another, RecordsAndResponds, FindsOrAddsPair, AddsUnknownSender, CountsAndServes, ResolvesRoleConflictBy, ResolvesRoleConflict, Serves, as_taken, numbered_by_peer}
+use Rattle.is_theorems.specs.Numbered.{given, number_taken}
+use Rattle.is_rules.proofs.PairLists.CountedPairs.{less-or}
 use Rattle.is_rules.specs.Limit.{is_vacant, IsSenderPlace}
 use Rattle.is_theorems.proofs.BasicLemmas.VacantIndices.{known-in, vacant-at, off-vacant, length-put, put-here, put-elsewhere}
 use Rattle.is_theorems.proofs.RuleEffects.UnchangedSettings.{Frame, either, admits, where_frame, packet_along}
-use Rattle.is_theorems.proofs.RuleEffects.EarlierAndNewPairs.{Parts, path_in, Fit, IsNominatedIn, Onward, here, onward, pushed, Has-push}
+use Rattle.is_theorems.proofs.RuleEffects.EarlierAndNewPairs.{Parts, path_in, Fit, IsNominatedIn, Onward, below_max, here, not_below, onward, pushed, Has-push}
 use Rattle.is_theorems.proofs.RuleEffects.TriggeredPairs.{triggered_by, by_trigger}
 use Rattle.is_theorems.proofs.RuleEffects.NominatedPairs.{SelectsPath, selects_path}
 use Rattle.is_theorems.proofs.RuleEffects.ChangedPairs.{Kept_by_self, self_kept, Changed, unchanged, mapped, one_changed, parts_of, nominates}
 use Rattle.is_theorems.proofs.RuleEffects.SelectedPaths.{Evaluates, evaluates_none, Returns, returns_none, returns_one, returns_after, one_pair}
 use Rattle.is_theorems.proofs.CallEffects.ChecksAndResponses.{numbered}
 use Rattle.is_theorems.proofs.BasicLemmas.CandidatesByIndex.{at-append, at-end, found-at, is-listed}
+use Rattle.is_theorems.proofs.BasicLemmas.ServedPairs.{numbered-by, uses-taken}
 
 pub is_at_places : (l r : ℕ) (p : PairRecord) → is_between l r p ≡ true → (p.local ≡ l) × (p.remote ≡ r)
 is_at_places l r p is = let k = both _ _ is in (eqb-true p.local l k.0, eqb-true p.remote r k.1)
@@ -102,7 +105,8 @@ served_at c l q p =
     let v : PairRecord = validated_by_peer c l w in
     let a = (self_kept (not c && q.use_candidate && not (is_nominated v)) l v) in
     let b = validated_kept (l && not c) w in
-    (a.local ∙ b.0, a.remote ∙ b.1) where
+    numbered-by (λ x. (x.local ≡ p.local) × (x.remote ≡ p.remote)) c q.nomination (nominated_by_peer c l q v)
+    (a.local ∙ b.0, a.remote ∙ b.1) (λ n. (a.local ∙ b.0, a.remote ∙ b.1)) where
       validated_kept : (b : Bool) (p : PairRecord) → ((if b then validated p else p).local ≡ p.local) × ((if b then validated p else p).remote ≡ p.remote)
       validated_kept true p = (refl, refl)
       validated_kept false p = (refl, refl)
@@ -111,16 +115,17 @@ served_at c l q p =
 pub request_at_places : {H P : Type 0} (q : RequestRecord) (s : AgentRecord H P) (p : PairRecord)
     → ((after_request q s p).local ≡ p.local) × ((after_request q s p).remote ≡ p.remote)
 request_at_places q s p =
-    let k = served_at s.controlling s.lite q (triggered_by q s p) in (
+    let k = served_at s.controlling s.lite (as_taken (numbers s) q) (triggered_by q s p) in (
       k.0 ∙ by_trigger (λ (x : PairRecord). x.local ≡ p.local) q s p (λ due. refl),
       k.1 ∙ by_trigger (λ (x : PairRecord). x.remote ≡ p.remote) q s p (λ due. refl),
     )
 
--- and nominates it if the request has USE-CANDIDATE
+-- and nominates it if the request does
 pub served_nominated : (c l : Bool) (q : RequestRecord) (p : PairRecord) → c ≡ false → q.use_candidate ≡ true → is_nominated (served c l q p) ≡ true
 served_nominated c l q p role uses =
     let v : PairRecord = validated_by_peer c l (with_request q.time p) in
-    by c q.use_candidate (is_nominated v) l v role uses refl where
+    let is = by c q.use_candidate (is_nominated v) l v role uses refl in
+    numbered-by (λ x. is_nominated x ≡ true) c q.nomination (nominated_by_peer c l q v) is (λ n. is) where
       by : (c u n l : Bool) (v : PairRecord) → c ≡ false → u ≡ true → is_nominated v ≡ n → is_nominated (if not c && u && not n then nominated l v else v) ≡ true
       by true u n l v role uses is = let no : true ≡ false = role in cc
       by false false n l v role uses is = let no : false ≡ true = uses in cc
@@ -168,7 +173,7 @@ module _ {H P : Type 0} where
   where_nominated true old new path number on h k = nominates_keeps old new path number on (selects_path old new path h) k
   where_nominated false old new path number on h k = subst (λ (a : AgentRecord H P). HasNominated a number on) (sym h.1) k
 
-module _ (asks met : Path → Type 0) (sent : Path → List ℕ → Bool → Type 0) where
+module _ (asks : Path → ℕ → Type 0) (met : Path → Type 0) (sent : Path → List ℕ → Bool → Type 0) where
   -- ---- one pair
 
   pub changed_again : (path : Path) (a b c : PairRecord) → Changed asks met sent path a b → Changed asks met sent path b c → Changed asks met sent path a c
@@ -185,6 +190,7 @@ module _ (asks met : Path → Type 0) (sent : Path → List ℕ → Bool → Typ
     ];
     valid = λ is. elim (k.valid is) [ inl v ↦ h.valid v | inr m ↦ inr m ];
     asked = λ is. elim (k.asked is) [ inl v ↦ h.asked v | inr m ↦ inr m ];
+    numbered = λ m le. elim (k.numbered m le) [ inl v ↦ h.numbered m v | inr a ↦ inr a ];
     still_valid = λ is. k.still_valid (h.still_valid is);
     still_nominated = λ is. k.still_nominated (h.still_nominated is);
     started = λ s. k.started (h.started s);
@@ -199,6 +205,7 @@ module _ (asks met : Path → Type 0) (sent : Path → List ℕ → Bool → Typ
     checks = λ c keeps. inl (c, keeps, refl, refl);
     valid = λ is. inl is;
     asked = λ is. inl is;
+    numbered = λ m le. inl le;
     still_valid = λ is. is;
     still_nominated = λ is. is;
     started = λ s. s;
@@ -213,6 +220,7 @@ module _ (asks met : Path → Type 0) (sent : Path → List ℕ → Bool → Typ
     checks = λ c keeps. inl (c, keeps, refl, refl);
     valid = λ is. inr (is_met refl);
     asked = λ is. inl is;
+    numbered = λ m le. inl le;
     still_valid = λ is. refl;
     still_nominated = λ is. is;
     started = λ s c keeps. refl;
@@ -220,7 +228,7 @@ module _ (asks met : Path → Type 0) (sent : Path → List ℕ → Bool → Typ
   }
   validates false path p is_met = unchanged asks met sent path p
 
-  nominates_if : (b lite : Bool) (path : Path) (p : PairRecord) → (b ≡ true → asks path) → Changed asks met sent path p (if b then nominated lite p else p)
+  nominates_if : (b lite : Bool) (path : Path) (p : PairRecord) → (b ≡ true → asks path 0) → Changed asks met sent path p (if b then nominated lite p else p)
   nominates_if true true path p asking = record {
     number = refl;
     local = refl;
@@ -228,6 +236,7 @@ module _ (asks met : Path → Type 0) (sent : Path → List ℕ → Bool → Typ
     checks = λ c keeps. inl (c, keeps, refl, refl);
     valid = λ is. inl is;
     asked = λ is. inr (asking refl);
+    numbered = λ m le. inl le;
     still_valid = λ is. is;
     still_nominated = λ is. refl;
     started = λ s. s;
@@ -240,6 +249,7 @@ module _ (asks met : Path → Type 0) (sent : Path → List ℕ → Bool → Typ
     checks = λ c keeps. inl (c, keeps, refl, refl);
     valid = λ is. inl is;
     asked = λ is. inr (asking refl);
+    numbered = λ m le. inl le;
     still_valid = λ is. is;
     still_nominated = λ is. refl;
     started = λ s. s;
@@ -252,15 +262,43 @@ module _ (asks met : Path → Type 0) (sent : Path → List ℕ → Bool → Typ
   asked_by false true n h = (refl, refl)
   asked_by false false n h = let no : false ≡ true = h in cc
 
+  -- the number of a nomination changes nothing else
+  numbers_it : (path : Path) (n : ℕ) (p : PairRecord) → ((m : ℕ) → 0 < m → m ≤ n → asks path m) → Changed asks met sent path p (with_number n p)
+  numbers_it path n p rises = record {
+    number = refl;
+    local = refl;
+    remote = refl;
+    checks = λ c keeps. inl (c, keeps, refl, refl);
+    valid = λ is. inl is;
+    asked = λ is. inl is;
+    numbered = λ m le. elim (less-or 0 m) [
+      | inl pos ↦ elim (below_max m p.greatest_number n le) [ inl few ↦ inl few | inr most ↦ inr (rises m pos most) ]
+      | inr none ↦ inl (omega (arith, none))
+    ];
+    still_valid = λ is. is;
+    still_nominated = λ is. is;
+    started = λ k. k;
+    consented = λ _ had. had;
+  }
+
   pub served_changes : (path : Path) (controlling lite : Bool) (q : RequestRecord) (p : PairRecord) → ((lite && not controlling) ≡ true → met path)
-      → (controlling ≡ false → q.use_candidate ≡ true → asks path) → Changed asks met sent path p (served controlling lite q p)
-  served_changes path controlling lite q p is_met asking =
+      → (controlling ≡ false → q.use_candidate ≡ true → (m : ℕ) → m ≤ given q.nomination → asks path m)
+      → ((n : ℕ) → q.nomination ≡ Some n → 0 < n → q.use_candidate ≡ true) → Changed asks met sent path p (served controlling lite q p)
+  served_changes path controlling lite q p is_met asking uses =
       let w : PairRecord = with_request q.time p in
       let v : PairRecord = validated_by_peer controlling lite w in
-      changed_again path p v (nominated_by_peer controlling lite q v)
+      let peer_named : PairRecord = nominated_by_peer controlling lite q v in
+      let all : Changed asks met sent path p peer_named =
+      changed_again path p v peer_named
       (changed_again path p w v (requested path q.time p) (validates (lite && not controlling) path w is_met))
       (nominates_if (not controlling && q.use_candidate && not (is_nominated v)) lite path v
-      (λ is. let k = asked_by controlling q.use_candidate (is_nominated v) is in asking k.0 k.1))
+      (λ is. let k = asked_by controlling q.use_candidate (is_nominated v) is in asking k.0 k.1 0 (omega arith))) in
+      by_number controlling q.nomination refl refl peer_named all where
+        by_number : (c : Bool) (o : Option ℕ) → controlling ≡ c → q.nomination ≡ o → (x : PairRecord) → Changed asks met sent path p x → Changed asks met sent path p (numbered_by_peer c o x)
+        by_number c None role is x all = all
+        by_number true (Some n) role is x all = all
+        by_number false (Some n) role is x all = changed_again path p x (with_number n x) all (numbers_it path n x (λ m pos le.
+            asking role (uses n is (omega (arith, pos, le))) m (subst (λ o. m ≤ given o) (sym is) le)))
 
   -- first the request may trigger a check
   triggers : {H P : Type 0} (path : Path) (q : RequestRecord) (s : AgentRecord H P) (p : PairRecord) → Changed asks met sent path p (triggered_by q s p)
@@ -271,6 +309,7 @@ module _ (asks met : Path → Type 0) (sent : Path → List ℕ → Bool → Typ
     checks = λ c keeps. inl (c, keeps, refl, refl);
     valid = λ is. inl is;
     asked = λ is. inl is;
+    numbered = λ m le. inl le;
     still_valid = λ is. is;
     still_nominated = λ is. is;
     started = λ k. k;
@@ -278,10 +317,10 @@ module _ (asks met : Path → Type 0) (sent : Path → List ℕ → Bool → Typ
   })
 
   pub request_changes : {H P : Type 0} (path : Path) (q : RequestRecord) (s : AgentRecord H P) (p : PairRecord) → ((s.lite && not s.controlling) ≡ true → met path)
-      → (s.controlling ≡ false → q.use_candidate ≡ true → asks path) → Changed asks met sent path p (after_request q s p)
+      → (s.controlling ≡ false → (as_taken (numbers s) q).use_candidate ≡ true → (m : ℕ) → m ≤ number_taken s q → asks path m) → Changed asks met sent path p (after_request q s p)
   request_changes path q s p is_met asking =
       changed_again path p (triggered_by q s p) (after_request q s p) (triggers path q s p)
-      (served_changes path s.controlling s.lite q (triggered_by q s p) is_met asking)
+      (served_changes path s.controlling s.lite (as_taken (numbers s) q) (triggered_by q s p) is_met asking (uses-taken (numbers s) q))
 
   -- ---- the rules
 
@@ -298,6 +337,7 @@ module _ (asks met : Path → Type 0) (sent : Path → List ℕ → Bool → Typ
       checks = λ k keeps. inl (k, keeps, refl, refl);
       valid = λ is. inl is;
       asked = λ is. inl is;
+      numbered = λ m le. inl le;
       still_valid = λ is. is;
       still_nominated = λ is. is;
     });
@@ -323,6 +363,7 @@ module _ (asks met : Path → Type 0) (sent : Path → List ℕ → Bool → Typ
           checks = λ k keeps. inl (k, keeps, refl, refl);
           valid = λ is. inl is;
           asked = λ is. inl is;
+          numbered = λ m le. inl le;
           still_valid = λ is. is;
           still_nominated = λ is. is;
         });
@@ -345,6 +386,7 @@ module _ (asks met : Path → Type 0) (sent : Path → List ℕ → Bool → Typ
       checks = λ c keeps. inl (c, keeps, refl, refl);
       valid = λ is. inl is;
       asked = λ is. inl is;
+      numbered = λ m le. inl le;
       still_valid = λ is. is;
       still_nominated = λ is. is;
       started = λ t. t;
@@ -364,7 +406,7 @@ module _ (asks met : Path → Type 0) (sent : Path → List ℕ → Bool → Typ
           ((emitted.issued ≡ None) × (new.packets ≡ s.packets))
           ⊎ ((emitted.issued ≡ Some (issued_as (reversed q.path) Success q.id)) × IsPut (reply_bytes s) (binding_reply q.id (carried q.path.source))
           × (new.packets ≡ s.packets ++ packet_along (reversed q.path) (reply_bytes s) ∷ [])
-          × (q.use_candidate ≡ true → new.controlling ≡ false → IsNominatedIn (parts_of asks met sent new) (reversed q.path)))
+          × ((as_taken (numbers s) q).use_candidate ≡ true → new.controlling ≡ false → IsNominatedIn (parts_of asks met sent new) (reversed q.path)))
 
       -- the 487 is sent
       abbrev pub ConflictSent : AgentRecord H P → Emitted → AgentRecord H P → Type 0
@@ -405,8 +447,8 @@ module _ (asks met : Path → Type 0) (sent : Path → List ℕ → Bool → Typ
       pub record AcceptsNomination (s : AgentRecord H P) (l r : ℕ) : Type 0 where
         pub via : path_between s l r ≡ reversed q.path
         pub valid : (s.lite && not s.controlling) ≡ true → met (path_between s l r)
-        pub asking : s.controlling ≡ false → q.use_candidate ≡ true → asks (path_between s l r)
-        pub free : (s.controlling || s.lite) ≡ true → (p : Path) → asks p
+        pub asking : s.controlling ≡ false → (as_taken (numbers s) q).use_candidate ≡ true → (m : ℕ) → m ≤ number_taken s q → asks (path_between s l r) m
+        pub free : (s.controlling || s.lite) ≡ true → (p : Path) (m : ℕ) → asks p m
 
       pair_does : (l r number : ℕ) (s new : AgentRecord H P) (emitted : Emitted) → Fit (parts_of asks met sent s) → AcceptsNomination s l r
           → ((p : PairRecord) → Has s.pairs p → p.number ≡ number → (p.local ≡ l) × (p.remote ≡ r))
@@ -423,7 +465,7 @@ module _ (asks met : Path → Type 0) (sent : Path → List ℕ → Bool → Typ
           ap (λ k. path_between s k r) (sym place.0) ∙ ap (λ k. path_between s p.local k) (sym place.1) in
           request_changes (path_in x p) q s p
           (λ v. subst met path_is (accepts_nomination.valid v))
-          (λ c u. subst asks path_is (accepts_nomination.asking c u)))) in
+          (λ c u m le. subst (λ z. asks z m) path_is (accepts_nomination.asking c u m le)))) in
           let n = where_does (selects_at_requests s && is_valid_at number s.pairs) y mid path changes.fit accepts_nomination.free nominating in
           let frame = where_frame (selects_at_requests s && is_valid_at number s.pairs) y mid path nominating in
           let via : path_between s l r ≡ reversed q.path = accepts_nomination.via in
@@ -456,14 +498,14 @@ module _ (asks met : Path → Type 0) (sent : Path → List ℕ → Bool → Typ
                     v,
                     subst (λ (o : PairRecord). Has (map g s.pairs) o) is_served (Has-mapped g s.pairs p there.1),
                     refl,
-                    served_nominated s.controlling s.lite q (triggered_by q s p) role uses,
+                    served_nominated s.controlling s.lite (as_taken (numbers s) q) (triggered_by q s p) role uses,
                     own,
                   ) in
                   subst (λ (a : AgentRecord H P). IsNominatedIn (parts_of asks met sent a) (reversed q.path)) (sym made) (on.0, on.1, on.3, on.4)),
             ),
           ) where
             where_does : (b : Bool) (old mid : AgentRecord H P) (path : Option Path) → Fit (parts_of asks met sent old)
-                → ((old.controlling || old.lite) ≡ true → (p : Path) → asks p) → NominatesWhere b old path mid
+                → ((old.controlling || old.lite) ≡ true → (p : Path) (m : ℕ) → asks p m) → NominatesWhere b old path mid
                 → Onward asks met sent (parts_of asks met sent old) (parts_of asks met sent mid) × Evaluates asks met sent (parts_of asks met sent old) (parts_of asks met sent mid) old.selected_pair mid.selected_pair path
             where_does true old mid path fit free h = nominates asks met sent old mid path free fit h
             where_does false old mid path fit free (is, same) = (
@@ -474,14 +516,14 @@ module _ (asks met : Path → Type 0) (sent : Path → List ℕ → Bool → Typ
       -- what a request implies, by its reverse path
       pub record AcceptedNominations (s : AgentRecord H P) : Type 0 where
         pub valid : (s.lite && not s.controlling) ≡ true → met (reversed q.path)
-        pub asking : s.controlling ≡ false → q.use_candidate ≡ true → asks (reversed q.path)
-        pub free : (s.controlling || s.lite) ≡ true → (p : Path) → asks p
+        pub asking : s.controlling ≡ false → (as_taken (numbers s) q).use_candidate ≡ true → (m : ℕ) → m ≤ number_taken s q → asks (reversed q.path) m
+        pub free : (s.controlling || s.lite) ≡ true → (p : Path) (m : ℕ) → asks p m
 
       accepts_nomination_at : (s : AgentRecord H P) (l r : ℕ) → path_between s l r ≡ reversed q.path → AcceptedNominations s → AcceptsNomination s l r
       accepts_nomination_at s l r via g = record {
         via = via;
         valid = λ h. subst met (sym via) (g.valid h);
-        asking = λ c u. subst asks (sym via) (g.asking c u);
+        asking = λ c u m le. subst (λ z. asks z m) (sym via) (g.asking c u m le);
         free = g.free;
       }
 
@@ -498,7 +540,7 @@ module _ (asks met : Path → Type 0) (sent : Path → List ℕ → Bool → Typ
           let p : PairRecord = formed s l r in
           let y : AgentRecord H P = with_pair p s in
           let joins : Onward asks met sent x (parts_of asks met sent y) =
-          pushed asks met sent x x.pairs p fit (λ k has. has) fit.rising refl (in_local, in_remote) refl (λ (is : false ≡ true). absurd (false_true is)) (λ (is : false ≡ true). absurd (false_true is)) (λ (is : false ≡ true). absurd (false_true is)) in
+          pushed asks met sent x x.pairs p fit (λ k has. has) fit.rising refl (in_local, in_remote) refl (λ (is : false ≡ true). absurd (false_true is)) (λ (is : false ≡ true). absurd (false_true is)) (λ (is : false ≡ true). absurd (false_true is)) (λ m pos le. not_below m pos le) in
           let k = pair_does l r s.next_number y new emitted joins.fit (record { via = accepts_nomination.via; valid = accepts_nomination.valid; asking = accepts_nomination.asking; free = accepts_nomination.free })
           (λ o has same. elim (Has-push s.pairs p o has) [
             | inl was ↦ absurd (no_less o.number s.next_number (fit.below o was) same)

@@ -1,5 +1,5 @@
 -- For each call: its effect on settings, credentials, role and queues.
-use Rattle.std.proofs.Common.{◌≡◌, ℕ, ◌==◌, Bool, true, false, not, List, [], ◌∷◌, ◌++◌, length, take, drop, Option, Some, None, is_some, Result, Ok, Err, inl, inr, ◌⊎◌, refl, ap, sym, ◌∙◌, subst, if◌then◌else◌}
+use Rattle.std.proofs.Common.{◌&&◌, ◌≡◌, ℕ, ◌==◌, Bool, true, false, not, List, [], ◌∷◌, ◌++◌, length, take, drop, Option, Some, None, is_some, Result, Ok, Err, inl, inr, ◌⊎◌, refl, ap, sym, ◌∙◌, subst, if◌then◌else◌}
 use Rattle.std.specs.Prelude.{MatchBool, MatchOption, take_while}
 use Rattle.std.proofs.lemmas.List.{take-append-drop}
 use Rattle.rand_core.specs.Stream.{Stream}
@@ -24,15 +24,16 @@ use Rattle.is_rules.specs.Emitted.{nothing_emitted}
 use Rattle.is_rules.specs.Agent.{AgentRecord}
 use Rattle.is_rules.specs.Sending.{path_of}
 use Rattle.is_rules.specs.Forming.{Combination, FormsAll}
-use Rattle.is_rules.specs.Roles.{conflict_of, switched}
-use Rattle.is_rules.specs.Settings.{SetsMtu, with_retransmits, with_rtos}
+use Rattle.is_rules.specs.declared.roles.Conflict.TheVariants.{Absent, Send487, SwitchRole}
+use Rattle.is_rules.specs.Roles.{conflict_by, conflict_of, keeps_role, rival, switched}
+use Rattle.is_rules.specs.Settings.{SetsControlling, SetsMtu, with_retransmits, with_rtos}
 use Rattle.is_rules.specs.Credentials.{SetsLocal, SetsRemote}
 use Rattle.is_rules.specs.Discarding.{InvalidatesAt, place_to_discard}
 use Rattle.is_rules.specs.Discarding.{local_discarded, remote_discarded}
 use Rattle.is_rules.specs.Local.{AddsLocal, appended, enabled_again}
 use Rattle.is_rules.specs.Remote.{AddsRemote, as_remote, with_remote}
 use Rattle.is_rules.specs.Restarting.{Restarts, Recreates, restarted, emptied}
-use Rattle.is_rules.specs.Serving.{Serves}
+use Rattle.is_rules.specs.Serving.{Drops, Serves}
 use Rattle.is_rules.specs.Queue.{queue_left, next_request, first_taken, request_at, queued, is_outdated}
 use Rattle.is_rules.specs.Answers.{TakesFailure, LeavesRole, is_role_conflict}
 use Rattle.is_rules.specs.Accepting.{Takes, discovered_emitted}
@@ -41,8 +42,8 @@ use Rattle.is_rules.specs.Timeouts.{at_request, timeout_begun, at_timeout, Maint
 use Rattle.is_rules.specs.Steps.{Call, SetMtu, SetControlTieBreaker, SetMaxCandidatePairs, SetMaxDiscovered, SetIceLite, SetRenomination, SetRules, SetTimingAdvance, SetInitialStunRto, SetMaxStunRto, SetMaxStunRetransmits, SetLiteTimeout, SetLocalPreference, SetControlling, SetLocalCredentials, SetRemoteCredentials, SkipPairIds, AddLocalCandidate, AddRemoteCandidate, InvalidateCandidate, RestartIce, RecreateCandidatePairs, ReceivePacket, HandleTimeout, PollTransmit, PollTimeout, PollEvent, Becomes, MayDo, Receives, Step}
 use Rattle.is_rules.specs.Brought.{Brings, IsServing, IsServedPastTests, SwitchesRoleFor, IsRejectedBy, IsRoleSet, role_once}
 use Rattle.is_rules.specs.Issuing.{QueuesPackets, Waits, WaitsPast, IsQueued}
-use Rattle.is_rules.specs.Effects.{tie_set_by, lite_set_by, local_after, remote_after}
-use Rattle.is_theorems.proofs.CallEffects.FailedCallsAndNewAgents.{mtu_kept, local_kept, remote_kept, restart_kept, recreation_kept, enrolment_kept, storing_kept}
+use Rattle.is_rules.specs.Effects.{tie_set_by, lite_set_by, keeping_set_by, local_after, remote_after}
+use Rattle.is_theorems.proofs.CallEffects.FailedCallsAndNewAgents.{mtu_kept, controlling_kept, local_kept, remote_kept, restart_kept, recreation_kept, enrolment_kept, storing_kept}
 use Rattle.is_theorems.proofs.RuleEffects.UnchangedSettings.{Frame, either, frame_of, packet_along, nominates_frame, Stays, Turns, drops, serves, serves_role, takes_success, removes_expired}
 use Rattle.is_theorems.proofs.CallEffects.AddedCandidates.{by_adding_local, by_adding_remote, by_waking}
 use Rattle.is_pair.specs.Due.{asked}
@@ -84,12 +85,27 @@ unknown : (peer : Option IceCreds) → peer ≡ None → is_some peer ≡ true �
 unknown None none known = let no : false ≡ true = known in cc
 unknown (Some peer) none known = cc
 
+and-false : (b : Bool) → b && not true ≡ false
+and-false true = refl
+and-false false = refl
+
+and-true : (b : Bool) → b && not false ≡ b
+and-true true = refl
+and-true false = refl
+
+-- an agent that keeps its role does not switch it
+never-switches : (keeps : Bool) (own : ℕ) (o : Option ℕ) → keeps ≡ true → conflict_by keeps own o ≡ SwitchRole → ⊥
+never-switches true own None is h = let no : Absent ≡ SwitchRole = h in cc
+never-switches true own (Some rival) is h = let no : Send487 ≡ SwitchRole = h in cc
+never-switches false own o is h = let no : false ≡ true = is in cc
+
 module _ {H P : Type 0} where
   -- the fields of an effect that are about settings, credentials, role and queues
   pub record FrameEffect (old : AgentRecord H P) (call : Call P) (e : Entry) (new : AgentRecord H P) : Type 0 where
     pub provider : new.provider ≡ old.provider
     pub tie_breaker : new.tie_breaker ≡ tie_set_by call old.tie_breaker
     pub lite : new.lite ≡ lite_set_by call old.lite
+    pub keeping : new.rules.lite_keeps_role ≡ keeping_set_by call old.rules.lite_keeps_role
     pub local_creds : new.local_creds ≡ local_after call e.answer old.local_creds
     pub remote_creds : new.remote_creds ≡ remote_after call e.answer old.remote_creds
     pub sends : QueuesPackets call e old.packets new.packets
@@ -98,7 +114,8 @@ module _ {H P : Type 0} where
         ⊎ (SwitchesRoleFor old call e new ⊎ (IsRejectedBy old call e new ⊎ IsRoleSet call new.controlling))
     pub settled : (q : RequestRecord) → IsServing old call e q → IsServedPastTests old q
         → new.controlling ≡ role_once (conflict_of old q) old.controlling
-    pub expired : (at : ℕ) (by : Path) (m : Message) → Brings call e at by m → m.class ≡ class.Failure → is_role_conflict m ≡ true
+    pub keeps : keeps_role old ≡ true → (new.controlling ≡ old.controlling) ⊎ IsRoleSet call new.controlling
+    pub expired : keeps_role old ≡ false → (at : ℕ) (by : Path) (m : Message) → Brings call e at by m → m.class ≡ class.Failure → is_role_conflict m ≡ true
         → IsRejectedBy old call e new
 
   -- the entry and the abstract state are these
@@ -109,22 +126,25 @@ module _ {H P : Type 0} where
   -- a call that receives nothing
   plain : (old new : AgentRecord H P) (call : Call P) (e : Entry)
       → new.provider ≡ old.provider → new.tie_breaker ≡ tie_set_by call old.tie_breaker → new.lite ≡ lite_set_by call old.lite
+      → new.rules.lite_keeps_role ≡ keeping_set_by call old.rules.lite_keeps_role
       → new.local_creds ≡ local_after call e.answer old.local_creds → new.remote_creds ≡ remote_after call e.answer old.remote_creds
       → QueuesPackets call e old.packets new.packets → Waits old call e new
       → ((new.controlling ≡ old.controlling) ⊎ IsRoleSet call new.controlling)
       → ((q : RequestRecord) → IsServing old call e q → ⊥) → ((at : ℕ) (by : Path) (m : Message) → Brings call e at by m → ⊥)
       → FrameEffect old call e new
-  plain old new call e a b c d f g h role serving brings = record {
+  plain old new call e a b c k d f g h role serving brings = record {
     provider = a;
     tie_breaker = b;
     lite = c;
+    keeping = k;
     local_creds = d;
     remote_creds = f;
     sends = g;
     waits = h;
-    role = elim role [ inl k ↦ inl k | inr k ↦ inr (inr (inr k)) ];
-    settled = λ q k. absurd (serving q k);
-    expired = λ at by m k. absurd (brings at by m k);
+    role = elim role [ inl same ↦ inl same | inr set ↦ inr (inr (inr set)) ];
+    settled = λ q s. absurd (serving q s);
+    keeps = λ _. role;
+    expired = λ _ at by m came. absurd (brings at by m came);
   }
 
   -- the same frame, and the same packets
@@ -136,15 +156,15 @@ module _ {H P : Type 0} where
 
   -- a call that leaves the queues, keeps settings and credentials, and receives nothing
   alike : (old new : AgentRecord H P) (call : Call P) (answer : Answer) → Alike old new
-      → tie_set_by call old.tie_breaker ≡ old.tie_breaker → lite_set_by call old.lite ≡ old.lite
+      → tie_set_by call old.tie_breaker ≡ old.tie_breaker → lite_set_by call old.lite ≡ old.lite → keeping_set_by call old.rules.lite_keeps_role ≡ old.rules.lite_keeps_role
       → local_after call answer old.local_creds ≡ old.local_creds → remote_after call answer old.remote_creds ≡ old.remote_creds
       → (new.packets ≡ old.packets → QueuesPackets call (quiet answer) old.packets new.packets)
       → (new.queue ≡ old.queue → Waits old call (quiet answer) new)
       → ((q : RequestRecord) → IsServing old call (quiet answer) q → ⊥) → ((at : ℕ) (by : Path) (m : Message) → Brings call (quiet answer) at by m → ⊥)
       → FrameEffect old call (quiet answer) new
-  alike old new call answer (frame, packets) tie lite local remote queues waits serving brings =
+  alike old new call answer (frame, packets) tie lite keeping local remote queues waits serving brings =
       plain old new call (quiet answer) (ap (λ (f : Frame H). f.provider) frame) (ap (λ (f : Frame H). f.tie_breaker) frame ∙ sym tie)
-      (ap (λ (f : Frame H). f.lite) frame ∙ sym lite) (ap (λ (f : Frame H). f.local_creds) frame ∙ sym local)
+      (ap (λ (f : Frame H). f.lite) frame ∙ sym lite) (ap (λ (f : Frame H). f.keeping) frame ∙ sym keeping) (ap (λ (f : Frame H). f.local_creds) frame ∙ sym local)
       (ap (λ (f : Frame H). f.remote_creds) frame ∙ sym remote) (queues packets) (waits (ap (λ (f : Frame H). f.queue) frame))
       (inl (ap (λ (f : Frame H). f.controlling) frame)) serving brings
 
@@ -220,6 +240,7 @@ module _ {H P : Type 0} where
           provider = ap (λ (f : Frame H). f.provider) k.0;
           tie_breaker = ap (λ (f : Frame H). f.tie_breaker) k.0;
           lite = ap (λ (f : Frame H). f.lite) k.0;
+          keeping = ap (λ (f : Frame H). f.keeping) k.0;
           local_creds = ap (λ (f : Frame H). f.local_creds) k.0;
           remote_creds = ap (λ (f : Frame H). f.remote_creds) k.0;
           sends = k.1;
@@ -227,7 +248,8 @@ module _ {H P : Type 0} where
               (left.0, left.1 ∙ ap (λ (rest : List RequestRecord). left.0 ++ rest) (sym (ap (λ (f : Frame H). f.queue) k.0)));
           role = inl (ap (λ (f : Frame H). f.controlling) k.0);
           settled = λ q serving past. (let no : None ≡ Some q = sym is ∙ serving.0 in cc);
-          expired = λ at by m brings. absurd brings;
+          keeps = λ _. inl (ap (λ (f : Frame H). f.controlling) k.0);
+          expired = λ _ at by m brings. absurd brings;
         }
     timeout_by now old new s t emitted (Some q) is (h, drawn) =
         let turn : Turns mac q (first_taken (at_request now (timeout_begun now old))) emitted new = serves mac q (first_taken (at_request now (timeout_begun now old))) new emitted h in
@@ -237,6 +259,7 @@ module _ {H P : Type 0} where
             provider = ap (λ (f : Frame H). f.provider) k.0;
             tie_breaker = ap (λ (f : Frame H). f.tie_breaker) k.0;
             lite = ap (λ (f : Frame H). f.lite) k.0;
+            keeping = ap (λ (f : Frame H). f.keeping) k.0;
             local_creds = ap (λ (f : Frame H). f.local_creds) k.0;
             remote_creds = ap (λ (f : Frame H). f.remote_creds) k.0;
             sends = k.1;
@@ -244,12 +267,14 @@ module _ {H P : Type 0} where
                 (past.0, past.1 ∙ ap (λ (rest : List RequestRecord). past.0 ++ q ∷ rest) (sym (ap (λ (f : Frame H). f.queue) k.0)));
             role = inl (ap (λ (f : Frame H). f.controlling) k.0);
             settled = settled;
-            expired = λ at by m brings. absurd brings;
+            keeps = λ _. inl (ap (λ (f : Frame H). f.controlling) k.0);
+            expired = λ _ at by m brings. absurd brings;
           }
           | inr k ↦ record {
             provider = ap (λ (f : Frame H). f.provider) k.1.0;
             tie_breaker = ap (λ (f : Frame H). f.tie_breaker) k.1.0;
             lite = ap (λ (f : Frame H). f.lite) k.1.0;
+            keeping = ap (λ (f : Frame H). f.keeping) k.1.0;
             local_creds = ap (λ (f : Frame H). f.local_creds) k.1.0;
             remote_creds = ap (λ (f : Frame H). f.remote_creds) k.1.0;
             sends = k.1.1;
@@ -257,7 +282,8 @@ module _ {H P : Type 0} where
                 (past.0, past.1 ∙ ap (λ (rest : List RequestRecord). past.0 ++ q ∷ rest) (sym (ap (λ (f : Frame H). f.queue) k.1.0)));
             role = inr (inl (q, serving, k.0, ap (λ (f : Frame H). f.controlling) k.1.0));
             settled = settled;
-            expired = λ at by m brings. absurd brings;
+            keeps = λ kept. absurd (never-switches (keeps_role old) old.tie_breaker (rival old q) kept k.0);
+            expired = λ _ at by m brings. absurd brings;
           }
         ] where
           settled : (r : RequestRecord) → IsServing old (HandleTimeout now) (record { answer = Done; emitted = emitted }) r → IsServedPastTests old r
@@ -295,6 +321,7 @@ module _ {H P : Type 0} where
         provider = ap (λ (f : Frame H). f.provider) k.0;
         tie_breaker = ap (λ (f : Frame H). f.tie_breaker) k.0;
         lite = ap (λ (f : Frame H). f.lite) k.0;
+        keeping = ap (λ (f : Frame H). f.keeping) k.0;
         local_creds = ap (λ (f : Frame H). f.local_creds) k.0;
         remote_creds = ap (λ (f : Frame H). f.remote_creds) k.0;
         sends = k.1;
@@ -303,7 +330,8 @@ module _ {H P : Type 0} where
         settled = λ r serving past. (
             let same_is = same_message serving.0 serving.1 serving.2 serving.3 in
             absurd (serves_none (sym (ap (λ (x : Message). x.class) same_is) ∙ serving.4) serving.5));
-        expired = λ at by n brings failure conflict. (
+        keeps = λ _. inl (ap (λ (f : Frame H). f.controlling) k.0);
+        expired = λ _ at by n brings failure conflict. (
             let same_is = same_message at by n brings in
             absurd (fails_none (sym (ap (λ (x : Message). x.class) same_is) ∙ failure) (sym (ap is_role_conflict same_is) ∙ conflict)));
       }
@@ -328,24 +356,28 @@ module _ {H P : Type 0} where
           provider = ap (λ (f : Frame H). f.provider) k.0;
           tie_breaker = ap (λ (f : Frame H). f.tie_breaker) k.0;
           lite = ap (λ (f : Frame H). f.lite) k.0;
+          keeping = ap (λ (f : Frame H). f.keeping) k.0;
           local_creds = ap (λ (f : Frame H). f.local_creds) k.0;
           remote_creds = ap (λ (f : Frame H). f.remote_creds) k.0;
           sends = k.1;
           waits = inl (ap (λ (f : Frame H). f.queue) k.0);
           role = inl (ap (λ (f : Frame H). f.controlling) k.0);
           settled = settled;
+          keeps = λ _. inl (ap (λ (f : Frame H). f.controlling) k.0);
           expired = expired;
         }
         | inr k ↦ record {
           provider = ap (λ (f : Frame H). f.provider) k.1.0;
           tie_breaker = ap (λ (f : Frame H). f.tie_breaker) k.1.0;
           lite = ap (λ (f : Frame H). f.lite) k.1.0;
+          keeping = ap (λ (f : Frame H). f.keeping) k.1.0;
           local_creds = ap (λ (f : Frame H). f.local_creds) k.1.0;
           remote_creds = ap (λ (f : Frame H). f.remote_creds) k.1.0;
           sends = k.1.1;
           waits = inl (ap (λ (f : Frame H). f.queue) k.1.0);
           role = inr (inl (q, (now, path, m, brought, is, ap is_some known, refl), k.0, ap (λ (f : Frame H). f.controlling) k.1.0));
           settled = settled;
+          keeps = λ kept. absurd (never-switches (keeps_role old) old.tie_breaker (rival old q) kept k.0);
           expired = expired;
         }
       ] where
@@ -355,8 +387,8 @@ module _ {H P : Type 0} where
             let k : IsServedPastTests old q = subst (λ x. IsServedPastTests old x) same_q past in
             subst (λ x. mid.controlling ≡ role_once (conflict_of old x) old.controlling) (sym same_q) (serves_role mac q old mid emitted k.1.0 k.0 k.1.1 h)
 
-        expired : (at : ℕ) (by : Path) (n : Message) → Brings call entry at by n → n.class ≡ class.Failure → is_role_conflict n ≡ true → IsRejectedBy old call entry new
-        expired at by n brings failure conflict =
+        expired : keeps_role old ≡ false → (at : ℕ) (by : Path) (n : Message) → Brings call entry at by n → n.class ≡ class.Failure → is_role_conflict n ≡ true → IsRejectedBy old call entry new
+        expired _ at by n brings failure conflict =
             absurd (let no : class.Request ≡ class.Failure = sym is ∙ (sym (ap (λ (x : Message). x.class) (same_message at by n brings)) ∙ failure) in cc)
 
       no_request : (c : Class) → m.class ≡ c → (c ≡ class.Request → ⊥) → (m.class ≡ class.Request) → is_some old.remote_creds ≡ true → ⊥
@@ -369,34 +401,60 @@ module _ {H P : Type 0} where
           (λ other k. still class.Failure is (but_queue (drops old mid emitted k)) (inl (ap (λ (f : Frame H). f.queue) (drops old mid emitted k).0)) (no_request class.Failure is (λ x. cc))
           (λ _ conflict. (let no : false ≡ true = sym other ∙ conflict in cc))) where
             gives : LeavesRole old path m emitted mid → is_role_conflict m ≡ true → FrameEffect old call entry new
-            gives (p, c, has, on, keeps, id_is, h) conflict = either (same c.controlling old.controlling) h
-                (λ now_is k. (
-                let f = drops (switched old) mid emitted k in
-                let role : mid.controlling ≡ not c.controlling = ap (λ (f : Frame H). f.controlling) f.0 ∙ ap not (sym (same_true c.controlling old.controlling now_is)) in
-                effect (ap (λ (x : Frame H). record x { controlling = not old.controlling }) f.0, f.1) role))
-                (λ other k. (
-                let f = drops old mid emitted k in
-                let role : mid.controlling ≡ not c.controlling = ap (λ (f : Frame H). f.controlling) f.0 ∙ same_false c.controlling old.controlling other in
-                effect (ap (λ (x : Frame H). record x { controlling = not old.controlling }) f.0, f.1) role)) where
-                  rejected_by : mid.controlling ≡ not c.controlling → IsRejectedBy old call entry new
-                  rejected_by role = (now, path, path_of old p, m, c.controlling, brought, is, conflict, (p, c, has, keeps, id_is, refl, refl), role)
+            gives (p, c, has, on, keeps, id_is, h) conflict = by_rule (keeps_role old) refl h where
+              no_serving : (r : RequestRecord) → IsServing old call entry r → IsServedPastTests old r → mid.controlling ≡ role_once (conflict_of old r) old.controlling
+              no_serving r serving past =
+                  let same_is = same_message serving.0 serving.1 serving.2 serving.3 in
+                  absurd (no_request class.Failure is (λ x. cc) (sym (ap (λ (x : Message). x.class) same_is) ∙ serving.4) serving.5)
 
-                  effect : (record (frame_of mid) { controlling = not old.controlling } ≡ record (frame_of old) { controlling = not old.controlling }) × IsQueued emitted.issued old.packets mid.packets
-                      → mid.controlling ≡ not c.controlling → FrameEffect old call entry new
-                  effect f role = record {
-                    provider = ap (λ (f : Frame H). f.provider) f.0;
-                    tie_breaker = ap (λ (f : Frame H). f.tie_breaker) f.0;
-                    lite = ap (λ (f : Frame H). f.lite) f.0;
-                    local_creds = ap (λ (f : Frame H). f.local_creds) f.0;
-                    remote_creds = ap (λ (f : Frame H). f.remote_creds) f.0;
-                    sends = f.1;
-                    waits = inl (ap (λ (f : Frame H). f.queue) f.0);
-                    role = inr (inr (inl (rejected_by role)));
-                    settled = λ r serving past. (
-                        let same_is = same_message serving.0 serving.1 serving.2 serving.3 in
-                        absurd (no_request class.Failure is (λ x. cc) (sym (ap (λ (x : Message). x.class) same_is) ∙ serving.4) serving.5));
-                    expired = λ at by n brings failure other. rejected_by role;
-                  }
+              left_role : keeps_role old ≡ true → Stays old emitted mid → FrameEffect old call entry new
+              left_role kept f = record {
+                provider = ap (λ (f : Frame H). f.provider) f.0;
+                tie_breaker = ap (λ (f : Frame H). f.tie_breaker) f.0;
+                lite = ap (λ (f : Frame H). f.lite) f.0;
+                keeping = ap (λ (f : Frame H). f.keeping) f.0;
+                local_creds = ap (λ (f : Frame H). f.local_creds) f.0;
+                remote_creds = ap (λ (f : Frame H). f.remote_creds) f.0;
+                sends = f.1;
+                waits = inl (ap (λ (f : Frame H). f.queue) f.0);
+                role = inl (ap (λ (f : Frame H). f.controlling) f.0);
+                settled = no_serving;
+                keeps = λ _. inl (ap (λ (f : Frame H). f.controlling) f.0);
+                expired = λ unkept at by n brings failure other. absurd (let no : true ≡ false = sym kept ∙ unkept in cc);
+              }
+
+              rejected_by : mid.controlling ≡ not c.controlling → IsRejectedBy old call entry new
+              rejected_by role = (now, path, path_of old p, m, c.controlling, brought, is, conflict, (p, c, has, keeps, id_is, refl, refl), role)
+
+              effect : keeps_role old ≡ false → (record (frame_of mid) { controlling = not old.controlling } ≡ record (frame_of old) { controlling = not old.controlling }) × IsQueued emitted.issued old.packets mid.packets
+                  → mid.controlling ≡ not c.controlling → FrameEffect old call entry new
+              effect unkept f role = record {
+                provider = ap (λ (f : Frame H). f.provider) f.0;
+                tie_breaker = ap (λ (f : Frame H). f.tie_breaker) f.0;
+                lite = ap (λ (f : Frame H). f.lite) f.0;
+                keeping = ap (λ (f : Frame H). f.keeping) f.0;
+                local_creds = ap (λ (f : Frame H). f.local_creds) f.0;
+                remote_creds = ap (λ (f : Frame H). f.remote_creds) f.0;
+                sends = f.1;
+                waits = inl (ap (λ (f : Frame H). f.queue) f.0);
+                role = inr (inr (inl (rejected_by role)));
+                settled = no_serving;
+                keeps = λ kept. absurd (let no : false ≡ true = sym unkept ∙ kept in cc);
+                expired = λ _ at by n brings failure other. rejected_by role;
+              }
+
+              -- a lite agent that keeps its role drops it
+              by_rule : (b : Bool) → keeps_role old ≡ b → MatchBool (same c.controlling old.controlling && not b) (Drops (switched old) emitted mid) (Drops old emitted mid) → FrameEffect old call entry new
+              by_rule true kept k = left_role kept (drops old mid emitted (subst (λ x. MatchBool x (Drops (switched old) emitted mid) (Drops old emitted mid)) (and-false (same c.controlling old.controlling)) k))
+              by_rule false unkept k = either (same c.controlling old.controlling) (subst (λ x. MatchBool x (Drops (switched old) emitted mid) (Drops old emitted mid)) (and-true (same c.controlling old.controlling)) k)
+                  (λ now_is j. (
+                  let f = drops (switched old) mid emitted j in
+                  let role : mid.controlling ≡ not c.controlling = ap (λ (f : Frame H). f.controlling) f.0 ∙ ap not (sym (same_true c.controlling old.controlling now_is)) in
+                  effect unkept (ap (λ (x : Frame H). record x { controlling = not old.controlling }) f.0, f.1) role))
+                  (λ other j. (
+                  let f = drops old mid emitted j in
+                  let role : mid.controlling ≡ not c.controlling = ap (λ (f : Frame H). f.controlling) f.0 ∙ same_false c.controlling old.controlling other in
+                  effect unkept (ap (λ (x : Frame H). record x { controlling = not old.controlling }) f.0, f.1) role))
 
       taken : (c : Class) → m.class ≡ c → Takes mac c now old path m emitted mid → FrameEffect old call entry new
       taken class.Request is h = requested_by old.remote_creds refl is h
@@ -429,21 +487,21 @@ module _ {H P : Type 0} where
     retransmits : (b : Bool) (n : ℕ) → MatchBool b ((e ≡ quiet NotCalled) × (new ≡ old) × (t ≡ s)) (Becomes (with_retransmits n old) s e new t)
         → FrameEffect old (SetMaxStunRetransmits n) e new
     retransmits true n (is, made, drawn) = unmoved (SetMaxStunRetransmits n) (quiet NotCalled) is made
-        (plain old old _ _ refl refl refl refl refl refl (inl refl) (inl refl) (λ q h. absurd h.3) (λ at by m h. absurd h))
+        (plain old old _ _ refl refl refl refl refl refl refl (inl refl) (inl refl) (λ q h. absurd h.3) (λ at by m h. absurd h))
     retransmits false n (is, made, drawn) = moved old new (with_retransmits n old) (SetMaxStunRetransmits n) e (quiet Done) is made
-        (plain old _ _ _ refl refl refl refl refl refl (inl refl) (inl refl) (λ q h. absurd h.3) (λ at by m h. absurd h))
+        (plain old _ _ _ refl refl refl refl refl refl refl (inl refl) (inl refl) (λ q h. absurd h.3) (λ at by m h. absurd h))
 
     receives : (now : ℕ) (path : Path) (bytes : List ℕ) → Receives mac answers now old path bytes e new → FrameEffect old (ReceivePacket now path bytes) e new
     receives now path bytes (inl (fault, has, is, made)) = unmoved _ (quiet (Unparsed fault)) is made
-        (plain old old _ _ refl refl refl refl refl refl (inl refl) (inl refl) (λ q h. (let no : Unparsed fault ≡ Flag true = h.3.3 in cc)) (λ at by m h. (let no : Unparsed fault ≡ Flag true = h.3 in cc)))
+        (plain old old _ _ refl refl refl refl refl refl refl (inl refl) (inl refl) (λ q h. (let no : Unparsed fault ≡ Flag true = h.3.3 in cc)) (λ at by m h. (let no : Unparsed fault ≡ Flag true = h.3 in cc)))
     receives now path bytes (inr (m, reads, (Ok false, emitted, is, (unaccepted, emitted_is, made)))) =
         unmoved _ (quiet (Flag false)) (is ∙ ap (λ (x : Emitted). let f : Entry = record { answer = Flag false; emitted = x } in f) emitted_is) made
-        (plain old old _ _ refl refl refl refl refl refl (inl refl) (inl refl) (λ q h. (let no : Flag false ≡ Flag true = h.3.3 in cc)) (λ at by n h. (let no : Flag false ≡ Flag true = h.3 in cc)))
+        (plain old old _ _ refl refl refl refl refl refl refl (inl refl) (inl refl) (λ q h. (let no : Flag false ≡ Flag true = h.3.3 in cc)) (λ at by n h. (let no : Flag false ≡ Flag true = h.3 in cc)))
     receives now path bytes (inr (m, reads, (Ok true, emitted, is, (accepted, (mid, takes, made))))) =
         moved old new (discovered_emitted path mid) _ e _ is made (taken mac now old mid path bytes m emitted reads m.class refl takes)
     receives now path bytes (inr (m, reads, (Err error, emitted, is, (may, emitted_is, made)))) =
         unmoved _ (quiet (Rejected error)) (is ∙ ap (λ (x : Emitted). let f : Entry = record { answer = Rejected error; emitted = x } in f) emitted_is) made
-        (plain old old _ _ refl refl refl refl refl refl (inl refl) (inl refl) (λ q h. (let no : Rejected error ≡ Flag true = h.3.3 in cc)) (λ at by n h. (let no : Rejected error ≡ Flag true = h.3 in cc)))
+        (plain old old _ _ refl refl refl refl refl refl refl (inl refl) (inl refl) (λ q h. (let no : Rejected error ≡ Flag true = h.3.3 in cc)) (λ at by n h. (let no : Rejected error ≡ Flag true = h.3 in cc)))
 
     timeouts : (now : ℕ) (r : Result (Unit {0}) IceError) (emitted : Emitted) → e ≡ record { answer = answer_by done r; emitted = emitted } → TimesOut mac now old s r emitted new t
         → FrameEffect old (HandleTimeout now) e new
@@ -455,13 +513,15 @@ module _ {H P : Type 0} where
           provider = refl;
           tie_breaker = refl;
           lite = refl;
+          keeping = refl;
           local_creds = refl;
           remote_creds = refl;
           sends = refl;
           waits = rejected_waits (request_at now old);
           role = inl refl;
           settled = λ q h past. (let no : Rejected error ≡ Done = h.1 in cc);
-          expired = λ at by m h. absurd h;
+          keeps = λ _. inl refl;
+          expired = λ _ at by m h. absurd h;
         }) where
           rejected_waits : (o : Option RequestRecord) → WaitsPast o (Rejected error) old.queue old.queue
           rejected_waits None = ([], refl)
@@ -469,61 +529,64 @@ module _ {H P : Type 0} where
 
     pub framed : (call : Call P) → Step mac answers old s call e new t → FrameEffect old call e new
     framed (SetMtu target warn) h = done_or (SetsMtu old target warn) (SetMtu target warn)
-        (λ k. moved old new _ _ _ _ refl k.1 (plain old _ _ _ refl refl refl refl refl refl (inl refl) (inl refl) (λ q h. absurd h.3) (λ at by m h. absurd h)))
+        (λ k. moved old new _ _ _ _ refl k.1 (plain old _ _ _ refl refl refl refl refl refl refl (inl refl) (inl refl) (λ q h. absurd h.3) (λ at by m h. absurd h)))
         (λ error k. mtu_kept old new target warn error k)
-        (λ error. plain old old _ _ refl refl refl refl refl refl (inl refl) (inl refl) (λ q h. absurd h.3) (λ at by m h. absurd h)) h
-    framed (SetControlTieBreaker tie) (is, made, drawn) = moved old new _ _ e _ is made (plain old _ _ _ refl refl refl refl refl refl (inl refl) (inl refl) (λ q h. absurd h.3) (λ at by m h. absurd h))
-    framed (SetMaxCandidatePairs n) (is, made, drawn) = moved old new _ _ e _ is made (plain old _ _ _ refl refl refl refl refl refl (inl refl) (inl refl) (λ q h. absurd h.3) (λ at by m h. absurd h))
-    framed (SetMaxDiscovered n) (is, made, drawn) = moved old new _ _ e _ is made (plain old _ _ _ refl refl refl refl refl refl (inl refl) (inl refl) (λ q h. absurd h.3) (λ at by m h. absurd h))
-    framed (SetIceLite lite) (is, made, drawn) = moved old new _ _ e _ is made (plain old _ _ _ refl refl refl refl refl refl (inl refl) (inl refl) (λ q h. absurd h.3) (λ at by m h. absurd h))
-    framed (SetRenomination on) (is, made, drawn) = moved old new _ _ e _ is made (plain old _ _ _ refl refl refl refl refl refl (inl refl) (inl refl) (λ q h. absurd h.3) (λ at by m h. absurd h))
-    framed (SetRules rules) (is, made, drawn) = moved old new _ _ e _ is made (plain old _ _ _ refl refl refl refl refl refl (inl refl) (inl refl) (λ q h. absurd h.3) (λ at by m h. absurd h))
-    framed (SetTimingAdvance by) (is, made, drawn) = moved old new _ _ e _ is made (plain old _ _ _ refl refl refl refl refl refl (inl refl) (inl refl) (λ q h. absurd h.3) (λ at by m h. absurd h))
-    framed (SetInitialStunRto rto) (is, made, drawn) = moved old new (with_rtos rto old.timing.max_rto.0 old) _ e _ is made (plain old (with_rtos rto old.timing.max_rto.0 old) _ _ refl refl refl refl refl refl (inl refl) (inl refl) (λ q h. absurd h.3) (λ at by m h. absurd h))
-    framed (SetMaxStunRto rto) (is, made, drawn) = moved old new (with_rtos old.timing.initial_rto.0 rto old) _ e _ is made (plain old (with_rtos old.timing.initial_rto.0 rto old) _ _ refl refl refl refl refl refl (inl refl) (inl refl) (λ q h. absurd h.3) (λ at by m h. absurd h))
+        (λ error. plain old old _ _ refl refl refl refl refl refl refl (inl refl) (inl refl) (λ q h. absurd h.3) (λ at by m h. absurd h)) h
+    framed (SetControlTieBreaker tie) (is, made, drawn) = moved old new _ _ e _ is made (plain old _ _ _ refl refl refl refl refl refl refl (inl refl) (inl refl) (λ q h. absurd h.3) (λ at by m h. absurd h))
+    framed (SetMaxCandidatePairs n) (is, made, drawn) = moved old new _ _ e _ is made (plain old _ _ _ refl refl refl refl refl refl refl (inl refl) (inl refl) (λ q h. absurd h.3) (λ at by m h. absurd h))
+    framed (SetMaxDiscovered n) (is, made, drawn) = moved old new _ _ e _ is made (plain old _ _ _ refl refl refl refl refl refl refl (inl refl) (inl refl) (λ q h. absurd h.3) (λ at by m h. absurd h))
+    framed (SetIceLite lite) (is, made, drawn) = moved old new _ _ e _ is made (plain old _ _ _ refl refl refl refl refl refl refl (inl refl) (inl refl) (λ q h. absurd h.3) (λ at by m h. absurd h))
+    framed (SetRenomination on) (is, made, drawn) = moved old new _ _ e _ is made (plain old _ _ _ refl refl refl refl refl refl refl (inl refl) (inl refl) (λ q h. absurd h.3) (λ at by m h. absurd h))
+    framed (SetRules rules) (is, made, drawn) = moved old new _ _ e _ is made (plain old _ _ _ refl refl refl refl refl refl refl (inl refl) (inl refl) (λ q h. absurd h.3) (λ at by m h. absurd h))
+    framed (SetTimingAdvance by) (is, made, drawn) = moved old new _ _ e _ is made (plain old _ _ _ refl refl refl refl refl refl refl (inl refl) (inl refl) (λ q h. absurd h.3) (λ at by m h. absurd h))
+    framed (SetInitialStunRto rto) (is, made, drawn) = moved old new (with_rtos rto old.timing.max_rto.0 old) _ e _ is made (plain old (with_rtos rto old.timing.max_rto.0 old) _ _ refl refl refl refl refl refl refl (inl refl) (inl refl) (λ q h. absurd h.3) (λ at by m h. absurd h))
+    framed (SetMaxStunRto rto) (is, made, drawn) = moved old new (with_rtos old.timing.initial_rto.0 rto old) _ e _ is made (plain old (with_rtos old.timing.initial_rto.0 rto old) _ _ refl refl refl refl refl refl refl (inl refl) (inl refl) (λ q h. absurd h.3) (λ at by m h. absurd h))
     framed (SetMaxStunRetransmits n) h = retransmits (n == 0) n h
-    framed (SetLiteTimeout by) (is, made, drawn) = moved old new _ _ e _ is made (plain old _ _ _ refl refl refl refl refl refl (inl refl) (inl refl) (λ q h. absurd h.3) (λ at by m h. absurd h))
-    framed (SetLocalPreference object) (is, made, drawn) = moved old new _ _ e _ is made (plain old _ _ _ refl refl refl refl refl refl (inl refl) (inl refl) (λ q h. absurd h.3) (λ at by m h. absurd h))
-    framed (SetControlling controlling) (is, made, drawn) = moved old new _ _ e _ is made (plain old _ _ _ refl refl refl refl refl refl (inl refl) (inr refl) (λ q h. absurd h.3) (λ at by m h. absurd h))
+    framed (SetLiteTimeout by) (is, made, drawn) = moved old new _ _ e _ is made (plain old _ _ _ refl refl refl refl refl refl refl (inl refl) (inl refl) (λ q h. absurd h.3) (λ at by m h. absurd h))
+    framed (SetLocalPreference object) (is, made, drawn) = moved old new _ _ e _ is made (plain old _ _ _ refl refl refl refl refl refl refl (inl refl) (inl refl) (λ q h. absurd h.3) (λ at by m h. absurd h))
+    framed (SetControlling controlling) h = done_or (SetsControlling old controlling) (SetControlling controlling)
+        (λ k. moved old new _ _ _ _ refl k.1 (plain old _ _ _ refl refl refl refl refl refl refl (inl refl) (inr refl) (λ q h. absurd h.3) (λ at by m h. absurd h)))
+        (λ error k. controlling_kept old new controlling error k)
+        (λ error. plain old old _ _ refl refl refl refl refl refl refl (inl refl) (inl refl) (λ q h. absurd h.3) (λ at by m h. absurd h)) h
     framed (SetLocalCredentials creds) h = done_or (SetsLocal old creds) (SetLocalCredentials creds)
-        (λ k. moved old new _ _ _ _ refl k.1 (plain old _ _ _ refl refl refl refl refl refl (inl refl) (inl refl) (λ q h. absurd h.3) (λ at by m h. absurd h)))
+        (λ k. moved old new _ _ _ _ refl k.1 (plain old _ _ _ refl refl refl refl refl refl refl (inl refl) (inl refl) (λ q h. absurd h.3) (λ at by m h. absurd h)))
         (λ error k. local_kept old new creds error k)
-        (λ error. plain old old _ _ refl refl refl refl refl refl (inl refl) (inl refl) (λ q h. absurd h.3) (λ at by m h. absurd h)) h
+        (λ error. plain old old _ _ refl refl refl refl refl refl refl (inl refl) (inl refl) (λ q h. absurd h.3) (λ at by m h. absurd h)) h
     framed (SetRemoteCredentials creds) h = done_or (SetsRemote old creds) (SetRemoteCredentials creds)
-        (λ k. moved old new _ _ _ _ refl k.1 (plain old _ _ _ refl refl refl refl refl refl (inl refl) (inl refl) (λ q h. absurd h.3) (λ at by m h. absurd h)))
+        (λ k. moved old new _ _ _ _ refl k.1 (plain old _ _ _ refl refl refl refl refl refl refl (inl refl) (inl refl) (λ q h. absurd h.3) (λ at by m h. absurd h)))
         (λ error k. remote_kept old new creds error k)
-        (λ error. plain old old _ _ refl refl refl refl refl refl (inl refl) (inl refl) (λ q h. absurd h.3) (λ at by m h. absurd h)) h
-    framed (SkipPairIds n) (is, made, drawn) = moved old new _ _ e _ is made (plain old _ _ _ refl refl refl refl refl refl (inl refl) (inl refl) (λ q h. absurd h.3) (λ at by m h. absurd h))
+        (λ error. plain old old _ _ refl refl refl refl refl refl refl (inl refl) (inl refl) (λ q h. absurd h.3) (λ at by m h. absurd h)) h
+    framed (SkipPairIds n) (is, made, drawn) = moved old new _ _ e _ is made (plain old _ _ _ refl refl refl refl refl refl refl (inl refl) (inl refl) (λ q h. absurd h.3) (λ at by m h. absurd h))
     framed (AddLocalCandidate c) (Ok None, is, h, drawn) = alike_done _ NotAdded is
-        (alike old new _ NotAdded (adds_local answers old new c None h) refl refl refl refl (λ k. k) (λ k. inl k) (λ q h. absurd h.3) (λ at by m h. absurd h))
+        (alike old new _ NotAdded (adds_local answers old new c None h) refl refl refl refl refl (λ k. k) (λ k. inl k) (λ q h. absurd h.3) (λ at by m h. absurd h))
     framed (AddLocalCandidate c) (Ok (Some place), is, h, drawn) = alike_done _ Added is
-        (alike old new _ Added (adds_local answers old new c (Some place) h) refl refl refl refl (λ k. k) (λ k. inl k) (λ q h. absurd h.3) (λ at by m h. absurd h))
+        (alike old new _ Added (adds_local answers old new c (Some place) h) refl refl refl refl refl (λ k. k) (λ k. inl k) (λ q h. absurd h.3) (λ at by m h. absurd h))
     framed (AddLocalCandidate c) (Err error, is, h, drawn) = unmoved _ (quiet (Rejected error)) is (enrolment_kept answers old new c error h)
-        (plain old old _ _ refl refl refl refl refl refl (inl refl) (inl refl) (λ q h. absurd h.3) (λ at by m h. absurd h))
+        (plain old old _ _ refl refl refl refl refl refl refl (inl refl) (inl refl) (λ q h. absurd h.3) (λ at by m h. absurd h))
     framed (AddRemoteCandidate c) h = done_or (AddsRemote old c) (AddRemoteCandidate c)
-        (λ k. alike old new _ Done (adds_remote old new c k) refl refl refl refl (λ k. k) (λ k. inl k) (λ q h. absurd h.3) (λ at by m h. absurd h))
+        (λ k. alike old new _ Done (adds_remote old new c k) refl refl refl refl refl (λ k. k) (λ k. inl k) (λ q h. absurd h.3) (λ at by m h. absurd h))
         (λ error k. storing_kept old new c error k)
-        (λ error. plain old old _ _ refl refl refl refl refl refl (inl refl) (inl refl) (λ q h. absurd h.3) (λ at by m h. absurd h)) h
+        (λ error. plain old old _ _ refl refl refl refl refl refl refl (inl refl) (inl refl) (λ q h. absurd h.3) (λ at by m h. absurd h)) h
     framed (InvalidateCandidate c) (found, is, h, drawn) = alike_done _ (Flag found) is
-        (alike old new _ (Flag found) (invalidates old new (place_to_discard c old.local) (place_to_discard c old.remote) found h) refl refl refl refl (λ k. k) (λ k. inl k) (λ q h. absurd h.3) (λ at by m h. absurd h))
+        (alike old new _ (Flag found) (invalidates old new (place_to_discard c old.local) (place_to_discard c old.remote) found h) refl refl refl refl refl (λ k. k) (λ k. inl k) (λ q h. absurd h.3) (λ at by m h. absurd h))
     framed (RestartIce creds keep) h = done_or (Restarts old creds keep) (RestartIce creds keep)
-        (λ k. moved old new (restarted creds keep old) _ _ _ refl k.1 (plain old (restarted creds keep old) _ _ refl refl refl refl refl (refl, refl) (inl refl) (inl refl) (λ q h. absurd h.3) (λ at by m h. absurd h)))
+        (λ k. moved old new (restarted creds keep old) _ _ _ refl k.1 (plain old (restarted creds keep old) _ _ refl refl refl refl refl refl (refl, refl) (inl refl) (inl refl) (λ q h. absurd h.3) (λ at by m h. absurd h)))
         (λ error k. restart_kept old new creds keep error k)
-        (λ error. plain old old _ _ refl refl refl refl refl (refl, refl) (inl refl) (inl refl) (λ q h. absurd h.3) (λ at by m h. absurd h)) h
+        (λ error. plain old old _ _ refl refl refl refl refl refl (refl, refl) (inl refl) (inl refl) (λ q h. absurd h.3) (λ at by m h. absurd h)) h
     framed RecreateCandidatePairs h = done_or (Recreates old) RecreateCandidatePairs
         (λ k. recreated k)
         (λ error k. recreation_kept old new error k)
-        (λ error. plain old old _ _ refl refl refl refl refl refl (inl refl) (inl refl) (λ q h. absurd h.3) (λ at by m h. absurd h)) h where
+        (λ error. plain old old _ _ refl refl refl refl refl refl refl (inl refl) (inl refl) (λ q h. absurd h.3) (λ at by m h. absurd h)) h where
           recreated : Recreates old (Ok _) new → FrameEffect old RecreateCandidatePairs (quiet Done) new
           recreated (enough, forms) =
-              alike old new _ Done (forms_alike (emptied old) new _ forms) refl refl refl refl (λ k. k) (λ k. inl k) (λ q h. absurd h.3) (λ at by m h. absurd h)
+              alike old new _ Done (forms_alike (emptied old) new _ forms) refl refl refl refl refl (λ k. k) (λ k. inl k) (λ q h. absurd h.3) (λ at by m h. absurd h)
     framed (ReceivePacket now path bytes) h = receives now path bytes h.0
     framed (HandleTimeout now) (r, emitted, is, h) = timeouts now r emitted is h
     framed PollTransmit (given, is, (polled, made), drawn) = moved old new (record old { packets = new.packets }) _ e _ is made
-        (plain old (record old { packets = new.packets }) _ _ refl refl refl refl refl (given, refl, polled) (inl refl) (inl refl) (λ q h. absurd h.3) (λ at by m h. absurd h))
+        (plain old (record old { packets = new.packets }) _ _ refl refl refl refl refl refl (given, refl, polled) (inl refl) (inl refl) (λ q h. absurd h.3) (λ at by m h. absurd h))
     framed PollTimeout (deadline, is, h, drawn) = alike_done _ (NextTimeout deadline) is
         (alike old new _ (NextTimeout deadline) (by_waking old new deadline h
         (λ made. same_record old new made)
-        (λ at made. same_record (record old { pairs = map (asked at old.timing) old.pairs }) new made)) refl refl refl refl (λ k. k) (λ k. inl k) (λ q h. absurd h.3) (λ at by m h. absurd h))
+        (λ at made. same_record (record old { pairs = map (asked at old.timing) old.pairs }) new made)) refl refl refl refl refl (λ k. k) (λ k. inl k) (λ q h. absurd h.3) (λ at by m h. absurd h))
     framed PollEvent (given, is, (polled, made), drawn) = moved old new (record old { events = new.events }) _ e _ is made
-        (plain old (record old { events = new.events }) _ _ refl refl refl refl refl refl (inl refl) (inl refl) (λ q h. absurd h.3) (λ at by m h. absurd h))
+        (plain old (record old { events = new.events }) _ _ refl refl refl refl refl refl refl (inl refl) (inl refl) (λ q h. absurd h.3) (λ at by m h. absurd h))

@@ -1,6 +1,6 @@
 -- A `handle_timeout` call that serves no early request, and a success response: their effects on pairs, and which
 -- paths they select.
-use Rattle.std.proofs.Common.{◌≡◌, ℕ, ◌||◌, Bool, true, List, Option, Some, None, inl, inr, ◌++◌, ◌&&◌, ◌∷◌, [], ◌<◌, length, refl, ◌⊎◌, ap, sym, ◌∙◌, subst}
+use Rattle.std.proofs.Common.{◌≡◌, ℕ, ◌||◌, Bool, true, List, Option, Some, None, inl, inr, ◌++◌, ◌&&◌, ◌∷◌, [], ◌<◌, length, refl, ◌⊎◌, ap, sym, ◌∙◌, subst, is_some, if◌then◌else◌, false}
 use Rattle.rand_core.specs.Stream.{Stream}
 use Rattle.is_proto.specs.Lists.{Has}
 use Rattle.is_pair.specs.Checks.{Check}
@@ -8,7 +8,7 @@ use Rattle.is_pair.specs.Pairs.{PairRecord}
 use Rattle.is_stun.specs.Message.{Message}
 use Rattle.is_stun.specs.declared.header.Class.TheVariants as class
 use Rattle.is_stun.specs.Theorems.{IsPut}
-use Rattle.is_rules.specs.Nominating.{stays_nominated}
+use Rattle.is_rules.specs.Nominating.{stays_nominated, numbers, nomination_of, nomination_number}
 use Rattle.is_rules.specs.declared.emitted.Path.{Path}
 use Rattle.is_rules.specs.declared.emitted.Emitted.{Emitted}
 use Rattle.is_rules.specs.Emitted.{issued_as, selected_in, selected_only}
@@ -17,7 +17,7 @@ use Rattle.is_rules.specs.Sending.{path_of}
 use Rattle.is_proto.specs.Packets.{Packet}
 use Rattle.is_candidate.specs.Candidates.{CandidateRecord, candidate_at}
 use Rattle.is_candidate.specs.Priorities.{check_priority}
-use Rattle.is_stun.specs.Checks.{binding_request}
+use Rattle.is_stun.specs.Checks.{binding_request, with_nomination}
 use Rattle.is_stun.specs.Writing.{written}
 use Rattle.is_pair.specs.Due.{asked}
 use Rattle.is_rules.specs.Answers.{keeps_check_on, Records, TakesSuccess}
@@ -33,7 +33,7 @@ use Rattle.is_theorems.proofs.RuleEffects.ChangedPairs.{Has-map, parts_of, nomin
 use Rattle.is_theorems.proofs.CallEffects.ChecksAndResponses.{records, check_moves}
 use Rattle.is_theorems.proofs.BasicLemmas.EqualAddresses.{both}
 use Rattle.is_theorems.proofs.BasicLemmas.CandidatesByIndex.{is-listed}
-use Rattle.is_theorems.proofs.BasicLemmas.PairsInTurn.{next-is-due}
+use Rattle.is_theorems.proofs.BasicLemmas.PairsInTurn.{next-has}
 
 pub none_some : (p : Path) → None ≡ Some p → ⊥
 none_some p h = cc
@@ -53,18 +53,26 @@ only_pair (Some path) = refl
 -- ---- the check that is sent
 
 -- what a check is built from
-abbrev pub asks_with : {H : Type 0} → Frame H → IceCreds → List ℕ → CandidateRecord → Bool → Message
-asks_with f peer id c uses = binding_request (username_between peer f.local_creds) id f.controlling f.tie_breaker (check_priority c) uses
+abbrev pub asks_with : {H : Type 0} → Frame H → IceCreds → List ℕ → CandidateRecord → Bool → Option ℕ → Message
+asks_with f peer id c uses number =
+    with_nomination number (binding_request (username_between peer f.local_creds) id f.controlling f.tie_breaker (check_priority c) uses)
 
 abbrev pub CheckOut : {H : Type 0} → (H → List ℕ → List ℕ → List ℕ) → Frame H → List CandidateRecord → List Packet → Option Issued → List Packet → Type 0
 CheckOut mac f local before issued following =
     (issued ≡ None)
-    ⊎ ((path : Path) × (id : List ℕ) × (peer : IceCreds) × (c : CandidateRecord) × (uses : Bool)
-    × (issued ≡ Some (issued_as path class.Request id)) × (f.remote_creds ≡ Some peer) × Has local c × IsPut (written (mac f.provider) (Some peer.pass) (asks_with f peer id c uses)) (asks_with f peer id c uses)
-    × (following ≡ before ++ packet_along path (written (mac f.provider) (Some peer.pass) (asks_with f peer id c uses)) ∷ [])
-    × (uses ≡ true → f.controlling ≡ true))
+    ⊎ ((path : Path) × (id : List ℕ) × (peer : IceCreds) × (c : CandidateRecord) × (uses : Bool) × (number : Option ℕ)
+    × (issued ≡ Some (issued_as path class.Request id)) × (f.remote_creds ≡ Some peer) × Has local c × IsPut (written (mac f.provider) (Some peer.pass) (asks_with f peer id c uses number)) (asks_with f peer id c uses number)
+    × (following ≡ before ++ packet_along path (written (mac f.provider) (Some peer.pass) (asks_with f peer id c uses number)) ∷ [])
+    × (uses ≡ true → f.controlling ≡ true) × (is_some number ≡ true → uses ≡ true))
 
-module _ (asks met : Path → Type 0) (sent : Path → List ℕ → Bool → Type 0) {H P : Type 0} where
+-- only a check with USE-CANDIDATE has a number
+numbered_uses : (c n s : Bool) (k : ℕ) → is_some (if c && n && s then Some k else None) ≡ true → (c && s) ≡ true
+numbered_uses true true true k h = refl
+numbered_uses true true false k h = h
+numbered_uses true false s k h = absurd (let no : false ≡ true = h in cc)
+numbered_uses false n s k h = absurd (let no : false ≡ true = h in cc)
+
+module _ (asks : Path → ℕ → Type 0) (met : Path → Type 0) (sent : Path → List ℕ → Bool → Type 0) {H P : Type 0} where
   abbrev Goes : AgentRecord H P → AgentRecord H P → Type 0
   Goes old new = Onward asks met sent (parts_of asks met sent old) (parts_of asks met sent new)
 
@@ -82,7 +90,7 @@ module _ (asks met : Path → Type 0) (sent : Path → List ℕ → Bool → Typ
             → CheckOut mac (frame_of old) old.local old.packets issued new.packets
         next None none (is, made, drawn) = inl is
         next (Some p) chosen (id, drawn, values, is, made) =
-            let o = Has-map (asked now old.timing) old.pairs p (next-is-due now (all_asked now old) p chosen).0 in
+            let o = Has-map (asked now old.timing) old.pairs p (next-has now (all_asked now old) p chosen) in
             let at : p.local < length old.local = subst (λ (q : PairRecord). q.local < length old.local) o.2 (fit.placed o.0 o.1).0 in
             inr (
               path_of old p,
@@ -90,12 +98,14 @@ module _ (asks met : Path → Type 0) (sent : Path → List ℕ → Bool → Typ
               remote,
               candidate_at old.local p.local,
               old.controlling && stays_nominated old p,
+              nomination_of old p,
               is,
               known,
               is-listed old.local p.local at,
               values,
               ap (λ (a : AgentRecord H P). a.packets) made,
-              λ uses. (both old.controlling (stays_nominated old p) uses).0,
+              (λ uses. (both old.controlling (stays_nominated old p) uses).0),
+              λ some. numbered_uses old.controlling (numbers old) (stays_nominated old p) (nomination_number old) some,
             )
 
   check_number : (mac : H → List ℕ → List ℕ → List ℕ) (now : ℕ) (remote : Option IceCreds) (old new : AgentRecord H P) (s t : Stream) (issued : Option Issued)
@@ -110,7 +120,7 @@ module _ (asks met : Path → Type 0) (sent : Path → List ℕ → Bool → Typ
 
   -- each selected path was valid before
   pub maintains_pairs : (mac : H → List ℕ → List ℕ → List ℕ) (now : ℕ) (old new : AgentRecord H P) (s t : Stream) (emitted : Emitted)
-      → ((old.controlling || old.lite) ≡ true → (p : Path) → asks p)
+      → ((old.controlling || old.lite) ≡ true → (p : Path) (m : ℕ) → asks p m)
       → ((path : Path) (id : List ℕ) → emitted.issued ≡ Some (issued_as path class.Request id) → sent path id old.controlling)
       → Fit (parts_of asks met sent old) → MaintainsPairs mac now old s emitted new t
       → Goes old new × Telling old emitted new × CheckOut mac (frame_of old) old.local old.packets emitted.issued new.packets
@@ -123,7 +133,9 @@ module _ (asks met : Path → Type 0) (sent : Path → List ℕ → Bool → Typ
       (λ allowed. free (subst (λ l. (old.controlling || l) ≡ true) same_lite (subst (λ c. (c || named.lite) ≡ true) same_role allowed))) a.0.fit giving in
       let g = removes_expired now named kept second giving in
       let kept_role : kept.controlling ≡ old.controlling = ap (λ (x : Frame H). x.controlling) g.0 ∙ same_role in
-      let c = check_moves asks met sent mac now kept.remote_creds kept new s t issued
+      let free_kept : (kept.controlling || kept.lite) ≡ true → (p : Path) (m : ℕ) → asks p m =
+      (λ allowed. free (subst (λ l. (old.controlling || l) ≡ true) (ap (λ (x : Frame H). x.lite) g.0 ∙ same_lite) (subst (λ c. (c || kept.lite) ≡ true) kept_role allowed))) in
+      let c = check_moves asks met sent mac now kept.remote_creds kept new s t issued free_kept
       (λ path id out. subst (λ r. sent path id r) (sym kept_role) (sends path id (ap (λ (x : Emitted). x.issued) is ∙ out))) b.0.fit checking in
       let x : Parts = parts_of asks met sent old in
       let y : Parts = parts_of asks met sent named in
@@ -148,7 +160,7 @@ module _ (asks met : Path → Type 0) (sent : Path → List ℕ → Bool → Typ
 
   -- a selected path was valid before, or is answered now
   pub succeeds : (now : ℕ) (old new : AgentRecord H P) (via : Path) (m : Message) (emitted : Emitted)
-      → ((old.controlling || old.lite) ≡ true → (p : Path) → asks p)
+      → ((old.controlling || old.lite) ≡ true → (p : Path) (m : ℕ) → asks p m)
       → ((p : PairRecord) (c : Check) → Has old.pairs p → keeps_check_on old via m.id p ≡ true → Has p.checks c → c.id ≡ m.id → met (path_of old p))
       → Fit (parts_of asks met sent old) → TakesSuccess now old via m emitted new
       → Goes old new × Telling old emitted new

@@ -14,9 +14,9 @@ use Rattle.is_candidate.specs.Candidates.{CandidateRecord, candidate_at}
 use Rattle.is_candidate.specs.Priorities.{check_priority}
 use Rattle.is_stun.specs.declared.header.Class.{Class}
 use Rattle.is_stun.specs.declared.header.Class.TheVariants as class
-use Rattle.is_stun.specs.Checks.{binding_request, binding_reply}
+use Rattle.is_stun.specs.Checks.{binding_request, binding_reply, with_nomination}
 use Rattle.is_stun.specs.Integrity.{IsSignedBy}
-use Rattle.is_stun.specs.Theorems.{IsPut, IsWrittenPlain, ReadsBack, SameMessage, WrittenIsRead, FitsInto, LONGEST_CHECK, LONGEST_REPLY}
+use Rattle.is_stun.specs.Theorems.{IsPut, IsWrittenPlain, ReadsBack, SameMessage, WrittenIsRead, FitsInto, LONGEST_NUMBERED_CHECK, LONGEST_REPLY}
 use Rattle.is_stun.specs.Message.{AttributesRecord, Message, split_username}
 use Rattle.is_stun.specs.Reading.{Reads, Fault}
 use Rattle.is_stun.specs.Writing.{written}
@@ -39,7 +39,7 @@ use Rattle.is_rules.specs.Issuing.{Says, IsIssued, key_for, via_out}
 use Rattle.is_rules.specs.Limit.{has_room, IsVacancy, IsSenderPlace, HasPlaceFor}
 use Rattle.is_rules.specs.Places.{is_live, is_reached, is_sender, local_place, place_by, IsRemotePlace, IsGreatestPlace}
 use Rattle.is_rules.specs.Request.{RequestRecord, request_in, rival_in}
-use Rattle.is_rules.specs.Roles.{conflict_by, conflict_of}
+use Rattle.is_rules.specs.Roles.{conflict_by, conflict_of, keeps_role}
 use Rattle.is_rules.specs.Sending.{carried, path_between}
 use Rattle.is_rules.specs.Forming.{formed, with_pair}
 use Rattle.is_rules.specs.Serving.{is_misled, names_another, request_counted, with_sender, with_sender_at, Drops, Queues, TakesRequest, RecordsAndResponds, AddsPairAndResponds, FindsOrAddsPair, AddsUnknownSender, FindsSender, CountsAndServes, ResolvesRoleConflictBy, ResolvesRoleConflict, ServesHere, Serves}
@@ -132,16 +132,17 @@ module _ {H P : Type 0} (mac : H → List ℕ → List ℕ → List ℕ) (answer
   -- ---- a check reads
 
   module _ (read : (m : List ℕ → List ℕ → List ℕ) (key : List ℕ) (x : Message) → WrittenIsRead m key x)
-      (fits : (key id username : List ℕ) (controlling : Bool) (tie_breaker priority : ℕ) (nominates : Bool)
-      → length username ≤ USERNAME_LIMIT → FitsInto key LONGEST_CHECK (binding_request username id controlling tie_breaker priority nominates)) where
-    pub check_reads : (key : List ℕ) (own peer : IceCreds) (id : List ℕ) (controlling uses : Bool) (tie priority : ℕ) (m : List ℕ → List ℕ → List ℕ) (bytes : List ℕ)
+      (fits : (key id username : List ℕ) (controlling : Bool) (tie_breaker priority : ℕ) (nominates : Bool) (number : Option ℕ)
+      → length username ≤ USERNAME_LIMIT → FitsInto key LONGEST_NUMBERED_CHECK (with_nomination number (binding_request username id controlling tie_breaker priority nominates))) where
+    pub check_reads : (key : List ℕ) (own peer : IceCreds) (id : List ℕ) (controlling uses : Bool) (number : Option ℕ) (tie priority : ℕ) (m : List ℕ → List ℕ → List ℕ) (bytes : List ℕ)
         → ((k text : List ℕ) → length (m k text) ≡ 20) → are_too_long own (Some peer) ≡ false → IsFragment own.ufrag → IsFragment peer.ufrag
-        → IsPut bytes (binding_request (username_between peer own) id controlling tie priority uses)
-        → ReadsBack m key (written m (Some key) (binding_request (username_between peer own) id controlling tie priority uses))
-        (binding_request (username_between peer own) id controlling tie priority uses)
-    check_reads key own peer id controlling uses tie priority m bytes twenty short mine its put =
-        let x : Message = binding_request (username_between peer own) id controlling tie priority uses in
-        read m key x twenty LONGEST_CHECK (fits key id (username_between peer own) controlling tie priority uses (name_fits own peer short) LONGEST_CHECK (omega arith))
+        → IsPut bytes (with_nomination number (binding_request (username_between peer own) id controlling tie priority uses))
+        → ReadsBack m key (written m (Some key) (with_nomination number (binding_request (username_between peer own) id controlling tie priority uses)))
+        (with_nomination number (binding_request (username_between peer own) id controlling tie priority uses))
+    check_reads key own peer id controlling uses number tie priority m bytes twenty short mine its put =
+        let x : Message = with_nomination number (binding_request (username_between peer own) id controlling tie priority uses) in
+        read m key x twenty LONGEST_NUMBERED_CHECK
+        (fits key id (username_between peer own) controlling tie priority uses number (name_fits own peer short) LONGEST_NUMBERED_CHECK (omega arith))
         (record { class = tt; id = put.values.id; values = put.values.values; demands = rw (splits peer.ufrag own.ufrag its.plain mine.some) refl })
 
   -- ---- when a request is served
@@ -287,8 +288,8 @@ module _ {H P : Type 0} (mac : H → List ℕ → List ℕ → List ℕ) (answer
   -- ---- the check
 
   module _ (read : (m : List ℕ → List ℕ → List ℕ) (key : List ℕ) (x : Message) → WrittenIsRead m key x)
-      (fits : (key id username : List ℕ) (controlling : Bool) (tie_breaker priority : ℕ) (nominates : Bool)
-      → length username ≤ USERNAME_LIMIT → FitsInto key LONGEST_CHECK (binding_request username id controlling tie_breaker priority nominates)) where
+      (fits : (key id username : List ℕ) (controlling : Bool) (tie_breaker priority : ℕ) (nominates : Bool) (number : Option ℕ)
+      → length username ≤ USERNAME_LIMIT → FitsInto key LONGEST_NUMBERED_CHECK (with_nomination number (binding_request username id controlling tie_breaker priority nominates))) where
     -- the check of a known agent arrives: it is accepted, and passes the test of its username fragment
     pub check-comes : (a sent b served : AgentRecord H P) (check came : Packet) (id : List ℕ) (at : ℕ) (e : Entry) → IsSound a → KnowEachOther mac a b
         → Issued mac answers class.Request id check a sent → came.contents ≡ check.contents → Delivered mac answers came at b e served → Comes mac a b came id at e
@@ -300,13 +301,13 @@ module _ {H P : Type 0} (mac : H → List ℕ → List ℕ → List ℕ) (answer
           via : Path
           via = via_out came
 
-          taken : (peer : IceCreds) (c : CandidateRecord) (uses : Bool) (own : List ℕ) → own ≡ id → (uses ≡ true → a.controlling ≡ true) → peer ≡ b.local_creds
+          taken : (peer : IceCreds) (c : CandidateRecord) (uses : Bool) (number : Option ℕ) (own : List ℕ) → own ≡ id → (uses ≡ true → a.controlling ≡ true) → peer ≡ b.local_creds
               → (back : ReadsBack (mac a.provider) peer.pass
-              (written (mac a.provider) (Some peer.pass) (binding_request (username_between peer a.local_creds) own a.controlling a.tie_breaker (check_priority c) uses))
-              (binding_request (username_between peer a.local_creds) own a.controlling a.tie_breaker (check_priority c) uses))
+              (written (mac a.provider) (Some peer.pass) (with_nomination number (binding_request (username_between peer a.local_creds) own a.controlling a.tie_breaker (check_priority c) uses)))
+              (with_nomination number (binding_request (username_between peer a.local_creds) own a.controlling a.tie_breaker (check_priority c) uses)))
               → Reads came.contents back.read → Comes mac a b came id at e
-          taken peer c uses own id_is leads it back reads =
-              let x : Message = binding_request (username_between peer a.local_creds) own a.controlling a.tie_breaker (check_priority c) uses in
+          taken peer c uses number own id_is leads it back reads =
+              let x : Message = with_nomination number (binding_request (username_between peer a.local_creds) own a.controlling a.tie_breaker (check_priority c) uses) in
               let n : Message = back.read in
               let same : SameMessage n x = back.same in
               let names : split_username n.attributes ≡ Some (peer.ufrag, a.local_creds.ufrag) =
@@ -342,17 +343,17 @@ module _ {H P : Type 0} (mac : H → List ℕ → List ℕ → List ℕ) (answer
 
           asked : (m : Message) → check.contents ≡ written (mac a.provider) (Some (key_for class.Request a.local_creds a.remote_creds)) m → m.id ≡ id
               → Says class.Request a issued.call issued.entry check.contents m (via_out check) sent.controlling → Comes mac a b came id at e
-          asked m contents id_is (peer, c, uses, known, has, m_is, put, role, leads) =
-              let x : Message = binding_request (username_between peer a.local_creds) m.id a.controlling a.tie_breaker (check_priority c) uses in
+          asked m contents id_is (peer, c, uses, number, known, has, m_is, put, role, leads, numbered) =
+              let x : Message = with_nomination number (binding_request (username_between peer a.local_creds) m.id a.controlling a.tie_breaker (check_priority c) uses) in
               let it : peer ≡ b.local_creds = some_is peer b.local_creds (sym known ∙ know.mine) in
               let bytes : check.contents ≡ written (mac a.provider) (Some peer.pass) x =
               contents ∙ ap (λ o. written (mac a.provider) (Some (key_for class.Request a.local_creds o)) m) known ∙ ap (λ (y : Message). written (mac a.provider) (Some peer.pass) y) m_is in
               let back : ReadsBack (mac a.provider) peer.pass (written (mac a.provider) (Some peer.pass) x) x =
-              check_reads read fits peer.pass a.local_creds peer m.id a.controlling uses a.tie_breaker (check_priority c) (mac a.provider) check.contents know.twenty
+              check_reads read fits peer.pass a.local_creds peer m.id a.controlling uses number a.tie_breaker (check_priority c) (mac a.provider) check.contents know.twenty
               (let short : are_too_long a.local_creds (Some b.local_creds) ≡ false = cc (know.fit) in
               subst (λ (y : IceCreds). are_too_long a.local_creds (Some y) ≡ false) (sym it) short) know.own
               (subst (λ (y : IceCreds). IsFragment y.ufrag) (sym it) know.other) (subst (λ (y : Message). IsPut check.contents y) m_is put) in
-              taken peer c uses m.id id_is leads it back (subst (λ bs. Reads bs back.read) (sym (unaltered ∙ bytes)) back.reads)
+              taken peer c uses number m.id id_is leads it back (subst (λ bs. Reads bs back.read) (sym (unaltered ∙ bytes)) back.reads)
 
     pub carried-are-served : CarriedAreServed mac answers
     carried-are-served a sent b served check came id at e sound_a sound_b know apart reached issued unaltered delivered =
@@ -361,7 +362,7 @@ module _ {H P : Type 0} (mac : H → List ℕ → List ℕ → List ℕ) (answer
         let rival_of : rival_in b.controlling q ≡ None =
         subst (λ r. rival_in r q ≡ None) (sym apart) (no_rival a.controlling q a.tie_breaker k.controlling k.controlled) in
         let led : is_misled b.controlling q ≡ false = subst (λ r. (r && q.use_candidate) ≡ false) (sym apart) (not_misled a.controlling q.use_candidate k.leads) in
-        let reply = serves q b k.mid e.emitted k.named reached (ap (λ o. conflict_by b.tie_breaker o) rival_of) led k.serves in (
+        let reply = serves q b k.mid e.emitted k.named reached (ap (λ o. conflict_by (keeps_role b) b.tie_breaker o) rival_of) led k.serves in (
           (k.message, (refl, refl, k.reads, k.accepted), k.request),
           goes-back class.Success b served came id at e sound_b delivered (λ packet m says. says.3 ∙ ap reversed (brought-by b came at e says.0 says.1))
               reply.0 (reply.1 ∙ ap (λ i. Some (issued_as reply.0 class.Success i)) k.id_is),

@@ -1,5 +1,5 @@
 -- One check resolves a role conflict.
-use Rattle.std.proofs.Common.{◌≡◌, ◌⊎◌, ℕ, ◌<◌, ◌≤◌, ◌==◌, nat_le, Bool, true, false, not, List, length, Some, None, is_some, inl, inr, refl, ap, sym, ◌∙◌, subst, arith, if◌then◌else◌}
+use Rattle.std.proofs.Common.{◌≡◌, ◌⊎◌, ℕ, ◌<◌, ◌≤◌, ◌==◌, ◌||◌, nat_le, Bool, true, false, not, List, length, Option, Some, None, is_some, inl, inr, refl, ap, sym, ◌∙◌, subst, arith, if◌then◌else◌}
 use Rattle.std.specs.Prelude.{MatchBool, MatchOption, IsSomeAnd}
 use Rattle.std.specs.List.{list_any}
 use Rattle.std.specs.Option.{option_map_or}
@@ -8,9 +8,9 @@ use Rattle.rand_core.specs.Stream.{Stream}
 use Rattle.is_proto.specs.Packets.{Packet}
 use Rattle.is_candidate.specs.Candidates.{CandidateRecord}
 use Rattle.is_stun.specs.declared.header.Class.TheVariants as class
-use Rattle.is_stun.specs.Checks.{ROLE_CONFLICT, binding_request, binding_role_conflict_reply}
+use Rattle.is_stun.specs.Checks.{ROLE_CONFLICT, binding_request, binding_role_conflict_reply, with_nomination}
 use Rattle.is_stun.specs.Integrity.{IsSignedBy}
-use Rattle.is_stun.specs.Theorems.{IsPut, ReadsBack, SameMessage, WrittenIsRead, FitsInto, LONGEST_CHECK, LONGEST_REPLY}
+use Rattle.is_stun.specs.Theorems.{IsPut, ReadsBack, SameMessage, WrittenIsRead, FitsInto, LONGEST_NUMBERED_CHECK, LONGEST_REPLY}
 use Rattle.is_stun.specs.Message.{AttributesRecord, Message}
 use Rattle.is_stun.specs.Reading.{Reads}
 use Rattle.is_stun.specs.Writing.{written}
@@ -29,7 +29,7 @@ use Rattle.is_rules.specs.Fitting.{USERNAME_LIMIT}
 use Rattle.is_rules.specs.Issuing.{Says, key_for, via_out}
 use Rattle.is_rules.specs.Places.{local_place}
 use Rattle.is_rules.specs.Request.{RequestRecord, request_in, rival_in}
-use Rattle.is_rules.specs.Roles.{conflict_by, conflict_of}
+use Rattle.is_rules.specs.Roles.{conflict_by, conflict_of, keeps_role}
 use Rattle.is_rules.specs.Serving.{names_another, Drops, SendsRoleConflict, ResolvesRoleConflictBy, ResolvesRoleConflict, ServesHere, Serves}
 use Rattle.is_rules.specs.Sound.{IsSound}
 use Rattle.is_rules.specs.Steps.{Entry, HandleTimeout, Step}
@@ -100,11 +100,11 @@ module _ {H P : Type 0} (mac : H → List ℕ → List ℕ → List ℕ) (answer
     -- the sender accepts it, and takes the other role
     gives-way : (role : Bool) (mid taken b served : AgentRecord H P) (rejection answer : Packet) (id : List ℕ) (at : ℕ) (e : Entry) → IsSound mid → IsSound b → KnowEachOther mac mid b
         → Issued mac answers class.Failure id rejection b served → answer.contents ≡ rejection.contents → list_any (keeps_check_on mid (via_out answer) id) mid.pairs ≡ true
-        → Delivered mac answers answer at mid e taken
+        → keeps_role mid ≡ false → Delivered mac answers answer at mid e taken
         → IsRejectedBy mid (handing answer at) e taken × (AreSentUnder role mid id → taken.controlling ≡ not role)
-    gives-way role mid taken b served rejection answer id at e sound_mid sound_b know issued unaltered kept came =
+    gives-way role mid taken b served rejection answer id at e sound_mid sound_b know issued unaltered kept unkept came =
         let r = rejection-comes mid taken b served rejection answer id at e sound_b know issued unaltered kept came in
-        let by = (trade_theorem mac answers mid taken came.before came.following (handing answer at) e sound_mid tt came.step).expired at (via_out answer) r.0 r.1 r.2 r.3 in
+        let by = (trade_theorem mac answers mid taken came.before came.following (handing answer at) e sound_mid tt came.step).expired unkept at (via_out answer) r.0 r.1 r.2 r.3 in
         (by, λ under. switched_role r.0 r.1.2 r.4 under by) where
           switched_role : (n : Message) → Reads answer.contents n → n.id ≡ id → AreSentUnder role mid id → IsRejectedBy mid (handing answer at) e taken → taken.controlling ≡ not role
           switched_role n reads own under (moment_of, by, path, m, c, brings, failure, says, kept, is) =
@@ -116,14 +116,14 @@ module _ {H P : Type 0} (mac : H → List ℕ → List ℕ → List ℕ) (answer
 
     -- the agent has its sender's role, keeps it, and sends a 487
     record Sent487 (a b served : AgentRecord H P) (came : Packet) (id : List ℕ) (handed : Entry) : Type 0 where
-      no_smaller : a.tie_breaker ≤ b.tie_breaker
+      no_smaller : keeps_role b ≡ false → a.tie_breaker ≤ b.tie_breaker
       stays : served.controlling ≡ b.controlling
       rejection : Packet
       via_back : via_out rejection ≡ reversed (via_out came)
       sends : Sends b handed class.Failure id rejection served
 
-    module _ (checks : (key id username : List ℕ) (controlling : Bool) (tie_breaker priority : ℕ) (nominates : Bool)
-        → length username ≤ USERNAME_LIMIT → FitsInto key LONGEST_CHECK (binding_request username id controlling tie_breaker priority nominates)) where
+    module _ (checks : (key id username : List ℕ) (controlling : Bool) (tie_breaker priority : ℕ) (nominates : Bool) (number : Option ℕ)
+        → length username ≤ USERNAME_LIMIT → FitsInto key LONGEST_NUMBERED_CHECK (with_nomination number (binding_request username id controlling tie_breaker priority nominates))) where
       -- it is served, and one of the two takes the other role
       meets : (a sent b served : AgentRecord H P) (s t : Stream) (now at : ℕ) (check came : Packet) (id : List ℕ) (timeout handed : Entry) → IsSound a → IsSound b
           → Step mac answers a s (HandleTimeout now) timeout sent t → Sends a timeout class.Request id check sent → KnowEachOther mac a b → came.contents ≡ check.contents
@@ -131,7 +131,7 @@ module _ {H P : Type 0} (mac : H → List ℕ → List ℕ → List ℕ) (answer
           → ServesPastTests b (handing came at) handed
           × (b.controlling ≡ a.controlling → ((b.tie_breaker < a.tie_breaker) × (served.controlling ≡ not a.controlling)) ⊎ Sent487 a b served came id handed)
       meets a sent b served s t now at check came id timeout handed sound_a sound_b step sends known unaltered reached delivered =
-          ((q, serving, tests), λ alike. resolves alike (leb_tells a.tie_breaker b.tie_breaker)) where
+          ((q, serving, tests), λ alike. resolves alike (keeps_role b) refl (leb_tells a.tie_breaker b.tie_breaker)) where
             k : Comes mac a b came id at handed
             k = check-comes mac answers read checks a sent b served check came id at handed sound_a known
                 (record { call = HandleTimeout now; entry = timeout; before = s; following = t; step = step; sends = sends }) unaltered delivered
@@ -148,26 +148,31 @@ module _ {H P : Type 0} (mac : H → List ℕ → List ℕ → List ℕ) (answer
             tests : IsServedPastTests b q
             tests = (k.named, place)
 
-            conflict : (c : Bool) → b.controlling ≡ a.controlling → nat_le a.tie_breaker b.tie_breaker ≡ c → conflict_of b q ≡ (if c then Send487 else SwitchRole)
-            conflict c alike is =
-                ap (λ o. conflict_by b.tie_breaker o) (subst (λ r. rival_in r q ≡ Some a.tie_breaker) (sym alike) (same_claim a.controlling q a.tie_breaker k.controlling k.controlled))
-                ∙ ap (λ x. if x then Send487 else SwitchRole) is
+            conflict_if : (keeps : Bool) → b.controlling ≡ a.controlling → keeps_role b ≡ keeps
+                → conflict_of b q ≡ (if keeps || nat_le a.tie_breaker b.tie_breaker then Send487 else SwitchRole)
+            conflict_if keeps alike is =
+                ap (λ o. conflict_by (keeps_role b) b.tie_breaker o) (subst (λ r. rival_in r q ≡ Some a.tie_breaker) (sym alike) (same_claim a.controlling q a.tie_breaker k.controlling k.controlled))
+                ∙ ap (λ x. if x || nat_le a.tie_breaker b.tie_breaker then Send487 else SwitchRole) is
+
+            conflict : (c : Bool) → b.controlling ≡ a.controlling → keeps_role b ≡ false → nat_le a.tie_breaker b.tie_breaker ≡ c → conflict_of b q ≡ (if c then Send487 else SwitchRole)
+            conflict c alike unkept is = conflict_if false alike unkept ∙ ap (λ x. if x then Send487 else SwitchRole) is
 
             role : served.controlling ≡ role_once (conflict_of b q) b.controlling
             role = (trade_theorem mac answers b served delivered.before delivered.following (handing came at) handed sound_b tt delivered.step).settled q serving tests
 
-            sends_487 : a.tie_breaker ≤ b.tie_breaker → conflict_of b q ≡ Send487 → Sent487 a b served came id handed
+            sends_487 : (keeps_role b ≡ false → a.tie_breaker ≤ b.tie_breaker) → conflict_of b q ≡ Send487 → Sent487 a b served came id handed
             sends_487 le is =
                 let out : handed.emitted.issued ≡ Some (issued_as (reversed (via_out came)) class.Failure id) =
                 conflict_sent q b k.mid handed.emitted place.0 k.named place.1 is k.serves ∙ ap (λ i. Some (issued_as (reversed (via_out came)) class.Failure i)) k.id_is in
                 let back = goes-back mac answers class.Failure b served came id at handed sound_b delivered
                 (λ packet m says. says.3 ∙ ap reversed (brought-by mac answers b came at handed says.0 says.1)) (reversed (via_out came)) out in
-                record { no_smaller = omega (arith, le); stays = role ∙ ap (λ c. role_once c b.controlling) is; rejection = back.0; via_back = back.1; sends = back.2 }
+                record { no_smaller = le; stays = role ∙ ap (λ c. role_once c b.controlling) is; rejection = back.0; via_back = back.1; sends = back.2 }
 
-            resolves : b.controlling ≡ a.controlling → (((nat_le a.tie_breaker b.tie_breaker ≡ true) × (a.tie_breaker ≤ b.tie_breaker)) ⊎ ((nat_le a.tie_breaker b.tie_breaker ≡ false) × (b.tie_breaker < a.tie_breaker)))
+            resolves : b.controlling ≡ a.controlling → (keeps : Bool) → keeps_role b ≡ keeps → (((nat_le a.tie_breaker b.tie_breaker ≡ true) × (a.tie_breaker ≤ b.tie_breaker)) ⊎ ((nat_le a.tie_breaker b.tie_breaker ≡ false) × (b.tie_breaker < a.tie_breaker)))
                 → ((b.tie_breaker < a.tie_breaker) × (served.controlling ≡ not a.controlling)) ⊎ Sent487 a b served came id handed
-            resolves alike (inl (is, le)) = inr (sends_487 le (conflict true alike is))
-            resolves alike (inr (is, lt)) = inl (omega (arith, lt), role ∙ ap (λ c. role_once c b.controlling) (conflict false alike is) ∙ ap not alike)
+            resolves alike true kept _ = inr (sends_487 (λ unkept. absurd (let no : true ≡ false = sym kept ∙ unkept in cc)) (conflict_if true alike kept))
+            resolves alike false unkept (inl (is, le)) = inr (sends_487 (λ _. omega (arith, le)) (conflict true alike unkept is))
+            resolves alike false unkept (inr (is, lt)) = inl (omega (arith, lt), role ∙ ap (λ c. role_once c b.controlling) (conflict false alike unkept is) ∙ ap not alike)
 
       -- the delivered check issues the 487
       issues : (b served : AgentRecord H P) (came rejection : Packet) (id : List ℕ) (at : ℕ) (handed : Entry) → Delivered mac answers came at b handed served
@@ -195,15 +200,15 @@ module _ {H P : Type 0} (mac : H → List ℕ → List ℕ → List ℕ) (answer
                 subst (λ w. list_any (keeps_check_on sent w id) sent.pairs ≡ true) (sym i.via_back) (kept_law a sent s t now check id timeout sound_a step sends) in
                 let kept = checks-stay mac answers sent near xs (via_out i.rejection) id sound_sent fits_in gone via_back in
                 let sound_near = sound-course mac answers xs sent near sound_sent gone in record {
-                  no_smaller = (let le = i.no_smaller in omega (arith, le));
+                  no_smaller = i.no_smaller;
                   stays = i.stays;
                   rejection = i.rejection;
                   via_back = i.via_back;
                   sends = i.sends;
-                  returns = λ mid taken ys at_back returned fits_on on came. (
+                  returns = λ mid taken ys at_back returned fits_on on unkept came. (
                       let gives = gives-way a.controlling mid taken b served i.rejection i.rejection id at_back returned (sound-course mac answers ys near mid sound_near on) sound_b
                       (known-on mac near mid b (keys-between mac answers ys near mid sound_near fits_on on) know) (issues b served check i.rejection id at handed delivered i.sends) refl
-                      (checks-stay mac answers near mid ys (via_out i.rejection) id sound_near fits_on on kept) came in
+                      (checks-stay mac answers near mid ys (via_out i.rejection) id sound_near fits_on on kept) unkept came in
                       (gives.0, λ under. gives.1 under ∙ ap not (sym alike)));
                 }
 
@@ -216,17 +221,17 @@ module _ {H P : Type 0} (mac : H → List ℕ → List ℕ → List ℕ) (answer
 
             sent_487 : b.controlling ≡ a.controlling → Sent487 a b served came id handed → IsConflictCarried mac answers a sent b served check came id handed
             sent_487 alike i = record {
-              no_smaller = (let le = i.no_smaller in omega (arith, le));
+              no_smaller = i.no_smaller;
               stays = i.stays;
               rejection = i.rejection;
               via_back = i.via_back;
               sends = i.sends;
-              returns = λ mid taken answer xs back limit returned course keeps few known unaltered_back returns got.
+              returns = λ mid taken answer xs back limit returned course keeps few known unkept unaltered_back returns got.
                   elim (still-kept mac answers a sent mid s t now limit check answer id timeout xs sound_a step sends course keeps few (search returns)) [
                     | inl kept ↦
                         (let sound_mid = sound-course mac answers xs sent mid (path_theorem mac answers a sent s t (HandleTimeout now) timeout sound_a tt step).1 course in
                         let gives = gives-way a.controlling mid taken b served i.rejection answer id back returned sound_mid sound_b known
-                        (issues b served came i.rejection id at handed delivered i.sends) unaltered_back kept got in
+                        (issues b served came i.rejection id at handed delivered i.sends) unaltered_back kept unkept got in
                         inl (gives.0, λ under. gives.1 under ∙ ap not (sym alike)))
                     | inr ends ↦ inr ends
                   ];

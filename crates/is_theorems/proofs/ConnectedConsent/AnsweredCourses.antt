@@ -13,13 +13,13 @@ use Rattle.is_rules.specs.Effects.{lite_set_by}
 use Rattle.is_rules.specs.Local.{AddsLocal}
 use Rattle.is_rules.specs.Remote.{AddsRemote}
 use Rattle.is_rules.specs.Restarting.{emptied, Recreates, Restarts}
-use Rattle.is_rules.specs.Settings.{SetsMtu}
+use Rattle.is_rules.specs.Settings.{SetsControlling, SetsMtu}
 use Rattle.is_rules.specs.Steps.{Call, SetMtu, SetControlTieBreaker, SetMaxCandidatePairs, SetMaxDiscovered, SetIceLite, SetRenomination, SetRules, SetTimingAdvance, SetInitialStunRto, SetMaxStunRto, SetMaxStunRetransmits, SetLiteTimeout, SetLocalPreference, SetControlling, SetLocalCredentials, SetRemoteCredentials, SkipPairIds, AddLocalCandidate, AddRemoteCandidate, InvalidateCandidate, RestartIce, RecreateCandidatePairs, ReceivePacket, HandleTimeout, PollTransmit, PollTimeout, PollEvent, Entry, Step, MayDo}
 use Rattle.is_theorems.specs.ConsentCourses.{AreNeverLite, ValidHaveConsented}
 use Rattle.is_theorems.specs.Exchange.{Course}
 use Rattle.is_theorems.specs.Runs.{IsFresh}
 use Rattle.is_theorems.proofs.CallEffects.AddedCandidates.{by_adding_local, by_adding_remote, by_waking}
-use Rattle.is_theorems.proofs.CallEffects.FailedCallsAndNewAgents.{mtu_kept, local_kept, remote_kept, restart_kept, recreation_kept, enrolment_kept, storing_kept}
+use Rattle.is_theorems.proofs.CallEffects.FailedCallsAndNewAgents.{mtu_kept, controlling_kept, local_kept, remote_kept, restart_kept, recreation_kept, enrolment_kept, storing_kept}
 use Rattle.is_theorems.proofs.ConnectedConsent.AnsweredPairs.{AreAnswered, answered-filter, answered-map, forms-firm, IsFirm, made-firm, received-firm, timed-firm, unless-answered}
 use Rattle.is_theorems.proofs.RuleEffects.UnchangedSettings.{either}
 
@@ -83,7 +83,7 @@ module _ {H P : Type 0} (mac : H → List ℕ → List ℕ → List ℕ) (answer
     steps (SetMaxStunRetransmits k) full h = either (k == 0) h (λ _ x. kept x.1) (λ _ x. subst (λ (a : AgentRecord H P). IsFirm a) (sym x.1) f)
     steps (SetLiteTimeout timeout) full (is, made, drawn) = subst (λ (a : AgentRecord H P). IsFirm a) (sym made) f
     steps (SetLocalPreference object) full (is, made, drawn) = subst (λ (a : AgentRecord H P). IsFirm a) (sym made) f
-    steps (SetControlling controlling) full (is, made, drawn) = subst (λ (a : AgentRecord H P). IsFirm a) (sym made) f
+    steps (SetControlling controlling) full h = may (SetsControlling old controlling) (λ k. subst (λ (a : AgentRecord H P). IsFirm a) (sym k.1) f) (controlling_kept old new controlling) h
     steps (SetLocalCredentials creds) full h = may (SetsLocal old creds) (λ k. subst (λ (a : AgentRecord H P). IsFirm a) (sym k.1) f) (local_kept old new creds) h
     steps (SetRemoteCredentials creds) full h = may (SetsRemote old creds) (λ k. subst (λ (a : AgentRecord H P). IsFirm a) (sym k.1) f) (remote_kept old new creds) h
     steps (SkipPairIds k) full (is, made, drawn) = subst (λ (a : AgentRecord H P). IsFirm a) (sym made) f

@@ -31,12 +31,12 @@ use Rattle.is_rules.specs.Answers.{is_role_conflict, LeavesRole, TakesFailure, T
 use Rattle.is_rules.specs.Checking.{all_asked, ChecksTop, MayCheck}
 use Rattle.is_rules.specs.Each.{Each}
 use Rattle.is_rules.specs.Forming.{Combination, combined_priority, formed, Formed, FormsAll, pair_of, SidesRecord, sides_of, Tries, with_pair}
-use Rattle.is_rules.specs.Nominating.{followed, nominated_by_self, Nominates, NominatesWhere, remains, selection_of}
+use Rattle.is_rules.specs.Nominating.{followed, nominated_by_self, Nominates, NominatesWhere, remains, selection_of, nominates_at_once, numbers}
 use Rattle.is_rules.specs.Places.{local_place}
 use Rattle.is_rules.specs.Queue.{first_taken, request_at}
 use Rattle.is_rules.specs.Request.{RequestRecord, request_in}
-use Rattle.is_rules.specs.Roles.{conflict_of, switched, switched_sides, with_priority_in}
-use Rattle.is_rules.specs.Serving.{after_request, AddsUnknownSender, CountsAndServes, Drops, FindsOrAddsPair, is_misled, names_another, pair_served, Queues, RecordsAndResponds, request_counted, ResolvesRoleConflict, ResolvesRoleConflictBy, selects_at_requests, served, Serves, with_sender, with_sender_at}
+use Rattle.is_rules.specs.Roles.{conflict_of, switched, switched_sides, with_priority_in, keeps_role}
+use Rattle.is_rules.specs.Serving.{after_request, AddsUnknownSender, CountsAndServes, Drops, FindsOrAddsPair, is_misled, names_another, pair_served, Queues, RecordsAndResponds, request_counted, ResolvesRoleConflict, ResolvesRoleConflictBy, selects_at_requests, served, Serves, with_sender, with_sender_at, as_taken, nominated_by_peer}
 use Rattle.is_rules.specs.States.{evaluated}
 use Rattle.is_rules.specs.Steps.{Entry, Receives}
 use Rattle.is_rules.specs.Timeouts.{at_request, at_timeout, expired_gone, is_expired, MaintainsPairs, RemovesExpired, timeout_begun, TimesOut}
@@ -47,6 +47,8 @@ use Rattle.is_theorems.proofs.RuleEffects.EarlierAndNewPairs.{choose, Has-filter
 use Rattle.is_theorems.proofs.RuleEffects.NominatedPairs.{SelectsPath, selects_path}
 use Rattle.is_theorems.proofs.RuleEffects.TriggeredPairs.{by_trigger, triggered_by}
 use Rattle.is_theorems.proofs.RuleEffects.UnchangedSettings.{either}
+use Rattle.is_theorems.proofs.BasicLemmas.PairsInTurn.{by-begins, sent-pairs, sent_at}
+use Rattle.is_theorems.proofs.BasicLemmas.ServedPairs.{numbered-by}
 
 -- ---- one pair
 
@@ -82,7 +84,9 @@ nominated-answered false l p a = a
 
 served-answered : (c l : Bool) (q : RequestRecord) (p : PairRecord) → l ≡ false → IsAnswered p → IsAnswered (served c l q p)
 served-answered c true q p full a = absurd (cc)
-served-answered c false q p full a = nominated-answered (not c && q.use_candidate && not (is_nominated (with_request q.time p))) false (with_request q.time p) a
+served-answered c false q p full a =
+    let k = nominated-answered (not c && q.use_candidate && not (is_nominated (with_request q.time p))) false (with_request q.time p) a in
+    numbered-by (λ x. IsAnswered x) c q.nomination (nominated_by_peer c false q (with_request q.time p)) k (λ n. k)
 
 taken-answered : (lite : Bool) (other : PairRecord) (s : SidesRecord) (at : Combination) (number : ℕ) → IsAnswered other → IsAnswered (taking_over lite other (pair_of s at number))
 taken-answered true other s at number a valid = some-last other.consented (a (from-valid other.state valid))
@@ -193,8 +197,12 @@ module _ {H P : Type 0} where
         next None (is, made, drawn) = subst (λ (a : AgentRecord H P). IsFirm a) (sym made) (f.0, asks)
         next (Some p) (id, drawn, values, is, made) = subst (λ (a : AgentRecord H P). IsFirm a) (sym made) (
           f.0,
-          answered-map (change_at p.number (checked now old.timing old.controlling id)) (map (asked now old.timing) old.pairs)
-              (λ x a. at-answered p.number (checked now old.timing old.controlling id) x a (checked-answered now old.timing old.controlling id x a)) asks,
+          (let begins : Bool = nominates_at_once (all_asked now old) in
+              let change : PairRecord → PairRecord = sent_at begins now old.timing old.controlling id in
+              subst (λ ps. AreAnswered ps) (sym (sent-pairs begins p.number now old.timing old.controlling id (map (asked now old.timing) old.pairs)))
+              (answered-map (change_at p.number change) (map (asked now old.timing) old.pairs)
+              (λ x a. at-answered p.number change x a
+              (by-begins begins (λ y. IsAnswered y) now old.timing old.controlling id x (λ valid. a (sent-valid x.state valid)) (checked-answered now old.timing old.controlling id x a))) asks)),
         )
 
   maintains-firm : (mac : H → List ℕ → List ℕ → List ℕ) (now : ℕ) (old new : AgentRecord H P) (s t : Stream) (emitted : Emitted) → MaintainsPairs mac now old s emitted new t → Keeps old new
@@ -219,14 +227,14 @@ module _ {H P : Type 0} where
   failure-firm : (old new : AgentRecord H P) (via : Path) (m : Message) (emitted : Emitted) → TakesFailure old via m emitted new → Keeps old new
   failure-firm old new via m emitted h f = either (is_role_conflict m) h (λ _ k. gives k) (λ _ k. made-firm old new k.1 f) where
     gives : LeavesRole old via m emitted new → IsFirm new
-    gives (p, c, has, on_it, keeps, id_is, h) = either (role.same c.controlling old.controlling) h
+    gives (p, c, has, on_it, keeps, id_is, h) = either (role.same c.controlling old.controlling && not (keeps_role old)) h
         (λ _ k. made-firm (switched old) new k.1 (switched-firm old f)) (λ _ k. made-firm old new k.1 f)
 
   -- ---- requests
 
   module _ (mac : H → List ℕ → List ℕ → List ℕ) (q : RequestRecord) where
     request-answered : (s : AgentRecord H P) (p : PairRecord) → s.lite ≡ false → IsAnswered p → IsAnswered (after_request q s p)
-    request-answered s p full a = served-answered s.controlling s.lite q (triggered_by q s p) full (by_trigger (λ (x : PairRecord). IsAnswered x) q s p (λ due. a))
+    request-answered s p full a = served-answered s.controlling s.lite (as_taken (numbers s) q) (triggered_by q s p) full (by_trigger (λ (x : PairRecord). IsAnswered x) q s p (λ due. a))
 
     pair : (l r number : ℕ) (s new : AgentRecord H P) (emitted : Emitted) → RecordsAndResponds mac q l r number s emitted new → Keeps s new
     pair l r number s new emitted (path, mid, nominates, (values, is, made)) f =

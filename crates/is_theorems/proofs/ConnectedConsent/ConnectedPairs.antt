@@ -1,11 +1,11 @@
 -- If the agent is connected after a `handle_timeout` call that serves no early request, a pair is valid and nominated.
-use Rattle.std.proofs.Common.{◌≡◌, ℕ, ◌&&◌, ◌||◌, Bool, true, false, not, List, [], ◌∷◌, map, Option, Some, None, inl, inr, refl, sym, ◌∙◌, subst, if◌then◌else◌}
+use Rattle.std.proofs.Common.{◌≡◌, ℕ, ◌&&◌, ◌||◌, Bool, true, false, not, List, [], ◌∷◌, map, Option, Some, None, inl, inr, refl, ap, sym, ◌∙◌, subst, if◌then◌else◌}
 use Rattle.std.specs.List.{list_any}
 use Rattle.rand_core.specs.Stream.{Stream}
 use Rattle.is_proto.specs.Lists.{Has}
 use Rattle.is_pair.specs.Due.{asked}
-use Rattle.is_pair.specs.Multiset.{change_at, is_numbered}
-use Rattle.is_pair.specs.Pairs.{PairRecord, checked, heard, is_nominated, is_valid, nominated}
+use Rattle.is_pair.specs.Multiset.{change_at, is_numbered, change_pair}
+use Rattle.is_pair.specs.Pairs.{PairRecord, checked, heard, is_nominated, is_valid, nominated, renominated}
 use Rattle.is_rules.specs.Agent.{AgentRecord}
 use Rattle.is_rules.specs.Checking.{all_asked, ChecksTop, MayCheck}
 use Rattle.is_rules.specs.Connecting.{is_connected}
@@ -15,14 +15,17 @@ use Rattle.is_rules.specs.declared.emitted.Issued.{Issued}
 use Rattle.is_rules.specs.declared.emitted.Path.{Path}
 use Rattle.is_rules.specs.declared.event.IceConnectionState.{IceConnectionState}
 use Rattle.is_rules.specs.declared.event.IceConnectionState.TheVariants.{New, Checking, Connected, Completed, Disconnected}
-use Rattle.is_rules.specs.Nominating.{followed, nominated_by_self, Nominates, remains, selection_of}
+use Rattle.is_rules.specs.Nominating.{followed, nominated_by_self, Nominates, remains, selection_of, nominates_at_once}
 use Rattle.is_rules.specs.States.{evaluated, has_nominated, has_possible, is_nominated_and_valid, next_state}
 use Rattle.is_rules.specs.Timeouts.{at_timeout, is_expired, MaintainsPairs, RemovesExpired, timeout_begun}
 use Rattle.is_theorems.proofs.BasicLemmas.EqualAddresses.{both}
+use Rattle.is_theorems.proofs.CallEffects.ChecksAndResponses.{again_nominated}
 use Rattle.is_theorems.proofs.CallEffects.ServedRequests.{Has-mapped}
 use Rattle.is_theorems.proofs.PathSelection.NominationPoints.{Alike, alike_if, checked_alike, heard_alike}
 use Rattle.is_theorems.proofs.RuleEffects.NominatedPairs.{SelectsPath, selects_path}
 use Rattle.is_theorems.proofs.RuleEffects.UnchangedSettings.{either}
+use Rattle.is_theorems.proofs.BasicLemmas.PairsInTurn.{by-begins, sent-pairs, sent_at}
+use Rattle.is_stun.specs.declared.timing.StunTiming.{StunTiming}
 
 -- ---- the next state
 
@@ -70,6 +73,16 @@ stays-able n c l p able = at (is_numbered n p) where
 abbrev HasNominated : List PairRecord → Type 0
 HasNominated ps = (p : PairRecord) × Has ps p × (is_nominated_and_valid p ≡ true)
 
+-- a check leaves it
+sent-nominates : (begins : Bool) (now : ℕ) (t : StunTiming) (c : Bool) (id : List ℕ) (n : ℕ) (ps : List PairRecord) → HasNominated ps → HasNominated (change_pair n (sent_at begins now t c id) ps)
+sent-nominates begins now t c id n ps (p, has, able) =
+    (change_at n (sent_at begins now t c id) p, Has-mapped (change_at n (sent_at begins now t c id)) ps p has, at (is_numbered n p)) where
+      at : (b : Bool) → is_nominated_and_valid (if b then sent_at begins now t c id p else p) ≡ true
+      at true = by-begins begins (λ x. is_nominated_and_valid x ≡ true) now t c id p
+          ((checked_alike false now t c id (renominated p)).eligible ∙ (ap (λ b. is_valid p && b) (again_nominated p.nomination) ∙ able))
+          ((checked_alike false now t c id p).eligible ∙ able)
+      at false = able
+
 alike-nominated : (f : PairRecord → PairRecord) (ps : List PairRecord) → ((p : PairRecord) → Alike false p (f p)) → HasNominated ps → HasNominated (map f ps)
 alike-nominated f ps alike (p, has, able) = (f p, Has-mapped f ps p has, (alike p).eligible ∙ able)
 
@@ -114,14 +127,14 @@ module _ {H P : Type 0} where
         alike-nominated (heard now) old.pairs (λ p. heard_alike false now p.last_request p) (b connected)))
         (λ _ k. next k.0 k.2) where
           asks : is_connected old.state ≡ true → HasNominated (map (asked now old.timing) old.pairs)
-          asks connected = alike-nominated (asked now old.timing) old.pairs (λ p. record { number = refl; priority = refl; eligible = refl }) (b connected)
+          asks connected = alike-nominated (asked now old.timing) old.pairs (λ p. record { number = refl; priority = refl; greatest = refl; eligible = refl }) (b connected)
 
           next : (due : Option PairRecord) → ChecksTop mac now peer due (all_asked now old) s issued new t → IsBacked new
           next None (is, made, drawn) = subst (λ (a : AgentRecord H P). IsBacked a) (sym made) asks
           next (Some p) (id, drawn, values, is, made) = subst (λ (a : AgentRecord H P). IsBacked a) (sym made) (λ connected.
-              alike-nominated (change_at p.number (checked now old.timing old.controlling id)) (map (asked now old.timing) old.pairs)
-              (λ q. alike_if (is_numbered p.number q) false q (checked now old.timing old.controlling id q) (checked_alike false now old.timing old.controlling id q))
-              (asks connected))
+              let begins : Bool = nominates_at_once (all_asked now old) in
+              subst (λ ps. HasNominated ps) (sym (sent-pairs begins p.number now old.timing old.controlling id (map (asked now old.timing) old.pairs)))
+              (sent-nominates begins now old.timing old.controlling id p.number (map (asked now old.timing) old.pairs) (asks connected)))
 
     -- ---- the call
 

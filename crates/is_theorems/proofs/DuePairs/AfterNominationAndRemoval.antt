@@ -24,7 +24,7 @@ use Rattle.is_theorems.proofs.RuleEffects.EarlierAndNewPairs.{Has-filter}
 use Rattle.is_theorems.proofs.CallEffects.ServedRequests.{Has-mapped}
 use Rattle.is_theorems.proofs.RuleEffects.NominatedPairs.{SelectsPath, selects_path}
 use Rattle.is_pair.proofs.DueTimes.CountOfDuePairs.{no-more, thinner}
-use Rattle.is_theorems.specs.Progress.{IsGone}
+use Rattle.is_theorems.specs.Progress.{IsGone, ChecksInTurn}
 use Rattle.is_theorems.specs.Reached.{IsLasting}
 use Rattle.is_rules.specs.Sound.{IsSound}
 
@@ -161,6 +161,7 @@ pub record Base : Type 0 where
   pub controlling : Bool
   pub next_number : ℕ
   pub rules : Rules
+  pub renominates : Bool
   pub ahead_turn : Bool
 
 self-alike : (c l : Bool) (p : PairRecord) → Alike p (nominated_by_self c l p)
@@ -239,8 +240,13 @@ module _ {H P : Type 0} where
     controlling = a.controlling;
     next_number = a.next_number;
     rules = a.rules;
+    renominates = a.renominates;
     ahead_turn = a.ahead_turn;
   }
+
+  -- whether nominations are sent at once depends on it, pairs aside
+  pub turns-by : (x : Base) (a : AgentRecord H P) → base_of a ≡ x → (x.controlling && (x.renominates && x.rules.numbered_nominations)) ≡ false → ChecksInTurn a
+  turns-by x a same turn = ap (λ (y : Base). y.controlling && (y.renominates && y.rules.numbered_nominations)) same ∙ turn
 
   abbrev pub Thins : ℕ → AgentRecord H P → AgentRecord H P → Type 0
   Thins by old new = (base_of new ≡ base_of old) × Thinned by old.pairs new.pairs

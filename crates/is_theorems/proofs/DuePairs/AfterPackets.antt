@@ -7,7 +7,7 @@ use Rattle.std.specs.Option.{option_map_or}
 use Rattle.is_proto.specs.Lists.{Has, same}
 use Rattle.is_proto.specs.Times.{MAX, later}
 use Rattle.is_candidate.specs.Candidates.{CandidateRecord, candidate_at}
-use Rattle.is_pair.specs.Pairs.{PairRecord, is_valid, new_pair}
+use Rattle.is_pair.specs.Pairs.{PairRecord, is_valid, new_pair, with_request}
 use Rattle.is_pair.specs.Checks.{Check, last_check, unanswered_count}
 use Rattle.is_pair.specs.States.{is_nominating}
 use Rattle.is_pair.specs.declared.pair.states.NominationState.{NominationState}
@@ -34,9 +34,9 @@ use Rattle.is_rules.specs.Limit.{IsSenderPlace}
 use Rattle.is_rules.specs.Agent.{AgentRecord}
 use Rattle.is_rules.specs.Sending.{path_between}
 use Rattle.is_rules.specs.Forming.{formed, with_pair, priority_between}
-use Rattle.is_rules.specs.Nominating.{NominatesWhere}
-use Rattle.is_rules.specs.Roles.{conflict_of, switched}
-use Rattle.is_rules.specs.Serving.{after_request, served, selects_at_requests, trigger_time, is_misled, names_another, pair_served, request_counted, with_sender, with_sender_at, sender_candidate, replied, Drops, Queues, RecordsAndResponds, FindsOrAddsPair, AddsUnknownSender, CountsAndServes, ResolvesRoleConflictBy, ResolvesRoleConflict, Serves}
+use Rattle.is_rules.specs.Nominating.{numbers, NominatesWhere}
+use Rattle.is_rules.specs.Roles.{conflict_of, keeps_role, switched}
+use Rattle.is_rules.specs.Serving.{as_taken, after_request, served, selects_at_requests, trigger_time, is_misled, names_another, pair_served, request_counted, with_sender, with_sender_at, sender_candidate, replied, Drops, Queues, RecordsAndResponds, FindsOrAddsPair, AddsUnknownSender, CountsAndServes, ResolvesRoleConflictBy, ResolvesRoleConflict, Serves}
 use Rattle.is_rules.specs.Answers.{is_role_conflict, LeavesRole, TakesFailure}
 use Rattle.rand_core.specs.Stream.{Stream}
 use Rattle.is_rules.specs.Steps.{Entry, Flag, ReceivePacket, Step}
@@ -46,6 +46,7 @@ use Rattle.is_theorems.proofs.RuleEffects.ChangedPairs.{Has-map}
 use Rattle.is_theorems.proofs.RuleEffects.EarlierAndNewPairs.{Has-push}
 use Rattle.is_rules.proofs.PairLists.RisingNumbers.{AllBelow}
 use Rattle.is_theorems.proofs.CallEffects.ServedRequests.{Has-mapped}
+use Rattle.is_theorems.proofs.BasicLemmas.ServedPairs.{unnumbered-pair}
 use Rattle.is_theorems.proofs.BasicLemmas.VacantIndices.{KeepsRemote, keeps-remote-same, keeps-remote-more, keeps-remote-put, vacant-at}
 use Rattle.is_pair.specs.Turns.{is_due_by, due_by}
 use Rattle.is_pair.proofs.DueTimes.CountOfDuePairs.{no-more, not-by}
@@ -262,23 +263,27 @@ module _ (to : ℕ) (n : ℕ) (q : RequestRecord) (most : Option ℕ) where
   served-matches true false p is full = numbered (is_numbered n p) where
     numbered : (b : Bool) → Matches p (if b then served true false q (triggered most to p) else p)
     numbered true =
-        matches-on p (triggered most to p) (served true false q (triggered most to p)) (triggered-matches most to p) (record { number = refl; local = refl; remote = refl; valid = refl })
+        subst (λ (x : PairRecord). Matches p x) (sym (unnumbered-pair q.nomination (with_request q.time (triggered most to p))))
+        (matches-on p (triggered most to p) (with_request q.time (triggered most to p)) (triggered-matches most to p) (record { number = refl; local = refl; remote = refl; valid = refl }))
     numbered false = record { number = refl; local = refl; remote = refl; valid = refl }
   served-matches true true p is full = absurd (cc)
   served-matches false l p is full = absurd (cc)
 
   served-alike : (by at : ℕ) (t : StunTiming) (c l : Bool) (p : PairRecord) → c ≡ true → l ≡ false → by < to → DueAlike by at t p (change_at n (λ x. served c l q (triggered most to x)) p)
   served-alike by at t true false p is full late = numbered (is_numbered n p) where
-    recorded-due : (m : ℕ) (x : PairRecord) → due_time_of m t (served true false q x) ≡ due_time_of m t x
-    recorded-due m x = ap (λ k. unwrap_or x.due (min k (later m t.max_rto.0))) (computed-same x.nomination m t x (served true false q x) refl refl refl)
+    recorded-due : (m : ℕ) (x : PairRecord) → due_time_of m t (with_request q.time x) ≡ due_time_of m t x
+    recorded-due m x = ap (λ k. unwrap_or x.due (min k (later m t.max_rto.0))) (computed-same x.nomination m t x (with_request q.time x) refl refl refl)
 
-    recorded : (x : PairRecord) → DueAlike by at t x (served true false q x)
-    recorded x = record {
+    recorded-alike : (x : PairRecord) → DueAlike by at t x (with_request q.time x)
+    recorded-alike x = record {
       matches = record { number = refl; local = refl; remote = refl; valid = refl };
       checks = refl;
       before = λ m le. inl (subst (λ k. k ≤ by) (recorded-due m x) le);
       stays = λ m le now. subst (λ k. k ≤ by) (sym (recorded-due m x)) le;
     }
+
+    recorded : (x : PairRecord) → DueAlike by at t x (served true false q x)
+    recorded x = subst (λ (y : PairRecord). DueAlike by at t x y) (sym (unnumbered-pair q.nomination (with_request q.time x))) (recorded-alike x)
 
     numbered : (b : Bool) → DueAlike by at t p (if b then served true false q (triggered most to p) else p)
     numbered true = due-on by at t p (triggered most to p) (served true false q (triggered most to p)) (triggered-alike by at to t most p late) (recorded (triggered most to p))
@@ -286,7 +291,7 @@ module _ (to : ℕ) (n : ℕ) (q : RequestRecord) (most : Option ℕ) where
   served-alike by at t true true p is full late = absurd (cc)
   served-alike by at t false l p is full late = absurd (cc)
 
-none-passes : (n : ℕ) (ps : List PairRecord) → NoneValid ps → is_valid_at n ps ≡ false
+pub none-passes : (n : ℕ) (ps : List PairRecord) → NoneValid ps → is_valid_at n ps ≡ false
 none-passes n [] none = refl
 none-passes n (p ∷ ps) none = by (is_numbered n p) (is_valid p) (none p (inl refl)) (none-passes n ps (λ q has. none q (inr has))) where
   by : (a b : Bool) → b ≡ false → list_any (passes_at n is_valid) ps ≡ false → ((a && b) || list_any (passes_at n is_valid) ps) ≡ false
@@ -294,7 +299,7 @@ none-passes n (p ∷ ps) none = by (is_numbered n p) (is_valid p) (none p (inl r
   by true false is rest = rest
   by false b is rest = rest
 
-and-false : (a b : Bool) → b ≡ false → (a && b) ≡ false
+pub and-false : (a b : Bool) → b ≡ false → (a && b) ≡ false
 and-false true b is = is
 and-false false b is = refl
 
@@ -309,6 +314,7 @@ pub record Core : Type 0 where
   pub last_time : Option ℕ
   pub controlling : Bool
   pub rules : Rules
+  pub renominates : Bool
   pub ahead_turn : Bool
 
 -- remote candidates are only appended
@@ -326,6 +332,7 @@ module _ {H P : Type 0} where
     last_time = a.last_time;
     controlling = a.controlling;
     rules = a.rules;
+    renominates = a.renominates;
     ahead_turn = a.ahead_turn;
   }
 
@@ -355,8 +362,8 @@ module _ {H P : Type 0} where
             refl,
             refl,
             spares-map by (last_time_of s) at s.timing s.next_number (change_at number (after_request q s)) s.pairs
-                (λ p. served-matches (trigger_time q s) number q s.rules.triggered_checks s.controlling s.lite p role full)
-                (λ late p. served-alike (trigger_time q s) number q s.rules.triggered_checks by at s.timing s.controlling s.lite p role full (omega (arith, late))),
+                (λ p. served-matches (trigger_time q s) number (as_taken (numbers s) q) s.rules.triggered_checks s.controlling s.lite p role full)
+                (λ late p. served-alike (trigger_time q s) number (as_taken (numbers s) q) s.rules.triggered_checks by at s.timing s.controlling s.lite p role full (omega (arith, late))),
           )
 
       takes : (l r : ℕ) (number : Option ℕ) (s new : AgentRecord H P) (emitted : Emitted) → s.controlling ≡ true → s.lite ≡ false → NoneValid s.pairs → FindsOrAddsPair mac q l r number s emitted new → Rests s new
@@ -410,7 +417,7 @@ module _ {H P : Type 0} where
         (λ _ k. expired k)
         (λ _ k. arrived-same s new k.1) where
           expired : LeavesRole s path m emitted new → Arrived s new
-          expired (p, c, has, keeps, kept, is, acts) = either (same c.controlling s.controlling) acts
+          expired (p, c, has, keeps, kept, is, acts) = either (same c.controlling s.controlling && not (keeps_role s)) acts
               (λ _ k. (let no : true ≡ false = sym stays ∙ (ap (λ (a : AgentRecord H P). a.controlling) k.1 ∙ ap not role) in absurd (cc)))
               (λ _ k. arrived-same s new k.1)
 

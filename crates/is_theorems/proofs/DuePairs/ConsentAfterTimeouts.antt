@@ -23,6 +23,8 @@ use Rattle.is_theorems.proofs.RuleEffects.UnchangedSettings.{either}
 use Rattle.is_theorems.proofs.RuleEffects.ChangedPairs.{Has-map}
 use Rattle.is_theorems.proofs.DuePairs.AfterNominationAndRemoval.{Base, consent-same, gives-up-thins, nominates-thins, passed}
 use Rattle.is_theorems.proofs.DuePairs.FirstDuePair.{next-check}
+use Rattle.is_rules.specs.Nominating.{nominates_at_once}
+use Rattle.is_theorems.proofs.BasicLemmas.PairsInTurn.{by-begins, sent-pairs, sent_at}
 
 -- ---- one pair
 
@@ -120,10 +122,15 @@ module _ {H P : Type 0} where
       by-next peer (Some q) (id, drawn, values, is, made) = subst (λ (a : AgentRecord H P). Checks old a) (sym made) (
         refl,
         leaves-on old.pairs (map (asked now old.timing) old.pairs) _ asks
-            (leaves-map (change_at q.number (checked now old.timing old.controlling id)) (map (asked now old.timing) old.pairs) (λ p. once p (is_numbered q.number p))),
+            (subst (λ ps. Leaves (map (asked now old.timing) old.pairs) ps) (sym (sent-pairs begins q.number now old.timing old.controlling id (map (asked now old.timing) old.pairs)))
+            (leaves-map (change_at q.number (sent_at begins now old.timing old.controlling id)) (map (asked now old.timing) old.pairs) (λ p. once p (is_numbered q.number p)))),
       ) where
-        once : (p : PairRecord) (b : Bool) → SameConsent p (if b then checked now old.timing old.controlling id p else p)
-        once p true = record { number = refl; consented = refl; heard = refl }
+        begins : Bool
+        begins = nominates_at_once (all_asked now old)
+
+        once : (p : PairRecord) (b : Bool) → SameConsent p (if b then sent_at begins now old.timing old.controlling id p else p)
+        once p true = by-begins begins (λ x. SameConsent p x) now old.timing old.controlling id p
+            (record { number = refl; consented = refl; heard = refl }) (record { number = refl; consented = refl; heard = refl })
         once p false = record { number = refl; consented = refl; heard = refl }
 
     -- ---- the `handle_timeout` call

@@ -24,16 +24,17 @@ use Rattle.is_rules.specs.Emitted.{issued_as}
 use Rattle.is_rules.specs.Agent.{AgentRecord}
 use Rattle.is_rules.specs.Sending.{path_of}
 use Rattle.is_rules.specs.Checking.{goes_ahead, all_asked, all_heard, are_kinds_in_turn, check_sent, has_first, is_ahead_turn, IsNextToCheck, ChecksTop, ChecksNext, MayCheck}
-use Rattle.is_rules.specs.Timeouts.{at_timeout, MaintainsPairs}
+use Rattle.is_rules.specs.Timeouts.{at_timeout, MaintainsPairs, RemovesExpired}
 use Rattle.is_theorems.proofs.RuleEffects.ChangedPairs.{Has-map}
 use Rattle.is_theorems.proofs.CallEffects.ServedRequests.{Has-mapped}
 use Rattle.is_rules.proofs.PairLists.ChosenPair.{none_pass}
-use Rattle.is_theorems.proofs.BasicLemmas.PairsInTurn.{none-is-due, next-is-due, next-in-turn}
+use Rattle.is_theorems.proofs.BasicLemmas.PairsInTurn.{by-begins, next-has, none-is-due, none-at-once, next-in-turn, pairs-checked, pairs-sent, sent_at}
 use Rattle.is_pair.specs.Turns.{IsPaced, is_due_by, due_by}
 use Rattle.is_pair.proofs.DueTimes.CountOfDuePairs.{no-more, fewer-due}
-use Rattle.is_theorems.specs.Progress.{IsGone, ChecksOn}
+use Rattle.is_theorems.specs.Progress.{IsGone, ChecksOn, ChecksInTurn}
 use Rattle.is_theorems.proofs.DuePairs.ChecksAhead.{Falls, falls-from, is-turn, no-more-due}
-use Rattle.is_theorems.proofs.DuePairs.AfterNominationAndRemoval.{Distinct, Alike, Thinned, is_fixed_by, Base, Thins, base_of as agent_base, thins-on, nominates-thins, gives-up-thins}
+use Rattle.is_theorems.proofs.DuePairs.AfterNominationAndRemoval.{Distinct, Alike, Thinned, is_fixed_by, Base, Thins, base_of as agent_base, turns-by, thins-on, nominates-thins, gives-up-thins}
+use Rattle.is_rules.specs.Nominating.{nominates_at_once, Nominates}
 
 -- ---- pairs
 
@@ -124,6 +125,21 @@ via local remote l r = record {
 }
 
 module _ {H P : Type 0} where
+  -- at a check no nomination is to be sent at once
+  abbrev pub NoneAtCheck : ℕ → AgentRecord H P → Type 0
+  NoneAtCheck now a = nominates_at_once (all_asked now a) ≡ false
+
+  -- at the check of a `handle_timeout` call, once nomination was evaluated
+  abbrev pub NoneAtOnce : ℕ → AgentRecord H P → Type 0
+  NoneAtOnce now old =
+      (first second : Option Path) (named kept : AgentRecord H P) → Nominates (at_timeout now old) first named → RemovesExpired now named second kept → NoneAtCheck now kept
+
+  -- a controlled agent sends none, nor does one whose nominations have no numbers
+  pub none-in-turn : (now : ℕ) (old : AgentRecord H P) → ChecksInTurn old → NoneAtOnce now old
+  none-in-turn now old turn first second named kept nominating giving =
+      let c = thins-on 0 (at_timeout now old) named kept (nominates-thins 0 (at_timeout now old) named first nominating) (gives-up-thins 0 now named kept second giving) in
+      none-at-once now (all_asked now kept) (turns-by (agent_base (at_timeout now old)) kept c.0 turn)
+
   pub same-path : (a b : AgentRecord H P) (p q : PairRecord) → b.local ≡ a.local → b.remote ≡ a.remote → Matches p q → path_of b q ≡ path_of a p
   same-path a b p q locals remotes m =
       ap (λ cs. via cs b.remote q.local q.remote) locals
@@ -154,26 +170,30 @@ module _ {H P : Type 0} where
       )
       by-next peer (Some q) (id, drawn, values, is, made) = (
         subst (λ (a : AgentRecord H P). agent_base a ≡ record (agent_base old) { ahead_turn = a.ahead_turn }) (sym made) refl,
-        subst (λ ps. Follows old.pairs ps) (sym (ap (λ (a : AgentRecord H P). a.pairs) made))
-            (follows-on old.pairs (map (asked now old.timing) old.pairs) (change_pair q.number (checked now old.timing old.controlling id) (map (asked now old.timing) old.pairs))
+        subst (λ ps. Follows old.pairs ps) (sym (pairs-sent mac now peer q id (all_asked now old) new made))
+            (follows-on old.pairs (map (asked now old.timing) old.pairs) (change_pair q.number (sent_at begins now old.timing old.controlling id) (map (asked now old.timing) old.pairs))
             (follows-map (asked now old.timing) old.pairs (λ p. record { number = refl; local = refl; remote = refl; valid = refl }))
-            (follows-map (change_at q.number (checked now old.timing old.controlling id)) (map (asked now old.timing) old.pairs) (λ p. once p (is_numbered q.number p)))),
+            (follows-map (change_at q.number (sent_at begins now old.timing old.controlling id)) (map (asked now old.timing) old.pairs) (λ p. once p (is_numbered q.number p)))),
       ) where
-        once : (p : PairRecord) (b : Bool) → Matches p (if b then checked now old.timing old.controlling id p else p)
-        once p true = record { number = refl; local = refl; remote = refl; valid = sent-valid p.state }
+        begins : Bool
+        begins = nominates_at_once (all_asked now old)
+
+        once : (p : PairRecord) (b : Bool) → Matches p (if b then sent_at begins now old.timing old.controlling id p else p)
+        once p true = by-begins begins (λ x. Matches p x) now old.timing old.controlling id p
+            (record { number = refl; local = refl; remote = refl; valid = sent-valid p.state }) (record { number = refl; local = refl; remote = refl; valid = sent-valid p.state })
         once p false = record { number = refl; local = refl; remote = refl; valid = refl }
 
-    -- a pair still waits, due as it was, and fewer than n go before it, or a check went ahead
-    abbrev pub WaitsOn : ℕ → ℕ → ℕ → AgentRecord H P → AgentRecord H P → PairRecord → Type 0
-    WaitsOn now by n old new p =
+    -- a pair still waits, due as it was, and fewer than n go before it, or a check went ahead, if the check is in turn
+    abbrev pub WaitsOn : Type 0 → ℕ → ℕ → ℕ → AgentRecord H P → AgentRecord H P → PairRecord → Type 0
+    WaitsOn InTurn now by n old new p =
         (q : PairRecord) × Has new.pairs q × Matches p q × (q.checks ≡ p.checks) × ((at : ℕ) → due_time_of at old.timing q ≤ by)
-        × (IsPaced old.timing → now < MAX → Falls (goes_ahead old.rules) old.ahead_turn new.ahead_turn n (length (due_by by now old.timing new.pairs)))
+        × (InTurn → IsPaced old.timing → now < MAX → Falls (goes_ahead old.rules) old.ahead_turn new.ahead_turn n (length (due_by by now old.timing new.pairs)))
 
     -- a pair is checked: this one, or one before it, or another one that goes ahead
     abbrev pub Checked : ℕ → ℕ → ℕ → AgentRecord H P → Option Issued → AgentRecord H P → PairRecord → Type 0
     Checked now by n old issued new p =
         (o : PairRecord) × Has old.pairs o × ((id : List ℕ) × (issued ≡ Some (issued_as (path_of old o) class.Request id)))
-        × ((o ≡ p) ⊎ WaitsOn now by n old new p)
+        × ((o ≡ p) ⊎ WaitsOn (NoneAtCheck now old) now by n old new p)
 
     module _ (now by n : ℕ) (old : AgentRecord H P) (distinct : Distinct old.pairs) (from : by ≤ now)
         (p : PairRecord) (has : Has old.pairs p) (own-due : due_time_of now old.timing p ≤ by)
@@ -186,24 +206,26 @@ module _ {H P : Type 0} where
       by-number : (new : AgentRecord H P) (s t : Stream) (issued : Option Issued) (peer : IceCreds) (q : PairRecord) (id : List ℕ)
           → new ≡ check_sent mac now peer q id (all_asked now old) → (o : PairRecord) → Has old.pairs o → o.number ≡ q.number
           → (b : Bool) → is_numbered q.number (asked now old.timing p) ≡ b
-          → (IsPaced old.timing → now < MAX
+          → (NoneAtCheck now old → IsPaced old.timing → now < MAX
           → Falls (goes_ahead old.rules) old.ahead_turn new.ahead_turn n
           (length (due_by by now old.timing (change_pair q.number (checked now old.timing old.controlling id) (map (asked now old.timing) old.pairs)))))
-          → (o ≡ p) ⊎ WaitsOn now by n old new p
+          → (o ≡ p) ⊎ WaitsOn (NoneAtCheck now old) now by n old new p
       by-number new s t issued peer q id made o there same true is fewer =
           inl (distinct o p there has (same ∙ sym (eqb-true p.number q.number is)))
       by-number new s t issued peer q id made o there same false is fewer =
-          let in_new : Has new.pairs (change_at q.number (checked now old.timing old.controlling id) (asked now old.timing p)) =
-          subst (λ ps. Has ps (change_at q.number (checked now old.timing old.controlling id) (asked now old.timing p))) (sym (ap (λ (a : AgentRecord H P). a.pairs) made))
-          (Has-mapped (change_at q.number (checked now old.timing old.controlling id)) (map (asked now old.timing) old.pairs) (asked now old.timing p)
+          let change : PairRecord → PairRecord = sent_at (nominates_at_once (all_asked now old)) now old.timing old.controlling id in
+          let in_new : Has new.pairs (change_at q.number change (asked now old.timing p)) =
+          subst (λ ps. Has ps (change_at q.number change (asked now old.timing p))) (sym (pairs-sent mac now peer q id (all_asked now old) new made))
+          (Has-mapped (change_at q.number change) (map (asked now old.timing) old.pairs) (asked now old.timing p)
           (Has-mapped (asked now old.timing) old.pairs p has)) in
           inr (
             asked now old.timing p,
-            subst (λ b. Has new.pairs (if b then checked now old.timing old.controlling id (asked now old.timing p) else asked now old.timing p)) is in_new,
+            subst (λ b. Has new.pairs (if b then change (asked now old.timing p) else asked now old.timing p)) is in_new,
             record { number = refl; local = refl; remote = refl; valid = refl },
             refl,
             (λ at. own-due),
-            (λ paced early. subst (λ ps. Falls (goes_ahead old.rules) old.ahead_turn new.ahead_turn n (length (due_by by now old.timing ps))) (sym (ap (λ (a : AgentRecord H P). a.pairs) made)) (fewer paced early)),
+            (λ turn paced early. subst (λ ps. Falls (goes_ahead old.rules) old.ahead_turn new.ahead_turn n (length (due_by by now old.timing ps)))
+                (sym (pairs-checked mac now peer q id (all_asked now old) new turn made)) (fewer turn paced early)),
           )
 
       by-next : (new : AgentRecord H P) (s t : Stream) (issued : Option Issued) (peer : IceCreds) (next : Option PairRecord)
@@ -213,24 +235,24 @@ module _ {H P : Type 0} where
           absurd (none_pass (is_due now old.timing) (map (asked now old.timing) old.pairs) (asked now old.timing p) (none-is-due now (all_asked now old) chosen)
           (Has-mapped (asked now old.timing) old.pairs p has) it)
       by-next new s t issued peer (Some q) chosen (id, drawn, values, is, made) =
-          let there : Has (map (asked now old.timing) old.pairs) q = (next-is-due now (all_asked now old) q chosen).0 in
+          let there : Has (map (asked now old.timing) old.pairs) q = next-has now (all_asked now old) q chosen in
           let o = Has-map (asked now old.timing) old.pairs q there in (
             o.0,
             o.1,
             (id, is ∙ ap (λ (x : PairRecord). Some (issued_as (path_of old x) class.Request id)) (sym o.2)),
             by-number new s t issued peer q id made o.0 o.1 (ap (λ (x : PairRecord). x.number) o.2) (is_numbered q.number (asked now old.timing p)) refl
-                (λ paced early. fewer there paced early (is_ahead_turn now (all_asked now old)) refl),
+                (λ turn paced early. fewer there turn paced early (is_ahead_turn now (all_asked now old)) refl),
           ) where
-            fewer : Has (map (asked now old.timing) old.pairs) q → IsPaced old.timing → now < MAX → (b : Bool) → is_ahead_turn now (all_asked now old) ≡ b
+            fewer : Has (map (asked now old.timing) old.pairs) q → NoneAtCheck now old → IsPaced old.timing → now < MAX → (b : Bool) → is_ahead_turn now (all_asked now old) ≡ b
                 → Falls (goes_ahead old.rules) old.ahead_turn new.ahead_turn n
                 (length (due_by by now old.timing (change_pair q.number (checked now old.timing old.controlling id) (map (asked now old.timing) old.pairs))))
-            fewer there paced early true on =
+            fewer there calm paced early true on =
                 let turn = is-turn (goes_ahead old.rules) old.ahead_turn (are_kinds_in_turn (all_asked now old) || has_first now (all_asked now old)) on in
                 let le = no-more-due now by old.timing old.controlling id paced early from q.number (map (asked now old.timing) old.pairs) in
                 let counted = count-asked in
                 inr (omega (arith, le, counted), turn.0, turn.1, ap (λ (a : AgentRecord H P). a.ahead_turn) made ∙ ap not on)
-            fewer there paced early false off =
-                let next = next-in-turn now (all_asked now old) (Some q) off chosen in
+            fewer there calm paced early false off =
+                let next = next-in-turn now (all_asked now old) (Some q) calm off chosen in
                 let before : GoesBefore now old.timing q (asked now old.timing p) = next.0.1 (asked now old.timing p) (Has-mapped (asked now old.timing) old.pairs p has) in
                 let q_due : due_time_of now old.timing q ≤ by = first-due (due_time_of now old.timing q) (due_time_of now old.timing p) q before own-due in
                 let drop = fewer-due now by old.timing old.controlling id paced early from (map (asked now old.timing) old.pairs) q there (le-is (due_time_of now old.timing q) by q_due) in
@@ -247,7 +269,7 @@ module _ {H P : Type 0} where
     pub record Moved (now by : ℕ) (old : AgentRecord H P) (emitted : Emitted) (new : AgentRecord H P) (p : PairRecord) : Type 0 where
       pub base : agent_base new ≡ record (agent_base old) { last_time = Some now; ahead_turn = new.ahead_turn }
       pub follows : Follows old.pairs new.pairs
-      pub does : IsGone p.number new.pairs ⊎ ((o : PairRecord) × Has old.pairs o × ChecksOn old emitted o × ((o ≡ p) ⊎ WaitsOn now by (length (filter (is_fixed_by by) old.pairs)) old new p))
+      pub does : IsGone p.number new.pairs ⊎ ((o : PairRecord) × Has old.pairs o × ChecksOn old emitted o × ((o ≡ p) ⊎ WaitsOn (ChecksInTurn old) now by (length (filter (is_fixed_by by) old.pairs)) old new p))
 
     -- what it leaves, for any pair
     pub timeout-follows : (now : ℕ) (old new : AgentRecord H P) (s t : Stream) (emitted : Emitted) → is_some old.remote_creds ≡ true → old.lite ≡ false
@@ -294,7 +316,7 @@ module _ {H P : Type 0} where
         } where
           on-kept : (now by : ℕ) (old kept new : AgentRecord H P) (s t : Stream) (emitted : Emitted) (issued : Option Issued) → Thins by (at_timeout now old) kept → kept.timing ≡ old.timing
               → Distinct old.pairs → (p : PairRecord) → Has old.pairs p → (k : (q : PairRecord) × Has kept.pairs q × Alike p q) → Checked now by (length (filter (is_fixed_by by) kept.pairs)) kept issued new k.0 → emitted.issued ≡ issued
-              → (o : PairRecord) × Has old.pairs o × ChecksOn old emitted o × ((o ≡ p) ⊎ WaitsOn now by (length (filter (is_fixed_by by) old.pairs)) old new p)
+              → (o : PairRecord) × Has old.pairs o × ChecksOn old emitted o × ((o ≡ p) ⊎ WaitsOn (ChecksInTurn old) now by (length (filter (is_fixed_by by) old.pairs)) old new p)
           on-kept now by old kept new s t emitted issued c timing distinct p has (q, there, alike) (n, n_there, (id, out), which) issues =
               let o = c.1.back n n_there in (
                 o.0,
@@ -308,18 +330,18 @@ module _ {H P : Type 0} where
                   | inl same ↦ inl (distinct o.0 p o.1 has (sym o.2.number ∙ (ap (λ (x : PairRecord). x.number) same ∙ alike.number)))
                   | inr (r, r_there, matches, checks, r_due, fewer) ↦
                       (let counted = c.1.fewer in
-                      let fewer_old : IsPaced kept.timing → now < MAX
+                      let fewer_old : ChecksInTurn old → IsPaced kept.timing → now < MAX
                       → Falls (goes_ahead old.rules) old.ahead_turn new.ahead_turn (length (filter (is_fixed_by by) old.pairs)) (length (due_by by now kept.timing new.pairs)) =
-                      λ paced early. falls-from (goes_ahead kept.rules) (goes_ahead old.rules) kept.ahead_turn old.ahead_turn new.ahead_turn
+                      λ turn paced early. falls-from (goes_ahead kept.rules) (goes_ahead old.rules) kept.ahead_turn old.ahead_turn new.ahead_turn
                       (length (filter (is_fixed_by by) kept.pairs)) (length (filter (is_fixed_by by) old.pairs)) (length (due_by by now kept.timing new.pairs))
-                      (ap (λ (x : Base). goes_ahead x.rules) (sym c.0)) (ap (λ (x : Base). x.ahead_turn) (sym c.0)) counted (fewer paced early) in
+                      (ap (λ (x : Base). goes_ahead x.rules) (sym c.0)) (ap (λ (x : Base). x.ahead_turn) (sym c.0)) counted (fewer (none-at-once now (all_asked now kept) (turns-by (agent_base (at_timeout now old)) kept c.0 turn)) paced early) in
                       inr (
                         r,
                         r_there,
                         matches-on p q r (alike-matches p q alike) matches,
                         checks ∙ alike.checks,
                         (λ at. subst (λ (x : StunTiming). due_time_of at x r ≤ by) timing (r_due at)),
-                        subst (λ (x : StunTiming). IsPaced x → now < MAX
+                        subst (λ (x : StunTiming). ChecksInTurn old → IsPaced x → now < MAX
                             → Falls (goes_ahead old.rules) old.ahead_turn new.ahead_turn (length (filter (is_fixed_by by) old.pairs)) (length (due_by by now x new.pairs))) timing fewer_old,
                       ))
                 ],

@@ -1,6 +1,6 @@
 -- Starvation freedom: a pair that is due is checked within as many polling cycles as there are pairs that are due no
 -- later, or within twice as many if checks may go ahead.
-use Rattle.std.proofs.Common.{◌≡◌, ℕ, suc, ◌+◌, ◌<◌, ◌≤◌, Bool, true, false, List, [], ◌∷◌, length, map, filter, drop, take_while, min, max, nat_le, Option, Some, None, is_some, Ok, inl, inr, ◌⊎◌, refl, ap, sym, ◌∙◌, subst, arith}
+use Rattle.std.proofs.Common.{◌≡◌, ℕ, suc, ◌+◌, ◌<◌, ◌≤◌, Bool, true, false, List, [], ◌∷◌, length, map, filter, drop, take_while, min, max, nat_le, Option, Some, None, is_some, Ok, inl, inr, ◌⊎◌, refl, ap, sym, ◌∙◌, subst, arith, ◌&&◌, ◌||◌, not}
 use Rattle.std.specs.Prelude.{MatchOption}
 use Rattle.std.proofs.lemmas.Bool.Decides.{nat_tests}
 use Rattle.std.proofs.lemmas.List.{length-drop}
@@ -31,10 +31,13 @@ use Rattle.is_rules.proofs.PairLists.RisingNumbers.{rising-each}
 use Rattle.is_theorems.proofs.RuleEffects.SelectedPaths.{one_pair}
 use Rattle.is_pair.specs.Turns.{IsPaced, is_due_by, due_by}
 use Rattle.is_pair.proofs.DueTimes.CountOfDuePairs.{no-more, some-pass}
-use Rattle.is_theorems.specs.Progress.{IsGone, IsChecking, ChecksOn, IsOfUse, TimeoutsAreOfUse, Turn, Turns, IsIdle, NoPairIsStarved}
+use Rattle.is_theorems.specs.Progress.{IsGone, IsChecking, ChecksOn, IsOfUse, TimeoutsAreOfUse, Turn, Turns, IsIdle, NoPairIsStarved, ChecksInTurn}
+use Rattle.is_rules.specs.Nominating.{is_pressing}
+use Rattle.is_rules.proofs.PollsAndResponses.CalmTimeouts.{calm-after}
 use Rattle.is_rules.proofs.PollsAndResponses.NextTimeout.{timeouts-from, all-are-asked, least-is}
 use Rattle.is_theorems.proofs.DuePairs.AfterNominationAndRemoval.{Distinct, is_fixed_by, Base, base_of, consent-same}
 use Rattle.is_theorems.proofs.DuePairs.ConsentAfterTimeouts.{consent-ended, maintains-consents}
+use Rattle.is_theorems.proofs.DuePairs.PressingTimeouts.{pressing-goes}
 use Rattle.is_theorems.proofs.DuePairs.ChecksAhead.{calls_left, Falls, falls-from, calls-fall, calls-some, calls-from}
 use Rattle.is_theorems.proofs.DuePairs.FirstDuePair.{Matches, Follows, follows-on, follows-same, follows-map, gone-follows, same-path, Moved, timeout-follows, timeout-moves}
 
@@ -64,6 +67,11 @@ none-left now t remote queue none = subst (λ q. queue_left now t remote q ≡ [
   by : (remote : Option IceCreds) → queue_left now t remote [] ≡ []
   by None = refl
   by (Some peer) = refl
+
+or-third : (a b c : Bool) → c ≡ true → (a || b || c) ≡ true
+or-third true b c is = refl
+or-third false true c is = refl
+or-third false false c is = is
 
 shorter : (xs : List RequestRecord) (q : RequestRecord) → head xs ≡ Some q → length (drop 1 xs) < length xs
 shorter [] q is = absurd (cc)
@@ -98,6 +106,7 @@ module _ {H P : Type 0} where
       pub distinct : Distinct a.pairs
       pub checking : IsChecking a
       pub idle : IsIdle a
+      pub calm : is_pressing a ≡ false
       pub last : a.last_time ≡ Some at
 
     -- `poll_timeout` leaves pairs with the same indices
@@ -123,14 +132,14 @@ module _ {H P : Type 0} where
 
     pub turn-fits : (old new : AgentRecord H P) (at now : ℕ) (emitted : Emitted) → Fits at old → Turn mac old now emitted new
         → Fits now new × Follows old.pairs new.pairs × (new.timing ≡ old.timing) × (new.local ≡ old.local) × (new.remote ≡ old.remote)
-        × (new.controlling ≡ old.controlling) × (new.next_number ≡ old.next_number) × (new.rules ≡ old.rules)
+        × (new.controlling ≡ old.controlling) × (new.next_number ≡ old.next_number) × (new.rules ≡ old.rules) × (ChecksInTurn old → ChecksInTurn new)
     turn-fits old new at now emitted f turn =
         let a = asks-follow at turn.deadline old turn.asked f.last turn.polled in
         let queue : turn.asked.queue ≡ [] = ap (λ (x : Base). x.queue) a.0 ∙ f.idle.queue in
         let known : is_some turn.asked.remote_creds ≡ true = ap (λ (x : Base). is_some x.remote_creds) a.0 ∙ f.checking.peer in
         let full : turn.asked.lite ≡ false = ap (λ (x : Base). x.lite) a.0 ∙ f.checking.full in
-        let m = timeout-follows mac now (timeout_begun now turn.asked) turn.after turn.before turn.following emitted known full
-        (maintains_pairs-from now turn.asked turn.before turn.following emitted turn.after queue turn.timeout) in
+        let maintained = maintains_pairs-from now turn.asked turn.before turn.following emitted turn.after queue turn.timeout in
+        let m = timeout-follows mac now (timeout_begun now turn.asked) turn.after turn.before turn.following emitted known full maintained in
         let taken : base_of new ≡ base_of turn.after = ap (λ (a : AgentRecord H P). base_of a) turn.taken in
         let all = follows-on old.pairs turn.asked.pairs turn.after.pairs a.1 m.1 in
         let follows : Follows old.pairs new.pairs = subst (λ ps. Follows old.pairs ps) (sym (ap (λ (a : AgentRecord H P). a.pairs) turn.taken)) all in (
@@ -144,6 +153,8 @@ module _ {H P : Type 0} where
               packets = ap (λ (a : AgentRecord H P). a.packets) turn.taken;
               queue = ap (λ (x : Base). x.queue) taken ∙ (ap (λ (x : Base). x.queue) m.0 ∙ none-left now turn.asked.timing turn.asked.remote_creds turn.asked.queue queue);
             };
+            calm = ap (λ (a : AgentRecord H P). is_pressing a) turn.taken
+                ∙ calm-after mac now (timeout_begun now turn.asked) turn.after turn.before turn.following emitted full known maintained;
             last = ap (λ (x : Base). x.last_time) taken ∙ ap (λ (x : Base). x.last_time) m.0;
           },
           follows,
@@ -153,13 +164,16 @@ module _ {H P : Type 0} where
           ap (λ (x : Base). x.controlling) taken ∙ (ap (λ (x : Base). x.controlling) m.0 ∙ ap (λ (x : Base). x.controlling) a.0),
           ap (λ (x : Base). x.next_number) taken ∙ (ap (λ (x : Base). x.next_number) m.0 ∙ ap (λ (x : Base). x.next_number) a.0),
           ap (λ (x : Base). x.rules) taken ∙ (ap (λ (x : Base). x.rules) m.0 ∙ ap (λ (x : Base). x.rules) a.0),
+          (λ in_turn. ap (λ (x : Base). x.controlling && (x.renominates && x.rules.numbered_nominations)) taken
+              ∙ (ap (λ (x : Base). x.controlling && (x.renominates && x.rules.numbered_nominations)) m.0
+              ∙ (ap (λ (x : Base). x.controlling && (x.renominates && x.rules.numbered_nominations)) a.0 ∙ in_turn))),
         )
 
     -- a pair that is due still waits, and one fewer goes before it, or a check went ahead
     abbrev pub StillWaits : ℕ → ℕ → ℕ → AgentRecord H P → AgentRecord H P → PairRecord → Type 0
     StillWaits at now by old new p =
         (q : PairRecord) × Has new.pairs q × Matches p q × (q.checks ≡ p.checks) × (due_time_of now new.timing q ≤ by)
-        × (IsPaced old.timing → now < MAX
+        × (ChecksInTurn old → IsPaced old.timing → now < MAX
         → Falls (goes_ahead old.rules) old.ahead_turn new.ahead_turn (length (due_by by at old.timing old.pairs)) (length (due_by by now new.timing new.pairs)))
 
     abbrev pub Does : ℕ → ℕ → ℕ → AgentRecord H P → Emitted → AgentRecord H P → PairRecord → Type 0
@@ -196,18 +210,18 @@ module _ {H P : Type 0} where
                   elim which [
                     | inl same ↦ inl (ap (λ (y : PairRecord). y.number) x.2 ∙ ap (λ (y : PairRecord). y.number) same)
                     | inr (q, q_there, matches, checks, q_due, fewer) ↦
-                        (let fewer_old : IsPaced old.timing → now < MAX
+                        (let fewer_old : ChecksInTurn old → IsPaced old.timing → now < MAX
                         → Falls (goes_ahead old.rules) old.ahead_turn new.ahead_turn (length (due_by by at old.timing old.pairs)) (length (due_by by now old.timing new.pairs)) =
-                        λ paced early. falls-from (goes_ahead old.rules) (goes_ahead old.rules) old.ahead_turn old.ahead_turn new.ahead_turn
+                        λ turn paced early. falls-from (goes_ahead old.rules) (goes_ahead old.rules) old.ahead_turn old.ahead_turn new.ahead_turn
                         (length (filter (is_fixed_by by) (map (asked at old.timing) old.pairs))) (length (due_by by at old.timing old.pairs))
-                        (length (due_by by now old.timing new.pairs)) refl refl (counted at by old) (fewer paced early) in
+                        (length (due_by by now old.timing new.pairs)) refl refl (counted at by old) (fewer turn paced early) in
                         inr (
                           q,
                           q_there,
                           record { number = matches.number; local = matches.local; remote = matches.remote; valid = matches.valid },
                           checks,
                           subst (λ (y : StunTiming). due_time_of now y q ≤ by) (sym timing) (q_due now),
-                          subst (λ (y : StunTiming). IsPaced old.timing → now < MAX
+                          subst (λ (y : StunTiming). ChecksInTurn old → IsPaced old.timing → now < MAX
                               → Falls (goes_ahead old.rules) old.ahead_turn new.ahead_turn (length (due_by by at old.timing old.pairs)) (length (due_by by now y new.pairs)))
                               (sym timing) fewer_old,
                         ))
@@ -218,7 +232,7 @@ module _ {H P : Type 0} where
     pub turn-moves : (old new : AgentRecord H P) (at now by : ℕ) (emitted : Emitted) → Fits at old → by ≤ now
         → (p : PairRecord) → Has old.pairs p → due_time_of at old.timing p ≤ by → Turn mac old now emitted new → Does at now by old emitted new p
     turn-moves old new at now by emitted f from p has due turn =
-        let a = all-are-asked old turn.asked at turn.deadline f.last f.checking.full f.idle.packets f.idle.queue (some-pairs old.pairs p has) turn.polled in
+        let a = all-are-asked old turn.asked at turn.deadline f.last f.checking.full f.idle.packets f.idle.queue f.calm (some-pairs old.pairs p has) turn.polled in
         let m : TimesOut mac now (record old { pairs = map (asked at old.timing) old.pairs }) turn.before (Ok tt) emitted turn.after turn.following =
         subst (λ (x : AgentRecord H P). TimesOut mac now x turn.before (Ok tt) emitted turn.after turn.following) a.1 turn.timeout in
         let d = asked-moves old turn.after turn.before turn.following at now by emitted f.distinct f.checking f.idle.queue from p has due m in
@@ -235,16 +249,16 @@ module _ {H P : Type 0} where
     abbrev Reached : List (ℕ × Emitted) → AgentRecord H P → AgentRecord H P → PairRecord → Type 0
     Reached turns first last p = ((x : ℕ × Emitted) × Has turns x × ChecksOn first x.1 p) ⊎ IsGone p.number last.pairs
 
-    starves-not : (turns : List (ℕ × Emitted)) (first last : AgentRecord H P) (p : PairRecord) (at by : ℕ) → Fits at first → IsPaced first.timing → Has first.pairs p
+    starves-not : (turns : List (ℕ × Emitted)) (first last : AgentRecord H P) (p : PairRecord) (at by : ℕ) → Fits at first → ChecksInTurn first → IsPaced first.timing → Has first.pairs p
         → due_time_of at first.timing p ≤ by → ((x : ℕ × Emitted) → Has turns x → (by ≤ x.0) × (x.0 < MAX)) → Turns mac turns first last
         → calls_left (goes_ahead first.rules) first.ahead_turn (length (due_by by at first.timing first.pairs)) ≤ length turns + 1 → Reached turns first last p
-    starves-not [] first last p at by f paced has due timeouts is enough =
+    starves-not [] first last p at by f in_turn paced has due timeouts is enough =
         let some : 0 < length (due_by by at first.timing first.pairs) = some-pass (is_due_by by at first.timing) first.pairs p has (le-is (due_time_of at first.timing p) by due) in
         absurd (none-left-over (calls_left (goes_ahead first.rules) first.ahead_turn (length (due_by by at first.timing first.pairs)))
         (calls-some (goes_ahead first.rules) first.ahead_turn (length (due_by by at first.timing first.pairs)) some) enough) where
           none-left-over : (n : ℕ) → 2 ≤ n → n ≤ 0 + 1 → ⊥
           none-left-over n some enough = omega (arith, some, enough)
-    starves-not (x ∷ rest) first last p at by f paced has due timeouts (mid, turn, more) enough =
+    starves-not (x ∷ rest) first last p at by f in_turn paced has due timeouts (mid, turn, more) enough =
         let k = turn-fits first mid at x.0 x.1 f turn in
         let times_of_call = timeouts x (inl refl) in
         elim (turn-moves first mid at x.0 by x.1 f times_of_call.0 p has due turn) [
@@ -253,13 +267,13 @@ module _ {H P : Type 0} where
               (let one : o ≡ p = f.distinct o p there has same in
               inl (x, inl refl, subst (λ (y : PairRecord). ChecksOn first x.1 y) one out))
           | inr (o, there, out, inr (q, q_there, matches, checks, q_due, fewer)) ↦
-              onward matches (starves-not rest mid last q x.0 by k.0 (subst (λ (t : StunTiming). IsPaced t) (sym k.2) paced) q_there q_due (λ y has_y. timeouts y (inr has_y)) more
+              onward matches (starves-not rest mid last q x.0 by k.0 (k.8 in_turn) (subst (λ (t : StunTiming). IsPaced t) (sym k.2) paced) q_there q_due (λ y has_y. timeouts y (inr has_y)) more
               (one-call (calls_left (goes_ahead mid.rules) mid.ahead_turn (length (due_by by x.0 mid.timing mid.pairs)))
               (calls_left (goes_ahead first.rules) first.ahead_turn (length (due_by by at first.timing first.pairs))) (length rest)
               (subst (λ (r : Rules). calls_left (goes_ahead r) mid.ahead_turn (length (due_by by x.0 mid.timing mid.pairs)) + 1
               ≤ calls_left (goes_ahead first.rules) first.ahead_turn (length (due_by by at first.timing first.pairs))) (sym k.7)
               (calls-fall (goes_ahead first.rules) first.ahead_turn mid.ahead_turn (length (due_by by at first.timing first.pairs)) (length (due_by by x.0 mid.timing mid.pairs))
-              (fewer paced times_of_call.1))) enough))
+              (fewer in_turn paced times_of_call.1))) enough))
               (same-path first mid p q k.3 k.4 matches)
         ] where
           one-call : (m n k : ℕ) → m + 1 ≤ n → n ≤ suc k + 1 → m ≤ k + 1
@@ -305,11 +319,9 @@ module _ {H P : Type 0} where
         polled : PollsTimeout old (Some deadline) asked_old
         polled = polls
 
-        by-queue : (queue : List RequestRecord) → old.queue ≡ queue → IsOfUse old emitted new
-        by-queue (first ∷ following) waits =
-            inr (let fewer = queue-of-use old asked_old new s t now emitted first following (asks-follow at deadline old asked_old is polled).0 checking.peer checking.full waits h in omega (arith, fewer))
-        by-queue [] none =
-            let a = all-are-asked old asked_old at deadline is checking.full packets none some polled in
+        idle : old.queue ≡ [] → is_pressing old ≡ false → IsOfUse old emitted new
+        idle none calm =
+            let a = all-are-asked old asked_old at deadline is checking.full packets none calm some polled in
             let low : earliest_call old at ≤ deadline = below (earliest_call old at) (soon old at) a.0 in
             let p = least-is (call_time_of at old.timing) MAX deadline old.pairs low early in
             let m : TimesOut mac now (record old { pairs = map (asked at old.timing) old.pairs }) s (Ok tt) emitted new t =
@@ -356,15 +368,36 @@ module _ {H P : Type 0} where
               use_of p has (inl gone) = inl (p, has, inr gone)
               use_of p has (inr (o, there, out, which)) = inl (o, there, inl out)
 
+        -- a path is to be selected or nominated at once
+        pressed : old.queue ≡ [] → is_pressing old ≡ true → IsOfUse old emitted new
+        pressed none presses =
+            let same : asked_old ≡ old = either (is_waiting old) (timeouts-from old asked_old at deadline is polled)
+            (λ _ l. l.1)
+            (λ off _. absurd (let no : true ≡ false = sym (or-third (not (is_empty old.packets)) (not (is_empty old.queue)) (is_pressing old) presses) ∙ off in cc)) in
+            let m = maintains_pairs-from now old s t emitted new none (subst (λ (x : AgentRecord H P). TimesOut mac now x s (Ok tt) emitted new t) same h) in
+            elim (pressing-goes mac now (timeout_begun now old) new s t emitted checking.peer checking.full (distinct-sound old sound) presses m) [
+              | inl goes ↦ inl goes
+              | inr selects ↦ inr (inr (presses, selects))
+            ]
+
+        by-queue : (queue : List RequestRecord) → old.queue ≡ queue → IsOfUse old emitted new
+        by-queue (first ∷ following) waits =
+            inr (inl (let fewer = queue-of-use old asked_old new s t now emitted first following (asks-follow at deadline old asked_old is polled).0 checking.peer checking.full waits h in omega (arith, fewer)))
+        by-queue [] none = by (is_pressing old) refl where
+          by : (b : Bool) → is_pressing old ≡ b → IsOfUse old emitted new
+          by true presses = pressed none presses
+          by false calm = idle none calm
+
     pub no-pair-starves : NoPairIsStarved P mac
-    no-pair-starves first last turns p at by sound packets last_is waits timeouts turning enough =
+    no-pair-starves first last turns p at by sound packets last_is calm in_turn waits timeouts turning enough =
         starves-not turns first last p at by
         (record {
           distinct = distinct-sound first sound;
           checking = waits.checking;
           idle = record { packets = packets; queue = waits.queue };
+          calm = calm;
           last = last_is;
         })
-        waits.paced waits.there (let due = waits.due in omega (arith, due))
+        in_turn waits.paced waits.there (let due = waits.due in omega (arith, due))
         (λ x has. (let from = (timeouts x has).0 in let early = (timeouts x has).1 in (omega (arith, from), omega (arith, early)))) turning
         (calls-from (goes_ahead first.rules) first.ahead_turn (length (due_by by at first.timing first.pairs)) (length turns) (omega (arith, enough)))

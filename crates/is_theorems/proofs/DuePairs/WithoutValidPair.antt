@@ -1,6 +1,6 @@
 -- A `handle_timeout` call of a controlling agent without a valid pair, with or without `poll_timeout` before it: the
 -- pair that is due first is checked, or another one that goes ahead, and a waiting pair is due as it was.
-use Rattle.std.proofs.Common.{◌≡◌, ℕ, ◌+◌, ◌<◌, ◌≤◌, ◌&&◌, ◌||◌, Bool, true, false, not, suc, List, [], length, map, filter, min, nat_lt, Option, Some, None, is_some, Ok, inl, inr, ◌⊎◌, refl, ap, sym, ◌∙◌, subst, arith, if◌then◌else◌}
+use Rattle.std.proofs.Common.{◌≡◌, ℕ, ◌+◌, ◌<◌, ◌≤◌, Bool, true, false, not, suc, List, [], length, map, filter, min, nat_lt, Option, Some, None, is_some, Ok, inl, inr, ◌⊎◌, refl, ap, sym, ◌∙◌, subst, arith, if◌then◌else◌}
 use Rattle.std.specs.List.{list_any}
 use Rattle.std.proofs.lemmas.Bool.Decides.{nat_tests}
 use Rattle.rand_core.specs.Stream.{Stream}
@@ -9,7 +9,7 @@ use Rattle.is_proto.specs.Times.{MAX}
 use Rattle.is_proto.specs.Packets.{Packet}
 use Rattle.is_candidate.specs.Candidates.{CandidateRecord}
 use Rattle.is_pair.specs.Checks.{unanswered_count}
-use Rattle.is_pair.specs.Pairs.{PairRecord, is_valid, is_nominated, checked}
+use Rattle.is_pair.specs.Pairs.{PairRecord, checked, renominated}
 use Rattle.is_pair.specs.Due.{asked, due_time_of}
 use Rattle.is_pair.specs.Multiset.{is_numbered, change_at, change_pair}
 use Rattle.is_pair.specs.Turns.{IsPaced, is_due_by, due_by}
@@ -26,7 +26,7 @@ use Rattle.is_rules.specs.declared.rules.Rules.{Rules}
 use Rattle.is_rules.specs.Emitted.{issued_as}
 use Rattle.is_rules.specs.Agent.{AgentRecord}
 use Rattle.is_rules.specs.Sending.{path_of}
-use Rattle.is_rules.specs.Nominating.{Nominates, followed, selection_of}
+use Rattle.is_rules.specs.Nominating.{nominates_at_once}
 use Rattle.is_rules.specs.Checking.{goes_ahead, all_asked, ChecksTop, MayCheck}
 use Rattle.is_rules.specs.Timeouts.{timeout_begun, at_timeout, is_expired, expired_gone, RemovesExpired, MaintainsPairs}
 use Rattle.is_rules.specs.States.{evaluated}
@@ -38,21 +38,17 @@ use Rattle.is_theorems.proofs.CallEffects.PathAndTradeEffects.{path_theorem}
 use Rattle.is_theorems.proofs.RuleEffects.UnchangedSettings.{either}
 use Rattle.is_theorems.proofs.RuleEffects.ChangedPairs.{Has-map}
 use Rattle.is_theorems.proofs.RuleEffects.EarlierAndNewPairs.{Has-filter}
-use Rattle.is_rules.proofs.PairLists.ChosenPair.{chosen-able}
-use Rattle.is_theorems.proofs.RuleEffects.NominatedPairs.{SelectsPath, selects_path}
 use Rattle.is_rules.proofs.PairLists.RisingNumbers.{AllBelow, below-each}
 use Rattle.is_theorems.proofs.DuePairs.AfterNominationAndRemoval.{Distinct, Base, base_of as agent_base, gives-up-has, answered-if, answered_at}
 use Rattle.is_theorems.proofs.DuePairs.ChecksAhead.{calls_left, Falls, falls-from, calls-kept, calls-go-on, calls-some}
-use Rattle.is_theorems.proofs.DuePairs.FirstDuePair.{Follows, le-from, le-is, same-path, WaitsOn, next-check, check-moves, timeout-follows}
+use Rattle.is_theorems.proofs.DuePairs.FirstDuePair.{Follows, le-from, le-is, same-path, WaitsOn, NoneAtCheck, NoneAtOnce, next-check, check-moves, timeout-follows}
 use Rattle.is_theorems.proofs.DuePairs.PollingCycles.{none-left, maintains_pairs-from, distinct-sound}
 use Rattle.is_theorems.proofs.DuePairs.AfterPackets.{NoneValid, Held}
+use Rattle.is_theorems.proofs.DuePairs.NoNominationDue.{NoneIsDue, Quiet, due-none, nominates-nothing, none-at-check, quiet-call, quiet-timeout}
+use Rattle.is_theorems.proofs.BasicLemmas.PairsInTurn.{by-begins, sent_at, pairs-sent}
 
 lt-is : (n m : ℕ) → n < m → nat_lt n m ≡ true
 lt-is n m h = grind (arith, nat_tests, h)
-
-and-left : (a b : Bool) → a ≡ false → (a && b) ≡ true → ⊥
-and-left true b h k = cc
-and-left false b h k = cc
 
 -- a stream of zeros
 undrawn : Stream
@@ -68,14 +64,6 @@ record Sifted (xs ys : List PairRecord) : Type 0 where
 
 module _ {H P : Type 0} where
   -- ---- nothing is nominated
-
-  nominates-nothing : (old new : AgentRecord H P) (path : Option Path) → NoneValid old.pairs → Nominates old path new → new ≡ old
-  nominates-nothing old new path none h = from (selects_path old new path h) where
-    from : SelectsPath old path new → new ≡ old
-    from (None, greatest, (is, same)) = same
-    from (Some top, chosen, k) =
-        let able = chosen-able old.controlling (followed old) (selection_of old) top chosen in
-        absurd (and-left (is_valid top) (old.controlling || is_nominated top) (none top able.0) able.1)
 
   gives-up-sifts : (now : ℕ) (old new : AgentRecord H P) (path : Option Path) → NoneValid old.pairs → RemovesExpired now old path new
       → (agent_base new ≡ agent_base old) × Sifted old.pairs new.pairs
@@ -105,27 +93,38 @@ module _ {H P : Type 0} where
           let o = Has-map (asked now old.timing) old.pairs q has in
           subst (λ (x : PairRecord). due_time_of now old.timing x ≤ by) o.2 (subst (λ (x : PairRecord). due_time_of m old.timing x ≤ by) (sym o.2) le)
 
-      following : (id : List ℕ) (x : PairRecord) (m : ℕ) → by < m → due_time_of m old.timing (checked now old.timing old.controlling id x) ≤ by → ⊥
-      following id x m above le =
+      begins : Bool
+      begins = nominates_at_once (all_asked now old)
+
+      change : List ℕ → PairRecord → PairRecord
+      change id x = sent_at begins now old.timing old.controlling id x
+
+      follows-check : (id : List ℕ) (x : PairRecord) (m : ℕ) → by < m → due_time_of m old.timing (checked now old.timing old.controlling id x) ≤ by → ⊥
+      follows-check id x m above le =
           let least : min now m < due_time_of m old.timing (checked now old.timing old.controlling id x) = checked-later now m old.timing old.controlling id x paced early in
           later (due_time_of m old.timing (checked now old.timing old.controlling id x)) least le where
             later : (d : ℕ) → min now m < d → d ≤ by → ⊥
             later d least le = omega (arith, least, le, from, above)
 
+      following : (id : List ℕ) (x : PairRecord) (m : ℕ) → by < m → due_time_of m old.timing (change id x) ≤ by → ⊥
+      following id x m above = by-begins begins (λ y. due_time_of m old.timing y ≤ by → ⊥) now old.timing old.controlling id x
+          (follows-check id (renominated x) m above) (follows-check id x m above)
+
       once : (n : ℕ) (id : List ℕ) (x : PairRecord) → Has (map (asked now old.timing) old.pairs) x → (m : ℕ) → by < m → (b : Bool)
-          → due_time_of m old.timing (if b then checked now old.timing old.controlling id x else x) ≤ by
-          → due_time_of now old.timing (if b then checked now old.timing old.controlling id x else x) ≤ by
+          → due_time_of m old.timing (if b then change id x else x) ≤ by
+          → due_time_of now old.timing (if b then change id x else x) ≤ by
       once n id x has m above true le = absurd (following id x m above le)
       once n id x has m above false le = fixed x has m above le
 
       by-next : (peer : IceCreds) (next : Option PairRecord) → ChecksTop mac now peer next (all_asked now old) s issued new t → Held by now old.timing new.pairs
       by-next peer None (is, made, drawn) = subst (λ ps. Held by now old.timing ps) (sym (ap (λ (a : AgentRecord H P). a.pairs) made)) fixed
-      by-next peer (Some q) (id, drawn, values, is, made) = subst (λ ps. Held by now old.timing ps) (sym (ap (λ (a : AgentRecord H P). a.pairs) made)) changed where
-        changed : Held by now old.timing (change_pair q.number (checked now old.timing old.controlling id) (map (asked now old.timing) old.pairs))
-        changed r has m above le =
-            let o = Has-map (change_at q.number (checked now old.timing old.controlling id)) (map (asked now old.timing) old.pairs) r has in
-            subst (λ (x : PairRecord). due_time_of now old.timing x ≤ by) o.2
-            (once q.number id o.0 o.1 m above (is_numbered q.number o.0) (subst (λ (x : PairRecord). due_time_of m old.timing x ≤ by) (sym o.2) le))
+      by-next peer (Some q) (id, drawn, values, is, made) =
+          subst (λ ps. Held by now old.timing ps) (sym (pairs-sent mac now peer q id (all_asked now old) new made)) changed where
+            changed : Held by now old.timing (change_pair q.number (change id) (map (asked now old.timing) old.pairs))
+            changed r has m above le =
+                let o = Has-map (change_at q.number (change id)) (map (asked now old.timing) old.pairs) r has in
+                subst (λ (x : PairRecord). due_time_of now old.timing x ≤ by) o.2
+                (once q.number id o.0 o.1 m above (is_numbered q.number o.0) (subst (λ (x : PairRecord). due_time_of m old.timing x ≤ by) (sym o.2) le))
 
     -- ---- the `handle_timeout` call
 
@@ -134,7 +133,7 @@ module _ {H P : Type 0} where
     abbrev ChecksFirst : ℕ → ℕ → AgentRecord H P → Emitted → AgentRecord H P → PairRecord → Type 0
     ChecksFirst now by old emitted new p =
         (o : PairRecord) × Has old.pairs o × ChecksOn old emitted o
-        × ((o ≡ p) ⊎ WaitsOn mac now by (length (due_by by now old.timing old.pairs)) old new p)
+        × ((o ≡ p) ⊎ WaitsOn mac (NoneAtOnce now old) now by (length (due_by by now old.timing old.pairs)) old new p)
 
     checks-first : (now by : ℕ) (old new : AgentRecord H P) (s t : Stream) (emitted : Emitted) → is_some old.remote_creds ≡ true → old.lite ≡ false → Distinct old.pairs → NoneValid old.pairs
         → by ≤ now → (p : PairRecord) → Has old.pairs p → answered_at old p now ≡ true → nat_lt (unanswered_count p.checks) old.timing.max_retransmits ≡ true → due_time_of now old.timing p ≤ by
@@ -148,7 +147,7 @@ module _ {H P : Type 0} where
         let timing : kept.timing ≡ old.timing = ap (λ (x : Base). x.timing) g.0 in
         let known_kept : is_some kept.remote_creds ≡ true = ap (λ (x : Base). is_some x.remote_creds) g.0 ∙ known in
         let full_kept : kept.lite ≡ false = ap (λ (x : Base). x.lite) g.0 ∙ full in (
-          on-kept kept issued g.0 g.1 (ap (λ (x : Emitted). x.issued) is)
+          on-kept kept issued (λ turn. turn first second named kept nominating giving) g.0 g.1 (ap (λ (x : Emitted). x.issued) is)
               (check-moves mac now by (length (due_by by now old.timing old.pairs)) kept (λ x y has_x has_y. distinct x y (g.1.sub x has_x) (g.1.sub y has_y)) from
               p (subst (λ (q : PairRecord). Has kept.pairs q) one k.1) (subst (λ (x : StunTiming). due_time_of now x p ≤ by) (sym timing) due) (counted kept timing g.1)
               new s t issued kept.remote_creds known_kept full_kept checking),
@@ -164,11 +163,11 @@ module _ {H P : Type 0} where
               subst (λ (x : StunTiming). length (due_by by now x kept.pairs) ≤ length (due_by by now old.timing old.pairs)) (sym timing) (sifted.fewer (is_due_by by now old.timing)) in
               omega (arith, all, less)
 
-          on-kept : (kept : AgentRecord H P) (issued : Option Issued) → agent_base kept ≡ agent_base (at_timeout now old) → Sifted old.pairs kept.pairs → emitted.issued ≡ issued
+          on-kept : (kept : AgentRecord H P) (issued : Option Issued) → (NoneAtOnce now old → NoneAtCheck now kept) → agent_base kept ≡ agent_base (at_timeout now old) → Sifted old.pairs kept.pairs → emitted.issued ≡ issued
               → (o : PairRecord) × Has kept.pairs o × ((id : List ℕ) × (issued ≡ Some (issued_as (path_of kept o) class.Request id)))
-              × ((o ≡ p) ⊎ WaitsOn mac now by (length (due_by by now old.timing old.pairs)) kept new p)
+              × ((o ≡ p) ⊎ WaitsOn mac (NoneAtCheck now kept) now by (length (due_by by now old.timing old.pairs)) kept new p)
               → ChecksFirst now by old emitted new p
-          on-kept kept issued base sifted issues (o, there, (id, out), which) = (
+          on-kept kept issued none-now base sifted issues (o, there, (id, out), which) = (
             o,
             sifted.sub o there,
             (
@@ -186,11 +185,11 @@ module _ {H P : Type 0} where
                     matches,
                     checks,
                     (λ at. subst (λ (x : StunTiming). due_time_of at x r ≤ by) timing (r_due at)),
-                    subst (λ (x : StunTiming). IsPaced x → now < MAX
+                    subst (λ (x : StunTiming). NoneAtOnce now old → IsPaced x → now < MAX
                         → Falls (goes_ahead old.rules) old.ahead_turn new.ahead_turn (length (due_by by now old.timing old.pairs)) (length (due_by by now x new.pairs))) timing
-                        (λ is_paced is_early. falls-from (goes_ahead kept.rules) (goes_ahead old.rules) kept.ahead_turn old.ahead_turn new.ahead_turn
+                        (λ turn is_paced is_early. falls-from (goes_ahead kept.rules) (goes_ahead old.rules) kept.ahead_turn old.ahead_turn new.ahead_turn
                         (length (due_by by now old.timing old.pairs)) (length (due_by by now old.timing old.pairs)) (length (due_by by now kept.timing new.pairs))
-                        (ap (λ (x : Base). goes_ahead x.rules) (sym base)) (ap (λ (x : Base). x.ahead_turn) (sym base)) (omega arith) (fewer is_paced is_early)),
+                        (ap (λ (x : Base). goes_ahead x.rules) (sym base)) (ap (λ (x : Base). x.ahead_turn) (sym base)) (omega arith) (fewer (none-now turn) is_paced is_early)),
                   ))
             ],
           )
@@ -217,6 +216,10 @@ module _ {H P : Type 0} where
     pub below : AllBelow a.next_number a.pairs
     pub invalid : NoneValid a.pairs
     pub role : a.controlling ≡ true
+    pub quiet : NoneIsDue a
+
+  pub calm-quiet : (a : AgentRecord H P) → Calm a → Quiet a
+  calm-quiet a calm = record { full = calm.checking.full; invalid = calm.invalid; quiet = calm.quiet }
 
   -- A pair of the path is due by a time, computed now, and k rounds are over. One fewer than n suffice.
   pub record Persists (by n : ℕ) (path : Path) (now k : ℕ) (a : AgentRecord H P) : Type 0 where
@@ -280,6 +283,7 @@ module _ {H P : Type 0} where
         below = below-each a.next_number a.pairs sound.below;
         invalid = unanswered.invalid;
         role = role;
+        quiet = due-none a sound role waits.checking.full unanswered.calm;
       };
       paced = waits.paced;
       pair = p;
@@ -293,6 +297,12 @@ module _ {H P : Type 0} where
 
     pub asked-sound : (old new : AgentRecord H P) (deadline : Option ℕ) → IsSound old → PollsTimeout old deadline new → IsSound new
     asked-sound old new deadline sound polls = (path_theorem mac answers old new undrawn undrawn PollTimeout (quiet (NextTimeout deadline)) sound tt (deadline, refl, polls, refl)).1
+
+    pub asked-quiet : (old new : AgentRecord H P) (deadline : Option ℕ) → IsSound old → Quiet old → PollsTimeout old deadline new → NoneIsDue new
+    asked-quiet old new deadline sound q polls = elim (quiet-call mac answers PollTimeout (quiet (NextTimeout deadline)) old new undrawn undrawn refl sound tt q (deadline, refl, polls, refl)) [
+      | inl (at, via, m, none, success) ↦ absurd none
+      | inr after ↦ after.quiet
+    ]
 
     -- what stays of the agent
     pub record Passed (now : ℕ) (old new : AgentRecord H P) : Type 0 where
@@ -311,6 +321,9 @@ module _ {H P : Type 0} where
         let follows : Follows old.pairs new.pairs = subst (λ ps. Follows old.pairs ps) (sym (ap (λ (a : AgentRecord H P). a.pairs) pass.taken)) m.1 in
         let after : IsSound pass.after = (path_theorem mac answers old pass.after pass.before pass.following (HandleTimeout now) (record { answer = Done; emitted = emitted }) calm.sound tt
         (Ok tt, emitted, refl, pass.timeout)).1 in
+        let past : Quiet pass.after = quiet-timeout mac answers now (record { answer = Done; emitted = emitted }) old pass.after pass.before pass.following calm.sound (calm-quiet old calm)
+        (Ok tt, emitted, refl, pass.timeout) in
+        let quiet : NoneIsDue new = subst (λ (a : AgentRecord H P). NoneIsDue a) (sym pass.taken) past.quiet in
         record {
           calm = record {
             sound = subst (λ (a : AgentRecord H P). IsSound a) (sym pass.taken) (polled-sound pass.after pass.waiting pass.left after);
@@ -327,6 +340,7 @@ module _ {H P : Type 0} where
                 omega (arith, was, same, next));
             invalid = λ q has. (let o = follows.back q has in o.2.valid ∙ calm.invalid o.0 o.1);
             role = ap (λ (x : Base). x.controlling) taken ∙ (ap (λ (x : Base). x.controlling) m.0 ∙ calm.role);
+            quiet = quiet;
           };
           last = ap (λ (x : Base). x.last_time) taken ∙ ap (λ (x : Base). x.last_time) m.0;
           timing = ap (λ (x : Base). x.timing) taken ∙ ap (λ (x : Base). x.timing) m.0;
@@ -355,7 +369,7 @@ module _ {H P : Type 0} where
               subst (λ (b : Bool). Falls (goes_ahead old.rules) old.ahead_turn b (length (due_by by now old.timing old.pairs)) (length (due_by by now old.timing new.pairs)))
               (sym (ap (λ (a : AgentRecord H P). a.ahead_turn) pass.taken))
               (subst (λ ps. Falls (goes_ahead old.rules) old.ahead_turn pass.after.ahead_turn (length (due_by by now old.timing old.pairs)) (length (due_by by now old.timing ps)))
-              (sym pairs) (fewer st.paced early)) in
+              (sym pairs) (fewer (none-at-check mac now (timeout_begun now old) st.calm.invalid st.calm.quiet) st.paced early)) in
               inr (record {
                 calm = x.calm;
                 last = x.last;

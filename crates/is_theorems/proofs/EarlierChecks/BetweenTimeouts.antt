@@ -1,6 +1,6 @@
 -- Whatever happens between two `handle_timeout` calls leaves no more checks of other pairs before a pair, except for
 -- one by each added pair, unless the pair itself is answered.
-use Rattle.std.proofs.Common.{◌≡◌, ℕ, ◌≤◌, ◌&&◌, ◌||◌, Bool, true, false, List, Option, Some, None, is_some, unwrap_or, Ok, Err, inl, inr, ◌⊎◌, refl, ap, sym, ◌∙◌, subst, arith}
+use Rattle.std.proofs.Common.{◌≡◌, ℕ, ◌≤◌, ◌&&◌, ◌||◌, Bool, true, false, List, Option, Some, None, is_some, unwrap_or, Ok, Err, inl, inr, ◌⊎◌, refl, ap, sym, ◌∙◌, subst, arith, not}
 use Rattle.std.specs.Prelude.{MatchOption}
 use Rattle.std.proofs.lemmas.Bool.{eq-eqb, eqb-true}
 use Rattle.is_proto.specs.Lists.{Has, same}
@@ -24,12 +24,12 @@ use Rattle.is_rules.specs.declared.emitted.Path.{Path}
 use Rattle.is_rules.specs.declared.emitted.Emitted.{Emitted}
 use Rattle.is_rules.specs.declared.rules.Rules.{Rules}
 use Rattle.is_rules.specs.Forming.{formed, with_pair, priority_between}
-use Rattle.is_rules.specs.Nominating.{nominated_by_self, Nominates, followed, remains, selection_of}
+use Rattle.is_rules.specs.Nominating.{nominated_by_self, Nominates, followed, remains, selection_of, numbers}
 use Rattle.is_rules.specs.Places.{local_place}
 use Rattle.is_rules.specs.Request.{RequestRecord, request_in}
-use Rattle.is_rules.specs.Roles.{conflict_of, switched, switched_sides, with_priority_in}
+use Rattle.is_rules.specs.Roles.{conflict_of, switched, switched_sides, with_priority_in, keeps_role}
 use Rattle.is_rules.specs.Sending.{path_of}
-use Rattle.is_rules.specs.Serving.{after_request, served, selects_at_requests, trigger_time, is_misled, names_another, pair_served, request_counted, with_sender, with_sender_at, Drops, Queues, RecordsAndResponds, FindsOrAddsPair, AddsUnknownSender, CountsAndServes, ResolvesRoleConflictBy, ResolvesRoleConflict, Serves}
+use Rattle.is_rules.specs.Serving.{after_request, served, selects_at_requests, trigger_time, is_misled, names_another, pair_served, request_counted, with_sender, with_sender_at, Drops, Queues, RecordsAndResponds, FindsOrAddsPair, AddsUnknownSender, CountsAndServes, ResolvesRoleConflictBy, ResolvesRoleConflict, Serves, as_taken}
 use Rattle.is_rules.specs.States.{evaluated}
 use Rattle.is_rules.specs.Steps.{Entry, Flag, Receives}
 use Rattle.is_stun.specs.Reading.{Reads}
@@ -117,7 +117,7 @@ module _ {H P : Type 0} where
         (λ _ k. expired k)
         (λ _ k. goes-same old new k.1) where
           expired : LeavesRole old via m emitted new → Goes old new
-          expired (p, c, has, keeps, kept, is, acts) = either (same c.controlling old.controlling) acts
+          expired (p, c, has, keeps, kept, is, acts) = either (same c.controlling old.controlling && not (keeps_role old)) acts
               (λ _ k. goes-to old (switched old) new (switches old) k.1)
               (λ _ k. goes-same old new k.1)
 
@@ -157,7 +157,8 @@ module _ {H P : Type 0} where
               request-moves : (p : PairRecord) → MovedUp by (last_time_of s) p (after_request q s p)
               request-moves p =
                   let first : PairRecord = triggered s.rules.triggered_checks (trigger_time q s) p in
-                  triggered-mild by (last_time_of s) (trigger_time q s) s.rules.triggered_checks p (served s.controlling s.lite q first) (omega arith) (served-mild s.controlling s.lite q first)
+                  triggered-mild by (last_time_of s) (trigger_time q s) s.rules.triggered_checks p (served s.controlling s.lite (as_taken (numbers s) q) first) (omega arith)
+                  (served-mild s.controlling s.lite (as_taken (numbers s) q) first)
 
         takes : (l r : ℕ) (number : Option ℕ) (s new : AgentRecord H P) (emitted : Emitted) → FindsOrAddsPair mac q l r number s emitted new → Goes s new
         takes l r (Some number) s new emitted h = pair l r number s new emitted h

@@ -11,11 +11,12 @@ use Rattle.is_pair.specs.declared.pair.states.NominationState.{NominationState}
 use Rattle.is_pair.specs.declared.pair.states.NominationState.TheVariants.{None as Unnominated, Nominated, Attempt, Success}
 use Rattle.is_pair.specs.Due.{is_triggered, moved_up, triggered}
 use Rattle.is_rules.specs.Request.{RequestRecord}
-use Rattle.is_rules.specs.Serving.{served}
+use Rattle.is_rules.specs.Serving.{served, nominated_by_peer, validated_by_peer}
 use Rattle.is_theorems.proofs.DuePairs.AfterNominationAndRemoval.{Kept, kept_of}
 use Rattle.is_theorems.proofs.EarlierChecks.ChecksOfOtherPairs.{Becomes, le-from, le-is, le-fails, le-not, lead, leads, own, own-le, sent_by, weight-becomes, is_early, weight, leads-map, leads-push, leads-set}
 use Rattle.is_theorems.proofs.CallEffects.ServedRequests.{Has-mapped}
 use Rattle.is_theorems.proofs.RuleEffects.SelectedPaths.{some_is}
+use Rattle.is_theorems.proofs.BasicLemmas.ServedPairs.{numbered-by}
 
 -- ---- one pair
 
@@ -65,15 +66,18 @@ mild-on p q r number due kept nomination m = record {
 }
 
 pub served-mild : (c l : Bool) (q : RequestRecord) (p : PairRecord) → Mild p (served c l q p)
-served-mild c l q p = by (l && not c) where
-  asks : (x : PairRecord) → Mild x (if not c && q.use_candidate && not (is_nominated x) then nominated l x else x)
-  asks x = peer-mild (not c) q.use_candidate l (is_nominated x) x refl
+served-mild c l q p =
+    let m = by (l && not c) in
+    numbered-by (λ x. Mild p x) c q.nomination (nominated_by_peer c l q (validated_by_peer c l (with_request q.time p))) m
+    (λ n. record { number = m.number; due = m.due; kept = m.kept; nomination = m.nomination }) where
+      asks : (x : PairRecord) → Mild x (if not c && q.use_candidate && not (is_nominated x) then nominated l x else x)
+      asks x = peer-mild (not c) q.use_candidate l (is_nominated x) x refl
 
-  by : (b : Bool) → Mild p (if not c && q.use_candidate && not (is_nominated (if b then validated (with_request q.time p) else with_request q.time p))
-      then nominated l (if b then validated (with_request q.time p) else with_request q.time p)
-      else (if b then validated (with_request q.time p) else with_request q.time p))
-  by true = mild-on p (validated (with_request q.time p)) _ refl refl refl refl (asks (validated (with_request q.time p)))
-  by false = mild-on p (with_request q.time p) _ refl refl refl refl (asks (with_request q.time p))
+      by : (b : Bool) → Mild p (if not c && q.use_candidate && not (is_nominated (if b then validated (with_request q.time p) else with_request q.time p))
+          then nominated l (if b then validated (with_request q.time p) else with_request q.time p)
+          else (if b then validated (with_request q.time p) else with_request q.time p))
+      by true = mild-on p (validated (with_request q.time p)) _ refl refl refl refl (asks (validated (with_request q.time p)))
+      by false = mild-on p (with_request q.time p) _ refl refl refl refl (asks (with_request q.time p))
 
 pub at-mild : (n : ℕ) (f : PairRecord → PairRecord) (p : PairRecord) → Mild p (f p) → Mild p (change_at n f p)
 at-mild n f p m = by (is_numbered n p) where

@@ -18,12 +18,12 @@ use Rattle.is_rules.specs.declared.emitted.Emitted.{Emitted}
 use Rattle.is_rules.specs.declared.emitted.Issued.{Issued}
 use Rattle.is_rules.specs.declared.emitted.Path.{Path}
 use Rattle.is_rules.specs.Emitted.{issued_as}
-use Rattle.is_rules.specs.Nominating.{followed, is_eligible, nominated_by_self, remains, selection_of, Nominates}
+use Rattle.is_rules.specs.Nominating.{followed, is_eligible, nominated_by_self, remains, selection_of, Nominates, nominates_at_once}
 use Rattle.is_theorems.specs.Progress.{ChecksOn}
 use Rattle.is_rules.specs.Sending.{path_of}
 use Rattle.is_rules.specs.Timeouts.{at_timeout, is_expired, expired_gone, RemovesExpired, MaintainsPairs}
 use Rattle.is_rules.proofs.PairLists.ChosenPair.{chosen-able, none_pass}
-use Rattle.is_theorems.proofs.BasicLemmas.PairsInTurn.{none-is-due, next-is-due}
+use Rattle.is_theorems.proofs.BasicLemmas.PairsInTurn.{next-has, none-is-due, pairs-sent, sent_at}
 use Rattle.is_theorems.proofs.RuleEffects.UnchangedSettings.{either}
 use Rattle.is_theorems.proofs.EarlierChecks.ChangedPairs.{Fixed}
 use Rattle.is_theorems.proofs.RuleEffects.ChangedPairs.{Has-map}
@@ -120,7 +120,10 @@ module _ (now by : ℕ) (begun : by ≤ now) where
             in_asked : Has (map (asked now old.timing) old.pairs) (asked now old.timing p)
             in_asked = Has-mapped (asked now old.timing) old.pairs p has
 
-            whose : (q : PairRecord) (id : List ℕ) → new.pairs ≡ change_pair q.number (checked now old.timing old.controlling id) (map (asked now old.timing) old.pairs)
+            begins : Bool
+            begins = nominates_at_once (all_asked now old)
+
+            whose : (q : PairRecord) (id : List ℕ) → new.pairs ≡ change_pair q.number (sent_at begins now old.timing old.controlling id) (map (asked now old.timing) old.pairs)
                 → issued ≡ Some (issued_as (path_of old q) class.Request id)
                 → (o : PairRecord) × Has old.pairs o × (asked now old.timing o ≡ q)
                 → (b : Bool) → (p.number == q.number) ≡ b
@@ -137,10 +140,13 @@ module _ (now by : ℕ) (begun : by ≤ now) where
                     subst (λ ps. Fixed p.number (due_time_of now old.timing p) (kept_of p) ps) (sym made) (asked now old.timing p, stays, refl, refl, refl),
                   ),
                 ) where
-                  stays : Has (change_pair q.number (checked now old.timing old.controlling id) (map (asked now old.timing) old.pairs)) (asked now old.timing p)
-                  stays = subst (λ b. Has (change_pair q.number (checked now old.timing old.controlling id) (map (asked now old.timing) old.pairs))
-                      (if b then checked now old.timing old.controlling id (asked now old.timing p) else asked now old.timing p)) apart
-                      (Has-mapped (change_at q.number (checked now old.timing old.controlling id)) (map (asked now old.timing) old.pairs) (asked now old.timing p) in_asked)
+                  change : PairRecord → PairRecord
+                  change x = sent_at begins now old.timing old.controlling id x
+
+                  stays : Has (change_pair q.number change (map (asked now old.timing) old.pairs)) (asked now old.timing p)
+                  stays = subst (λ b. Has (change_pair q.number change (map (asked now old.timing) old.pairs))
+                      (if b then change (asked now old.timing p) else asked now old.timing p)) apart
+                      (Has-mapped (change_at q.number change) (map (asked now old.timing) old.pairs) (asked now old.timing p) in_asked)
 
             by-next : (peer : IceCreds) (next : Option PairRecord) → IsNextToCheck now (all_asked now old) next → ChecksTop mac now peer next (all_asked now old) s issued new u
                 → ((id : List ℕ) × (issued ≡ Some (issued_as (path_of old p) class.Request id))) ⊎ WaitsOn old new p
@@ -148,7 +154,7 @@ module _ (now by : ℕ) (begun : by ≤ now) where
                 let it : is_due now old.timing (asked now old.timing p) ≡ true = le-is (due_time_of now old.timing p) now (let d = due in omega (arith, d, begun)) in
                 absurd (none_pass (is_due now old.timing) (map (asked now old.timing) old.pairs) (asked now old.timing p) (none-is-due now (all_asked now old) chosen) in_asked it)
             by-next peer (Some q) chosen (id, drawn, values, is, made) =
-                whose q id (ap (λ (a : AgentRecord H P). a.pairs) made) is (Has-map (asked now old.timing) old.pairs q (next-is-due now (all_asked now old) q chosen).0) (p.number == q.number) refl
+                whose q id (pairs-sent mac now peer q id (all_asked now old) new made) is (Has-map (asked now old.timing) old.pairs q (next-has now (all_asked now old) q chosen)) (p.number == q.number) refl
 
       -- ---- the `handle_timeout` call
 

@@ -20,7 +20,7 @@ use Rattle.is_rules.specs.declared.credentials.IceCreds.{IceCreds}
 use Rattle.is_rules.specs.declared.emitted.Issued.{Issued}
 use Rattle.is_rules.specs.declared.emitted.Path.{Path}
 use Rattle.is_rules.specs.declared.emitted.Emitted.{Emitted}
-use Rattle.is_rules.specs.Nominating.{nominated_by_self, Nominates, followed, remains, selection_of, is_eligible}
+use Rattle.is_rules.specs.Nominating.{nominated_by_self, Nominates, followed, remains, selection_of, is_eligible, nominates_at_once}
 use Rattle.is_theorems.specs.Progress.{ChecksOn}
 use Rattle.is_rules.specs.Sending.{path_of}
 use Rattle.is_rules.specs.Timeouts.{at_timeout, is_expired, expired_gone, RemovesExpired, MaintainsPairs}
@@ -30,8 +30,8 @@ use Rattle.is_theorems.proofs.EarlierChecks.ChecksOfOtherPairs.{lead, leads, own
 use Rattle.is_theorems.proofs.EarlierChecks.ChangedPairs.{Fixed}
 use Rattle.is_theorems.proofs.EarlierChecks.BetweenTimeouts.{nominates-onward}
 use Rattle.is_theorems.proofs.RuleEffects.ChangedPairs.{Has-map}
-use Rattle.is_theorems.proofs.BasicLemmas.PairsInTurn.{none-is-due, next-is-due, next-in-turn}
-use Rattle.is_theorems.proofs.DuePairs.FirstDuePair.{fixed-is, same-path, next-check}
+use Rattle.is_theorems.proofs.BasicLemmas.PairsInTurn.{next-has, none-is-due, next-in-turn, pairs-sent, sent_at}
+use Rattle.is_theorems.proofs.DuePairs.FirstDuePair.{fixed-is, same-path, NoneAtCheck, NoneAtOnce, next-check}
 use Rattle.is_theorems.proofs.DuePairs.ChecksAhead.{Falls, falls-from, is-turn}
 use Rattle.is_rules.proofs.PairLists.ChosenPair.{chosen-able, none_pass}
 use Rattle.is_theorems.proofs.RuleEffects.NominatedPairs.{SelectsPath, selects_path}
@@ -159,11 +159,11 @@ module _ (now by : ℕ) (late : by < now) (early : now < MAX) where
 
     -- ---- the check
 
-    -- its due time is fixed, and one check fewer goes before it, or a check went ahead
-    abbrev pub WaitsOn : AgentRecord H P → AgentRecord H P → PairRecord → Type 0
-    WaitsOn old new p =
+    -- its due time is fixed, and one check fewer goes before it, or a check went ahead, if the check is in turn
+    abbrev pub WaitsOn : Type 0 → AgentRecord H P → AgentRecord H P → PairRecord → Type 0
+    WaitsOn InTurn old new p =
         (d : ℕ) × (d ≤ by) × Fixed p.number d (kept_of p) new.pairs
-        × Falls (goes_ahead old.rules) old.ahead_turn new.ahead_turn (leads p.number by old.pairs) (leads p.number by new.pairs)
+        × (InTurn → Falls (goes_ahead old.rules) old.ahead_turn new.ahead_turn (leads p.number by old.pairs) (leads p.number by new.pairs))
 
     -- the check goes ahead, or the pair is due by the time
     abbrev Chosen : AgentRecord H P → PairRecord → Type 0
@@ -173,31 +173,43 @@ module _ (now by : ℕ) (late : by < now) (early : now < MAX) where
       check-goes : (old new : AgentRecord H P) (s u : Stream) (issued : Option Issued) (remote : Option IceCreds) → is_some remote ≡ true → old.lite ≡ false
           → Distinct old.pairs → 0 < old.timing.max_retransmits → (p : PairRecord) → Has old.pairs p → due_time_of now old.timing p ≤ by
           → MayCheck mac now remote old s issued new u
-          → ((id : List ℕ) × (issued ≡ Some (issued_as (path_of old p) class.Request id))) ⊎ WaitsOn old new p
+          → ((id : List ℕ) × (issued ≡ Some (issued_as (path_of old p) class.Request id))) ⊎ WaitsOn (NoneAtCheck now old) old new p
       check-goes old new s u issued remote known full distinct some p has due h =
           let k = next-check mac now remote old new s u issued known full h in by-next k.0 k.1 k.2 k.3 where
             in_asked : Has (map (asked now old.timing) old.pairs) (asked now old.timing p)
             in_asked = Has-mapped (asked now old.timing) old.pairs p has
 
-            whose : (peer : IceCreds) (q : PairRecord) (id : List ℕ) → new.ahead_turn ≡ not (is_ahead_turn now (all_asked now old)) → new.pairs ≡ change_pair q.number (checked now old.timing old.controlling id) (map (asked now old.timing) old.pairs)
+            begins : Bool
+            begins = nominates_at_once (all_asked now old)
+
+            whose : (peer : IceCreds) (q : PairRecord) (id : List ℕ) → new.ahead_turn ≡ not (is_ahead_turn now (all_asked now old))
+                → new.pairs ≡ change_pair q.number (sent_at begins now old.timing old.controlling id) (map (asked now old.timing) old.pairs)
                 → issued ≡ Some (issued_as (path_of old q) class.Request id) → Has (map (asked now old.timing) old.pairs) q
-                → (o : PairRecord) × Has old.pairs o × (asked now old.timing o ≡ q) → Chosen old q
+                → (o : PairRecord) × Has old.pairs o × (asked now old.timing o ≡ q) → (NoneAtCheck now old → Chosen old q)
                 → (b : Bool) → (p.number == q.number) ≡ b
-                → ((id : List ℕ) × (issued ≡ Some (issued_as (path_of old p) class.Request id))) ⊎ WaitsOn old new p
-            whose peer q id turned made is there (o, o_has, o_is) chosen true same =
+                → ((id : List ℕ) × (issued ≡ Some (issued_as (path_of old p) class.Request id))) ⊎ WaitsOn (NoneAtCheck now old) old new p
+            whose peer q id turned sent is there (o, o_has, o_is) chosen true same =
                 let one : o ≡ p = distinct o p o_has has (ap (λ (x : PairRecord). x.number) o_is ∙ sym (eqb-true p.number q.number same)) in
                 inl (id, is ∙ ap (λ (x : PairRecord). Some (issued_as (path_of old x) class.Request id)) (sym o_is ∙ ap (asked now old.timing) one))
-            whose peer q id turned made is there (o, o_has, o_is) chosen false apart =
+            whose peer q id turned sent is there (o, o_has, o_is) chosen false apart =
                 inr (
                   due_time_of now old.timing p,
                   due,
-                  subst (λ ps. Fixed p.number (due_time_of now old.timing p) (kept_of p) ps) (sym made) (asked now old.timing p, stays, refl, refl, refl),
-                  falls,
+                  subst (λ ps. Fixed p.number (due_time_of now old.timing p) (kept_of p) ps) (sym sent) (asked now old.timing p, stays, refl, refl, refl),
+                  λ turn. falls (plain turn) (chosen turn),
                 ) where
-                  stays : Has (change_pair q.number (checked now old.timing old.controlling id) (map (asked now old.timing) old.pairs)) (asked now old.timing p)
-                  stays = subst (λ b. Has (change_pair q.number (checked now old.timing old.controlling id) (map (asked now old.timing) old.pairs))
-                      (if b then checked now old.timing old.controlling id (asked now old.timing p) else asked now old.timing p)) apart
-                      (Has-mapped (change_at q.number (checked now old.timing old.controlling id)) (map (asked now old.timing) old.pairs) (asked now old.timing p) in_asked)
+                  change : PairRecord → PairRecord
+                  change x = sent_at begins now old.timing old.controlling id x
+
+                  stays : Has (change_pair q.number change (map (asked now old.timing) old.pairs)) (asked now old.timing p)
+                  stays = subst (λ b. Has (change_pair q.number change (map (asked now old.timing) old.pairs))
+                      (if b then change (asked now old.timing p) else asked now old.timing p)) apart
+                      (Has-mapped (change_at q.number change) (map (asked now old.timing) old.pairs) (asked now old.timing p) in_asked)
+
+                  -- no nomination begins
+                  plain : NoneAtCheck now old → new.pairs ≡ change_pair q.number (checked now old.timing old.controlling id) (map (asked now old.timing) old.pairs)
+                  plain turn = sent ∙ ap (λ b. change_pair q.number (sent_at b now old.timing old.controlling id) (map (asked now old.timing) old.pairs))
+                      turn
 
                   q_fixed : q.due ≡ Some (due_time_of now old.timing o)
                   q_fixed = ap (λ (x : PairRecord). x.due) (sym o_is)
@@ -214,8 +226,8 @@ module _ (now by : ℕ) (late : by < now) (early : now < MAX) where
                   asked-less : leads p.number by (map (asked now old.timing) old.pairs) ≤ leads p.number by old.pairs
                   asked-less = leads-map p.number by (asked now old.timing) old.pairs (λ y. own-le p.number by y (asked now old.timing y) refl (lead-asked by now old.timing y late early))
 
-                  no-more : leads p.number by new.pairs ≤ leads p.number by old.pairs
-                  no-more =
+                  no-more : new.pairs ≡ change_pair q.number (checked now old.timing old.controlling id) (map (asked now old.timing) old.pairs) → leads p.number by new.pairs ≤ leads p.number by old.pairs
+                  no-more made =
                       let a : leads p.number by (change_pair q.number (checked now old.timing old.controlling id) (map (asked now old.timing) old.pairs))
                       ≤ leads p.number by (map (asked now old.timing) old.pairs) =
                       leads-map p.number by (change_at q.number (checked now old.timing old.controlling id)) (map (asked now old.timing) old.pairs)
@@ -223,8 +235,9 @@ module _ (now by : ℕ) (late : by < now) (early : now < MAX) where
                       let b = asked-less in
                       subst (λ ps. leads p.number by ps ≤ leads p.number by old.pairs) (sym made) (omega (arith, a, b))
 
-                  one-fewer : due_time_of now old.timing q ≤ by → leads p.number by new.pairs < leads p.number by old.pairs
-                  one-fewer q_due =
+                  one-fewer : new.pairs ≡ change_pair q.number (checked now old.timing old.controlling id) (map (asked now old.timing) old.pairs) → due_time_of now old.timing q ≤ by
+                      → leads p.number by new.pairs < leads p.number by old.pairs
+                  one-fewer made q_due =
                       let a : leads p.number by (change_pair q.number (checked now old.timing old.controlling id) (map (asked now old.timing) old.pairs)) + 1
                       ≤ leads p.number by (map (asked now old.timing) old.pairs) =
                       leads-less p.number by (change_at q.number (checked now old.timing old.controlling id)) (map (asked now old.timing) old.pairs) q
@@ -233,27 +246,28 @@ module _ (now by : ℕ) (late : by < now) (early : now < MAX) where
                       let b = asked-less in
                       subst (λ ps. leads p.number by ps < leads p.number by old.pairs) (sym made) (omega (arith, a, b))
 
-                  falls : Falls (goes_ahead old.rules) old.ahead_turn new.ahead_turn (leads p.number by old.pairs) (leads p.number by new.pairs)
-                  falls = elim chosen [
+                  falls : new.pairs ≡ change_pair q.number (checked now old.timing old.controlling id) (map (asked now old.timing) old.pairs) → Chosen old q
+                      → Falls (goes_ahead old.rules) old.ahead_turn new.ahead_turn (leads p.number by old.pairs) (leads p.number by new.pairs)
+                  falls made which = elim which [
                     | inl on ↦
                         (let turn = is-turn (goes_ahead old.rules) old.ahead_turn (are_kinds_in_turn (all_asked now old) || has_first now (all_asked now old)) on in
-                        inr (no-more, turn.0, turn.1, turned ∙ ap not on))
-                    | inr q_due ↦ inl (one-fewer q_due)
+                        inr (no-more made, turn.0, turn.1, turned ∙ ap not on))
+                    | inr q_due ↦ inl (one-fewer made q_due)
                   ]
 
             by-next : (peer : IceCreds) (next : Option PairRecord) → IsNextToCheck now (all_asked now old) next → ChecksTop mac now peer next (all_asked now old) s issued new u
-                → ((id : List ℕ) × (issued ≡ Some (issued_as (path_of old p) class.Request id))) ⊎ WaitsOn old new p
+                → ((id : List ℕ) × (issued ≡ Some (issued_as (path_of old p) class.Request id))) ⊎ WaitsOn (NoneAtCheck now old) old new p
             by-next peer None chosen h =
                 let it : is_due now old.timing (asked now old.timing p) ≡ true = le-is (due_time_of now old.timing p) now (let d = due in omega (arith, d, late)) in
                 absurd (none_pass (is_due now old.timing) (map (asked now old.timing) old.pairs) (asked now old.timing p) (none-is-due now (all_asked now old) chosen) in_asked it)
             by-next peer (Some q) chosen (id, drawn, values, is, made) =
-                let there : Has (map (asked now old.timing) old.pairs) q = (next-is-due now (all_asked now old) q chosen).0 in
-                whose peer q id (ap (λ (a : AgentRecord H P). a.ahead_turn) made) (ap (λ (a : AgentRecord H P). a.pairs) made) is there (Has-map (asked now old.timing) old.pairs q there)
-                (in-turn (is_ahead_turn now (all_asked now old)) refl) (p.number == q.number) refl where
-                  in-turn : (b : Bool) → is_ahead_turn now (all_asked now old) ≡ b → Chosen old q
-                  in-turn true on = inl on
-                  in-turn false off =
-                      let next = next-in-turn now (all_asked now old) (Some q) off chosen in
+                let there : Has (map (asked now old.timing) old.pairs) q = next-has now (all_asked now old) q chosen in
+                whose peer q id (ap (λ (a : AgentRecord H P). a.ahead_turn) made) (pairs-sent mac now peer q id (all_asked now old) new made) is there (Has-map (asked now old.timing) old.pairs q there)
+                (λ turn. in-turn turn (is_ahead_turn now (all_asked now old)) refl) (p.number == q.number) refl where
+                  in-turn : nominates_at_once (all_asked now old) ≡ false → (b : Bool) → is_ahead_turn now (all_asked now old) ≡ b → Chosen old q
+                  in-turn calm true on = inl on
+                  in-turn calm false off =
+                      let next = next-in-turn now (all_asked now old) (Some q) calm off chosen in
                       let before : GoesBefore now old.timing q (asked now old.timing p) = next.0.1 (asked now old.timing p) in_asked in
                       inr (first-due (due_time_of now old.timing q) (due_time_of now old.timing p) p q before due)
 
@@ -262,7 +276,7 @@ module _ (now by : ℕ) (late : by < now) (early : now < MAX) where
       pub timeout-goes : (old new : AgentRecord H P) (s u : Stream) (emitted : Emitted) → is_some old.remote_creds ≡ true → old.lite ≡ false
           → Distinct old.pairs → 0 < old.timing.max_retransmits → (p : PairRecord) → Has old.pairs p
           → stays_answered old.timing.consent now p ≡ true → nat_lt (unanswered_count p.checks) old.timing.max_retransmits ≡ true → Ready old.timing p
-          → MaintainsPairs mac now old s emitted new u → ChecksOn old emitted p ⊎ WaitsOn old new p
+          → MaintainsPairs mac now old s emitted new u → ChecksOn old emitted p ⊎ WaitsOn (NoneAtOnce now old) old new p
       timeout-goes old new s u emitted known full distinct some p has answered young ready (first, second, issued, named, kept, nominating, giving, checking, is) =
           let a = nominates-thins 0 (at_timeout now old) named first nominating in
           let b = gives-up-thins 0 now named kept second giving in
@@ -289,14 +303,15 @@ module _ (now by : ℕ) (late : by < now) (early : now < MAX) where
                       (record { number = alike.number; local = alike.local; remote = alike.remote; valid = alike.valid }))),
                 )
             | inr (d, due, fixed, falls) ↦
-                (let falls_for : Falls (goes_ahead kept.rules) kept.ahead_turn new.ahead_turn (leads p.number by kept.pairs) (leads p.number by new.pairs) =
-                subst (λ k. Falls (goes_ahead kept.rules) kept.ahead_turn new.ahead_turn (leads k by kept.pairs) (leads k by new.pairs)) alike.number falls in
+                (let falls_for : NoneAtOnce now old → Falls (goes_ahead kept.rules) kept.ahead_turn new.ahead_turn (leads p.number by kept.pairs) (leads p.number by new.pairs) =
+                λ turn. subst (λ k. Falls (goes_ahead kept.rules) kept.ahead_turn new.ahead_turn (leads k by kept.pairs) (leads k by new.pairs)) alike.number
+                (falls (turn first second named kept nominating giving)) in
                 inr (
                   d,
                   due,
                   subst (λ k. Fixed p.number d k new.pairs) (alike-kept p y.0 alike) (subst (λ k. Fixed k d (kept_of y.0) new.pairs) alike.number fixed),
-                  falls-from (goes_ahead kept.rules) (goes_ahead old.rules) kept.ahead_turn old.ahead_turn new.ahead_turn
+                  λ turn. falls-from (goes_ahead kept.rules) (goes_ahead old.rules) kept.ahead_turn old.ahead_turn new.ahead_turn
                       (leads p.number by kept.pairs) (leads p.number by old.pairs) (leads p.number by new.pairs)
-                      (ap (λ (z : Base). goes_ahead z.rules) (sym base)) (ap (λ (z : Base). z.ahead_turn) (sym base)) lessened falls_for,
+                      (ap (λ (z : Base). goes_ahead z.rules) (sym base)) (ap (λ (z : Base). z.ahead_turn) (sym base)) lessened (falls_for turn),
                 ))
           ]

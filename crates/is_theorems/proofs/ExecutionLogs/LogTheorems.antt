@@ -1,5 +1,5 @@
 -- All theorems about one agent's log, from the theorem about paths only. The preconditions that mutants/specifications changes are read by tactics.
-use Rattle.std.proofs.Common.{◌≡◌, ℕ, ◌+◌, ◌≤◌, Bool, true, false, List, [], ◌∷◌, ◌++◌, Some, None, inl, inr, ◌⊎◌, refl, ap, sym, ◌∙◌, subst, arith, append_assoc}
+use Rattle.std.proofs.Common.{◌≡◌, ℕ, ◌+◌, ◌≤◌, Bool, true, false, List, [], ◌∷◌, ◌++◌, Some, None, inl, inr, ◌⊎◌, refl, ap, sym, ◌∙◌, subst, arith, append_assoc, is_some, ◌||◌}
 use Rattle.rand_core.specs.Stream.{Stream}
 use Rattle.is_proto.specs.Lists.{Has}
 use Rattle.is_candidate.specs.Candidates.{CandidateRecord}
@@ -14,7 +14,7 @@ use Rattle.is_rules.specs.Request.{RequestRecord}
 use Rattle.is_rules.specs.Steps.{Entry}
 use Rattle.is_rules.specs.Emitted.{reversed}
 use Rattle.is_rules.specs.Agent.{AgentRecord}
-use Rattle.is_rules.specs.Nominating.{is_eligible}
+use Rattle.is_rules.specs.Nominating.{is_eligible, numbers}
 use Rattle.is_rules.specs.Steps.{Call, ReceivePacket}
 use Rattle.is_rules.specs.Sound.{IsSound}
 use Rattle.is_rules.specs.Brought.{Brings, IsBrought, IsServing, IsKept, IsValidOn, IsNominatedOn, IsAnswered, IsNominatedByPeer}
@@ -26,6 +26,8 @@ use Rattle.is_theorems.specs.Runs.{IsFresh, Run, Point, run_to, IsControlledSinc
 use Rattle.is_theorems.proofs.PathSelection.SelectedPairIsNominated.{IsNamed, names-best, names-next}
 use Rattle.is_theorems.proofs.CallEffects.FailedCallsAndNewAgents.{fresh_sound}
 use Rattle.is_theorems.proofs.BasicLemmas.MultisetInclusion.{among_by_counts}
+use Rattle.is_theorems.proofs.BasicLemmas.ServedPairs.{taken-asks, asks-taken}
+use Rattle.is_rules.specs.Serving.{nominates}
 
 -- a Boolean, with what it implies
 emitted_apart : {A : Type 0} (b : Bool) → (b ≡ true → A) → (b ≡ false → A) → A
@@ -52,7 +54,7 @@ module _ {H P : Type 0} (mac : H → List ℕ → List ℕ → List ℕ) (answer
     pub lite_is : NeverLite log → a.lite ≡ false
     pub sent : (path : Path) (id : List ℕ) (controlling : Bool) → IsKept a path id controlling → IsSent log path id
     pub valid : NeverLite log → (path : Path) → IsValidOn a path → Answered mac provider log path
-    pub queued : (q : RequestRecord) → Has a.queue q → q.use_candidate ≡ true → NominatedByPeer log (reversed q.path)
+    pub queued : (q : RequestRecord) → Has a.queue q → (q.use_candidate || is_some q.nomination) ≡ true → NominatedByPeer log (reversed q.path)
     -- `selected_pair` names the pair that was selected last
     pub named : IsNamed (last_selected log) a
 
@@ -86,16 +88,17 @@ module _ {H P : Type 0} (mac : H → List ℕ → List ℕ → List ℕ) (answer
       back,
     )
 
-    asks_at : (at : ℕ) (by : Path) (m : Message) → Brings x.call x.entry at by m → m.class ≡ class.Request → m.attributes.use_candidate ≡ true → AsksAt x (reversed by)
+    asks_at : (at : ℕ) (by : Path) (m : Message) → Brings x.call x.entry at by m → m.class ≡ class.Request → (m.attributes.use_candidate || is_some m.attributes.nomination) ≡ true
+        → AsksAt x (reversed by)
     asks_at at by m brings request uses = (at, by, m, brings, (f.accepted at by m brings).0, request, uses, refl)
 
-    queued_asks : (q : RequestRecord) → Has old.queue q ⊎ IsBrought x.call x.entry q → q.use_candidate ≡ true → NominatedByPeer (x ∷ before) (reversed q.path)
+    queued_asks : (q : RequestRecord) → Has old.queue q ⊎ IsBrought x.call x.entry q → (q.use_candidate || is_some q.nomination) ≡ true → NominatedByPeer (x ∷ before) (reversed q.path)
     queued_asks q (inl was) uses = inr (h.queued q was uses)
     queued_asks q (inr (at, by, m, brings, request, is)) uses =
-        inl (subst (λ (y : RequestRecord). AsksAt x (reversed y.path)) (sym is) (asks_at at by m brings request (ap (λ (y : RequestRecord). y.use_candidate) (sym is) ∙ uses)))
+        inl (subst (λ (y : RequestRecord). AsksAt x (reversed y.path)) (sym is) (asks_at at by m brings request (ap (λ (y : RequestRecord). y.use_candidate || is_some y.nomination) (sym is) ∙ uses)))
 
     asked_now : (path : Path) → IsNominatedByPeer old x.call x.entry path → NominatedByPeer (x ∷ before) path
-    asked_now path (q, serving, uses, on) = subst (λ p. NominatedByPeer (x ∷ before) p) on (queued_asks q (f.serves q serving) uses)
+    asked_now path (q, serving, uses, on) = subst (λ p. NominatedByPeer (x ∷ before) p) on (queued_asks q (f.serves q serving) (taken-asks (numbers old) q uses))
 
     lite_before : NeverLite (x ∷ before) → old.lite ≡ false
     lite_before never_lite = h.lite_is never_lite.1
@@ -136,10 +139,12 @@ module _ {H P : Type 0} (mac : H → List ℕ → List ℕ → List ℕ) (answer
 
   -- a path that the peer nominates is nominated
   asking : (mid : AgentRecord H P) (call : Call P) (entry : Entry) (at : ℕ) (by : Path) (m : Message) → Brings call entry at by m → m.attributes.use_candidate ≡ true
-      → (q : RequestRecord) → IsServing mid call entry q → q.use_candidate ≡ true
-  asking mid (ReceivePacket now path bytes) entry at by m brings uses q (at2, by2, m2, brings2, request, known, is) =
-      ap (λ (y : RequestRecord). y.use_candidate) is ∙ (ap (λ (n : Message). n.attributes.use_candidate) (brings2.2.spelled ∙ sym brings.2.spelled) ∙ uses)
-  asking mid _ entry at by m brings uses q serving = absurd brings
+      → (m.attributes.nomination ≡ Some 0 → ⊥) → (q : RequestRecord) → IsServing mid call entry q → nominates mid q ≡ true
+  asking mid (ReceivePacket now path bytes) entry at by m brings uses numbered q (at2, by2, m2, brings2, request, known, is) =
+      let same : m2 ≡ m = brings2.2.spelled ∙ sym brings.2.spelled in
+      asks-taken (numbers mid) q (ap (λ (y : RequestRecord). y.use_candidate) is ∙ (ap (λ (n : Message). n.attributes.use_candidate) same ∙ uses))
+      (λ zero. numbered (sym (ap (λ (n : Message). n.attributes.nomination) same) ∙ (sym (ap (λ (y : RequestRecord). y.nomination) is) ∙ zero)))
+  asking mid _ entry at by m brings uses numbered q serving = absurd brings
 
   module _ (first : AgentRecord H P) (s : Stream) (is_fresh : IsFresh first) where
     pub holds : (log : List (Logged P)) (last : AgentRecord H P) (t : Stream) → Run mac answers first s log last t → Holds first.provider log last
@@ -219,11 +224,11 @@ module _ {H P : Type 0} (mac : H → List ℕ → List ℕ → List ℕ) (answer
           names-best after (last_selected (x ∷ before)) p has is
           (holds (x ∷ before) after point.following (run_to mac answers first s log before mid x after point)).named (effect.points nominates)
 
-      nominated : (at : ℕ) (by : Path) (m : Message) (issued : Issued) → Brings x.call x.entry at by m → m.attributes.use_candidate ≡ true
+      nominated : (at : ℕ) (by : Path) (m : Message) (issued : Issued) → Brings x.call x.entry at by m → m.attributes.use_candidate ≡ true → (m.attributes.nomination ≡ Some 0 → ⊥)
           → x.entry.emitted.issued ≡ Some issued → issued.class ≡ class.Success → after.controlling ≡ false → IsNominatedOn after issued.path
-      nominated at by m issued brings uses is success controlled =
+      nominated at by m issued brings uses numbered is success controlled =
           let k = effect.replied issued is success in
-          subst (λ (i : Issued). IsNominatedOn after i.path) (sym k.2) (k.3 (asking mid x.call x.entry at by m brings uses k.0 k.1) controlled)
+          subst (λ (i : Issued). IsNominatedOn after i.path) (sym k.2) (k.3 (asking mid x.call x.entry at by m brings uses numbered k.0 k.1) controlled)
 
   -- ---- the theorems
 
@@ -248,8 +253,8 @@ module _ {H P : Type 0} (mac : H → List ℕ → List ℕ → List ℕ) (answer
       (effect first s is_fresh log before mid after x point).taken at by m brings success
 
   pub asked_are_nominated : AskedAreNominated {H = H} mac answers
-  asked_are_nominated first s log is_fresh before mid after x point at by m issued brings uses is success controlled =
-      nominated first s is_fresh log before mid after x point at by m issued brings uses is success controlled
+  asked_are_nominated first s log is_fresh before mid after x point at by m issued brings uses numbered is success controlled =
+      nominated first s is_fresh log before mid after x point at by m issued brings uses numbered is success controlled
 
   pub replies_among : RepliesAreAmong {H = H} mac answers
   replies_among first last s t log is_fresh run =

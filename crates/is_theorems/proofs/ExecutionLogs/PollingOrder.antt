@@ -1,5 +1,5 @@
 -- Events are appended, in the order in which they happen.
-use Rattle.std.proofs.Common.{◌≡◌, ℕ, ◌==◌, Bool, true, false, List, [], ◌∷◌, ◌++◌, length, Option, Some, None, Result, Ok, Err, inl, inr, refl, ap, sym, ◌∙◌, subst, append_assoc, if◌then◌else◌}
+use Rattle.std.proofs.Common.{◌≡◌, ℕ, ◌==◌, Bool, true, false, List, [], ◌∷◌, ◌++◌, length, Option, Some, None, Result, Ok, Err, inl, inr, refl, ap, sym, ◌∙◌, subst, append_assoc, if◌then◌else◌, not}
 use Rattle.std.specs.Prelude.{MatchBool, MatchOption, ◌&&◌}
 use Rattle.std.specs.List.{list_any}
 use Rattle.std.proofs.lemmas.List.{append-nil}
@@ -28,7 +28,7 @@ use Rattle.is_rules.specs.Places.{local_place}
 use Rattle.is_rules.specs.Agent.{AgentRecord}
 use Rattle.is_pair.specs.Multiset.{is_valid_at}
 use Rattle.is_rules.specs.Forming.{Combination, FormsAll, formed, with_pair}
-use Rattle.is_rules.specs.Roles.{conflict_of, switched}
+use Rattle.is_rules.specs.Roles.{conflict_of, switched, keeps_role}
 use Rattle.is_rules.specs.Settings.{with_retransmits, with_rtos, numbers_skipped}
 use Rattle.is_rules.specs.Discarding.{InvalidatesAt, place_to_discard, local_discarded}
 use Rattle.is_rules.specs.Local.{AddsLocal, appended, enabled_again}
@@ -45,7 +45,7 @@ use Rattle.is_rules.specs.Timeouts.{at_request, timeout_begun, start_emitted, at
 use Rattle.is_rules.specs.Steps.{Call, SetMtu, SetControlTieBreaker, SetMaxCandidatePairs, SetMaxDiscovered, SetIceLite, SetRenomination, SetRules, SetTimingAdvance, SetInitialStunRto, SetMaxStunRto, SetMaxStunRetransmits, SetLiteTimeout, SetLocalPreference, SetControlling, SetLocalCredentials, SetRemoteCredentials, SkipPairIds, AddLocalCandidate, AddRemoteCandidate, InvalidateCandidate, RestartIce, RecreateCandidatePairs, ReceivePacket, HandleTimeout, PollTransmit, PollTimeout, PollEvent, Done, NotCalled, Entry, quiet, Becomes, Receives, Step}
 use Rattle.is_theorems.specs.Reporting.{Extends, Begins, Reports, QueuesTheorem}
 use Rattle.is_theorems.proofs.RuleEffects.UnchangedSettings.{either}
-use Rattle.is_theorems.proofs.CallEffects.FailedCallsAndNewAgents.{mtu_kept, local_kept, remote_kept, restart_kept, recreation_kept, enrolment_kept, storing_kept}
+use Rattle.is_theorems.proofs.CallEffects.FailedCallsAndNewAgents.{mtu_kept, controlling_kept, local_kept, remote_kept, restart_kept, recreation_kept, enrolment_kept, storing_kept}
 use Rattle.is_theorems.proofs.CallEffects.SettingsRoleAndQueues.{FrameEffect, framed}
 use Rattle.is_theorems.proofs.CallEffects.AddedCandidates.{by_adding_local, by_adding_remote, by_waking}
 
@@ -158,7 +158,7 @@ module _ {H P : Type 0} where
   failure_grows : (old new : AgentRecord H P) (via : Path) (m : Message) (emitted : Emitted) → TakesFailure old via m emitted new → Grows old new
   failure_grows old new via m emitted h = either (is_role_conflict m) h (λ _ k. gives k) (λ _ k. drops_grows old new emitted k) where
     gives : LeavesRole old via m emitted new → Grows old new
-    gives (p, c, has, on, keeps, id_is, h) = either (same c.controlling old.controlling) h
+    gives (p, c, has, on, keeps, id_is, h) = either (same c.controlling old.controlling && not (keeps_role old)) h
         (λ _ k. drops_grows (switched old) new emitted k) (λ _ k. drops_grows old new emitted k)
 
   taken_grows : (mac : H → List ℕ → List ℕ → List ℕ) (c : Class) (now : ℕ) (old new : AgentRecord H P) (via : Path) (m : Message) (emitted : Emitted)
@@ -278,7 +278,8 @@ module _ {H P : Type 0} where
     reports (SetMaxStunRetransmits n) h = retransmits (n == 0) n h
     reports (SetLiteTimeout by) h = becomes _ refl h
     reports (SetLocalPreference object) h = becomes _ refl h
-    reports (SetControlling controlling) h = becomes _ refl h
+    reports (SetControlling controlling) (Ok _, is, h, drawn) = same_events old new (ap (λ (a : AgentRecord H P). a.events) h.1)
+    reports (SetControlling controlling) (Err error, is, h, drawn) = stays old new (controlling_kept old new controlling error h)
     reports (SetLocalCredentials creds) (Ok _, is, h, drawn) = same_events old new (ap (λ (a : AgentRecord H P). a.events) h.1)
     reports (SetLocalCredentials creds) (Err error, is, h, drawn) = stays old new (local_kept old new creds error h)
     reports (SetRemoteCredentials creds) (Ok _, is, h, drawn) = same_events old new (ap (λ (a : AgentRecord H P). a.events) h.1)

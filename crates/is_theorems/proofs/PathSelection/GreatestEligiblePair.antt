@@ -1,6 +1,6 @@
 -- After nomination the selected pair exists, and is a greatest one among the eligible.
 use Rattle.std.proofs.Common.{◌≡◌, ℕ, ◌≤◌, ◌==◌, ◌&&◌, ◌||◌, Bool, true, false, not, List, [], ◌∷◌, map, Option, Some, None, inl, inr, refl, ap, sym, ◌∙◌, subst, arith, cond, if◌then◌else◌}
-use Rattle.std.specs.Prelude.{find, MatchOption}
+use Rattle.std.specs.Prelude.{find, MatchOption, option_map}
 use Rattle.std.specs.Option.{option_map_or, option_and_then, option_or}
 use Rattle.std.proofs.lemmas.Bool.{eqb-true, eq-eqb}
 use Rattle.is_proto.specs.Lists.{Has}
@@ -9,9 +9,10 @@ use Rattle.is_rules.specs.declared.emitted.Path.{Path}
 use Rattle.is_rules.specs.Agent.{AgentRecord}
 use Rattle.is_pair.specs.Multiset.{is_numbered, change_at, change_pair, IsGreatest}
 use Rattle.is_rules.proofs.PairLists.RisingNumbers.{AreRising}
-use Rattle.is_rules.specs.Nominating.{is_eligible, nominated_by_self, persists_at, Nominates, followed, remains, selection, selection_of, if_eligible, eligible_numbered, IsChosen}
+use Rattle.is_rules.specs.Nominating.{is_eligible, nominated_by_self, persists_at, Nominates, favored, first_numbered, followed, followed_by_number, numbers, remains, selection, selection_of, if_eligible, eligible_numbered, IsChosen}
 use Rattle.is_rules.specs.Points.{IsTopSelected}
-use Rattle.is_rules.proofs.PairLists.ChosenPair.{chosen-able, no-some}
+use Rattle.is_rules.proofs.PairLists.ChosenPair.{chosen-able, no-some, same-some}
+use Rattle.is_theorems.proofs.PathSelection.FirstNumbered.{first-in, first-stays, first-there}
 use Rattle.is_theorems.proofs.RuleEffects.UnchangedSettings.{either}
 use Rattle.is_theorems.proofs.RuleEffects.ChangedPairs.{Has-map}
 use Rattle.is_theorems.proofs.RuleEffects.SelectedPaths.{one_pair}
@@ -29,6 +30,13 @@ controlled : (on c : Bool) (last : Option ℕ) (n : ℕ) → (if on && not c the
 controlled true false last n h = refl
 controlled true true last n h = absurd (no-some n h)
 controlled false c last n h = absurd (no-some n h)
+
+-- which pair is followed, by the first one in the order of numbers
+pub followed-on : (on by_number : Bool) (first second last o : Option ℕ) → (first ≡ o → second ≡ o) → (if on then (if by_number then first else last) else None) ≡ o
+    → (if on then (if by_number then second else last) else None) ≡ o
+followed-on true true first second last o f is = f is
+followed-on true false first second last o f is = is
+followed-on false b first second last o f is = is
 
 same_pairs : (n : ℕ) (g : PairRecord → PairRecord) (ps : List PairRecord) → ((q : PairRecord) → Has ps q → is_numbered n q ≡ true → g q ≡ q)
     → map (change_at n g) ps ≡ ps
@@ -118,13 +126,22 @@ module _ {H P : Type 0} where
     it_persists = ap (λ (o : Option PairRecord). option_map_or (λ (p : PairRecord). p.priority == (g top).priority) o false)
         (found old.pairs top g rising has (same_pair old.controlling old.lite top).0) ∙ eq-eqb (g top).priority (g top).priority refl
 
+    -- an agent that goes by numbers follows some pair, if one is eligible
+    follows_none : followed old ≡ None → followed (selected_paths top old) ≡ None
+    follows_none is = followed-on (old.renominates && not old.controlling) (numbers old && old.numbers_seen) (followed_by_number old) (followed_by_number (selected_paths top old)) old.last_nominated None
+        (λ none. absurd (some_first (first_numbered old.controlling old.selected_pair old.pairs) refl none)) is where
+          some_first : (o : Option PairRecord) → first_numbered old.controlling old.selected_pair old.pairs ≡ o → option_map (λ (p : PairRecord). p.number) o ≡ None → ⊥
+          some_first None is none = first-there old.controlling old.selected_pair old.pairs is top has eligible
+          some_first (Some q) is none = no-some q.number (sym none)
+
     selects_top : followed old ≡ None → IsTopSelected (selected_paths top old)
-    selects_top is = (
-      Some (g top),
-      subst (λ f. IsChosen old.controlling f (selection_of (selected_paths top old)) (Some (g top))) (sym is)
-          (it_has, still_eligible old.controlling old.lite (is_nominated top) (is_valid top) top refl refl eligible, it_greatest),
-      subst (λ f. remains f (g top) (selection_of (selected_paths top old)) ≡ true) (sym is) it_persists,
-    )
+    selects_top is =
+        let none : followed (selected_paths top old) ≡ None = follows_none is in (
+          Some (g top),
+          subst (λ f. IsChosen old.controlling f (selection_of (selected_paths top old)) (Some (g top))) (sym none)
+              (it_has, still_eligible old.controlling old.lite (is_nominated top) (is_valid top) top refl refl eligible, it_greatest),
+          subst (λ f. remains f (g top) (selection_of (selected_paths top old)) ≡ true) (sym none) it_persists,
+        )
 
   -- an agent that follows its peer does not nominate, so the pairs stay as they were
   module _ (old : AgentRecord H P) (top : PairRecord) (rising : AreRising old.pairs) (chosen : IsChosen old.controlling (followed old) (selection_of old) (Some top))
@@ -137,7 +154,7 @@ module _ {H P : Type 0} where
 
     was_nominated : is_nominated top ≡ true
     was_nominated = and_right (is_valid top) (is_nominated top)
-        (subst (λ c. (is_valid top && (c || is_nominated top)) ≡ true) (controlled old.renominates old.controlling old.last_nominated n follows) able.1)
+        (subst (λ c. (is_valid top && (c || is_nominated top)) ≡ true) (controlled old.renominates old.controlling (if numbers old && old.numbers_seen then followed_by_number old else old.last_nominated) n follows) able.1)
 
     as_it_was : by_self top ≡ top
     as_it_was = ap (λ b. if not b && (old.controlling || old.lite) then nominated old.lite top else top) was_nominated
@@ -147,10 +164,13 @@ module _ {H P : Type 0} where
         let same : q ≡ top = one_pair old.pairs q top rising there able.0 (eqb-true q.number top.number is) in
         subst (λ (x : PairRecord). by_self x ≡ x) (sym same) as_it_was))
 
+    able_found : (p : PairRecord) → Has old.pairs p → is_eligible old.controlling p ≡ true → eligible_numbered old.controlling old.pairs p.number ≡ Some p
+    able_found p has is = ap (λ (ps : List PairRecord). eligible_numbered old.controlling ps p.number) (sym (same_pairs p.number (λ q. q) old.pairs (λ q _ _. refl)))
+        ∙ ap (λ (o : Option PairRecord). option_and_then (if_eligible old.controlling) o) (found old.pairs p (λ q. q) rising has refl)
+        ∙ ap (λ b. if b then Some p else None) is
+
     own_found : eligible_numbered old.controlling old.pairs top.number ≡ Some top
-    own_found = ap (λ (ps : List PairRecord). eligible_numbered old.controlling ps top.number) (sym (same_pairs top.number (λ q. q) old.pairs (λ q _ _. refl)))
-        ∙ ap (λ (o : Option PairRecord). option_and_then (if_eligible old.controlling) o) (found old.pairs top (λ q. q) rising able.0 refl)
-        ∙ ap (λ b. if b then Some top else None) able.1
+    own_found = able_found top able.0 able.1
 
     still_chosen : IsChosen old.controlling (Some n) (selection old.pairs (Some top.number)) (Some top)
     still_chosen = by (eligible_numbered old.controlling old.pairs n) refl where
@@ -170,12 +190,37 @@ module _ {H P : Type 0} where
           (IsGreatest (is_eligible old.controlling) old.pairs (Some top)) (λ p. Some top ≡ Some p)) (sym is)
           (subst (λ o. MatchOption o (IsGreatest (is_eligible old.controlling) old.pairs (Some top)) (λ p. Some top ≡ Some p)) (sym own_found) refl)
 
+    -- the first pair by numbers is the chosen one, and stays first
+    first_follows : followed_by_number old ≡ Some n → followed_by_number (selected_paths top old) ≡ Some n
+    first_follows is = by (first_numbered old.controlling old.selected_pair old.pairs) refl is where
+      by : (o : Option PairRecord) → first_numbered old.controlling old.selected_pair old.pairs ≡ o → option_map (λ (p : PairRecord). p.number) o ≡ Some n
+          → followed_by_number (selected_paths top old) ≡ Some n
+      by None first is = absurd (no-some n is)
+      by (Some q) first is =
+          let k = first-in old.controlling old.selected_pair old.pairs q first in
+          let found_it : eligible_numbered old.controlling old.pairs n ≡ Some q =
+          subst (λ m. eligible_numbered old.controlling old.pairs m ≡ Some q) (same-some q.number n is) (able_found q k.0 k.1) in
+          let favored_is : favored old.controlling (Some n) (selection_of old) ≡ Some q =
+          ap (λ (o : Option PairRecord). option_or o (option_and_then (eligible_numbered old.controlling old.pairs) old.selected_pair)) found_it in
+          let top_is : Some top ≡ Some q =
+          subst (λ (o : Option PairRecord). MatchOption o (IsGreatest (is_eligible old.controlling) old.pairs (Some top)) (λ p. Some top ≡ Some p)) favored_is
+          (subst (λ f. IsChosen old.controlling f (selection_of old) (Some top)) follows chosen) in
+          let same : q ≡ top = same-some q top (sym top_is) in
+          let stays : first_numbered old.controlling (Some top.number) old.pairs ≡ Some top =
+          subst (λ (p : PairRecord). first_numbered old.controlling (Some p.number) old.pairs ≡ Some p) same (first-stays old.controlling old.selected_pair old.pairs q rising first) in
+          ap (λ (ps : List PairRecord). option_map (λ (p : PairRecord). p.number) (first_numbered old.controlling (Some top.number) ps)) pairs_same
+          ∙ (ap (λ (o : Option PairRecord). option_map (λ (p : PairRecord). p.number) o) (stays ∙ ap Some (sym same)) ∙ is)
+
+    still_follows : followed (selected_paths top old) ≡ Some n
+    still_follows = followed-on (old.renominates && not old.controlling) (numbers old && old.numbers_seen) (followed_by_number old) (followed_by_number (selected_paths top old)) old.last_nominated (Some n)
+        first_follows follows
+
     follows_top : IsTopSelected (selected_paths top old)
     follows_top = (
       Some top,
-      subst (λ (ps : List PairRecord). IsChosen old.controlling (followed old) (selection ps (Some top.number)) (Some top)) (sym pairs_same)
-          (subst (λ f. IsChosen old.controlling f (selection old.pairs (Some top.number)) (Some top)) (sym follows) still_chosen),
-      subst (λ f. remains f top (selection_of (selected_paths top old)) ≡ true) (sym follows) (eq-eqb top.number top.number refl),
+      subst (λ f. IsChosen old.controlling f (selection_of (selected_paths top old)) (Some top)) (sym still_follows)
+          (subst (λ (ps : List PairRecord). IsChosen old.controlling (Some n) (selection ps (Some top.number)) (Some top)) (sym pairs_same) still_chosen),
+      subst (λ f. remains f top (selection_of (selected_paths top old)) ≡ true) (sym still_follows) (eq-eqb top.number top.number refl),
     )
 
   -- after nomination a greatest pair is selected, if any is eligible

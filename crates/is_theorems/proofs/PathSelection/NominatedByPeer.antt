@@ -17,7 +17,7 @@ use Rattle.is_rules.specs.Brought.{IsServing, IsNominatedOn}
 use Rattle.is_rules.specs.Effects.{PathEffect}
 use Rattle.is_theorems.specs.Logs.{Logged}
 use Rattle.is_rules.specs.Queue.{request_at}
-use Rattle.is_rules.specs.Request.{RequestRecord}
+use Rattle.is_rules.specs.Request.{RequestRecord, request_in}
 use Rattle.is_theorems.specs.Rounds.{RunsOn}
 use Rattle.is_theorems.specs.Runs.{IsFresh, Run, Point, IsTopPath}
 use Rattle.is_rules.specs.Sending.{path_of}
@@ -32,6 +32,7 @@ use Rattle.is_theorems.proofs.ExecutionLogs.LogTheorems.{runs_sound}
 use Rattle.is_theorems.proofs.ExecutionLogs.LogSegments.{run-on}
 use Rattle.is_theorems.proofs.StoredPairs.PairsThatStay.{pairs-stay}
 use Rattle.is_theorems.proofs.RuleEffects.SelectedPaths.{some_is}
+use Rattle.is_rules.specs.Serving.{nominates}
 
 -- a packet on the reverse path goes between the addresses of the path
 pub back-on : (by a b : Path) → goes_back by a ≡ true → goes_back by b ≡ true → (a.source ≡ b.source) × (a.destination ≡ b.destination)
@@ -42,12 +43,15 @@ back-on by a b on_a on_b =
 
 module _ {H P : Type 0} where
   -- a step serves one request
-  pub uses-too : (old : AgentRecord H P) (call : Call P) (e : Entry) (q r : RequestRecord) → IsServing old call e q → IsServing old call e r → q.use_candidate ≡ true → r.use_candidate ≡ true
-  uses-too old (HandleTimeout now) e q r (is_q, done_q) (is_r, done_r) uses = ap (λ (x : RequestRecord). x.use_candidate) (some_is r q (sym is_r ∙ is_q)) ∙ uses
-  uses-too old (ReceivePacket now path bytes) e q r (at, by, m, brings, request, known, is) (at2, by2, n, brings2, request2, known2, is2) uses =
-      ap (λ (x : RequestRecord). x.use_candidate) is2
-      ∙ (ap (λ (x : Message). x.attributes.use_candidate) (brings2.2.spelled ∙ sym brings.2.spelled) ∙ (sym (ap (λ (x : RequestRecord). x.use_candidate) is) ∙ uses))
-  uses-too old _ e q r serving_q serving_r uses = absurd serving_q.3
+  pub one-served : (old : AgentRecord H P) (call : Call P) (e : Entry) (q r : RequestRecord) → IsServing old call e q → IsServing old call e r → r ≡ q
+  one-served old (HandleTimeout now) e q r (is_q, done_q) (is_r, done_r) = some_is r q (sym is_r ∙ is_q)
+  one-served old (ReceivePacket now path bytes) e q r (at, by, m, brings, request, known, is) (at2, by2, n, brings2, request2, known2, is2) =
+      is2 ∙ (ap (λ t. request_in t by2 n) (sym brings2.0 ∙ brings.0) ∙ (ap (λ w. request_in at w n) (sym brings2.1 ∙ brings.1)
+      ∙ (ap (λ x. request_in at by x) (brings2.2.spelled ∙ sym brings.2.spelled) ∙ sym is)))
+  one-served old _ e q r serving_q serving_r = absurd serving_q.3
+
+  pub uses-too : (old : AgentRecord H P) (call : Call P) (e : Entry) (q r : RequestRecord) → IsServing old call e q → IsServing old call e r → nominates old q ≡ true → nominates old r ≡ true
+  uses-too old call e q r serving_q serving_r uses = ap (λ x. nominates old x) (one-served old call e q r serving_q serving_r) ∙ uses
 
   module _ (mac : H → List ℕ → List ℕ → List ℕ) (answers : P → CandidateRecord → ℕ → ℕ → Type 0) where
     pub nominated-on : (old new : AgentRecord H P) (x : Logged P) (path : Path) → PathEffect mac old x.call x.entry new → IsAskedOn old x new path → IsNominatedOn new path

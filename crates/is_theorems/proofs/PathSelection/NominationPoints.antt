@@ -13,7 +13,7 @@ use Rattle.is_pair.specs.declared.pair.states.CheckState.{CheckState}
 use Rattle.is_pair.specs.declared.pair.states.CheckState.TheVariants.{Waiting, InProgress, Succeeded}
 use Rattle.is_pair.specs.States.{is_valid_state, state_once_sent, state_once_answered}
 use Rattle.is_pair.specs.Checks.{Check, has_id, answered_at}
-use Rattle.is_pair.specs.Pairs.{PairRecord, is_valid, is_nominated, checked, heard, heard_at}
+use Rattle.is_pair.specs.Pairs.{PairRecord, is_valid, is_nominated, checked, heard, heard_at, renominated}
 use Rattle.is_pair.specs.Due.{asked}
 use Rattle.is_stun.specs.declared.header.Class.TheVariants as class
 use Rattle.is_stun.specs.declared.timing.StunTiming.{StunTiming}
@@ -29,7 +29,7 @@ use Rattle.is_rules.specs.Steps.{answer_by, done, Done, Flag, Unparsed, Rejected
 use Rattle.is_rules.specs.Agent.{AgentRecord}
 use Rattle.is_pair.specs.Multiset.{is_numbered, change_at, pair_numbered, IsGreatest, keeps_check}
 use Rattle.is_rules.specs.Sending.{path_of}
-use Rattle.is_rules.specs.Nominating.{is_eligible, nominated_by_self, Nominates, followed, remains, selection, selection_of, favored, if_eligible, eligible_numbered, IsChosen}
+use Rattle.is_rules.specs.Nominating.{is_eligible, nominated_by_self, Nominates, followed, followed_by_number, nominates_at_once, numbers, remains, selection, selection_of, favored, if_eligible, eligible_numbered, IsChosen}
 use Rattle.is_rules.specs.Queue.{request_at}
 use Rattle.is_rules.specs.Answers.{goes_back, keeps_check_on, TakesSuccess}
 use Rattle.is_rules.specs.Accepting.{Takes}
@@ -43,9 +43,11 @@ use Rattle.is_theorems.proofs.RuleEffects.UnchangedSettings.{either}
 use Rattle.is_theorems.proofs.RuleEffects.SelectedPaths.{one_pair, some_is}
 use Rattle.is_theorems.proofs.RuleEffects.EarlierAndNewPairs.{Fit, thinned}
 use Rattle.is_theorems.proofs.RuleEffects.ChangedPairs.{Kept_by_self, self_kept, Has-map, parts_of, nominates}
-use Rattle.is_theorems.proofs.CallEffects.ChecksAndResponses.{Has-get, sent_nominated, records, put_at}
+use Rattle.is_theorems.proofs.CallEffects.ChecksAndResponses.{Has-get, again_nominated, sent_nominated, records, put_at}
 use Rattle.is_theorems.proofs.CallEffects.ServedRequests.{Has-mapped}
-use Rattle.is_theorems.proofs.PathSelection.GreatestEligiblePair.{nominates_top}
+use Rattle.is_theorems.proofs.PathSelection.FirstNumbered.{SameOrder, number-mapped}
+use Rattle.is_theorems.proofs.PathSelection.GreatestEligiblePair.{followed-on, nominates_top}
+use Rattle.is_theorems.proofs.BasicLemmas.PairsInTurn.{by-begins, sent_at, sent-pairs}
 use Rattle.is_rules.proofs.PairLists.ChosenPair.{none_pass}
 use Rattle.is_theorems.proofs.RuleEffects.NominatedPairs.{SelectsPath, selects_path}
 
@@ -70,11 +72,15 @@ any_set test (x ∷ xs) (suc i) c d is same = ap (λ b. test x || b) (any_set te
 pub record Alike (c : Bool) (p q : PairRecord) : Type 0 where
   pub number : q.number ≡ p.number
   pub priority : q.priority ≡ p.priority
+  pub greatest : q.greatest_number ≡ p.greatest_number
   pub eligible : is_eligible c q ≡ is_eligible c p
 
 pub alike_if : (b c : Bool) (p q : PairRecord) → Alike c p q → Alike c p (if b then q else p)
 alike_if true c p q h = h
-alike_if false c p q h = record { number = refl; priority = refl; eligible = refl }
+alike_if false c p q h = record { number = refl; priority = refl; greatest = refl; eligible = refl }
+
+pub alike-order : (c : Bool) (p q : PairRecord) → Alike c p q → SameOrder c p q
+alike-order c p q a = record { number = a.number; priority = a.priority; greatest = a.greatest; eligible = a.eligible }
 
 find_by : (n : ℕ) (f : PairRecord → PairRecord) (x : PairRecord) (b d : Bool) (o r : Option PairRecord) (g : PairRecord → Bool) → b ≡ d → option_map_or (λ p. g (f p)) o false ≡ option_map_or g r false
     → option_map_or (λ p. g (f p)) (cond b (Some x) o) false ≡ option_map_or g (cond d (Some (f x)) r) false
@@ -196,17 +202,21 @@ pub checked_alike : (c : Bool) (now : ℕ) (t : StunTiming) (role : Bool) (id : 
 checked_alike c now t role id p = record {
   number = refl;
   priority = refl;
+  greatest = refl;
   eligible = ap (λ b. b && (c || is_nominated (checked now t role id p))) (sent_alike p.state) ∙ ap (λ b. is_valid p && (c || b)) (sent_nominated p.nomination);
 }
 
 pub heard_alike : (c : Bool) (now : ℕ) (o : Option ℕ) (p : PairRecord) → Alike c p (heard_at now o p)
-heard_alike c now None p = record { number = refl; priority = refl; eligible = refl }
-heard_alike c now (Some at) p = record { number = refl; priority = refl; eligible = refl }
+heard_alike c now None p = record { number = refl; priority = refl; greatest = refl; eligible = refl }
+heard_alike c now (Some at) p = record { number = refl; priority = refl; greatest = refl; eligible = refl }
 
 valid_once_answered : (s : CheckState) → is_started_state s ≡ true → is_valid_state (state_once_answered s) ≡ true
 valid_once_answered Waiting h = let no : false ≡ true = h in cc
 valid_once_answered InProgress h = refl
 valid_once_answered Succeeded h = refl
+
+abbrev pub AllNumbers : Path → ℕ → Type 0
+AllNumbers path m = Unit {0}
 
 abbrev pub All1 : Path → Type 0
 All1 path = Unit {0}
@@ -218,25 +228,50 @@ kept_if_numbered : (b c l : Bool) (p : PairRecord) → Kept_by_self p (if b then
 kept_if_numbered true c l p = self_kept (not (is_nominated p) && (c || l)) l p
 kept_if_numbered false c l p = self_kept false l p
 
+-- also if its nomination begins again
+pub sent-alike : (begins c : Bool) (now : ℕ) (t : StunTiming) (role : Bool) (id : List ℕ) (p : PairRecord) → Alike c p (sent_at begins now t role id p)
+sent-alike begins c now t role id p = by-begins begins (λ q. Alike c p q) now t role id p again (checked_alike c now t role id p) where
+  again : Alike c p (checked now t role id (renominated p))
+  again = record {
+    number = refl;
+    priority = refl;
+    greatest = refl;
+    eligible = (checked_alike c now t role id (renominated p)).eligible ∙ ap (λ b. is_valid p && (c || b)) (again_nominated p.nomination);
+  }
+
 module _ {H P : Type 0} where
+  -- each pair changes so, and nothing else that nomination depends on
+  pub mapped-top : (old : AgentRecord H P) (f : PairRecord → PairRecord) → ((p : PairRecord) → Alike old.controlling p (f p))
+      → IsTopSelected old → IsTopSelected (record old { pairs = map f old.pairs })
+  mapped-top old f alike top =
+      let same : followed (record old { pairs = map f old.pairs }) ≡ followed old =
+      followed-on (old.renominates && not old.controlling) (numbers old && old.numbers_seen) (followed_by_number old) (followed_by_number (record old { pairs = map f old.pairs })) old.last_nominated (followed old)
+      (λ is. number-mapped old.controlling old.selected_pair f (λ p. alike-order old.controlling p (f p) (alike p)) old.pairs ∙ is) refl in
+      subst (λ o. TopIn old.controlling o (map f old.pairs) old.selected_pair) (sym same)
+      (top_mapped old.controlling (followed old) f old.pairs old.selected_pair alike top)
+
   checks_top : (mac : H → List ℕ → List ℕ → List ℕ) (now : ℕ) (remote : Option IceCreds) (old new : AgentRecord H P) (s t : Stream) (issued : Option Issued)
       → MayCheck mac now remote old s issued new t → IsTopSelected old → IsTopSelected new
   checks_top mac now None old new s t issued (is, made, drawn) top = subst (λ (a : AgentRecord H P). IsTopSelected a) (sym made) top
   checks_top mac now (Some remote) old new s t issued h top = either old.lite h
       (λ _ k. subst (λ (a : AgentRecord H P). IsTopSelected a) (sym k.1)
-      (top_mapped old.controlling (followed old) (heard now) old.pairs old.selected_pair (λ p. heard_alike old.controlling now p.last_request p) top))
+      (mapped-top old (heard now) (λ p. heard_alike old.controlling now p.last_request p) top))
       (λ _ k. next k.0 k.2) where
-        all_top : TopIn old.controlling (followed old) (map (asked now old.timing) old.pairs) old.selected_pair
-        all_top = top_mapped old.controlling (followed old) (asked now old.timing) old.pairs old.selected_pair (λ p. record { number = refl; priority = refl; eligible = refl }) top
+        all_top : IsTopSelected (all_asked now old)
+        all_top = mapped-top old (asked now old.timing) (λ p. record { number = refl; priority = refl; greatest = refl; eligible = refl }) top
 
         next : (due : Option PairRecord) → ChecksTop mac now remote due (all_asked now old) s issued new t → IsTopSelected new
         next None (is, made, drawn) = subst (λ (a : AgentRecord H P). IsTopSelected a) (sym made) all_top
-        next (Some p) (id, drawn, values, is, made) = subst (λ (a : AgentRecord H P). IsTopSelected a) (sym made)
-            (top_mapped old.controlling (followed old) (change_at p.number (checked now old.timing old.controlling id)) (map (asked now old.timing) old.pairs) old.selected_pair
-            (λ q. alike_if (is_numbered p.number q) old.controlling q (checked now old.timing old.controlling id q) (checked_alike old.controlling now old.timing old.controlling id q)) all_top)
+        next (Some p) (id, drawn, values, is, made) =
+            let begins : Bool = nominates_at_once (all_asked now old) in
+            let change : PairRecord → PairRecord = sent_at begins now old.timing old.controlling id in
+            subst (λ (a : AgentRecord H P). IsTopSelected a) (sym made)
+            (subst (λ (ps : List PairRecord). IsTopSelected (record (all_asked now old) { pairs = ps })) (sym (sent-pairs begins p.number now old.timing old.controlling id (map (asked now old.timing) old.pairs)))
+            (mapped-top (all_asked now old) (change_at p.number change)
+            (λ q. alike_if (is_numbered p.number q) old.controlling q (change q) (sent-alike begins old.controlling now old.timing old.controlling id q)) all_top))
 
   abbrev pub FitOf : AgentRecord H P → Type 0
-  FitOf a = Fit (parts_of All1 All1 All3 a)
+  FitOf a = Fit (parts_of AllNumbers All1 All3 a)
 
   pub fit_of : (a : AgentRecord H P) → IsSound a → FitOf a
   fit_of a sound = record {
@@ -250,15 +285,15 @@ module _ {H P : Type 0} where
   removes_expired_top : (now : ℕ) (old new : AgentRecord H P) (path : Option Path) → FitOf old → RemovesExpired now old path new → IsTopSelected old → IsTopSelected new
   removes_expired_top now old new path fit h top = either (list_any (is_expired now old) old.pairs) h
       (λ _ k. (
-      let left = thinned All1 All1 All3 (parts_of All1 All1 All3 old) (λ p. not (is_expired now old p)) fit in
+      let left = thinned AllNumbers All1 All3 (parts_of AllNumbers All1 All3 old) (λ p. not (is_expired now old p)) fit in
       let mid : IsTopSelected k.0 = nominates_top (expired_gone now old) k.0 path left.fit.rising k.1 in
       subst (λ (a : AgentRecord H P). IsTopSelected a) (sym k.2) mid))
       (λ _ k. subst (λ (a : AgentRecord H P). IsTopSelected a) (sym k.1) top)
 
-  maintains_pairs_top : (mac : H → List ℕ → List ℕ → List ℕ) (now : ℕ) (old new : AgentRecord H P) (s t : Stream) (emitted : Emitted) → FitOf old → MaintainsPairs mac now old s emitted new t → IsTopSelected new
+  pub maintains_pairs_top : (mac : H → List ℕ → List ℕ → List ℕ) (now : ℕ) (old new : AgentRecord H P) (s t : Stream) (emitted : Emitted) → FitOf old → MaintainsPairs mac now old s emitted new t → IsTopSelected new
   maintains_pairs_top mac now old new s t emitted fit (first, second, issued, named, kept, nominating, giving, checking, is) =
       let a = nominates_top (at_timeout now old) named first fit.rising nominating in
-      let named_fit = (nominates All1 All1 All3 (at_timeout now old) named first (λ _ _. tt) fit nominating).0.fit in
+      let named_fit = (nominates AllNumbers All1 All3 (at_timeout now old) named first (λ _ _ _. tt) fit nominating).0.fit in
       let b = removes_expired_top now named kept second named_fit giving a in
       checks_top mac now kept.remote_creds kept new s t issued checking b
 
@@ -297,7 +332,7 @@ module _ {H P : Type 0} where
   taken_by : (now : ℕ) (old new : AgentRecord H P) (via : Path) (m : Message) (emitted : Emitted) → IsSound old → FitOf old → TakesSuccess now old via m emitted new
       → (p : PairRecord) × Has new.pairs p × (keeps_check_on new via m.id p ≡ true) × (is_valid p ≡ true)
   taken_by now old new via m emitted sound fit (recorded, (i, p, after, found, on, (place, c, at, is), made), (path, mid, nominating, is_emitted, done)) =
-      let o = records All1 All1 All3 now old recorded via m fit (λ q d has_q on_q keeps same. tt) (i, p, after, found, on, (place, c, at, is), made) in
+      let o = records AllNumbers All1 All3 now old recorded via m fit (λ q d has_q on_q keeps same. tt) (i, p, after, found, on, (place, c, at, is), made) in
       let has : Has old.pairs p = Has-get old.pairs i p found in
       let number : after.number ≡ p.number = ap (λ (q : PairRecord). q.number) is in
       let put : PairRecord → PairRecord = change_at after.number (λ _. after) in
@@ -322,9 +357,9 @@ module _ {H P : Type 0} where
       subst (λ (a : AgentRecord H P). (p : PairRecord) × Has a.pairs p × (keeps_check_on a via m.id p ≡ true) × (is_valid p ≡ true)) (sym done)
       (still.now, still.there, on_mid, still.valid ∙ valid)
 
-  success_top : (now : ℕ) (old new : AgentRecord H P) (via : Path) (m : Message) (emitted : Emitted) → FitOf old → TakesSuccess now old via m emitted new → IsTopSelected new
+  pub success_top : (now : ℕ) (old new : AgentRecord H P) (via : Path) (m : Message) (emitted : Emitted) → FitOf old → TakesSuccess now old via m emitted new → IsTopSelected new
   success_top now old new via m emitted fit (recorded, records_it, (path, mid, nominating, is_emitted, done)) =
-      let o = records All1 All1 All3 now old recorded via m fit (λ q d has_q on_q keeps same. tt) records_it in
+      let o = records AllNumbers All1 All3 now old recorded via m fit (λ q d has_q on_q keeps same. tt) records_it in
       let top : IsTopSelected mid = nominates_top recorded mid path o.fit.rising nominating in
       subst (λ (a : AgentRecord H P). IsTopSelected a) (sym done) top
 

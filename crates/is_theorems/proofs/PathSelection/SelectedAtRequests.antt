@@ -52,7 +52,7 @@ use Rattle.is_theorems.proofs.CallEffects.ServedRequests.{Has-last, Has-mapped, 
 use Rattle.is_theorems.proofs.ExecutionLogs.LogTheorems.{holds}
 use Rattle.is_theorems.proofs.PathSelection.GreatestEligiblePair.{nominates_top}
 use Rattle.is_theorems.proofs.PathSelection.NominatedByPeer.{nominated-on}
-use Rattle.is_theorems.proofs.PathSelection.NominationPoints.{All1, All3, FitOf, fit_of, Still, nominates_still, stays_still}
+use Rattle.is_theorems.proofs.PathSelection.NominationPoints.{All1, All3, AllNumbers, FitOf, fit_of, Still, nominates_still, stays_still}
 use Rattle.is_theorems.proofs.PathSelection.SelectedAfterResponse.{nominated-eligible}
 use Rattle.is_theorems.proofs.PathSelection.SelectedPairIsNominated.{names-best}
 use Rattle.is_theorems.proofs.RuleEffects.ChangedPairs.{Changed, one_changed, parts_of}
@@ -91,12 +91,12 @@ module _ {H P : Type 0} where
         → ((p : PairRecord) × Has s.pairs p × (p.local ≡ l) × (p.remote ≡ r) × (p.number ≡ number))
         → RecordsAndResponds mac q l r number s emitted new → Selects emitted new
     records_top l r number s new emitted state (p, has, at_l, at_r, numbers) (path, mid, nominating, (values, is, made)) out were =
-        let x : Parts = parts_of All1 All1 All3 s in
+        let x : Parts = parts_of AllNumbers All1 All3 s in
         let y : AgentRecord H P = pair_served q number s in
         let b : Bool = selects_at_requests s && is_valid_at number s.pairs in
-        let changes : (p : PairRecord) → Changed All1 All1 All3 (path_in x p) p (after_request q s p) =
-        λ p. request_changes All1 All1 All3 (path_in x p) q s p (λ _. tt) (λ _ _. tt) in
-        let rising = (one_changed All1 All1 All3 x number (after_request q s) state.fit (λ p has_p same. changes p)).fit.rising in
+        let changes : (p : PairRecord) → Changed AllNumbers All1 All3 (path_in x p) p (after_request q s p) =
+        λ p. request_changes AllNumbers All1 All3 (path_in x p) q s p (λ _. tt) (λ _ _ _ _. tt) in
+        let rising = (one_changed AllNumbers All1 All3 x number (after_request q s) state.fit (λ p has_p same. changes p)).fit.rising in
         let v : PairRecord = after_request q s p in
         let g : PairRecord → PairRecord = change_at number (after_request q s) in
         let is_served : g p ≡ v = ap (λ b. if b then v else p) (eq-eqb p.number number numbers) in
@@ -124,9 +124,9 @@ module _ {H P : Type 0} where
     takes_top l r None s new emitted in_local in_remote state none h = either (candidate_at s.local l).discarded h
         (λ _ k. drops_top s new emitted k)
         (λ _ k. (
-        let x : Parts = parts_of All1 All1 All3 s in
+        let x : Parts = parts_of AllNumbers All1 All3 s in
         let p : PairRecord = formed s l r in
-        let joins = pushed All1 All1 All3 x x.pairs p state.fit (λ _ has. has) state.fit.rising refl (in_local, in_remote) refl (λ (is : false ≡ true). cc) (λ _. inr tt) (λ _. inr tt) in
+        let joins = pushed AllNumbers All1 All3 x x.pairs p state.fit (λ _ has. has) state.fit.rising refl (in_local, in_remote) refl (λ (is : false ≡ true). cc) (λ _. inr tt) (λ _. inr tt) (λ _ _ _. inr tt) in
         records_top l r s.next_number (with_pair p s) new emitted (record {
           fit = joins.fit;
           at_once = state.at_once;
@@ -143,14 +143,14 @@ module _ {H P : Type 0} where
     joins_top l (Vacant r) s new emitted in_local state remote (number, between, h) =
         let c : CandidateRecord = sender_candidate s q in
         let v = vacant-at s.max_discovered s.remote s.pairs q r remote in
-        let joins = remote_puts All1 All1 All3 (parts_of All1 All1 All3 s) r c state.fit v.1 in
+        let joins = remote_puts AllNumbers All1 All3 (parts_of AllNumbers All1 All3 s) r c state.fit v.1 in
         takes_top l r number (with_sender_at r q s) new emitted in_local (subst (λ n. r < n) (sym (length-put s.remote r c)) v.0)
         (record { fit = joins.fit; at_once = state.at_once; keeps = state.keeps }) between h
     joins_top l Unknown s new emitted in_local state remote (number, between, h) =
         let c : CandidateRecord = sender_candidate s q in
         let r : ℕ = length s.remote in
         let longer : length (s.remote ++ c ∷ []) ≡ r + 1 = length-append s.remote (c ∷ []) in
-        let joins = remote_joins All1 All1 All3 (parts_of All1 All1 All3 s) c state.fit in
+        let joins = remote_joins AllNumbers All1 All3 (parts_of AllNumbers All1 All3 s) c state.fit in
         takes_top l r number (with_sender q s) new emitted in_local (omega (arith, longer))
         (record { fit = joins.fit; at_once = state.at_once; keeps = state.keeps }) between h
 
@@ -166,7 +166,7 @@ module _ {H P : Type 0} where
     resolves_top Send487 l s new emitted in_local state (values, is, made) out were =
         absurd (let no : class.Failure ≡ class.Success = ap (λ (i : Issued). i.class) (some_is _ issued (sym (ap (λ (x : Emitted). x.issued) is) ∙ out)) ∙ success in cc)
     resolves_top SwitchRole l s new emitted in_local state h out were = admits_top l (switched s) new emitted in_local (record {
-      fit = (switches All1 All1 All3 s state.fit).fit;
+      fit = (switches AllNumbers All1 All3 s state.fit).fit;
       at_once = state.at_once;
       keeps = λ o has valid. (
           let w = state.keeps o has valid in

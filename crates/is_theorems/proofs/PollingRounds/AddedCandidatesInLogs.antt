@@ -10,38 +10,27 @@ use Rattle.is_rules.specs.Agent.{AgentRecord}
 use Rattle.is_theorems.specs.Asked.{IsAnsweredIn}
 use Rattle.is_rules.specs.Effects.{PathEffect, lite_set_by}
 use Rattle.is_theorems.specs.Logs.{Logged}
-use Rattle.is_theorems.specs.Reached.{IsLasting, is_in_round, IsPassing, PairsAreReached}
+use Rattle.is_theorems.specs.Progress.{Awaits, IsUnanswered}
+use Rattle.is_theorems.specs.Reached.{IsLasting}
 use Rattle.is_theorems.specs.Rounds.{LoggedRound, entries_of, BringsSuccess, RunsOn, IsControllingIn, SegmentSelects, AnsweredRoundsSelect}
 use Rattle.is_theorems.specs.Runs.{IsFresh, Run, Point}
 use Rattle.is_rules.specs.Sending.{path_of}
-use Rattle.is_rules.specs.Steps.{Call, SetIceLite, HandleTimeout}
+use Rattle.is_rules.specs.Steps.{Call}
 use Rattle.is_theorems.specs.DueRounds.{AnsweredDueRoundsSelect}
-use Rattle.is_theorems.specs.FirstTimeouts.{PairsAreReachedFromDue, SufficesFromDue}
+use Rattle.is_theorems.specs.FirstTimeouts.{SufficesFromDue}
 use Rattle.is_theorems.specs.OpenRounds.{AnsweredOpenRoundsSelect}
 use Rattle.is_theorems.proofs.PathSelection.SelectedAfterFirstResponse.{selects_path-at}
 use Rattle.is_theorems.proofs.DuePairs.AfterPackets.{NoneValid}
 use Rattle.is_theorems.proofs.ExecutionLogs.PerAgentExecutions.{either_has}
 use Rattle.is_theorems.proofs.CallEffects.PathAndTradeEffects.{path_theorem}
 use Rattle.is_theorems.proofs.ExecutionLogs.LogTheorems.{runs_sound}
-use Rattle.is_theorems.proofs.ExecutionLogs.LogSegments.{no-case, run-on}
+use Rattle.is_theorems.proofs.ExecutionLogs.LogSegments.{run-on, starts-controlling}
+use Rattle.is_theorems.proofs.DuePairs.NoNominationDue.{Quiet, due-none, lite_stays}
+use Rattle.is_theorems.proofs.PollingRounds.DuePairsInLogs.{reached-unless}
+use Rattle.is_theorems.proofs.PollingRounds.FirstRound.{due-unless}
+use Rattle.is_theorems.proofs.PollingRounds.InTurnAlong.{Accepts, IsOfRound, IsQuiet, lined-unanswered, of_rounds, quiet-in-turn}
 
 module _ {P : Type 0} where
-  -- a `handle_timeout` call, or one that may come between two of them
-  abbrev IsOfRound : Logged P → Type 0
-  IsOfRound x = (is_in_round x.call ≡ true) ⊎ ((now : ℕ) × (x.call ≡ HandleTimeout now))
-
-  of_rounds : (by : ℕ) (rounds : List (LoggedRound P)) → ((r : LoggedRound P) → Has rounds r → IsPassing by r) → (x : Logged P) → Has (entries_of rounds) x → IsOfRound x
-  of_rounds by [] passing x has = absurd has
-  of_rounds by (r ∷ older) passing x has = elim (either_has r.following (r.timeout ∷ entries_of older) x has) [
-    | inl following ↦ inl ((passing r (inl refl)).between x following)
-    | inr (inl is) ↦ inr (r.now, ap (λ (y : Logged P). y.call) (sym is) ∙ (passing r (inl refl)).comes)
-    | inr (inr was) ↦ of_rounds by older (λ y there. passing y (inr there)) x was
-  ]
-
-  lite_stays : (c : Call P) (l : Bool) → is_in_round c ≡ true → lite_set_by c l ≡ l
-  lite_stays (SetIceLite lite) l is = no-case is
-  lite_stays _ l is = refl
-
   lite_kept : (x : Logged P) (l : Bool) → IsOfRound x → lite_set_by x.call l ≡ l
   lite_kept x l (inl is) = lite_stays x.call l is
   lite_kept x l (inr (now, is)) = ap (λ (c : Call P). lite_set_by c l) is
@@ -117,8 +106,16 @@ module _ {H P : Type 0} (mac : H → List ℕ → List ℕ → List ℕ) (answer
               (within x (inl refl)) role.0 (fits x (inl refl)) k
         ]
 
-  pub open-rounds-announce : AnsweredRoundsSelect {H = H} {P = P} mac answers → PairsAreReached {H = H} {P = P} mac answers → AnsweredOpenRoundsSelect mac answers
-  open-rounds-announce plain reach first s log fresh before start last rounds p at by part began waits unanswered passing answered role enough =
+  quiet-at : (first : AgentRecord H P) (s u : Stream) (before : List (Logged P)) (start : AgentRecord H P) (p : PairRecord) (at by : ℕ) → IsFresh first → Run mac answers first s before start u
+      → start.controlling ≡ true → Awaits at by start p → IsUnanswered start p → Quiet start
+  quiet-at first s u before start p at by fresh led role waits unanswered = record {
+    full = waits.checking.full;
+    invalid = unanswered.invalid;
+    quiet = due-none start (runs_sound mac answers (path_theorem mac answers) first start s u before fresh led) role waits.checking.full unanswered.calm;
+  }
+
+  pub open-rounds-announce : AnsweredRoundsSelect {H = H} {P = P} mac answers → AnsweredOpenRoundsSelect mac answers
+  open-rounds-announce plain first s log fresh before start last rounds p at by part began waits unanswered passing answered role enough =
       elim enough [
         | inl (few, polls) ↦ inl (plain first s log fresh before start last rounds p at by part began waits unanswered
             (λ r has. (let k = passing r has in record {
@@ -130,25 +127,18 @@ module _ {H P : Type 0} (mac : H → List ℕ → List ℕ → List ℕ) (answer
               met = λ id out. search (answered r has id out);
             }))
             role (omega (arith, few)))
-        | inr many ↦ elim (reach first s log fresh before start last rounds p by part (record {
+        | inr many ↦ elim (reached-unless mac answers (IsQuiet mac answers) (Accepts mac answers) (quiet-in-turn mac answers) first s log fresh before start last rounds p by part (record {
           at = at;
           began = began;
-          line = record {
-            checking = waits.checking;
-            queue = waits.queue;
-            there = waits.there;
-            due = (let due = waits.due in omega (arith, due));
-            settled = inl (search (unanswered.invalid p waits.there));
-            young = (let young = unanswered.young in omega (arith, young));
-            lasting = lasts at;
-          };
+          line = lined-unanswered at by start p waits unanswered;
           passing = passing;
           lasting = λ r has. lasts r.now;
           enough = omega (arith, many);
-        })) [
-          | inl (r, id, has, out) ↦ inl (let x = answered r has id out in selects (x.0, in_entries rounds r x.0 has x.1, x.2))
-          | inr (inl is) ↦ inl (selects (success-is (entries_of rounds) (path_of start p) is))
-          | inr (inr ended) ↦ inr ended
+        }) (quiet-at first s part.at before start p at by fresh part.led (starts-controlling mac answers before start last part.at part.following (entries_of rounds) part.run role) waits unanswered)) [
+          | inl (x, has, success) ↦ inl (selects (x, has, success))
+          | inr (inl (r, id, has, out)) ↦ inl (let x = answered r has id out in selects (x.0, in_entries rounds r x.0 has x.1, x.2))
+          | inr (inr (inl is)) ↦ inl (selects (success-is (entries_of rounds) (path_of start p) is))
+          | inr (inr (inr ended)) ↦ inr ended
         ]
       ] where
         lasts : (m : ℕ) → IsLasting m start p
@@ -164,24 +154,21 @@ module _ {H P : Type 0} (mac : H → List ℕ → List ℕ → List ℕ) (answer
 
   -- ---- from the first `handle_timeout` call on by which the pair is due
 
-  pub due-rounds-announce : PairsAreReachedFromDue {H = H} {P = P} mac answers → AnsweredDueRoundsSelect mac answers
-  due-rounds-announce reach first s log fresh before start second last r later p by one others waits unanswered from comes done between passing answered role role_later enough =
-      elim (reach first s log fresh before start second last r later p by one others (record {
-        checking = waits.checking;
-        queue = waits.queue;
-        there = waits.there;
-        due = (let due = waits.due in omega (arith, due));
-        settled = inl (search (unanswered.invalid p waits.there));
-        young = (let young = unanswered.young in omega (arith, young));
-        lasting = lasts r.now;
-      }) (omega (arith, from)) comes done (λ x has. between x has) (λ x has. passing x has) (λ x has. lasts x.now) (of_enough enough)) [
-        | inl (inl (x, id, inl is, out)) ↦ inl (in-first (in-round (r ∷ []) r (inl refl) (search (answered r (inl refl) id (ap (λ (z : LoggedRound P). z.timeout.entry.emitted.issued) is ∙ out)))))
-        | inl (inl (x, id, inr none, out)) ↦ absurd none
-        | inl (inr (inl is)) ↦ inl (in-first (success-is (entries_of (r ∷ [])) (path_of start p) is))
-        | inl (inr (inr ended)) ↦ inr (inl ended)
-        | inr (inl (x, id, has, out)) ↦ inl (in-later (in-round later x has (search (answered x (inr has) id out))))
-        | inr (inr (inl is)) ↦ inl (in-later (success-is (entries_of later) (path_of start p) is))
-        | inr (inr (inr ended)) ↦ inr (inr ended)
+  pub due-rounds-announce : AnsweredDueRoundsSelect mac answers
+  due-rounds-announce first s log fresh before start second last r later p by one others waits unanswered from comes done between passing answered role role_later enough =
+      elim (due-unless mac answers (IsQuiet mac answers) (Accepts mac answers) (quiet-in-turn mac answers) first s log fresh before start second last r later p by one others
+      (lined-unanswered r.now by start p waits unanswered)
+      (quiet-at first s one.at before start p r.now by fresh one.led (starts-controlling mac answers before start second one.at one.following (entries_of (r ∷ [])) one.run role) waits unanswered)
+      (omega (arith, from)) comes done (λ x has. between x has) (λ x has. passing x has) (λ x has. lasts x.now) (of_enough enough)) [
+        | inl (inl (x, has, success)) ↦ inl (in-first (x, has, success))
+        | inl (inr (x, has, success)) ↦ inl (in-later (x, has, success))
+        | inr (inl (inl (x, id, inl is, out))) ↦ inl (in-first (in-round (r ∷ []) r (inl refl) (search (answered r (inl refl) id (ap (λ (z : LoggedRound P). z.timeout.entry.emitted.issued) is ∙ out)))))
+        | inr (inl (inl (x, id, inr none, out))) ↦ absurd none
+        | inr (inl (inr (inl is))) ↦ inl (in-first (success-is (entries_of (r ∷ [])) (path_of start p) is))
+        | inr (inl (inr (inr ended))) ↦ inr (inl ended)
+        | inr (inr (inl (x, id, has, out))) ↦ inl (in-later (in-round later x has (search (answered x (inr has) id out))))
+        | inr (inr (inr (inl is))) ↦ inl (in-later (success-is (entries_of later) (path_of start p) is))
+        | inr (inr (inr (inr ended))) ↦ inr (inr ended)
       ] where
         lasts : (m : ℕ) → IsLasting m start p
         lasts m valid = let no : true ≡ false = sym valid ∙ search (unanswered.invalid p waits.there) in absurd (cc)

@@ -1,5 +1,5 @@
 -- Rounds of an execution in which candidates may be added, as rounds of a log.
-use Rattle.std.proofs.Common.{ℕ, ◌<◌, List, [], ◌∷◌, ◌++◌, length, inl, inr, ◌⊎◌, refl, ap, sym, ◌∙◌, subst, arith, append_assoc}
+use Rattle.std.proofs.Common.{◌≡◌, ℕ, ◌+◌, ◌*◌, ◌<◌, ◌≤◌, true, false, List, [], ◌∷◌, ◌++◌, length, inl, inr, ◌⊎◌, refl, ap, sym, ◌∙◌, subst, arith, append_assoc}
 use Rattle.rand_core.specs.Stream.{Stream}
 use Rattle.is_proto.specs.Lists.{Has}
 use Rattle.is_candidate.specs.Candidates.{CandidateRecord}
@@ -7,19 +7,28 @@ use Rattle.is_rules.specs.declared.emitted.Path.{Path}
 use Rattle.is_rules.specs.Agent.{AgentRecord}
 use Rattle.is_theorems.specs.Asked.{IsAnsweredOn, IsAnsweredIn}
 use Rattle.is_theorems.specs.AskedCourses.{Ends, EndsAlong}
-use Rattle.is_theorems.specs.Courses.{CourseRound}
+use Rattle.is_proto.specs.Times.{MAX}
+use Rattle.is_pair.specs.Pairs.{PairRecord}
+use Rattle.is_theorems.specs.Courses.{AcceptsSuccess, CourseRound}
 use Rattle.is_theorems.specs.Exchange.{Course}
 use Rattle.is_theorems.specs.Logs.{Logged}
-use Rattle.is_theorems.specs.Reached.{IsLasting, IsPassing, ChecksIn, IsEndedIn, PairsAreReached}
+use Rattle.is_theorems.specs.Progress.{Awaits, IsUnanswered, checks_for}
+use Rattle.is_theorems.specs.Reached.{IsLasting, IsPassing, ChecksIn, IsEndedIn}
 use Rattle.is_theorems.specs.ReachedCourses.{ChecksAmong, IsAnsweredAmong, PassRounds}
-use Rattle.is_theorems.specs.Rounds.{LoggedRound, entries_of, RunsOn}
-use Rattle.is_theorems.specs.Runs.{Run}
+use Rattle.is_theorems.specs.Rounds.{LoggedRound, Part, entries_of, RunsOn}
+use Rattle.is_theorems.specs.Runs.{IsFresh, Run}
 use Rattle.is_rules.specs.Sending.{path_of}
-use Rattle.is_rules.specs.Sound.{GivesBased}
-use Rattle.is_rules.specs.Steps.{Call, HandleTimeout, Entry, Step}
+use Rattle.is_rules.specs.Sound.{IsSound, GivesBased}
+use Rattle.is_rules.specs.Steps.{Call, Done, HandleTimeout, Entry, Step}
 use Rattle.is_theorems.proofs.ExecutionLogs.PerAgentExecutions.{entry_of, part_of, pushed, part_is, round_of, rounds_of, begun, as_many, either_has, recomputed, leads_on}
 use Rattle.is_theorems.proofs.ExecutionLogs.LogSegments.{no-case, run-on}
-use Rattle.is_theorems.specs.FirstTimeouts.{IsOpenRound, EndsAmong, IsReached, SufficesFromDue, Suffices, OpenCoursesReach, CoursesReachFromDue, PairsAreReachedFromDue}
+use Rattle.is_theorems.specs.FirstTimeouts.{AreInRound, IsOpenRound, EndsAmong, IsReached, IsReachedIn, SufficesFromDue, Suffices, OpenCoursesReach, CoursesReachFromDue, CoursesReachUnanswered}
+use Rattle.is_theorems.proofs.CallEffects.FailedCallsAndNewAgents.{fresh_sound}
+use Rattle.is_theorems.proofs.DuePairs.NoNominationDue.{due-none}
+use Rattle.is_theorems.proofs.PollingRounds.DuePairsInLogs.{reached-unless}
+use Rattle.is_theorems.proofs.PollingRounds.FirstRound.{due-unless}
+use Rattle.is_theorems.proofs.PollingRounds.InTurnAlong.{Accepts, InTurn, IsPlain, IsQuiet, Lined, Never, OffIn, lined, lined-unanswered, plain-in-turn, quiet-in-turn}
+use Rattle.is_theorems.proofs.StoredPairs.TransactionsOverPackets.{sound-course}
 
 module _ {P : Type 0} where
   -- ---- rounds of an execution, as those of a log
@@ -69,6 +78,24 @@ module _ {P : Type 0} where
         | inl k ↦ inl (checks-later r later path k)
         | inr (x, id, inl is, out) ↦ inl (r, id, inl refl, ap (λ (y : LoggedRound P). y.timeout.entry.emitted.issued) is ∙ out)
         | inr (x, id, inr has, out) ↦ inr (x, id, has, out)
+      ]
+
+  -- one of the calls of the rounds turns it off
+  abbrev pub OffAmong : (Call P → Entry → Type 0) → List (CourseRound P) → Type 0
+  OffAmong Off rounds = (r : CourseRound P) × Has rounds r × ((x : Call P × Entry) × Has r.following x × Off x.0 x.1)
+
+  off_among : (Off : Call P → Entry → Type 0) → ((now : ℕ) (e : Entry) → Off (HandleTimeout now) e → ⊥) → (before : List (Logged P)) (older : List (LoggedRound P)) (rounds : List (CourseRound P))
+      → OffIn Off (entries_of (rounds_of before older rounds)) → OffAmong Off rounds ⊎ OffIn Off (entries_of older)
+  off_among Off apart before older [] off = inr off
+  off_among Off apart before older (r ∷ later) off =
+      elim (off_among Off apart before (round_of (entries_of older ++ before) r ∷ older) later off) [
+        | inl (x, has, is) ↦ inl (x, inr has, is)
+        | inr (x, has, is) ↦ elim (either_has (round_of (entries_of older ++ before) r).following (entry_of (entries_of older ++ before) (HandleTimeout r.now) r.timeout ∷ entries_of older) x has) [
+          | inl following ↦
+              inl (r, inl refl, ((x.call, x.entry), part_is (entry_of (entries_of older ++ before) (HandleTimeout r.now) r.timeout ∷ (entries_of older ++ before)) r.following x following, is))
+          | inr (inl same) ↦ absurd (apart r.now r.timeout (subst (λ (y : Logged P). Off y.call y.entry) (sym same) is))
+          | inr (inr was) ↦ inr (x, was, is)
+        ]
       ]
 
   answered_among : (before : List (Logged P)) (older : List (LoggedRound P)) (rounds : List (CourseRound P)) (path : Path) → IsAnsweredIn (entries_of (rounds_of before older rounds)) path
@@ -155,93 +182,162 @@ module _ {H P : Type 0} (mac : H → List ℕ → List ℕ → List ℕ) (answer
   any : Stream
   any = record { u32_after = λ cs. 0; u64_after = λ cs. 0; bytes_after = λ cs n. [] }
 
-  pub open-courses-reach : PairsAreReached {H = H} {P = P} mac answers → OpenCoursesReach {H = H} {P = P} mac answers
-  open-courses-reach reached first start last xs r rounds p by fresh course line chain are lasting enough =
-      let before : List (Logged P) = pushed [] xs in
-      let path : Path = path_of start p in
-      let Gone : Type 0 = EndsAmong mac answers (r ∷ rounds) start last chain path in
-      let all : List (LoggedRound P) = rounds_of before [] (r ∷ rounds) in
-      let held = holds_rounds Gone path (r ∷ rounds) before [] start start last (λ t. (t, ((refl, refl), λ none. absurd none))) chain (λ e. e) any in
-      let led = leads_on mac answers first xs [] first start (λ t. (t, (refl, refl))) course held.0 in
-      let many = as_many before [] (r ∷ rounds) in
-      reached-back Gone path before (r ∷ rounds) (IsEndedIn mac answers before start held.0 (entries_of all) last any held.1.0 path) held.1.1
-      (reached first led.0 (entries_of all ++ before) fresh before start last all p by
-      (record { rest = []; split = refl; at = held.0; led = led.1; following = any; run = held.1.0 })
-      (record {
-        at = r.now;
-        began = begun before (round_of ([] ++ before) r) [] rounds;
-        line = line;
-        passing = are_passing by before [] (r ∷ rounds) (λ x none. absurd none) are;
-        lasting = are_at (λ m. IsLasting m start p) before [] (r ∷ rounds) (λ x none. absurd none) lasting;
-        enough = omega (arith, many, enough);
-      }))
+  -- ---- unless a call turns it off
 
-  pub courses-reach-from-due : OpenCoursesReach {H = H} {P = P} mac answers → PairsAreReachedFromDue {H = H} {P = P} mac answers → CoursesReachFromDue {H = H} {P = P} mac answers
-  courses-reach-from-due open_reach reached first start last xs r later p by fresh course line from done early between run passing lasting enough = by-enough enough where
-    path : Path
-    path = path_of start p
-
-    Gone : Type 0
-    Gone = EndsAmong mac answers (r ∷ later) start last run path
-
-    open-from : by < r.now → (x : CourseRound P) → Has (r ∷ later) x → IsOpenRound by x
-    open-from late x (inl is) = subst (λ (y : CourseRound P). IsOpenRound by y) is (record { done = done; late = late; early = early; between = between })
-    open-from late x (inr has) = passing x has
-
-    lasts : (x : CourseRound P) → Has (r ∷ later) x → IsLasting x.now start p
-    lasts x (inl is) = subst (λ (y : CourseRound P). IsLasting y.now start p) is line.lasting
-    lasts x (inr has) = lasting x has
-
-    before : List (Logged P)
-    before = pushed [] xs
-
-    first_round : LoggedRound P
-    first_round = round_of before r
-
-    following : List (Logged P)
-    following = entries_of (first_round ∷ []) ++ before
-
-    others : List (LoggedRound P)
-    others = rounds_of following [] later
-
-    held-later : (s : Stream) × Held Gone path following run.1 s (entries_of others) last any
-    held-later = holds_rounds Gone path later following [] run.1 run.1 last (λ t. (t, ((refl, refl), λ none. absurd none))) run.6 (λ e. inr e) any
-
-    held-first : (s : Stream) × Held Gone path before start s (entries_of (first_round ∷ [])) run.1 held-later.0
-    held-first = holds_rounds Gone path (r ∷ []) before [] start start run.1 (λ t. (t, ((refl, refl), λ none. absurd none)))
-        (run.0, run.1, run.2, run.3, run.4, run.5, refl) (λ e. elim e [ inl k ↦ inl k | inr none ↦ absurd none ]) held-later.0
-
-    led : (s : Stream) × Run mac answers first s before start held-first.0
-    led = leads_on mac answers first xs [] first start (λ t. (t, (refl, refl))) course held-first.0
-
-    from-first : SufficesFromDue start run.1 last (length later) → IsReached mac answers (r ∷ later) start last run path
-    from-first enough =
-        let many = as_many following [] later in
-        elim (reached first led.0 (entries_of others ++ following) fresh before start run.1 last first_round others p by
-        (record { rest = entries_of others; split = refl; at = held-first.0; led = led.1; following = held-later.0; run = held-first.1.0 })
-        (record { rest = []; split = refl; at = held-later.0; led = run-on mac answers first start run.1 led.0 held-first.0 held-later.0 before (entries_of (first_round ∷ [])) led.1 held-first.1.0; following = any; run = held-later.1.0 })
-        line (omega (arith, from)) refl done
-        (λ x has. between (x.call, x.entry) (part_is (entry_of before (HandleTimeout r.now) r.timeout ∷ before) r.following x has))
-        (are_passing by following [] later (λ x none. absurd none) passing)
-        (are_at (λ m. IsLasting m start p) following [] later (λ x none. absurd none) lasting)
-        (subst (λ n. SufficesFromDue start run.1 last n) (sym (omega (arith, many))) enough)) [
-          | inl here ↦
-              elim (reached-back Gone path before (r ∷ []) (IsEndedIn mac answers before start held-first.0 (entries_of (first_round ∷ [])) run.1 held-later.0 held-first.1.0 path) held-first.1.1 here) [
-                | inl (x, id, inl is, out) ↦ inl (x, id, inl is, out)
-                | inl (x, id, inr none, out) ↦ absurd none
-                | inr (inl (x, inl is, answered)) ↦ inr (inl (x, inl is, answered))
-                | inr (inl (x, inr none, answered)) ↦ absurd none
-                | inr (inr ends) ↦ inr (inr ends)
-              ]
-          | inr there ↦
-              elim (reached-back Gone path following later (IsEndedIn mac answers following run.1 held-later.0 (entries_of others) last any held-later.1.0 path) held-later.1.1 there) [
-                | inl (x, id, has, out) ↦ inl (x, id, inr has, out)
-                | inr (inl (x, has, answered)) ↦ inr (inl (x, inr has, answered))
-                | inr (inr ends) ↦ inr (inr ends)
-              ]
+  module _ (Stays : AgentRecord H P → Type 0) (Off : Call P → Entry → Type 0) (turns : InTurn mac answers Stays Off) where
+    open-unless : (first start last : AgentRecord H P) (xs : List (Call P × Entry)) (r : CourseRound P) (rounds : List (CourseRound P)) (p : PairRecord) (by : ℕ)
+        → IsFresh first → Course mac answers xs first start → Lined r.now by start p → Stays start → (run : PassRounds mac answers (r ∷ rounds) start last)
+        → ((x : CourseRound P) → Has (r ∷ rounds) x → IsOpenRound by x) → ((x : CourseRound P) → Has (r ∷ rounds) x → IsLasting x.now start p)
+        → checks_for start.rules (2 * length start.pairs + last.next_number) ≤ length (r ∷ rounds) + 1 + checks_for start.rules start.next_number
+        → OffAmong Off (r ∷ rounds) ⊎ IsReached mac answers (r ∷ rounds) start last run (path_of start p)
+    open-unless first start last xs r rounds p by fresh course line stays chain are lasting enough =
+        let before : List (Logged P) = pushed [] xs in
+        let path : Path = path_of start p in
+        let Gone : Type 0 = EndsAmong mac answers (r ∷ rounds) start last chain path in
+        let all : List (LoggedRound P) = rounds_of before [] (r ∷ rounds) in
+        let held = holds_rounds Gone path (r ∷ rounds) before [] start start last (λ t. (t, ((refl, refl), λ none. absurd none))) chain (λ e. e) any in
+        let led = leads_on mac answers first xs [] first start (λ t. (t, (refl, refl))) course held.0 in
+        let many = as_many before [] (r ∷ rounds) in
+        elim (reached-unless mac answers Stays Off turns first led.0 (entries_of all ++ before) fresh before start last all p by
+        (record { rest = []; split = refl; at = held.0; led = led.1; following = any; run = held.1.0 })
+        (record {
+          at = r.now;
+          began = begun before (round_of ([] ++ before) r) [] rounds;
+          line = line;
+          passing = are_passing by before [] (r ∷ rounds) (λ x none. absurd none) are;
+          lasting = are_at (λ m. IsLasting m start p) before [] (r ∷ rounds) (λ x none. absurd none) lasting;
+          enough = omega (arith, many, enough);
+        }) stays) [
+          | inl off ↦ elim (off_among Off turns.apart before [] (r ∷ rounds) off) [ inl k ↦ inl k | inr (x, none, is) ↦ absurd none ]
+          | inr reached ↦ inr (reached-back Gone path before (r ∷ rounds) (IsEndedIn mac answers before start held.0 (entries_of all) last any held.1.0 path) held.1.1 reached)
         ]
 
-    by-enough : Suffices by r.now start run.1 last (length later) → IsReached mac answers (r ∷ later) start last run path
-    by-enough (inl (late, enough)) =
-        open_reach first start last xs r later p by fresh course line run (λ x has. open-from (omega (arith, late)) x has) lasts (omega (arith, enough))
-    by-enough (inr enough) = from-first enough
+    pub due-courses-unless : (first start last : AgentRecord H P) (xs : List (Call P × Entry)) (r : CourseRound P) (later : List (CourseRound P)) (p : PairRecord) (by : ℕ)
+        → IsFresh first → Course mac answers xs first start → Lined r.now by start p → Stays start
+        → by ≤ r.now → r.timeout.answer ≡ Done → r.now < MAX → AreInRound r.following
+        → (run : PassRounds mac answers (r ∷ later) start last) → ((x : CourseRound P) → Has later x → IsOpenRound by x)
+        → ((x : CourseRound P) → Has later x → IsLasting x.now start p) → Suffices by r.now start run.1 last (length later)
+        → OffAmong Off (r ∷ later) ⊎ IsReached mac answers (r ∷ later) start last run (path_of start p)
+    due-courses-unless first start last xs r later p by fresh course line stays from done early between run passing lasting enough = by-enough enough where
+      path : Path
+      path = path_of start p
+
+      Gone : Type 0
+      Gone = EndsAmong mac answers (r ∷ later) start last run path
+
+      open-from : by < r.now → (x : CourseRound P) → Has (r ∷ later) x → IsOpenRound by x
+      open-from late x (inl is) = subst (λ (y : CourseRound P). IsOpenRound by y) is (record { done = done; late = late; early = early; between = between })
+      open-from late x (inr has) = passing x has
+
+      lasts : (x : CourseRound P) → Has (r ∷ later) x → IsLasting x.now start p
+      lasts x (inl is) = subst (λ (y : CourseRound P). IsLasting y.now start p) is line.lasting
+      lasts x (inr has) = lasting x has
+
+      before : List (Logged P)
+      before = pushed [] xs
+
+      first_round : LoggedRound P
+      first_round = round_of before r
+
+      following : List (Logged P)
+      following = entries_of (first_round ∷ []) ++ before
+
+      others : List (LoggedRound P)
+      others = rounds_of following [] later
+
+      held-later : (s : Stream) × Held Gone path following run.1 s (entries_of others) last any
+      held-later = holds_rounds Gone path later following [] run.1 run.1 last (λ t. (t, ((refl, refl), λ none. absurd none))) run.6 (λ e. inr e) any
+
+      held-first : (s : Stream) × Held Gone path before start s (entries_of (first_round ∷ [])) run.1 held-later.0
+      held-first = holds_rounds Gone path (r ∷ []) before [] start start run.1 (λ t. (t, ((refl, refl), λ none. absurd none)))
+          (run.0, run.1, run.2, run.3, run.4, run.5, refl) (λ e. elim e [ inl k ↦ inl k | inr none ↦ absurd none ]) held-later.0
+
+      led : (s : Stream) × Run mac answers first s before start held-first.0
+      led = leads_on mac answers first xs [] first start (λ t. (t, (refl, refl))) course held-first.0
+
+      found_first : Part mac answers first led.0 (entries_of others ++ following) before start (entries_of (first_round ∷ [])) run.1
+      found_first = record { rest = entries_of others; split = refl; at = held-first.0; led = led.1; following = held-later.0; run = held-first.1.0 }
+
+      found_later : Part mac answers first led.0 (entries_of others ++ following) (entries_of (first_round ∷ []) ++ before) run.1 (entries_of others) last
+      found_later = record {
+        rest = [];
+        split = refl;
+        at = held-later.0;
+        led = run-on mac answers first start run.1 led.0 held-first.0 held-later.0 before (entries_of (first_round ∷ [])) led.1 held-first.1.0;
+        following = any;
+        run = held-later.1.0;
+      }
+
+      from-first : SufficesFromDue start run.1 last (length later) → OffAmong Off (r ∷ later) ⊎ IsReached mac answers (r ∷ later) start last run path
+      from-first enough =
+          let many = as_many following [] later in
+          elim (due-unless mac answers Stays Off turns first led.0 (entries_of others ++ following) fresh before start run.1 last first_round others p by
+          found_first found_later
+          line stays (omega (arith, from)) refl done
+          (λ x has. between (x.call, x.entry) (part_is (entry_of before (HandleTimeout r.now) r.timeout ∷ before) r.following x has))
+          (are_passing by following [] later (λ x none. absurd none) passing)
+          (are_at (λ m. IsLasting m start p) following [] later (λ x none. absurd none) lasting)
+          (subst (λ n. SufficesFromDue start run.1 last n) (sym (omega (arith, many))) enough)) [
+            | inl (inl off) ↦ elim (off_among Off turns.apart before [] (r ∷ []) off) [
+              | inl (x, inl is, k) ↦ inl (x, inl is, k)
+              | inl (x, inr none, k) ↦ absurd none
+              | inr (x, none, is) ↦ absurd none
+            ]
+            | inl (inr off) ↦ elim (off_among Off turns.apart following [] later off) [
+              | inl (x, has, k) ↦ inl (x, inr has, k)
+              | inr (x, none, is) ↦ absurd none
+            ]
+            | inr reached ↦ inr (in-first reached)
+          ] where
+            in-first : IsReachedIn mac answers (first_round ∷ []) found_first path ⊎ IsReachedIn mac answers others found_later path → IsReached mac answers (r ∷ later) start last run path
+            in-first (inl here) =
+                elim (reached-back Gone path before (r ∷ []) (IsEndedIn mac answers before start held-first.0 (entries_of (first_round ∷ [])) run.1 held-later.0 held-first.1.0 path) held-first.1.1 here) [
+                  | inl (x, id, inl is, out) ↦ inl (x, id, inl is, out)
+                  | inl (x, id, inr none, out) ↦ absurd none
+                  | inr (inl (x, inl is, answered)) ↦ inr (inl (x, inl is, answered))
+                  | inr (inl (x, inr none, answered)) ↦ absurd none
+                  | inr (inr ends) ↦ inr (inr ends)
+                ]
+            in-first (inr there) =
+                elim (reached-back Gone path following later (IsEndedIn mac answers following run.1 held-later.0 (entries_of others) last any held-later.1.0 path) held-later.1.1 there) [
+                  | inl (x, id, has, out) ↦ inl (x, id, inr has, out)
+                  | inr (inl (x, has, answered)) ↦ inr (inl (x, inr has, answered))
+                  | inr (inr ends) ↦ inr (inr ends)
+                ]
+
+      by-enough : Suffices by r.now start run.1 last (length later) → OffAmong Off (r ∷ later) ⊎ IsReached mac answers (r ∷ later) start last run path
+      by-enough (inl (late, enough)) =
+          open-unless first start last xs r later p by fresh course line stays run (λ x has. open-from (omega (arith, late)) x has) lasts (omega (arith, enough))
+      by-enough (inr enough) = from-first enough
+
+  -- ---- nominations have no numbers
+
+  pub open-courses-reach : OpenCoursesReach {H = H} {P = P} mac answers
+  open-courses-reach first start last xs r rounds p by fresh course line chain are lasting enough =
+      elim (open-unless (IsPlain mac answers) (Never mac answers) (plain-in-turn mac answers) first start last xs r rounds p by fresh course (lined r.now by start p line) line.unnumbered chain
+      (λ x has. are x has) (λ x has. lasting x has) enough) [
+        | inl (x, has, (y, there, never)) ↦ absurd never
+        | inr reached ↦ reached
+      ]
+
+  pub courses-reach-from-due : CoursesReachFromDue {H = H} {P = P} mac answers
+  courses-reach-from-due first start last xs r later p by fresh course line from done early between run passing lasting enough =
+      elim (due-courses-unless (IsPlain mac answers) (Never mac answers) (plain-in-turn mac answers) first start last xs r later p by fresh course (lined r.now by start p line) line.unnumbered
+      (omega (arith, from)) done (omega (arith, early)) (λ x has. between x has) run (λ x has. passing x has) (λ x has. lasting x has) enough) [
+        | inl (x, has, (y, there, never)) ↦ absurd never
+        | inr reached ↦ reached
+      ]
+
+  -- ---- no pair is valid
+
+  -- The same of a pair of a controlling agent that has no valid one: it is reached, unless a success response is accepted in the rounds.
+  pub courses-reach-unanswered : CoursesReachUnanswered {H = H} {P = P} mac answers
+  courses-reach-unanswered first start last xs r later p by fresh course role waits unanswered from done early between run passing enough =
+      due-courses-unless (IsQuiet mac answers) (Accepts mac answers) (quiet-in-turn mac answers) first start last xs r later p by fresh course (lined-unanswered r.now by start p waits unanswered)
+      (record {
+        full = waits.checking.full;
+        invalid = λ q has. (let none = unanswered.invalid in none q has);
+        quiet = due-none start (sound-course mac answers xs first start (subst (λ (a : AgentRecord H P). IsSound a) (sym fresh.2) (fresh_sound H P first.provider fresh.0 fresh.1)) course) role waits.checking.full unanswered.calm;
+      })
+      (omega (arith, from)) done (omega (arith, early)) (λ x has. between x has) run (λ x has. passing x has)
+      (λ x has valid. (let no : true ≡ false = sym valid ∙ (let none = unanswered.invalid in none p waits.there) in absurd (cc))) enough

@@ -25,7 +25,8 @@ use Rattle.rand_core.specs.Stream.{Stream}
 use Rattle.is_theorems.proofs.RuleEffects.UnchangedSettings.{either}
 use Rattle.is_pair.specs.Turns.{IsPaced, due_by}
 use Rattle.is_theorems.specs.Progress.{Passes, MayBeAsked, Arrival, HasSuccess, Round, IsSuccess, MatchesTop, ArriveInTurn, Rounds, SelectsAfter, RoundSelects, AnsweredSelect}
-use Rattle.is_theorems.proofs.DuePairs.WithoutValidPair.{Calm, Persists, Waits, polled-sound, asked-sound, begins, persists, passed, pass-on, never}
+use Rattle.is_theorems.proofs.DuePairs.NoNominationDue.{NoneIsDue, quiet-call}
+use Rattle.is_theorems.proofs.DuePairs.WithoutValidPair.{Calm, Persists, Waits, calm-quiet, polled-sound, asked-quiet, asked-sound, begins, persists, passed, pass-on, never}
 use Rattle.is_theorems.proofs.DuePairs.ChecksAhead.{calls_left, calls-kept, calls-from}
 use Rattle.is_theorems.proofs.DuePairs.AfterNominationAndRemoval.{last_time_of}
 use Rattle.is_theorems.proofs.DuePairs.AfterPackets.{Core, DueAlike, Held, Arrived, arrived-same, receives, spares-map}
@@ -49,8 +50,8 @@ module _ {H P : Type 0} where
     -- ---- what does not change a pair
 
     module _ (by at : ℕ) (following : by < at) (early : at < MAX) where
-      pub calm-on : (old new : AgentRecord H P) → Calm old → IsSound new → Arrived mac by at following early old new → Calm new
-      calm-on old new calm sound (core, grown, spares) = record {
+      pub calm-on : (old new : AgentRecord H P) → Calm old → IsSound new → NoneIsDue new → Arrived mac by at following early old new → Calm new
+      calm-on old new calm sound quiet (core, grown, spares) = record {
         sound = sound;
         distinct = spares.distinct calm.below calm.distinct;
         checking = record {
@@ -61,16 +62,17 @@ module _ {H P : Type 0} where
         below = spares.below calm.below;
         invalid = spares.invalid calm.invalid;
         role = ap (λ (c : Core). c.controlling) core ∙ calm.role;
+        quiet = quiet;
       }
 
-      pub waits-on : (n : ℕ) (path : Path) (k : ℕ) (old new : AgentRecord H P) → Waits by n path at k old → IsSound new → Arrived mac by at following early old new → Waits by n path at k new
-      waits-on n path k old new w sound (core, grown, spares) =
+      pub waits-on : (n : ℕ) (path : Path) (k : ℕ) (old new : AgentRecord H P) → Waits by n path at k old → IsSound new → NoneIsDue new → Arrived mac by at following early old new → Waits by n path at k new
+      waits-on n path k old new w sound quiet (core, grown, spares) =
           let late : by < last_time_of old = (let last : last_time_of old ≡ at = ap (λ o. unwrap_or o 0) w.last in omega (arith, last, following)) in
           let x = spares.forth late w.pair w.there in
           let timing : new.timing ≡ old.timing = ap (λ (c : Core). c.timing) core in
           let g = grown w.pair w.there w.placed in
           record {
-            calm = calm-on old new w.calm sound (core, grown, spares);
+            calm = calm-on old new w.calm sound quiet (core, grown, spares);
             last = ap (λ (c : Core). c.last_time) core ∙ w.last;
             paced = subst (λ (t : StunTiming). IsPaced t) (sym timing) w.paced;
             pair = x.0;
@@ -115,20 +117,25 @@ module _ {H P : Type 0} where
 
       may-on : (n : ℕ) (path : Path) (k : ℕ) (old new : AgentRecord H P) → Waits by n path at k old → MayBeAsked old new → Waits by n path at k new
       may-on n path k old new w (inl same) = subst (λ (a : AgentRecord H P). Waits by n path at k a) (sym same) w
-      may-on n path k old new w (inr (deadline, polls)) = waits-on n path k old new w (asked-sound mac answers old new deadline w.calm.sound polls) (asks old new deadline w.last polls)
+      may-on n path k old new w (inr (deadline, polls)) = waits-on n path k old new w (asked-sound mac answers old new deadline w.calm.sound polls)
+          (asked-quiet mac answers old new deadline w.calm.sound (calm-quiet old w.calm) polls) (asks old new deadline w.last polls)
 
       all-arrive : (n : ℕ) (path : Path) (k : ℕ) (xs : List Arrival) (old new : AgentRecord H P) → Waits by n path at k old → ArriveInTurn mac answers xs old new → HasSuccess xs ⊎ Waits by n path at k new
       all-arrive n path k [] old new w is = inr (subst (λ (a : AgentRecord H P). Waits by n path at k a) (sym is) w)
       all-arrive n path k (x ∷ rest) old new w (after, mid, polled, waiting, left, s, t, step, stays, taken, may, more) =
           elim (receives mac by at following early answers x old after s t w.calm.checking.peer w.calm.role w.calm.checking.full w.calm.invalid stays step) [
             | inl success ↦ inl (x, inl refl, success)
-            | inr came ↦
-                (let mid_waits = waits-on n path k old mid w (came-sound x old after mid waiting left s t w.calm.sound step taken)
-                (subst (λ (a : AgentRecord H P). Arrived mac by at following early old a) (sym taken) (came.0, came.1, came.2)) in
-                elim (all-arrive n path k rest polled new (may-on n path k mid polled mid_waits may) more) [
-                  | inl met ↦ inl (met-later x rest met)
-                  | inr still ↦ inr still
-                ])
+            | inr came ↦ elim (quiet-call mac answers (ReceivePacket x.at x.via x.bytes) x.entry old after s t refl w.calm.sound tt (calm-quiet old w.calm) step) [
+              | inl (when, by_path, m, (now_is, path_is, reads, flag), success) ↦ inl (x, inl refl, (m, reads, flag, success))
+              | inr quiet ↦
+                  (let mid_waits = waits-on n path k old mid w (came-sound x old after mid waiting left s t w.calm.sound step taken)
+                  (subst (λ (a : AgentRecord H P). NoneIsDue a) (sym taken) quiet.quiet)
+                  (subst (λ (a : AgentRecord H P). Arrived mac by at following early old a) (sym taken) (came.0, came.1, came.2)) in
+                  elim (all-arrive n path k rest polled new (may-on n path k mid polled mid_waits may) more) [
+                    | inl met ↦ inl (met-later x rest met)
+                    | inr still ↦ inr still
+                  ])
+            ]
           ]
 
     -- after an accepted success response a path is selected

@@ -6,15 +6,12 @@ use Rattle.is_proto.specs.Lists.{Has}
 use Rattle.is_proto.specs.Times.{MAX}
 use Rattle.is_candidate.specs.Candidates.{CandidateRecord}
 use Rattle.is_pair.specs.Turns.{due_by}
-use Rattle.is_stun.specs.declared.header.Class.TheVariants as class
-use Rattle.is_stun.specs.Message.{Message}
 use Rattle.is_rules.specs.declared.emitted.Path.{Path}
 use Rattle.is_rules.specs.Agent.{AgentRecord}
 use Rattle.is_rules.specs.Checking.{goes_ahead}
 use Rattle.is_rules.specs.Sending.{path_of}
 use Rattle.is_rules.specs.Steps.{Call, Entry, ReceivePacket, HandleTimeout, PollTransmit, PollTimeout, PollEvent, Step}
-use Rattle.is_rules.specs.Sound.{IsSound}
-use Rattle.is_rules.specs.Brought.{Brings}
+use Rattle.is_rules.specs.Sound.{IsSound, GivesBased}
 use Rattle.is_theorems.specs.Logs.{Logged}
 use Rattle.is_theorems.specs.Runs.{IsFresh, Run}
 use Rattle.is_theorems.specs.Progress.{Passes}
@@ -24,7 +21,10 @@ use Rattle.is_theorems.proofs.ExecutionLogs.LogTheorems.{runs_sound}
 use Rattle.is_theorems.proofs.DuePairs.ChecksAhead.{calls_left, calls-from}
 use Rattle.is_theorems.proofs.DuePairs.AfterNominationAndRemoval.{last_time_of}
 use Rattle.is_theorems.proofs.DuePairs.AfterPackets.{Core, Arrived, receives, spares-same}
-use Rattle.is_theorems.proofs.DuePairs.WithoutValidPair.{Calm, Persists, Waits, begins, persists, passed, pass-on, never}
+use Rattle.is_theorems.proofs.DuePairs.NoNominationDue.{NoneIsDue, quiet-call}
+use Rattle.is_theorems.specs.Courses.{AcceptsSuccess}
+use Rattle.is_theorems.specs.Reached.{is_in_round}
+use Rattle.is_theorems.proofs.DuePairs.WithoutValidPair.{Calm, Persists, Waits, calm-quiet, begins, persists, passed, pass-on, never}
 use Rattle.is_theorems.proofs.PollingRounds.AnsweredRounds.{calm-on, waits-on, asks}
 use Rattle.is_theorems.proofs.ExecutionLogs.LogSegments.{no-case, run-on, starts-controlling, Halves, halves, passed as passed-at}
 use Rattle.is_theorems.proofs.PathSelection.SelectedAfterFirstResponse.{selects_path-at}
@@ -46,19 +46,30 @@ module _ {H P : Type 0} where
     Rests at a = Calm a × (a.last_time ≡ Some at)
 
     module _ (by at : ℕ) (following : by < at) (early : at < MAX) where
+      -- nor is a nomination to be sent at once
+      abbrev Comes : AgentRecord H P → AgentRecord H P → Type 0
+      Comes old new = NoneIsDue new × Arrived mac by at following early old new
+
+      with-quiet : (call : Call P) (e : Entry) (old new : AgentRecord H P) (s t : Stream) → Rests at old → is_in_round call ≡ true → GivesBased call → Step mac answers old s call e new t
+          → Arrived mac by at following early old new → AcceptsSuccess call e ⊎ Comes old new
+      with-quiet call e old new s t (calm, last) is given step came = elim (quiet-call mac answers call e old new s t is calm.sound given (calm-quiet old calm) step) [
+        | inl success ↦ inl success
+        | inr q ↦ inr (q.quiet, came)
+      ]
+
       between-by : (call : Call P) (e : Entry) (old new : AgentRecord H P) (s t : Stream) → Rests at old → is_between call ≡ true → new.controlling ≡ true
-          → Step mac answers old s call e new t
-          → ((timeout : ℕ) × (path : Path) × (m : Message) × Brings call e timeout path m × (m.class ≡ class.Success)) ⊎ Arrived mac by at following early old new
+          → Step mac answers old s call e new t → AcceptsSuccess call e ⊎ Comes old new
       between-by (ReceivePacket now path bytes) e old new s t (calm, last) is stays step =
           elim (receives mac by at following early answers (record { at = now; via = path; bytes = bytes; entry = e }) old new s t calm.checking.peer calm.role calm.checking.full calm.invalid stays step) [
             | inl success ↦ inl (now, path, success.0, (refl, refl, success.1, success.2), success.3)
-            | inr k ↦ inr k
+            | inr k ↦ with-quiet (ReceivePacket now path bytes) e old new s t (calm, last) refl tt step k
           ]
       between-by PollTransmit e old new s t rests is stays (given, emitted, (polled, made), drawn) =
-          inr (subst (λ (a : AgentRecord H P). Arrived mac by at following early old a) (sym made) (refl, keeps-remote-same old.pairs old.remote old.remote refl, spares-same by (last_time_of old) at old.timing old.next_number old.pairs))
-      between-by PollTimeout e old new s t (calm, last) is stays (deadline, emitted, timed_out, drawn) = inr (asks mac answers by at following early old new deadline last timed_out)
+          with-quiet PollTransmit e old new s t rests refl tt (given, emitted, (polled, made), drawn) (subst (λ (a : AgentRecord H P). Arrived mac by at following early old a) (sym made) (refl, keeps-remote-same old.pairs old.remote old.remote refl, spares-same by (last_time_of old) at old.timing old.next_number old.pairs))
+      between-by PollTimeout e old new s t (calm, last) is stays (deadline, emitted, timed_out, drawn) =
+          with-quiet PollTimeout e old new s t (calm, last) refl tt (deadline, emitted, timed_out, drawn) (asks mac answers by at following early old new deadline last timed_out)
       between-by PollEvent e old new s t rests is stays (given, emitted, (polled, made), drawn) =
-          inr (subst (λ (a : AgentRecord H P). Arrived mac by at following early old a) (sym made) (refl, keeps-remote-same old.pairs old.remote old.remote refl, spares-same by (last_time_of old) at old.timing old.next_number old.pairs))
+          with-quiet PollEvent e old new s t rests refl tt (given, emitted, (polled, made), drawn) (subst (λ (a : AgentRecord H P). Arrived mac by at following early old a) (sym made) (refl, keeps-remote-same old.pairs old.remote old.remote refl, spares-same by (last_time_of old) at old.timing old.next_number old.pairs))
       between-by _ e old new s t rests is stays step = no-case is
 
     -- after the rounds so far the pair still waits
@@ -71,7 +82,7 @@ module _ {H P : Type 0} where
 
       module _ (by at : ℕ) (following : by < at) (early : at < MAX) (part : List (Logged P)) (Keeps : AgentRecord H P → Type 0)
           (rests_of : (a : AgentRecord H P) → Keeps a → Rests at a)
-          (on : (old new : AgentRecord H P) → Keeps old → IsSound new → Arrived mac by at following early old new → Keeps new) where
+          (on : (old new : AgentRecord H P) → Keeps old → IsSound new → Comes by at following early old new → Keeps new) where
         walk : (before : List (Logged P)) (start last : AgentRecord H P) (u t : Stream) (over xs : List (Logged P)) → log ≡ over ++ (xs ++ before)
             → ((x : Logged P) → Has xs x → Has part x) → ((x : Logged P) → Has xs x → is_between x.call ≡ true)
             → Run mac answers first s before start u → (run : RunsOn mac answers before start u xs last t) → IsControllingIn mac answers before start u xs last t run
@@ -149,11 +160,11 @@ module _ {H P : Type 0} where
                   (let met = round.met id out in
                   let p = passed mac answers r.now r.timeout.entry.emitted old mid st.calm passes in
                   inl (meet by r.now (falls-late by path r round) (falls-early by path r round) part (λ a. Rests r.now a) (λ a k. k)
-                  (λ a b k sound came. (calm-on mac answers by r.now (falls-late by path r round) (falls-early by path r round) a b k.0 sound came, ap (λ (c : Core). c.last_time) came.0 ∙ k.1))
+                  (λ a b k sound came. (calm-on mac answers by r.now (falls-late by path r round) (falls-early by path r round) a b k.0 sound came.0 came.1, ap (λ (c : Core). c.last_time) came.1.0 ∙ k.1))
                   ((r.timeout ∷ entries_of older) ++ before) mid last v t over r.following line within round.between to_mid back role (p.calm, p.last) met.0 met.1 met.2))
               | inr still ↦
                   walk by r.now (falls-late by path r round) (falls-early by path r round) part (λ a. Waits by n path r.now (length (r ∷ older)) a) (λ a k. (k.calm, k.last))
-                  (λ a b k sound came. waits-on mac answers by r.now (falls-late by path r round) (falls-early by path r round) n path (length (r ∷ older)) a b k sound came)
+                  (λ a b k sound came. waits-on mac answers by r.now (falls-late by path r round) (falls-early by path r round) n path (length (r ∷ older)) a b k sound came.0 came.1)
                   ((r.timeout ∷ entries_of older) ++ before) mid last v t over r.following line within round.between to_mid back role still
             ]
 

@@ -21,7 +21,7 @@ use Rattle.is_rules.specs.declared.emitted.Path.{Path}
 use Rattle.is_theorems.specs.Logs.{Logged}
 use Rattle.is_rules.specs.Polls.{PollsTimeout, NextTimeoutFrom, NextTimeouts, is_waiting, is_idle}
 use Rattle.is_theorems.specs.Progress.{IsChecking}
-use Rattle.is_theorems.specs.Reached.{IsInLine, IsLasting, IsPassing, ChecksIn, is_in_round, IsEndedIn, PairsAreReached, AskedRoundsSelect}
+use Rattle.is_theorems.specs.Reached.{IsLasting, IsPassing, ChecksIn, is_in_round, IsEndedIn, PairsAreReached, AskedRoundsSelect}
 use Rattle.is_theorems.specs.Rounds.{LoggedRound, entries_of, began_at, Part, RunsOn}
 use Rattle.is_theorems.specs.Runs.{IsFresh, Run, IsTopPath}
 use Rattle.is_rules.specs.Sending.{path_of}
@@ -44,11 +44,15 @@ use Rattle.is_theorems.proofs.EarlierChecks.OneCheckFewer.{Ready, timeout-goes}
 use Rattle.is_rules.proofs.PairLists.RisingNumbers.{rising-each}
 use Rattle.is_theorems.proofs.CallEffects.ServedRequests.{Has-mapped}
 use Rattle.is_theorems.proofs.DuePairs.PollingCycles.{none-left, maintains_pairs-from, distinct-sound}
-use Rattle.is_theorems.proofs.CallEffects.FailedCallsAndNewAgents.{mtu_kept, local_kept, enrolment_kept, storing_kept}
+use Rattle.is_theorems.proofs.CallEffects.FailedCallsAndNewAgents.{mtu_kept, controlling_kept, local_kept, enrolment_kept, storing_kept}
 use Rattle.is_theorems.proofs.StoredPairs.PairsThatStay.{none-entered, pairs-stay}
 use Rattle.is_theorems.proofs.RuleEffects.SelectedPaths.{one_pair}
 use Rattle.is_theorems.proofs.DuePairs.AfterNominationAndRemoval.{Base, Kept, answered-if, answered-on, answered_at, kept_of, last_time_of, stays-young}
 use Rattle.is_theorems.proofs.EarlierChecks.AddedCandidates.{local-goes, remote-goes}
+use Rattle.is_rules.specs.Sound.{GivesBased}
+use Rattle.is_theorems.specs.FirstTimeouts.{IsReachedIn}
+use Rattle.is_theorems.proofs.DuePairs.FirstDuePair.{NoneAtOnce}
+use Rattle.is_theorems.proofs.PollingRounds.InTurnAlong.{InTurn, IsPlain, Never, OffIn, Sufficing, of_rounds, plain-in-turn, sufficing, turn-along}
 
 lt-is : (n m : ℕ) → n < m → nat_lt n m ≡ true
 lt-is n m h = grind (arith, nat_tests, h)
@@ -79,6 +83,11 @@ module _ {P : Type 0} (path : Path) where
   in-entries [] r has answered = absurd has
   in-entries (x ∷ older) r (inl e) answered = has-front x.following (x.timeout ∷ entries_of older) (subst (λ (y : LoggedRound P). IsAnsweredIn y.following path) (sym e) answered)
   in-entries (x ∷ older) r (inr has) answered = has-following x.following (x.timeout ∷ entries_of older) (answered-later x.timeout (entries_of older) (in-entries older r has answered))
+
+  -- an entry of the rear part is one of the whole
+  rear : (xs ys : List (Logged P)) (x : Logged P) → Has ys x → Has (xs ++ ys) x
+  rear [] ys x h = h
+  rear (y ∷ xs) ys x h = inr (rear xs ys x h)
 
 module _ {H P : Type 0} where
   -- `poll_timeout`, called after the time by which the pair is due
@@ -215,10 +224,13 @@ module _ {H P : Type 0} where
     between-goes at following early x (SetControlTieBreaker tie) called old new s t known last p sound has number on is (reported, made, drawn) = inr (inr (goes-to n by old _ new (refl, onward-same n by (last_time_of old) old.pairs old.next_number) made))
     between-goes at following early x (SetMaxCandidatePairs k) called old new s t known last p sound has number on is (reported, made, drawn) = inr (inr (goes-to n by old _ new (refl, onward-same n by (last_time_of old) old.pairs old.next_number) made))
     between-goes at following early x (SetMaxDiscovered limit) called old new s t known last p sound has number on is (reported, made, drawn) = inr (inr (goes-to n by old _ new (refl, onward-same n by (last_time_of old) old.pairs old.next_number) made))
-    between-goes at following early x (SetRenomination renominates) called old new s t known last p sound has number on is (reported, made, drawn) = inr (inr (goes-to n by old _ new (refl, onward-same n by (last_time_of old) old.pairs old.next_number) made))
+    between-goes at following early x (SetRenomination true) called old new s t known last p sound has number on is step = no-case is
+    between-goes at following early x (SetRenomination false) called old new s t known last p sound has number on is (reported, made, drawn) =
+        inr (inr (goes-to n by old _ new (refl, onward-same n by (last_time_of old) old.pairs old.next_number) made))
     between-goes at following early x (SetTimingAdvance advance) called old new s t known last p sound has number on is (reported, made, drawn) = inr (inr (goes-to n by old _ new (refl, onward-same n by (last_time_of old) old.pairs old.next_number) made))
     between-goes at following early x (SetLocalPreference object) called old new s t known last p sound has number on is (reported, made, drawn) = inr (inr (goes-to n by old _ new (refl, onward-same n by (last_time_of old) old.pairs old.next_number) made))
-    between-goes at following early x (SetControlling controlling) called old new s t known last p sound has number on is (reported, made, drawn) = inr (inr (goes-to n by old _ new (refl, onward-same n by (last_time_of old) old.pairs old.next_number) made))
+    between-goes at following early x (SetControlling controlling) called old new s t known last p sound has number on is (Ok _, reported, h, drawn) = inr (inr (goes-to n by old _ new (refl, onward-same n by (last_time_of old) old.pairs old.next_number) h.1))
+    between-goes at following early x (SetControlling controlling) called old new s t known last p sound has number on is (Err error, reported, h, drawn) = inr (inr (goes-same n by old new (controlling_kept old new controlling error h)))
     between-goes at following early x _ called old new s t known last p sound has number on is step = no-case is
 
     module _ (first : AgentRecord H P) (s : Stream) (fresh : IsFresh first) where
@@ -251,9 +263,9 @@ module _ {H P : Type 0} where
     -- ---- a `handle_timeout` call
 
     timeout-on : (now k : ℕ) (e : Entry) (old new : AgentRecord H P) (s t : Stream) → e.answer ≡ Done → Step mac answers old s (HandleTimeout now) e new t → IsSound old → IsSound new
-        → Persists by n path keeps ahead total base now k old → keeps now ≡ true
+        → Persists by n path keeps ahead total base now k old → NoneAtOnce now (timeout_begun now old) → keeps now ≡ true
         → ((id : List ℕ) × (e.emitted.issued ≡ Some (issued_as path class.Request id))) ⊎ Waits by n path keeps ahead total base now (suc k) new
-    timeout-on now k e old new s t done step sound sound_new st lasting =
+    timeout-on now k e old new s t done step sound sound_new st once lasting =
         let h = passed-at mac answers old new s t now e done step in
         let p = maintains_pairs-from mac now old s t e.emitted new st.queue h in
         let m = timeout-follows mac now (timeout_begun now old) new s t e.emitted st.checking.peer st.checking.full p in
@@ -269,7 +281,7 @@ module _ {H P : Type 0} where
               let timing : new.timing ≡ old.timing = ap (λ (b : Base). b.timing) m.0 in
               let falls_for : Falls ahead old.ahead_turn new.ahead_turn (leads n by old.pairs) (leads n by new.pairs) =
               subst (λ b. Falls b old.ahead_turn new.ahead_turn (leads n by old.pairs) (leads n by new.pairs)) st.rules
-              (subst (λ i. Falls (goes_ahead old.rules) old.ahead_turn new.ahead_turn (leads i by old.pairs) (leads i by new.pairs)) st.number falls) in
+              (subst (λ i. Falls (goes_ahead old.rules) old.ahead_turn new.ahead_turn (leads i by old.pairs) (leads i by new.pairs)) st.number (falls once)) in
               inr (record {
                 checking = record {
                   full = ap (λ (b : Base). b.lite) m.0 ∙ st.checking.full;
@@ -322,8 +334,9 @@ module _ {H P : Type 0} where
     reached-later r older (inl (x, id, has, out)) = inl (x, id, inr has, out)
     reached-later r older (inr answered) = inr (has-following path r.following (r.timeout ∷ entries_of older) (answered-later path r.timeout (entries_of older) answered))
 
-    module _ (first : AgentRecord H P) (s : Stream) (fresh : IsFresh first) (before : List (Logged P)) (start : AgentRecord H P) (u : Stream) (led : Run mac answers first s before start u) (at : ℕ)
-        (begin : (late : by < at) (early : at < MAX) → Persists by n path keeps ahead total base at 0 start) where
+    module _ (Keeps : AgentRecord H P → Type 0) (Off : Call P → Entry → Type 0) (turns : InTurn mac answers Keeps Off)
+        (first : AgentRecord H P) (s : Stream) (fresh : IsFresh first) (before : List (Logged P)) (start : AgentRecord H P) (u : Stream) (led : Run mac answers first s before start u) (at : ℕ)
+        (start-keeps : Keeps start) (begin : (late : by < at) (early : at < MAX) → Persists by n path keeps ahead total base at 0 start) where
       abbrev WaitsAfter : List (LoggedRound P) → AgentRecord H P → Type 0
       WaitsAfter [] a = a ≡ start
       WaitsAfter (r ∷ older) a = Waits by n path keeps ahead total base r.now (length (r ∷ older)) a
@@ -347,58 +360,78 @@ module _ {H P : Type 0} where
 
       rounds-go : (rounds : List (LoggedRound P)) (last : AgentRecord H P) (t : Stream) → (rounds ≡ [] ⊎ began_at rounds ≡ Some at) → ((r : LoggedRound P) → Has rounds r → IsPassing by r)
           → ((r : LoggedRound P) → Has rounds r → keeps r.now ≡ true) → (run : RunsOn mac answers before start u (entries_of rounds) last t)
-          → Reached rounds ⊎ (IsEndedIn mac answers before start u (entries_of rounds) last t run path ⊎ WaitsAfter rounds last)
-      rounds-go [] last t began are lasting (is, same) = inr (inr is)
+          → OffIn Off (entries_of rounds) ⊎ (Reached rounds ⊎ (IsEndedIn mac answers before start u (entries_of rounds) last t run path ⊎ WaitsAfter rounds last))
+      rounds-go [] last t began are lasting (is, same) = inr (inr (inr is))
       rounds-go (r ∷ older) last t began are lasting run =
           let h = split-run before start last u t r.following (r.timeout ∷ entries_of older) run in
           elim (on-halves (here-began began) h (rounds-go older h.2.0 h.2.1 (older-began r older (here-began began)) (λ x has. are x (inr has)) (λ x has. lasting x (inr has)) h.2.2)) [
-            | inl reached ↦ inl reached
-            | inr (inl ended) ↦ inr (inl (split-ended before start last u t r.following (r.timeout ∷ entries_of older) run ended))
-            | inr (inr waits) ↦ inr (inr waits)
+            | inl off ↦ inl off
+            | inr (inl reached) ↦ inr (inl reached)
+            | inr (inr (inl ended)) ↦ inr (inr (inl (split-ended before start last u t r.following (r.timeout ∷ entries_of older) run ended)))
+            | inr (inr (inr waits)) ↦ inr (inr (inr waits))
           ] where
             here-began : (r ∷ older ≡ [] ⊎ began_at (r ∷ older) ≡ Some at) → began_at (r ∷ older) ≡ Some at
             here-began (inl empty) = absurd (cc)
             here-began (inr is) = is
 
+            in-turn : began_at (r ∷ older) ≡ Some at → (mid : AgentRecord H P) (v : Stream) (old : AgentRecord H P) (z : Stream) → (run_older : RunsOn mac answers before start u (entries_of older) old z)
+                → (number : r.timeout.number ≡ length (entries_of older ++ before)) → (given : GivesBased r.timeout.call) → (step : Step mac answers old z r.timeout.call r.timeout.entry mid v)
+                → (back : RunsOn mac answers ((r.timeout ∷ entries_of older) ++ before) mid v r.following last t) → WaitsAfter older old → Keeps old
+                → Reached (r ∷ older)
+                ⊎ ((IsEndedIn mac answers ((r.timeout ∷ entries_of older) ++ before) mid v r.following last t back path
+                ⊎ IsEndedIn mac answers before start u (r.timeout ∷ entries_of older) mid v (old, z, run_older, number, given, step) path)
+                ⊎ Waits by n path keeps ahead total base r.now (length (r ∷ older)) last)
+            in-turn began mid v old z run_older number given step back w still =
+                let passing = are r (inl refl) in
+                let led_old = run-on mac answers first start old s u z before (entries_of older) led run_older in
+                let led_mid = run-on mac answers first start mid s u v before (r.timeout ∷ entries_of older) led (old, z, run_older, number, given, step) in
+                elim (timeout-on r.now (length older) r.timeout.entry old mid z v passing.done (subst (λ (c : Call P). Step mac answers old z c r.timeout.entry mid v) passing.comes step)
+                (sound-at first s fresh (entries_of older ++ before) old z led_old) (sound-at first s fresh ((r.timeout ∷ entries_of older) ++ before) mid v led_mid)
+                (persists-at r older old began passing w) (turns.none r.now old still) (lasting r (inl refl))) [
+                  | inl (id, out) ↦ inl (inl (r, id, inl refl, out))
+                  | inr still_waits ↦
+                      elim (walk first s fresh r.now (length (r ∷ older)) (falls-late by r passing) (falls-early by r passing) ((r.timeout ∷ entries_of older) ++ before) mid last v t r.following passing.between led_mid back still_waits) [
+                        | inl answered ↦ inl (inr (has-front path r.following (r.timeout ∷ entries_of older) answered))
+                        | inr (inl ended) ↦ inr (inl (inl ended))
+                        | inr (inr waits) ↦ inr (inr waits)
+                      ]
+                ]
+
             on-halves : began_at (r ∷ older) ≡ Some at
                 → (h : (mid : AgentRecord H P) × (v : Stream) × RunsOn mac answers before start u (r.timeout ∷ entries_of older) mid v
                 × RunsOn mac answers ((r.timeout ∷ entries_of older) ++ before) mid v r.following last t)
-                → Reached older ⊎ (IsEndedIn mac answers before start u (entries_of older) h.2.0 h.2.1 h.2.2 path ⊎ WaitsAfter older h.2.0)
-                → Reached (r ∷ older)
+                → OffIn Off (entries_of older) ⊎ (Reached older ⊎ (IsEndedIn mac answers before start u (entries_of older) h.2.0 h.2.1 h.2.2 path ⊎ WaitsAfter older h.2.0))
+                → OffIn Off (entries_of (r ∷ older)) ⊎ (Reached (r ∷ older)
                 ⊎ ((IsEndedIn mac answers ((r.timeout ∷ entries_of older) ++ before) h.0 h.1 r.following last t h.3 path ⊎ IsEndedIn mac answers before start u (r.timeout ∷ entries_of older) h.0 h.1 h.2 path)
-                ⊎ Waits by n path keeps ahead total base r.now (length (r ∷ older)) last)
+                ⊎ Waits by n path keeps ahead total base r.now (length (r ∷ older)) last))
             on-halves began (mid, v, (old, z, run_older, number, given, step), back) so_far =
                 elim so_far [
-                  | inl reached ↦ inl (reached-later r older reached)
-                  | inr (inl ended) ↦ inr (inl (inr (inr ended)))
-                  | inr (inr w) ↦
-                      (let passing = are r (inl refl) in
-                      let led_old = run-on mac answers first start old s u z before (entries_of older) led run_older in
-                      let led_mid = run-on mac answers first start mid s u v before (r.timeout ∷ entries_of older) led (old, z, run_older, number, given, step) in
-                      elim (timeout-on r.now (length older) r.timeout.entry old mid z v passing.done (subst (λ (c : Call P). Step mac answers old z c r.timeout.entry mid v) passing.comes step)
-                      (sound-at first s fresh (entries_of older ++ before) old z led_old) (sound-at first s fresh ((r.timeout ∷ entries_of older) ++ before) mid v led_mid)
-                      (persists-at r older old began passing w) (lasting r (inl refl))) [
-                        | inl (id, out) ↦ inl (inl (r, id, inl refl, out))
-                        | inr still_waits ↦
-                            elim (walk first s fresh r.now (length (r ∷ older)) (falls-late by r passing) (falls-early by r passing) ((r.timeout ∷ entries_of older) ++ before) mid last v t r.following passing.between led_mid back still_waits) [
-                              | inl answered ↦ inl (inr (has-front path r.following (r.timeout ∷ entries_of older) answered))
-                              | inr (inl ended) ↦ inr (inl (inl ended))
-                              | inr (inr waits) ↦ inr (inr waits)
-                            ]
-                      ])
-                ]
+                  | inl off ↦ inl (off-older off)
+                  | inr (inl reached) ↦ inr (inl (reached-later r older reached))
+                  | inr (inr (inl ended)) ↦ inr (inr (inl (inr (inr ended))))
+                  | inr (inr (inr w)) ↦
+                      elim (turn-along mac answers Keeps Off turns first s fresh before start old u z (entries_of older) (of_rounds by older (λ x has. are x (inr has))) led run_older start-keeps) [
+                        | inl off ↦ inl (off-older off)
+                        | inr still ↦ inr (in-turn began mid v old z run_older number given step back w still)
+                      ]
+                ] where
+                  off-older : OffIn Off (entries_of older) → OffIn Off (entries_of (r ∷ older))
+                  off-older (x, has, off) = (x, rear path r.following (r.timeout ∷ entries_of older) x (inr has), off)
 
   module _ (mac : H → List ℕ → List ℕ → List ℕ) (answers : P → CandidateRecord → ℕ → ℕ → Type 0) where
     -- a pair that is not valid never got a response
     lasts-at : (first : AgentRecord H P) (s : Stream) (log : List (Logged P)) → IsFresh first → (before : List (Logged P)) (start last : AgentRecord H P) (part : List (Logged P)) (p : PairRecord)
-        → Part mac answers first s log before start part last → {at by : ℕ} → IsInLine at by start p → (m : ℕ) → IsLasting m start p → answered_at start p m ≡ true
-    lasts-at first s log fresh before start last part p found line m lasting =
-        answered-if start p m (runs_sound mac answers (path_theorem mac answers) first start s found.at before fresh found.led) line.there lasting
+        → Part mac answers first s log before start part last → Has start.pairs p → (m : ℕ) → IsLasting m start p → answered_at start p m ≡ true
+    lasts-at first s log fresh before start last part p found there m lasting =
+        answered-if start p m (runs_sound mac answers (path_theorem mac answers) first start s found.at before fresh found.led) there lasting
 
-    pub pairs-are-reached : PairsAreReached {H = H} {P = P} mac answers
-    pairs-are-reached first s log fresh before start last rounds p by found f =
+    -- a pair is reached in the rounds, unless a call turns it off
+    pub reached-unless : (Keeps : AgentRecord H P → Type 0) (Off : Call P → Entry → Type 0) → InTurn mac answers Keeps Off → (first : AgentRecord H P) (s : Stream) (log : List (Logged P)) → IsFresh first
+        → (before : List (Logged P)) (start last : AgentRecord H P) (rounds : List (LoggedRound P)) (p : PairRecord) (by : ℕ) → (found : Part mac answers first s log before start (entries_of rounds) last)
+        → Sufficing by start rounds last p → Keeps start → OffIn Off (entries_of rounds) ⊎ IsReachedIn mac answers rounds found (path_of start p)
+    reached-unless Keeps Off turns first s log fresh before start last rounds p by found f start-keeps =
         by-rounds (IsEndedIn mac answers before start found.at (entries_of rounds) last found.following found.run (path_of start p)) rounds f.began (let enough = f.enough in omega (arith, enough))
-        (rounds-go mac answers by p.number (path_of start p) (answered_at start p) (goes_ahead start.rules) total start.next_number first s fresh before start found.at found.led f.at begin rounds last found.following (inr f.began) f.passing (λ r has. lasts-at first s log fresh before start last (entries_of rounds) p found f.line r.now (search (f.lasting r has))) found.run) where
+        (rounds-go mac answers by p.number (path_of start p) (answered_at start p) (goes_ahead start.rules) total start.next_number Keeps Off turns first s fresh before start found.at found.led f.at start-keeps begin rounds last found.following (inr f.began) f.passing (λ r has. lasts-at first s log fresh before start last (entries_of rounds) p found f.line.there r.now (search (f.lasting r has))) found.run) where
           total : ℕ
           total = calls_left (goes_ahead start.rules) start.ahead_turn (leads p.number by start.pairs)
 
@@ -423,16 +456,24 @@ module _ {H P : Type 0} where
 
           by-rounds : (Gone : Type 0) (rs : List (LoggedRound P)) → began_at rs ≡ Some f.at
               → times (goes_ahead start.rules) (2 * length start.pairs + last.next_number) ≤ length rs + 1 + times (goes_ahead start.rules) start.next_number
-              → Reached mac answers by p.number (path_of start p) (answered_at start p) (goes_ahead start.rules) total start.next_number rs
-              ⊎ (Gone ⊎ WaitsAfter mac answers by p.number (path_of start p) (answered_at start p) (goes_ahead start.rules) total start.next_number first s fresh before start found.at found.led f.at begin rs last)
-              → ChecksIn rs (path_of start p) ⊎ (IsAnsweredIn (entries_of rs) (path_of start p) ⊎ Gone)
-          by-rounds Gone rs none enough (inl (inl checks)) = inl checks
-          by-rounds Gone rs none enough (inl (inr answered)) = inr (inl answered)
-          by-rounds Gone rs none enough (inr (inl gone)) = inr (inr gone)
-          by-rounds Gone [] none enough (inr (inr w)) = absurd (cc)
-          by-rounds Gone (r ∷ older) began enough (inr (inr w)) =
+              → OffIn Off (entries_of rs) ⊎ (Reached mac answers by p.number (path_of start p) (answered_at start p) (goes_ahead start.rules) total start.next_number rs
+              ⊎ (Gone ⊎ WaitsAfter mac answers by p.number (path_of start p) (answered_at start p) (goes_ahead start.rules) total start.next_number Keeps Off turns first s fresh before start found.at found.led f.at start-keeps begin rs last))
+              → OffIn Off (entries_of rs) ⊎ (ChecksIn rs (path_of start p) ⊎ (IsAnsweredIn (entries_of rs) (path_of start p) ⊎ Gone))
+          by-rounds Gone rs none enough (inl off) = inl off
+          by-rounds Gone rs none enough (inr (inl (inl checks))) = inr (inl checks)
+          by-rounds Gone rs none enough (inr (inl (inr answered))) = inr (inr (inl answered))
+          by-rounds Gone rs none enough (inr (inr (inl gone))) = inr (inr (inr gone))
+          by-rounds Gone [] none enough (inr (inr (inr w))) = absurd (cc)
+          by-rounds Gone (r ∷ older) began enough (inr (inr (inr w))) =
               absurd (calls-over (goes_ahead start.rules) start.ahead_turn last.ahead_turn (leads p.number by start.pairs) (leads p.number by last.pairs) (length start.pairs) start.next_number last.next_number
               (length (r ∷ older)) w.count (leads-others by start.pairs p f.line.there) enough)
+
+    pub pairs-are-reached : PairsAreReached {H = H} {P = P} mac answers
+    pairs-are-reached first s log fresh before start last rounds p by found f =
+        elim (reached-unless (IsPlain mac answers) (Never mac answers) (plain-in-turn mac answers) first s log fresh before start last rounds p by found (sufficing by start rounds last p f) f.line.unnumbered) [
+          | inl (x, has, never) ↦ absurd never
+          | inr reached ↦ reached
+        ]
 
     -- what may end the pair is an entry of the log
     ended-may : (first : AgentRecord H P) (s : Stream) (log part before : List (Logged P)) (start : AgentRecord H P) (u : Stream) (path : Path) → Run mac answers first s before start u

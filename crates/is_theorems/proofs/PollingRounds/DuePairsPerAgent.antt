@@ -58,7 +58,7 @@ module _ {P : Type 0} where
   between_in (SetControlTieBreaker tie_breaker) is = refl
   between_in (SetMaxCandidatePairs n) is = refl
   between_in (SetMaxDiscovered limit) is = refl
-  between_in (SetRenomination renominates) is = refl
+  between_in (SetRenomination renominates) is = no-case is
   between_in (SetTimingAdvance by) is = refl
   between_in (SetLocalPreference object) is = refl
   between_in (SetControlling controlling) is = refl

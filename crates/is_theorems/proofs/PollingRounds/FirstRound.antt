@@ -21,7 +21,7 @@ use Rattle.is_rules.specs.Emitted.{issued_as}
 use Rattle.is_theorems.specs.Logs.{Logged}
 use Rattle.is_rules.specs.Polls.{PollsTimeout, NextTimeoutFrom, NextTimeouts, is_waiting, is_idle}
 use Rattle.is_theorems.specs.Progress.{IsChecking}
-use Rattle.is_theorems.specs.Reached.{IsInLine, IsPassing, IsEndedIn, PairsAreReached, is_in_round}
+use Rattle.is_theorems.specs.Reached.{IsLasting, IsPassing, IsEndedIn, is_in_round}
 use Rattle.is_theorems.specs.Rounds.{LoggedRound, Part, RunsOn, began_at, entries_of}
 use Rattle.is_theorems.specs.Runs.{IsFresh, Run}
 use Rattle.is_rules.specs.Sending.{path_of}
@@ -37,7 +37,7 @@ use Rattle.is_theorems.proofs.EarlierChecks.BetweenTimeouts.{Ground, Goes, groun
 use Rattle.is_theorems.proofs.EarlierChecks.ChangedPairs.{Fixed}
 use Rattle.is_theorems.proofs.DuePairs.FirstDuePair.{due-at, timeout-follows}
 use Rattle.is_theorems.proofs.DuePairs.ChecksAhead.{times, none-suffices}
-use Rattle.is_theorems.proofs.CallEffects.FailedCallsAndNewAgents.{mtu_kept, local_kept, enrolment_kept, storing_kept}
+use Rattle.is_theorems.proofs.CallEffects.FailedCallsAndNewAgents.{mtu_kept, controlling_kept, local_kept, enrolment_kept, storing_kept}
 use Rattle.is_rules.proofs.PairLists.RisingNumbers.{rising-each}
 use Rattle.is_theorems.proofs.CallEffects.ServedRequests.{Has-mapped}
 use Rattle.is_theorems.proofs.DuePairs.PollingCycles.{none-left, maintains_pairs-from, distinct-sound}
@@ -45,8 +45,11 @@ use Rattle.is_theorems.proofs.StoredPairs.PairsThatStay.{none-entered, pairs-sta
 use Rattle.is_theorems.proofs.RuleEffects.SelectedPaths.{one_pair}
 use Rattle.is_theorems.proofs.DuePairs.AfterNominationAndRemoval.{Base, Kept, answered-if, answered-on, answered_at, kept_of, last_time_of, stays-young}
 use Rattle.is_theorems.proofs.EarlierChecks.AddedCandidates.{local-goes, remote-goes}
-use Rattle.is_theorems.specs.FirstTimeouts.{IsReachedIn, PairsAreReachedFromDue}
+use Rattle.is_theorems.specs.FirstTimeouts.{IsReachedIn, PairsAreReachedFromDue, SufficesFromDue}
 use Rattle.is_theorems.proofs.EarlierChecks.FirstTimeout.{Other, timeout-goes}
+use Rattle.is_theorems.proofs.ExecutionLogs.PerAgentExecutions.{either_has}
+use Rattle.is_theorems.proofs.PollingRounds.DuePairsInLogs.{reached-unless}
+use Rattle.is_theorems.proofs.PollingRounds.InTurnAlong.{InTurn, IsOfRound, IsPlain, Lined, Never, OffIn, lined, plain-in-turn, turn-along}
 
 lt-is : (n m : ℕ) → n < m → nat_lt n m ≡ true
 lt-is n m h = grind (arith, nat_tests, h)
@@ -118,7 +121,7 @@ module _ {H P : Type 0} where
     -- ---- the call
 
     pub timeout-on : by ≤ at → (e : Entry) (old new : AgentRecord H P) (s t : Stream) (p : PairRecord) → e.answer ≡ Done → Step mac answers old s (HandleTimeout at) e new t → IsSound old → IsSound new
-        → IsInLine at by old p → ((m : ℕ) → keeps m ≡ true → answered_at old p m ≡ true) → p.number ≡ n → path_of old p ≡ path
+        → Lined at by old p → ((m : ℕ) → keeps m ≡ true → answered_at old p m ≡ true) → p.number ≡ n → path_of old p ≡ path
         → ((id : List ℕ) × (e.emitted.issued ≡ Some (issued_as path class.Request id))) ⊎ (Other old p × Waits by n path keeps at new)
     timeout-on from e old new s t p done step sound sound_new line lasts number on =
         let answered : answered_at old p at ≡ true = answered-if old p at sound line.there (search line.lasting) in
@@ -215,10 +218,12 @@ module _ {H P : Type 0} where
     between-keeps (SetControlTieBreaker tie) e old new s t known last p sound has number on is (reported, made, drawn) = inr (inr (keeps-to n old _ new (refl, λ d cs le f. f) made))
     between-keeps (SetMaxCandidatePairs k) e old new s t known last p sound has number on is (reported, made, drawn) = inr (inr (keeps-to n old _ new (refl, λ d cs le f. f) made))
     between-keeps (SetMaxDiscovered limit) e old new s t known last p sound has number on is (reported, made, drawn) = inr (inr (keeps-to n old _ new (refl, λ d cs le f. f) made))
-    between-keeps (SetRenomination renominates) e old new s t known last p sound has number on is (reported, made, drawn) = inr (inr (keeps-to n old _ new (refl, λ d cs le f. f) made))
+    between-keeps (SetRenomination true) e old new s t known last p sound has number on is step = no-case is
+    between-keeps (SetRenomination false) e old new s t known last p sound has number on is (reported, made, drawn) = inr (inr (keeps-to n old _ new (refl, λ d cs le f. f) made))
     between-keeps (SetTimingAdvance advance) e old new s t known last p sound has number on is (reported, made, drawn) = inr (inr (keeps-to n old _ new (refl, λ d cs le f. f) made))
     between-keeps (SetLocalPreference object) e old new s t known last p sound has number on is (reported, made, drawn) = inr (inr (keeps-to n old _ new (refl, λ d cs le f. f) made))
-    between-keeps (SetControlling controlling) e old new s t known last p sound has number on is (reported, made, drawn) = inr (inr (keeps-to n old _ new (refl, λ d cs le f. f) made))
+    between-keeps (SetControlling controlling) e old new s t known last p sound has number on is (Ok _, reported, h, drawn) = inr (inr (keeps-to n old _ new (refl, λ d cs le f. f) h.1))
+    between-keeps (SetControlling controlling) e old new s t known last p sound has number on is (Err error, reported, h, drawn) = inr (inr (keeps-same n old new (controlling_kept old new controlling error h)))
     between-keeps _ e old new s t known last p sound has number on is step = no-case is
 
     -- ---- the first round
@@ -238,7 +243,7 @@ module _ {H P : Type 0} where
       walk : by ≤ at → (before : List (Logged P)) (start last : AgentRecord H P) (u t : Stream) (xs : List (Logged P)) (timeout : Logged P) (p : PairRecord)
           → ((x : Logged P) → Has xs x → is_in_round x.call ≡ true) → timeout.call ≡ HandleTimeout at → timeout.entry.answer ≡ Done
           → Run mac answers first s before start u → (run : RunsOn mac answers before start u (xs ++ timeout ∷ []) last t)
-          → IsInLine at by start p → ((m : ℕ) → keeps m ≡ true → answered_at start p m ≡ true) → p.number ≡ n → path_of start p ≡ path → Passes before start u xs timeout last t run p
+          → Lined at by start p → ((m : ℕ) → keeps m ≡ true → answered_at start p m ≡ true) → p.number ≡ n → path_of start p ≡ path → Passes before start u xs timeout last t run p
       walk from before start last u t [] timeout p fits comes done led (mid, v, (is, same), numbered, given, step) line lasts number on =
           let here : Run mac answers first s before mid v = subst (λ (a : AgentRecord H P). Run mac answers first s before a v) (sym is) (subst (λ w. Run mac answers first s before start w) (sym same) led) in
           let sound_last = sound-at (timeout ∷ before) last t (mid, v, here, numbered, given, step) in
@@ -274,58 +279,90 @@ module _ {H P : Type 0} where
     oldest x [] = (x.now, refl)
     oldest x (y ∷ older) = oldest y older
 
-    pub reached-from-due : PairsAreReached {H = H} {P = P} mac answers → PairsAreReachedFromDue {H = H} {P = P} mac answers
-    reached-from-due reach first s log fresh before start second last r later p by one others line from comes done between passing lasting enough =
-        elim (walk mac answers by p.number (path_of start p) (answered_at start p) r.now first s fresh (omega (arith, from)) before start second one.at one.following r.following r.timeout p
-        (λ x has. between x has) comes done one.led one.run line (λ m is. is) refl refl) [
-          | inl (id, out) ↦ inl (inl (r, id, inl refl, out))
-          | inr (inl answered) ↦ inl (inr (inl answered))
-          | inr (inr (inl ended)) ↦ inl (inr (inr ended))
-          | inr (inr (inr (other, w))) ↦ elim enough [
-            | inl few ↦ absurd (apart other (omega (arith, few)))
-            | inr many ↦ inr (from-second later others w passing (λ x has. answered-if start p x.now sound line.there (lasting x has)) (omega (arith, many)))
-          ]
-        ] where
-          sound : IsSound start
-          sound = sound-at mac answers by p.number (path_of start p) (answered_at start p) r.now first s fresh before start one.at one.led
+    module _ (Stays : AgentRecord H P → Type 0) (Off : Call P → Entry → Type 0) (turns : InTurn mac answers Stays Off) where
+      -- a pair is reached in the first round, or in later ones, unless a call turns it off
+      pub due-unless : (first : AgentRecord H P) (s : Stream) (log : List (Logged P)) → IsFresh first
+          → (before : List (Logged P)) (start second last : AgentRecord H P) (r : LoggedRound P) (later : List (LoggedRound P)) (p : PairRecord) (by : ℕ)
+          → (one : Part mac answers first s log before start (entries_of (r ∷ [])) second)
+          → (others : Part mac answers first s log (entries_of (r ∷ []) ++ before) second (entries_of later) last)
+          → Lined r.now by start p → Stays start → by ≤ r.now → r.timeout.call ≡ HandleTimeout r.now → r.timeout.entry.answer ≡ Done
+          → ((x : Logged P) → Has r.following x → is_in_round x.call ≡ true) → ((x : LoggedRound P) → Has later x → IsPassing by x)
+          → ((x : LoggedRound P) → Has later x → IsLasting x.now start p) → SufficesFromDue start second last (length later)
+          → (OffIn Off (entries_of (r ∷ [])) ⊎ OffIn Off (entries_of later))
+          ⊎ (IsReachedIn mac answers (r ∷ []) one (path_of start p) ⊎ IsReachedIn mac answers later others (path_of start p))
+      due-unless first s log fresh before start second last r later p by one others line stays from comes done between passing lasting enough =
+          elim (walk mac answers by p.number (path_of start p) (answered_at start p) r.now first s fresh (omega (arith, from)) before start second one.at one.following r.following r.timeout p
+          (λ x has. between x has) comes done one.led one.run line (λ m is. is) refl refl) [
+            | inl (id, out) ↦ inr (inl (inl (r, id, inl refl, out)))
+            | inr (inl answered) ↦ inr (inl (inr (inl answered)))
+            | inr (inr (inl ended)) ↦ inr (inl (inr (inr ended)))
+            | inr (inr (inr (other, w))) ↦ elim enough [
+              | inl few ↦ absurd (apart other (omega (arith, few)))
+              | inr many ↦ elim (turn-along mac answers Stays Off turns first s fresh before start second one.at one.following (entries_of (r ∷ [])) of_first one.led one.run stays) [
+                | inl off ↦ inl (inl off)
+                | inr still ↦ elim (from-second later others w still passing (λ x has. answered-if start p x.now sound line.there (lasting x has)) (omega (arith, many))) [
+                  | inl off ↦ inl (inr off)
+                  | inr reached ↦ inr (inr reached)
+                ]
+              ]
+            ]
+          ] where
+            of_first : (x : Logged P) → Has (entries_of (r ∷ [])) x → IsOfRound x
+            of_first x has = elim (either_has r.following (r.timeout ∷ []) x has) [
+              | inl following ↦ inl (between x following)
+              | inr (inl is) ↦ inr (r.now, ap (λ (y : Logged P). y.call) (sym is) ∙ comes)
+              | inr (inr none) ↦ absurd none
+            ]
 
-          -- it is not the only pair
-          apart : Other start p → length start.pairs ≤ 1 → ⊥
-          apart (o, o_has, is) few =
-              let one : o ≡ p = only-one start.pairs o p few o_has line.there in
-              no-case (sym is ∙ eq-eqb p.number o.number (ap (λ (x : PairRecord). x.number) (sym one)))
+            sound : IsSound start
+            sound = sound-at mac answers by p.number (path_of start p) (answered_at start p) r.now first s fresh before start one.at one.led
 
-          -- the oldest round is one of them
-          began-lasts : (x : LoggedRound P) (older : List (LoggedRound P)) (m : ℕ) → began_at (x ∷ older) ≡ Some m → ((y : LoggedRound P) → Has (x ∷ older) y → answered_at start p y.now ≡ true)
-              → answered_at start p m ≡ true
-          began-lasts x [] m began all = subst (λ k. answered_at start p k ≡ true) (some-is x.now m began) (all x (inl refl))
-          began-lasts x (y ∷ older) m began all = began-lasts y older m began (λ z has. all z (inr has))
+            -- it is not the only pair
+            apart : Other start p → length start.pairs ≤ 1 → ⊥
+            apart (o, o_has, is) few =
+                let one : o ≡ p = only-one start.pairs o p few o_has line.there in
+                no-case (sym is ∙ eq-eqb p.number o.number (ap (λ (x : PairRecord). x.number) (sym one)))
 
-          from-second : (rounds : List (LoggedRound P)) → (found : Part mac answers first s log (entries_of (r ∷ []) ++ before) second (entries_of rounds) last)
-              → Waits by p.number (path_of start p) (answered_at start p) r.now second → ((x : LoggedRound P) → Has rounds x → IsPassing by x)
-              → ((x : LoggedRound P) → Has rounds x → answered_at start p x.now ≡ true) → times (goes_ahead second.rules) (2 * length second.pairs + last.next_number) ≤ length rounds + 1 + times (goes_ahead second.rules) second.next_number
-              → IsReachedIn mac answers rounds found (path_of start p)
-          from-second [] found v passing lasting enough =
-              let some = some-there second.pairs v.pair v.there in
-              let same : last.next_number ≡ second.next_number = ap (λ (a : AgentRecord H P). a.next_number) found.run.0 in
-              absurd (none-suffices (goes_ahead second.rules) (length second.pairs) second.next_number last.next_number some same enough)
-          from-second (x ∷ older) found v passing lasting enough =
-              let began = oldest x older in
-              let due : due_time_of began.0 second.timing v.pair ≡ v.timeout = due-at began.0 v.timeout second.timing v.pair v.due in
-              subst (λ w. IsReachedIn mac answers (x ∷ older) found w) v.on
-              (reach first s log fresh (entries_of (r ∷ []) ++ before) second last (x ∷ older) v.pair by found (record {
-                at = began.0;
-                began = began.1;
-                line = record {
-                  checking = v.checking;
-                  queue = v.queue;
-                  there = v.there;
-                  due = subst (λ d. d ≤ by) (sym due) v.before;
-                  settled = inr (ap is_some v.due);
-                  young = lt-from (unanswered_count v.pair.checks) second.timing.max_retransmits v.young;
-                  lasting = λ valid. v.lasts began.0 (began-lasts x older began.0 began.1 lasting);
-                };
-                passing = passing;
-                lasting = λ y has valid. v.lasts y.now (lasting y has);
-                enough = omega (arith, enough);
-              }))
+            -- the oldest round is one of them
+            began-lasts : (x : LoggedRound P) (older : List (LoggedRound P)) (m : ℕ) → began_at (x ∷ older) ≡ Some m → ((y : LoggedRound P) → Has (x ∷ older) y → answered_at start p y.now ≡ true)
+                → answered_at start p m ≡ true
+            began-lasts x [] m began all = subst (λ k. answered_at start p k ≡ true) (some-is x.now m began) (all x (inl refl))
+            began-lasts x (y ∷ older) m began all = began-lasts y older m began (λ z has. all z (inr has))
+
+            from-second : (rounds : List (LoggedRound P)) → (found : Part mac answers first s log (entries_of (r ∷ []) ++ before) second (entries_of rounds) last)
+                → Waits by p.number (path_of start p) (answered_at start p) r.now second → Stays second → ((x : LoggedRound P) → Has rounds x → IsPassing by x)
+                → ((x : LoggedRound P) → Has rounds x → answered_at start p x.now ≡ true) → times (goes_ahead second.rules) (2 * length second.pairs + last.next_number) ≤ length rounds + 1 + times (goes_ahead second.rules) second.next_number
+                → OffIn Off (entries_of rounds) ⊎ IsReachedIn mac answers rounds found (path_of start p)
+            from-second [] found v still passing lasting enough =
+                let some = some-there second.pairs v.pair v.there in
+                let same : last.next_number ≡ second.next_number = ap (λ (a : AgentRecord H P). a.next_number) found.run.0 in
+                absurd (none-suffices (goes_ahead second.rules) (length second.pairs) second.next_number last.next_number some same enough)
+            from-second (x ∷ older) found v still passing lasting enough =
+                let began = oldest x older in
+                let due : due_time_of began.0 second.timing v.pair ≡ v.timeout = due-at began.0 v.timeout second.timing v.pair v.due in
+                subst (λ w. OffIn Off (entries_of (x ∷ older)) ⊎ IsReachedIn mac answers (x ∷ older) found w) v.on
+                (reached-unless mac answers Stays Off turns first s log fresh (entries_of (r ∷ []) ++ before) second last (x ∷ older) v.pair by found (record {
+                  at = began.0;
+                  began = began.1;
+                  line = record {
+                    checking = v.checking;
+                    queue = v.queue;
+                    there = v.there;
+                    due = subst (λ d. d ≤ by) (sym due) v.before;
+                    settled = inr (ap is_some v.due);
+                    young = lt-from (unanswered_count v.pair.checks) second.timing.max_retransmits v.young;
+                    lasting = λ valid. v.lasts began.0 (began-lasts x older began.0 began.1 lasting);
+                  };
+                  passing = passing;
+                  lasting = λ y has valid. v.lasts y.now (lasting y has);
+                  enough = omega (arith, enough);
+                }) still)
+
+    pub reached-from-due : PairsAreReachedFromDue {H = H} {P = P} mac answers
+    reached-from-due first s log fresh before start second last r later p by one others line from comes done between passing lasting enough =
+        elim (due-unless (IsPlain mac answers) (Never mac answers) (plain-in-turn mac answers) first s log fresh before start second last r later p by one others (lined r.now by start p line) line.unnumbered
+        (omega (arith, from)) comes done (λ x has. between x has) (λ x has. passing x has) (λ x has. lasting x has) enough) [
+          | inl (inl (x, has, never)) ↦ absurd never
+          | inl (inr (x, has, never)) ↦ absurd never
+          | inr reached ↦ reached
+        ]

@@ -1,13 +1,13 @@
 -- A controlling agent without a valid pair that is due by its first `handle_timeout` call has none after the round either, or selects
 -- a path in it. So what holds of pairs that are due before the rounds holds of it from the second round on.
-use Rattle.std.proofs.Common.{◌≡◌, ℕ, ◌<◌, ◌≤◌, Bool, true, false, List, [], ◌∷◌, ◌++◌, length, map, Option, Some, None, is_some, inl, inr, ◌⊎◌, refl, ap, sym, ◌∙◌, subst, arith}
+use Rattle.std.proofs.Common.{◌≡◌, ℕ, ◌<◌, ◌≤◌, Bool, true, List, [], ◌∷◌, ◌++◌, length, Some, None, is_some, inl, inr, ◌⊎◌, refl, ap, sym, ◌∙◌, subst, arith}
 use Rattle.std.proofs.lemmas.Bool.{eq-eqb}
 use Rattle.rand_core.specs.Stream.{Stream}
 use Rattle.is_proto.specs.Lists.{Has}
 use Rattle.is_candidate.specs.Candidates.{CandidateRecord}
 use Rattle.is_pair.specs.Checks.{unanswered_count}
-use Rattle.is_pair.specs.Due.{asked, due_time_of}
-use Rattle.is_pair.specs.Pairs.{PairRecord, is_valid}
+use Rattle.is_pair.specs.Due.{due_time_of}
+use Rattle.is_pair.specs.Pairs.{PairRecord}
 use Rattle.is_pair.specs.Turns.{IsPaced}
 use Rattle.is_stun.specs.declared.header.Class.TheVariants as class
 use Rattle.is_stun.specs.declared.timing.StunTiming.{StunTiming}
@@ -19,9 +19,7 @@ use Rattle.is_theorems.specs.Courses.{CourseRound, AcceptsSuccess, SelectsAmong,
 use Rattle.is_rules.specs.declared.emitted.Path.{Path}
 use Rattle.is_rules.specs.Effects.{last_of}
 use Rattle.is_theorems.specs.Exchange.{AreBetween, Course}
-use Rattle.is_rules.specs.Polls.{PollsTimeout}
 use Rattle.is_rules.specs.Points.{HasSelected}
-use Rattle.is_theorems.specs.Reached.{IsInLine}
 use Rattle.is_theorems.specs.ReachedCourses.{IsPassed, ChecksAmong, CoursesCheck}
 use Rattle.is_theorems.specs.Rounds.{is_between}
 use Rattle.is_theorems.specs.Runs.{IsFresh}
@@ -30,13 +28,13 @@ use Rattle.is_rules.specs.Sound.{IsSound, GivesBased}
 use Rattle.is_theorems.specs.Staying.{MayEnd}
 use Rattle.is_rules.specs.Steps.{Call, Entry, Flag, ReceivePacket, HandleTimeout, PollTransmit, PollTimeout, PollEvent, Step}
 use Rattle.is_rules.specs.Timeouts.{timeout_begun}
-use Rattle.is_theorems.proofs.DuePairs.AfterPackets.{NoneValid, receives}
+use Rattle.is_theorems.proofs.DuePairs.AfterPackets.{NoneValid}
+use Rattle.is_theorems.proofs.DuePairs.NoNominationDue.{NoneIsDue, Quiet, due-none, none-is-due, quiet-call, quiet-timeout}
+use Rattle.is_theorems.proofs.PollingRounds.InTurnAlong.{Lined, lined-unanswered}
 use Rattle.is_theorems.proofs.PathSelection.NominatedByPeerPerAgent.{course_on}
 use Rattle.is_theorems.proofs.CallEffects.PathAndTradeEffects.{path_theorem}
-use Rattle.is_theorems.proofs.CallEffects.AddedCandidates.{by_waking}
 use Rattle.is_theorems.proofs.ExecutionLogs.LogSegments.{no-case, passed as passed-at}
 use Rattle.is_theorems.proofs.EarlierChecks.BetweenTimeouts.{Ground}
-use Rattle.is_theorems.proofs.RuleEffects.ChangedPairs.{Has-map}
 use Rattle.is_theorems.proofs.DuePairs.FirstDuePair.{Follows, due-at, timeout-follows}
 use Rattle.is_theorems.proofs.CallEffects.FailedCallsAndNewAgents.{fresh_sound}
 use Rattle.is_theorems.proofs.DuePairs.PollingCycles.{maintains_pairs-from}
@@ -57,9 +55,13 @@ module _ {H P : Type 0} where
     pub waits : Waits by n path keeps at a
     pub invalid : NoneValid a.pairs
     pub role : a.controlling ≡ true
+    pub quiet : NoneIsDue a
     pub paced : IsPaced a.timing
 
   module _ (mac : H → List ℕ → List ℕ → List ℕ) (answers : P → CandidateRecord → ℕ → ℕ → Type 0) (by n : ℕ) (path : Path) (keeps : ℕ → Bool) (at : ℕ) where
+    calm-quiet : (a : AgentRecord H P) → Calm by n path keeps at a → Quiet a
+    calm-quiet a c = record { full = c.waits.checking.full; invalid = c.invalid; quiet = c.quiet }
+
     -- ---- what comes after the call
 
     plain-stays : (old : AgentRecord H P) (c : Call P) (e : Entry) (p : PairRecord) → is_between c ≡ true → MayEnd answers old c e p → ⊥
@@ -71,28 +73,18 @@ module _ {H P : Type 0} where
 
     -- the pair still waits, if none became valid
     still : by ≤ at → (call : Call P) (e : Entry) (old new : AgentRecord H P) (s t : Stream) → is_between call ≡ true → GivesBased call → Calm by n path keeps at old → IsSound old → IsSound new
-        → Step mac answers old s call e new t → new.controlling ≡ true → NoneValid new.pairs → Keeps n old new → Calm by n path keeps at new
-    still from call e old new s t is given c sound sound_new step role invalid held =
+        → Step mac answers old s call e new t → new.controlling ≡ true → NoneValid new.pairs → NoneIsDue new → Keeps n old new → Calm by n path keeps at new
+    still from call e old new s t is given c sound sound_new step role invalid quiet held =
         elim (pairs-stay mac answers old new s t call e c.waits.pair sound given step c.waits.there) [
           | inr ends ↦ absurd (plain-stays old call e c.waits.pair is ends)
           | inl stays ↦ record {
             waits = waits-on mac answers by n path keeps at from old new c.waits sound_new held stays;
             invalid = invalid;
             role = role;
+            quiet = quiet;
             paced = subst (λ (z : StunTiming). IsPaced z) (sym (ap (λ (g : Ground). g.timing) held.0)) c.paced;
           }
         ]
-
-    asked-invalid : (now : ℕ) (t : StunTiming) (ps : List PairRecord) → NoneValid ps → NoneValid (map (asked now t) ps)
-    asked-invalid now t ps none q has = let o = Has-map (asked now t) ps q has in ap (λ (x : PairRecord). is_valid x) (sym o.2) ∙ none o.0 o.1
-
-    as-invalid : (old needed new : AgentRecord H P) → NoneValid needed.pairs → new ≡ needed → NoneValid new.pairs
-    as-invalid old needed new none made = subst (λ (a : AgentRecord H P). NoneValid a.pairs) (sym made) none
-
-    timed_out-invalid : (old new : AgentRecord H P) (deadline : Option ℕ) → NoneValid old.pairs → PollsTimeout old deadline new → NoneValid new.pairs
-    timed_out-invalid old new deadline none h = by_waking old new deadline h
-        (λ made. as-invalid old old new none made)
-        (λ now made. as-invalid old (record old { pairs = map (asked now old.timing) old.pairs }) new (asked-invalid now old.timing old.pairs none) made)
 
     -- a success response selects a path
     module _ (select : SuccessesSelect {H = H} {P = P} mac answers) (first : AgentRecord H P) (fresh : IsFresh first) where
@@ -113,21 +105,30 @@ module _ {H P : Type 0} where
       pub on-call : by ≤ at → (call : Call P) (e : Entry) (old new : AgentRecord H P) (s t : Stream) (zs : List (Call P × Entry)) → Course mac answers zs first old → is_between call ≡ true → GivesBased call
           → Calm by n path keeps at old → IsSound old → IsSound new → Step mac answers old s call e new t → new.controlling ≡ true → Selects call e ⊎ Calm by n path keeps at new
       on-call from (ReceivePacket now via bytes) e old new s t zs led is given c sound sound_new step role =
-          elim (receives mac 0 1 (omega arith) (omega arith) answers (record { at = now; via = via; bytes = bytes; entry = e }) old new s t c.waits.checking.peer c.role c.waits.checking.full c.invalid role step) [
-            | inl (m, reads, flag, success) ↦ inl (selects now via bytes e m old new s t zs led c.invalid step role reads flag success)
-            | inr (core, grown, spares) ↦
+          elim (quiet-call mac answers (ReceivePacket now via bytes) e old new s t refl sound tt (calm-quiet old c) step) [
+            | inl (when, by_path, m, (now_is, path_is, reads, flag), success) ↦ inl (selects now via bytes e m old new s t zs led c.invalid step role reads flag success)
+            | inr q ↦
                 elim (between-keeps mac answers by n path keeps at (ReceivePacket now via bytes) e old new s t c.waits.checking.peer c.waits.last c.waits.pair sound c.waits.there c.waits.number c.waits.on refl step) [
                   | inl (when, by_path, m, (now_is, path_is, reads, flag), success, back) ↦ inl (selects now via bytes e m old new s t zs led c.invalid step role reads flag success)
                   | inr (inl ends) ↦ absurd ends
-                  | inr (inr held) ↦ inr (still from (ReceivePacket now via bytes) e old new s t is given c sound sound_new step role (spares.invalid c.invalid) held)
+                  | inr (inr held) ↦ inr (still from (ReceivePacket now via bytes) e old new s t is given c sound sound_new step role q.invalid q.quiet held)
                 ]
           ]
       on-call from PollTransmit e old new s t zs led is given c sound sound_new (packet, emitted, (polled, made), drawn) role =
-          inr (still from PollTransmit e old new s t is given c sound sound_new (packet, emitted, (polled, made), drawn) role (as-invalid old _ new c.invalid made) (keeps-to n old _ new (refl, λ d cs le f. f) made))
+          elim (quiet-call mac answers PollTransmit e old new s t refl sound tt (calm-quiet old c) (packet, emitted, (polled, made), drawn)) [
+            | inl (when, by_path, m, none, success) ↦ absurd none
+            | inr q ↦ inr (still from PollTransmit e old new s t is given c sound sound_new (packet, emitted, (polled, made), drawn) role q.invalid q.quiet (keeps-to n old _ new (refl, λ d cs le f. f) made))
+          ]
       on-call from PollTimeout e old new s t zs led is given c sound sound_new (deadline, emitted, timed_out, drawn) role =
-          inr (still from PollTimeout e old new s t is given c sound sound_new (deadline, emitted, timed_out, drawn) role (timed_out-invalid old new deadline c.invalid timed_out) (asks-keeps n at old new deadline c.waits.last timed_out))
+          elim (quiet-call mac answers PollTimeout e old new s t refl sound tt (calm-quiet old c) (deadline, emitted, timed_out, drawn)) [
+            | inl (when, by_path, m, none, success) ↦ absurd none
+            | inr q ↦ inr (still from PollTimeout e old new s t is given c sound sound_new (deadline, emitted, timed_out, drawn) role q.invalid q.quiet (asks-keeps n at old new deadline c.waits.last timed_out))
+          ]
       on-call from PollEvent e old new s t zs led is given c sound sound_new (event, emitted, (polled, made), drawn) role =
-          inr (still from PollEvent e old new s t is given c sound sound_new (event, emitted, (polled, made), drawn) role (as-invalid old _ new c.invalid made) (keeps-to n old _ new (refl, λ d cs le f. f) made))
+          elim (quiet-call mac answers PollEvent e old new s t refl sound tt (calm-quiet old c) (event, emitted, (polled, made), drawn)) [
+            | inl (when, by_path, m, none, success) ↦ absurd none
+            | inr q ↦ inr (still from PollEvent e old new s t is given c sound sound_new (event, emitted, (polled, made), drawn) role q.invalid q.quiet (keeps-to n old _ new (refl, λ d cs le f. f) made))
+          ]
       on-call from _ e old new s t zs led is given c sound sound_new step role = no-case is
 
       walk : by ≤ at → (xs : List (Call P × Entry)) (old new : AgentRecord H P) (zs : List (Call P × Entry)) → Course mac answers zs first old → AreBetween xs → IsSound old
@@ -170,16 +171,12 @@ module _ {H P : Type 0} where
       to-next : Course mac answers ((xs ++ (HandleTimeout r.now, r.timeout) ∷ []) ++ r.following) first run.1
       to-next = course_on mac answers (xs ++ (HandleTimeout r.now, r.timeout) ∷ []) r.following first run.0 run.1 to-mid run.6
 
-      line : IsInLine r.now by start p
-      line = record {
-        checking = waits.checking;
-        queue = waits.queue;
-        there = waits.there;
-        due = (let due = waits.due in omega (arith, due));
-        settled = inl (let none = unanswered.invalid in none p waits.there);
-        young = (let young = unanswered.young in omega (arith, young));
-        lasting = λ valid. (let no : true ≡ false = sym valid ∙ (let none = unanswered.invalid in none p waits.there) in absurd (cc));
-      }
+      line : Lined r.now by start p
+      line = lined-unanswered r.now by start p waits unanswered
+
+      quiet : Quiet run.0
+      quiet = quiet-timeout mac answers r.now r.timeout start run.0 run.2 run.3 sound_start
+          (record { full = waits.checking.full; invalid = λ q has. (let none = unanswered.invalid in none q has); quiet = due-none start sound_start role waits.checking.full unanswered.calm }) run.4
 
       -- what the call leaves of the others
       after-call : (agent_base run.0 ≡ record (agent_base (timeout_begun r.now start)) { last_time = Some r.now; ahead_turn = run.0.ahead_turn }) × Follows start.pairs run.0.pairs
@@ -208,7 +205,7 @@ module _ {H P : Type 0} where
             there = v.there;
             due = subst (λ d. d ≤ by) (sym due) v.before;
           })
-          (record { invalid = c.invalid; young = lt-from (unanswered_count v.pair.checks) run.1.timing.max_retransmits v.young }) more passing (omega (arith, many, enough)))
+          (record { calm = none-is-due run.1 c.quiet; invalid = c.invalid; young = lt-from (unanswered_count v.pair.checks) run.1.timing.max_retransmits v.young }) more passing (omega (arith, many, enough)))
 
       from-first : (length start.pairs ≤ 1) ⊎ AreAsManyAsDue by run.1 (times_of later) → ChecksAmong (r ∷ later) path ⊎ SelectsAmong (r ∷ later)
       from-first enough = elim (timeout-on mac answers by p.number path (answered_at start p) r.now (omega (arith, from)) r.timeout start run.0 run.2 run.3 p done run.4 sound_start sound_mid line (λ m is. is) refl refl) [
@@ -218,8 +215,9 @@ module _ {H P : Type 0} where
           | inr many ↦ elim (walk mac answers by p.number path (answered_at start p) r.now select first fresh (omega (arith, from)) r.following run.0 run.1 (xs ++ (HandleTimeout r.now, r.timeout) ∷ []) to-mid (λ x has. between x has) sound_mid run.6 run.7
               (record {
                 waits = w;
-                invalid = λ q has. (let o = after-call.1.back q has in o.2.valid ∙ (let none = unanswered.invalid in none o.0 o.1));
+                invalid = quiet.invalid;
                 role = run.5;
+                quiet = quiet.quiet;
                 paced = subst (λ (z : StunTiming). IsPaced z) (sym (ap (λ (b : Base). b.timing) after-call.0)) waits.paced;
               })) [
                 | inl (x, has, (accepts, selected_paths)) ↦ inr (r, inl refl, (x, has, accepts, selected_paths))

@@ -27,6 +27,7 @@ use Rattle.is_theorems.proofs.ExecutionLogs.LogSegments.{no-case, run-on}
 use Rattle.is_theorems.proofs.ExecutionLogs.PointsOfSegments.{deeper}
 use Rattle.is_theorems.specs.NotStarved.{AreSteady, NoneIsStarved, is_steady, is_timeout, timeout_count}
 use Rattle.is_theorems.proofs.RemainingChecks.PairsThatRequestsAdd.{requests-add-few}
+use Rattle.is_theorems.proofs.BasicLemmas.EqualAddresses.{both}
 
 -- ---- numbers
 

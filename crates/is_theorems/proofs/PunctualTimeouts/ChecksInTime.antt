@@ -44,6 +44,8 @@ use Rattle.is_theorems.specs.FirstTimeouts.{AreInRound, IsOpenRound, EndsAmong, 
 use Rattle.is_theorems.specs.InTime.{ChecksBy, ComeBy, CoursesCheckInTime, CoursesReachInTime, IsPrompt, IsPunctual, IsReachedBy, IsTimed, KeepsPace, NextComesInTime, RoundsComeInTime}
 use Rattle.is_theorems.specs.Pacing.{advance_after}
 use Rattle.is_theorems.proofs.PollingRounds.FirstRoundWithoutValidPair.{Calm, Selects, on-call}
+use Rattle.is_theorems.proofs.DuePairs.NoNominationDue.{NoneIsDue, Quiet, due-none, quiet-timeout}
+use Rattle.is_theorems.proofs.PollingRounds.InTurnAlong.{Lined, lined, lined-unanswered}
 use Rattle.is_theorems.proofs.PollingRounds.FirstRound.{Waits, between-keeps, lt-from, timeout-on, waits-on}
 use Rattle.is_theorems.proofs.PunctualTimeouts.UnchangedPacing.{pacing-is-set}
 
@@ -150,7 +152,7 @@ module _ {H P : Type 0} where
 
     -- ---- rounds
 
-    in-line : (at now : ℕ) (a : AgentRecord H P) → (w : Waits by n path keeps at a) → IsLasting now a w.pair → IsInLine now by a w.pair
+    in-line : (at now : ℕ) (a : AgentRecord H P) → (w : Waits by n path keeps at a) → IsLasting now a w.pair → Lined now by a w.pair
     in-line at now a w lasting =
         let due : due_time_of now a.timing w.pair ≡ w.timeout = due-at now w.timeout a.timing w.pair w.due in
         record {
@@ -163,7 +165,7 @@ module _ {H P : Type 0} where
           lasting = lasting;
         }
 
-    timely : (r : CourseRound P) (later : List (CourseRound P)) (old last : AgentRecord H P) (p : PairRecord) → IsSound old → IsInLine r.now by old p
+    timely : (r : CourseRound P) (later : List (CourseRound P)) (old last : AgentRecord H P) (p : PairRecord) → IsSound old → Lined r.now by old p
         → ((m : ℕ) → keeps m ≡ true → answered_at old p m ≡ true) → p.number ≡ n → path_of old p ≡ path
         → by ≤ r.now → r.timeout.answer ≡ Done → AreInRound r.following → (run : PassRounds mac answers (r ∷ later) old last) → ((x : CourseRound P) → Has later x → IsOpenRound by x)
         → ((x : CourseRound P) → Has later x → keeps x.now ≡ true) → old.timing_advance ≤ pace → ((x : CourseRound P) → Has (r ∷ later) x → KeepsPace pace x.following) → IsPunctual delay r later
@@ -205,7 +207,7 @@ module _ {H P : Type 0} where
         let sound : IsSound start = sound-after first start xs fresh course in
         let sound_mid : IsSound mid = (path_theorem mac answers start mid s t (HandleTimeout now) timeout sound tt step).1 in
         let same : mid.timing_advance ≡ start.timing_advance = pacing-is-set mac answers start mid s t (HandleTimeout now) timeout step in
-        elim (timeout-on mac answers by p.number (path_of start p) (answered_at start p) now (omega (arith, from)) timeout start mid s t p done step sound sound_mid line (λ m is. is) refl refl) [
+        elim (timeout-on mac answers by p.number (path_of start p) (answered_at start p) now (omega (arith, from)) timeout start mid s t p done step sound sound_mid (lined now by start p line) (λ m is. is) refl refl) [
           | inl checks ↦ inr (inl checks)
           | inr (other, w) ↦ elim (walk mac answers pace delay by p.number (path_of start p) (answered_at start p) now (omega (arith, from)) following mid after w sound_mid (omega (arith, slow, same)) (λ y k has. keeps y k has) (λ y has. between y has) more) [
             | inl answered ↦ inr (inr (inl answered))
@@ -216,7 +218,7 @@ module _ {H P : Type 0} where
 
     pub rounds-come-in-time : RoundsComeInTime {H = H} {P = P} mac answers
     rounds-come-in-time first start last xs r later p by pace delay fresh course line from done early between run opens lasting timed =
-        timely mac answers pace delay by p.number (path_of start p) (answered_at start p) r later start last p (sound-after first start xs fresh course) line (λ m is. is) refl refl (omega (arith, from)) done
+        timely mac answers pace delay by p.number (path_of start p) (answered_at start p) r later start last p (sound-after first start xs fresh course) (lined r.now by start p line) (λ m is. is) refl refl (omega (arith, from)) done
         (λ y has. between y has) run opens (λ x has. answered-if start p x.now (sound-after first start xs fresh course) line.there (lasting x has)) (let begins = timed.begins in omega (arith, begins)) timed.keeps timed.punctual
 
     -- ---- the rounds that suffice
@@ -366,11 +368,12 @@ module _ {H P : Type 0} where
 
       -- no pair is valid, and this one is due
       record Open (now : ℕ) (a : AgentRecord H P) (p : PairRecord) : Type 0 where
-        line : IsInLine now by a p
+        line : Lined now by a p
         number : p.number ≡ n
         on : path_of a p ≡ path
         invalid : NoneValid a.pairs
         role : a.controlling ≡ true
+        quiet : NoneIsDue a
         paced : IsPaced a.timing
 
       calm-timely : (r : CourseRound P) (later : List (CourseRound P)) (old last : AgentRecord H P) (zs : List (Call P × Entry)) (p : PairRecord) → Course mac answers zs first old → IsSound old
@@ -385,6 +388,8 @@ module _ {H P : Type 0} where
           let m : suc (length later) * (pace + delay) ≡ length later * (pace + delay) + (pace + delay) = suc-mul (length later) (pace + delay) in
           let to-mid : Course mac answers (zs ++ (HandleTimeout r.now, r.timeout) ∷ []) first mid =
           course_on mac answers zs ((HandleTimeout r.now, r.timeout) ∷ []) first old mid led (mid, s, t, tt, step, refl) in
+          let still : Quiet mid = quiet-timeout mac answers r.now r.timeout old mid s t sound
+          (record { full = unchanged_step.line.checking.full; invalid = unchanged_step.invalid; quiet = unchanged_step.quiet }) step in
           let after-call = timeout-follows mac r.now (timeout_begun r.now old) mid s t r.timeout.emitted unchanged_step.line.checking.peer unchanged_step.line.checking.full
           (maintains_pairs-from mac r.now old s t r.timeout.emitted mid unchanged_step.line.queue (passed-at mac answers old mid s t r.now r.timeout done step)) in
           elim (timeout-on mac answers by n path keeps r.now (omega (arith, from)) r.timeout old mid s t p done step sound sound_mid unchanged_step.line
@@ -393,8 +398,9 @@ module _ {H P : Type 0} where
             | inr (other, w) ↦ elim (calm-walk r.now (omega (arith, from)) r.following mid after (zs ++ (HandleTimeout r.now, r.timeout) ∷ []) to-mid (λ y has. between y has) sound_mid course along
                 (record {
                   waits = w;
-                  invalid = λ q has. (let o = after-call.1.back q has in o.2.valid ∙ unchanged_step.invalid o.0 o.1);
+                  invalid = still.invalid;
                   role = role;
+                  quiet = still.quiet;
                   paced = subst (λ (z : StunTiming). IsPaced z) (sym (ap (λ (b : Base). b.timing) after-call.0)) unchanged_step.paced;
                 }) (omega (arith, slow, same)) (keeping r (inl refl))) [
                   | inl (y, has, (accepts, selected_paths)) ↦ inr (inr (r, inl refl, (y, has, accepts, selected_paths)))
@@ -411,6 +417,7 @@ module _ {H P : Type 0} where
                         on = c.waits.on;
                         invalid = c.invalid;
                         role = c.role;
+                        quiet = c.quiet;
                         paced = c.paced;
                       })
                       (omega (arith, late)) round.done (λ y has. (let fits = round.between in fits y has)) more (λ y has. opens y (inr has))
@@ -426,19 +433,12 @@ module _ {H P : Type 0} where
     courses-check-in-time check select first start last xs r later p by pace delay fresh course role waits unanswered from done early between run passing enough timed =
         elim (calm-timely pace delay by p.number (path_of start p) (answered_at start p) select first fresh r later start last xs p course (sound-after first start xs fresh course)
         (record {
-          line = record {
-            checking = waits.checking;
-            queue = waits.queue;
-            there = waits.there;
-            due = (let due = waits.due in omega (arith, due));
-            settled = inl (let none = unanswered.invalid in none p waits.there);
-            young = (let young = unanswered.young in omega (arith, young));
-            lasting = λ valid. (let none = unanswered.invalid in never valid (none p waits.there));
-          };
+          line = lined-unanswered r.now by start p waits unanswered;
           number = refl;
           on = refl;
           invalid = λ q has. (let none = unanswered.invalid in none q has);
           role = role;
+          quiet = due-none start (sound-after first start xs fresh course) role waits.checking.full unanswered.calm;
           paced = waits.paced;
         }) (omega (arith, from)) done (λ y has. between y has) run passing (let begins = timed.begins in omega (arith, begins)) timed.keeps timed.punctual) [
           | inr reached ↦ reached

@@ -1,5 +1,5 @@
 -- Each transition leaves the pacing interval, except that `set_timing_advance` sets it.
-use Rattle.std.proofs.Common.{◌≡◌, ℕ, ◌==◌, Bool, true, false, List, Option, Some, None, Ok, Err, inl, inr, ap, ◌∙◌, ◌&&◌}
+use Rattle.std.proofs.Common.{◌≡◌, ℕ, ◌==◌, Bool, true, false, List, Option, Some, None, Ok, Err, inl, inr, ap, ◌∙◌, ◌&&◌, not}
 use Rattle.std.specs.List.{list_any}
 use Rattle.std.specs.Prelude.{MatchBool, MatchOption}
 use Rattle.rand_core.specs.Stream.{Stream}
@@ -25,10 +25,10 @@ use Rattle.is_rules.specs.declared.emitted.Issued.{Issued}
 use Rattle.is_rules.specs.declared.emitted.Path.{Path}
 use Rattle.is_rules.specs.Discarding.{place_to_discard, InvalidatesAt}
 use Rattle.is_rules.specs.Forming.{formed, with_pair, Combination, FormsAll}
-use Rattle.is_rules.specs.Nominating.{followed, remains, selection_of, Nominates}
+use Rattle.is_rules.specs.Nominating.{followed, numbers, remains, selection_of, Nominates}
 use Rattle.is_rules.specs.Places.{local_place}
 use Rattle.is_rules.specs.Request.{RequestRecord, request_in}
-use Rattle.is_rules.specs.Roles.{conflict_of, switched}
+use Rattle.is_rules.specs.Roles.{conflict_of, switched, keeps_role}
 use Rattle.is_rules.specs.Serving.{is_misled, names_another, pair_served, request_counted, selects_at_requests, with_sender, with_sender_at, Drops, Queues, RecordsAndResponds, FindsOrAddsPair, AddsUnknownSender, CountsAndServes, ResolvesRoleConflictBy, ResolvesRoleConflict, Serves}
 use Rattle.is_rules.specs.Steps.{SetMtu, SetControlTieBreaker, SetMaxCandidatePairs, SetMaxDiscovered, SetIceLite, SetRenomination, SetRules, SetTimingAdvance, SetInitialStunRto, SetMaxStunRto, SetMaxStunRetransmits, SetLiteTimeout, SetLocalPreference, SetControlling, SetLocalCredentials, SetRemoteCredentials, SkipPairIds, AddLocalCandidate, AddRemoteCandidate, InvalidateCandidate, RestartIce, RecreateCandidatePairs, ReceivePacket, HandleTimeout, PollTransmit, PollTimeout, PollEvent, Entry, Becomes, Receives, NotCalled, quiet}
 use Rattle.is_rules.specs.Settings.{with_retransmits}
@@ -37,7 +37,7 @@ use Rattle.is_rules.specs.Queue.{request_at}
 use Rattle.is_theorems.proofs.CallEffects.AddedCandidates.{by_adding_local, by_adding_remote, by_waking}
 use Rattle.is_theorems.proofs.RuleEffects.UnchangedSettings.{either}
 use Rattle.is_theorems.proofs.RuleEffects.NominatedPairs.{SelectsPath, selects_path}
-use Rattle.is_theorems.proofs.CallEffects.FailedCallsAndNewAgents.{mtu_kept, local_kept, remote_kept, restart_kept, recreation_kept, enrolment_kept, storing_kept}
+use Rattle.is_theorems.proofs.CallEffects.FailedCallsAndNewAgents.{mtu_kept, controlling_kept, local_kept, remote_kept, restart_kept, recreation_kept, enrolment_kept, storing_kept}
 use Rattle.is_theorems.specs.Pacing.{PacingIsSet}
 
 -- what the times of timeouts depend on, pairs aside
@@ -48,6 +48,8 @@ pub record Clock : Type 0 where
 
 pub record Pace : Type 0 where
   pub timing_advance : ℕ
+  -- nominations have numbers
+  pub numbered : Bool
   pub clock : Clock
 
 module _ {H P : Type 0} where
@@ -55,7 +57,7 @@ module _ {H P : Type 0} where
   clock_of a = record { lite = a.lite; timing = a.timing; last_time = a.last_time }
 
   abbrev pub pace_of : AgentRecord H P → Pace
-  pace_of a = record { timing_advance = a.timing_advance; clock = clock_of a }
+  pace_of a = record { timing_advance = a.timing_advance; numbered = numbers a; clock = clock_of a }
 
   abbrev Same : AgentRecord H P → AgentRecord H P → Type 0
   Same old new = pace_of new ≡ pace_of old
@@ -85,7 +87,7 @@ module _ {H P : Type 0} where
       (λ _ k. expired k)
       (λ _ k. made-of old new k.1) where
         expired : LeavesRole old via m emitted new → Same old new
-        expired (p, c, has, keeps, kept, is, acts) = either (same c.controlling old.controlling) acts
+        expired (p, c, has, keeps, kept, is, acts) = either (same c.controlling old.controlling && not (keeps_role old)) acts
             (λ _ k. made-of (switched old) new k.1)
             (λ _ k. made-of old new k.1)
 
@@ -176,6 +178,11 @@ module _ {H P : Type 0} where
     times-out now None old new s t emitted h = ap (λ (p : Pace). p.timing_advance) (maintains now old new s t emitted h)
     times-out now (Some q) old new s t emitted h = ap (λ (p : Pace). p.timing_advance) (serves q _ new emitted h.0)
 
+    pub times-out-numbered : (now : ℕ) (request : Option RequestRecord) (old new : AgentRecord H P) (s t : Stream) (emitted : Emitted)
+        → MatchOption request (MaintainsPairs mac now old s emitted new t) (λ q. ServesQueued mac q (at_request now old) s emitted new t) → numbers new ≡ numbers old
+    times-out-numbered now None old new s t emitted h = ap (λ (p : Pace). p.numbered) (maintains now old new s t emitted h)
+    times-out-numbered now (Some q) old new s t emitted h = ap (λ (p : Pace). p.numbered) (serves q _ new emitted h.0)
+
   -- ---- the other calls
 
   paced-of : (old new : AgentRecord H P) → new ≡ old → new.timing_advance ≡ old.timing_advance
@@ -210,7 +217,8 @@ module _ {H P : Type 0} where
     pacing-is-set old new s t (SetMaxStunRetransmits n) e h = retransmits (n == 0) n old new s t e h
     pacing-is-set old new s t (SetLiteTimeout by) e h = paced-of _ new h.1
     pacing-is-set old new s t (SetLocalPreference object) e h = paced-of _ new h.1
-    pacing-is-set old new s t (SetControlling controlling) e h = paced-of _ new h.1
+    pacing-is-set old new s t (SetControlling controlling) e (Ok _, reported, h, drawn) = paced-of _ new h.1
+    pacing-is-set old new s t (SetControlling controlling) e (Err error, reported, h, drawn) = paced-of old new (controlling_kept old new controlling error h)
     pacing-is-set old new s t (SetLocalCredentials creds) e (Ok _, reported, h, drawn) = paced-of _ new h.1
     pacing-is-set old new s t (SetLocalCredentials creds) e (Err error, reported, h, drawn) = paced-of old new (local_kept old new creds error h)
     pacing-is-set old new s t (SetRemoteCredentials creds) e (Ok _, reported, h, drawn) = paced-of _ new h.1

@@ -10,10 +10,10 @@ use Rattle.rand_core.specs.Stream.{Stream}
 use Rattle.is_proto.specs.Lists.{same}
 use Rattle.is_proto.specs.declared.error.IceError.{IceError}
 use Rattle.is_candidate.specs.Candidates.{CandidateRecord, candidate_at}
-use Rattle.is_pair.specs.Multiset.{change_at, is_numbered, is_valid_at, rises}
+use Rattle.is_pair.specs.Multiset.{change_at, is_numbered, is_valid_at, rises, change_pair}
 use Rattle.is_pair.specs.Due as due
 use Rattle.is_pair.specs.Due.{asked}
-use Rattle.is_pair.specs.Pairs.{PairRecord, is_nominated, checked, validated, with_request}
+use Rattle.is_pair.specs.Pairs.{PairRecord, is_nominated, checked, validated, with_request, renominated}
 use Rattle.is_pair.proofs.PairEntries.ChangedEntry.{rises-changed, rises-filter}
 use Rattle.is_stun.specs.declared.header.Class.{Class}
 use Rattle.is_stun.specs.declared.header.Class.TheVariants as class
@@ -32,12 +32,12 @@ use Rattle.is_rules.specs.declared.emitted.Path.{Path}
 use Rattle.is_rules.specs.declared.emitted.Emitted.{Emitted}
 use Rattle.is_rules.specs.declared.emitted.Issued.{Issued}
 use Rattle.is_rules.specs.Forming.{formed, with_pair}
-use Rattle.is_rules.specs.Nominating.{nominated_by_self, Nominates, followed, remains, selection_of}
+use Rattle.is_rules.specs.Nominating.{nominated_by_self, Nominates, followed, remains, selection_of, nominates_at_once, numbers}
 use Rattle.is_rules.specs.Places.{local_place}
 use Rattle.is_rules.specs.Queue.{first_taken, request_at}
 use Rattle.is_rules.specs.Request.{RequestRecord, request_in}
-use Rattle.is_rules.specs.Roles.{conflict_of, switched, switched_sides, with_priority_in}
-use Rattle.is_rules.specs.Serving.{selects_at_requests, after_request, validated_by_peer, is_misled, names_another, pair_served, request_counted, with_sender, with_sender_at, Drops, Queues, RecordsAndResponds, FindsOrAddsPair, AddsUnknownSender, CountsAndServes, ResolvesRoleConflictBy, ResolvesRoleConflict, Serves}
+use Rattle.is_rules.specs.Roles.{conflict_of, switched, switched_sides, with_priority_in, keeps_role}
+use Rattle.is_rules.specs.Serving.{selects_at_requests, after_request, validated_by_peer, is_misled, names_another, pair_served, request_counted, with_sender, with_sender_at, Drops, Queues, RecordsAndResponds, FindsOrAddsPair, AddsUnknownSender, CountsAndServes, ResolvesRoleConflictBy, ResolvesRoleConflict, Serves, as_taken, nominated_by_peer}
 use Rattle.is_rules.specs.States.{evaluated}
 use Rattle.is_rules.specs.Steps.{Entry, Receives}
 use Rattle.is_theorems.specs.NotStarved.{HaveConsent}
@@ -49,6 +49,8 @@ use Rattle.is_theorems.proofs.RuleEffects.TriggeredPairs.{triggered_by, by_trigg
 use Rattle.is_theorems.proofs.RuleEffects.NominatedPairs.{SelectsPath, selects_path}
 use Rattle.is_rules.proofs.PairLists.RisingNumbers.{rising-each}
 use Rattle.is_theorems.proofs.RemainingChecks.RemainingOfPairs.{unspent, unspent-alike, unspent-answered, unspent-checked, all-spent, unspents, unspents-map, unspents-push, unspents-filter, unspents-set, unspents-change}
+use Rattle.is_theorems.proofs.BasicLemmas.PairsInTurn.{by-begins, sent-pairs, sent_at}
+use Rattle.is_theorems.proofs.BasicLemmas.ServedPairs.{numbered-by}
 
 -- what stays of the agent
 pub record Held : Type 0 where
@@ -78,10 +80,13 @@ at-number n f p same = by (is_numbered n p) where
 -- a request leaves the checks of its pair
 request-checks : {H P : Type 0} (q : RequestRecord) (s : AgentRecord H P) (p : PairRecord) → (after_request q s p).checks ≡ p.checks
 request-checks q s p =
-    let w : PairRecord = with_request q.time (triggered_by q s p) in
+    let taken : RequestRecord = as_taken (numbers s) q in
+    let w : PairRecord = with_request taken.time (triggered_by q s p) in
     let v : PairRecord = validated_by_peer s.controlling s.lite w in
-    (self_kept (not s.controlling && q.use_candidate && not (is_nominated v)) s.lite v).checks
-    ∙ (valid (s.lite && not s.controlling) w ∙ by_trigger (λ (x : PairRecord). x.checks ≡ p.checks) q s p (λ due. refl)) where
+    let kept : (nominated_by_peer s.controlling s.lite taken v).checks ≡ p.checks =
+    (self_kept (not s.controlling && taken.use_candidate && not (is_nominated v)) s.lite v).checks
+    ∙ (valid (s.lite && not s.controlling) w ∙ by_trigger (λ (x : PairRecord). x.checks ≡ p.checks) q s p (λ due. refl)) in
+    numbered-by (λ x. x.checks ≡ p.checks) s.controlling taken.nomination (nominated_by_peer s.controlling s.lite taken v) kept (λ n. kept) where
       valid : (b : Bool) (p : PairRecord) → (if b then validated p else p).checks ≡ p.checks
       valid true p = refl
       valid false p = refl
@@ -146,7 +151,7 @@ module _ {H P : Type 0} where
     failure : (old new : AgentRecord H P) (via : Path) (message : Message) (emitted : Emitted) → TakesFailure old via message emitted new → Spends 0 old new
     failure old new via message emitted h = either (is_role_conflict message) h (λ _ k. expired k) (λ _ k. spends-none old new k.1) where
       expired : LeavesRole old via message emitted new → Spends 0 old new
-      expired (p, c, has, keeps, kept, is, acts) = either (same c.controlling old.controlling) acts
+      expired (p, c, has, keeps, kept, is, acts) = either (same c.controlling old.controlling && not (keeps_role old)) acts
           (λ _ k. spends-to 0 old (switched old) new (switches old) k.1)
           (λ _ k. spends-none old new k.1)
 
@@ -267,10 +272,17 @@ module _ {H P : Type 0} where
             next : (top : Option PairRecord) → ChecksTop mac now remote top (all_asked now old) s issued new t → Spends 1 old new
             next None (is, made, drawn) = spends-to 1 old (all_asked now old) new (refl, omega arith, (let le = all in omega (arith, le))) made
             next (Some p) (id, drawn, values, is, made) =
-                let one : unspents m (map (asked now old.timing) old.pairs) ≤ unspents m (map (change_at p.number (checked now old.timing old.controlling id)) (map (asked now old.timing) old.pairs)) + 1 =
-                unspents-change m p.number (checked now old.timing old.controlling id) (map (asked now old.timing) old.pairs)
-                (λ x. unspent-checked m now old.timing old.controlling id x)
-                (rising-each (map (asked now old.timing) old.pairs) (rises-changed (asked now old.timing) (λ x. refl) old.pairs ∙ rising)) in
+                let begins : Bool = nominates_at_once (all_asked now old) in
+                let change : PairRecord → PairRecord = sent_at begins now old.timing old.controlling id in
+                let one : unspents m (map (asked now old.timing) old.pairs)
+                ≤ unspents m (change_pair p.number (checked now old.timing old.controlling id)
+                (if begins then change_pair p.number renominated (map (asked now old.timing) old.pairs) else map (asked now old.timing) old.pairs)) + 1 =
+                subst (λ ps. unspents m (map (asked now old.timing) old.pairs) ≤ unspents m ps + 1)
+                (sym (sent-pairs begins p.number now old.timing old.controlling id (map (asked now old.timing) old.pairs)))
+                (unspents-change m p.number change (map (asked now old.timing) old.pairs)
+                (λ x. by-begins begins (λ y. unspent m x ≤ unspent m y + 1) now old.timing old.controlling id x
+                (unspent-checked m now old.timing old.controlling id (renominated x)) (unspent-checked m now old.timing old.controlling id x))
+                (rising-each (map (asked now old.timing) old.pairs) (rises-changed (asked now old.timing) (λ x. refl) old.pairs ∙ rising))) in
                 spends-to 1 old _ new (refl, omega arith, (let le = all in omega (arith, le, one))) made
 
       maintains : (now : ℕ) (old new : AgentRecord H P) (s t : Stream) (emitted : Emitted) → old.lite ≡ false → old.timing.max_retransmits ≡ m → rises old.pairs ≡ true → HaveConsent now old

@@ -31,13 +31,13 @@ use Rattle.is_rules.specs.Checking.{all_asked, ChecksTop, MayCheck}
 use Rattle.is_rules.specs.Forming.{formed, with_pair}
 use Rattle.is_rules.specs.Limit.{IsSenderPlace}
 use Rattle.is_theorems.specs.Logs.{Logged}
-use Rattle.is_rules.specs.Nominating.{with_selection, nominated_emitted, Nominates, NominatesWhere}
+use Rattle.is_rules.specs.Nominating.{with_selection, nominated_emitted, Nominates, NominatesWhere, numbers}
 use Rattle.is_rules.specs.Places.{local_place}
 use Rattle.is_rules.specs.Queue.{first_taken, queued, request_at}
 use Rattle.is_rules.specs.Request.{RequestRecord, request_in}
-use Rattle.is_rules.specs.Roles.{conflict_of, switched}
+use Rattle.is_rules.specs.Roles.{conflict_of, switched, keeps_role}
 use Rattle.is_rules.specs.Sending.{path_between, path_of}
-use Rattle.is_rules.specs.Serving.{selects_at_requests, after_request, Drops, is_misled, names_another, nominated_last, pair_served, replied, request_counted, sender_candidate, served, validated_by_peer, with_sender, with_sender_at, RecordsAndResponds, FindsOrAddsPair, AddsUnknownSender, CountsAndServes, ResolvesRoleConflictBy, ResolvesRoleConflict, Serves}
+use Rattle.is_rules.specs.Serving.{nominates, selects_at_requests, after_request, Drops, is_misled, names_another, nominated_last, pair_served, replied, request_counted, sender_candidate, served, validated_by_peer, with_sender, with_sender_at, RecordsAndResponds, FindsOrAddsPair, AddsUnknownSender, CountsAndServes, ResolvesRoleConflictBy, ResolvesRoleConflict, Serves, as_taken, nominated_by_peer}
 use Rattle.is_rules.specs.Sound.{IsSound}
 use Rattle.is_rules.specs.Steps.{Call, Entry, ReceivePacket, HandleTimeout, Done, Flag, answer_by, done, Receives, Step}
 use Rattle.is_rules.specs.Timeouts.{at_request, at_timeout, expired_gone, is_expired, timeout_begun, RemovesExpired, MaintainsPairs, ServesQueued, TimesOut}
@@ -51,6 +51,7 @@ use Rattle.is_theorems.proofs.RuleEffects.SelectedPaths.{some_is}
 use Rattle.is_theorems.proofs.BasicLemmas.VacantIndices.{known-in, vacant-at, put-here}
 use Rattle.is_theorems.proofs.BasicLemmas.CandidatesByIndex.{at-end}
 use Rattle.is_theorems.proofs.RuleEffects.TriggeredPairs.{triggered_by, by_trigger}
+use Rattle.is_theorems.proofs.BasicLemmas.ServedPairs.{numbered-by}
 
 -- a request leaves the number and the indices of its pair
 pub record SamePlace (p q : PairRecord) : Type 0 where
@@ -64,14 +65,16 @@ served-same c l q p =
     let v : PairRecord = validated_by_peer c l w in
     let a = self_kept (not c && q.use_candidate && not (is_nominated v)) l v in
     let b = valid-same (l && not c) w in
-    record { number = a.number ∙ b.number; local = a.local ∙ b.local; remote = a.remote ∙ b.remote } where
+    numbered-by (λ x. SamePlace p x) c q.nomination (nominated_by_peer c l q v)
+    (record { number = a.number ∙ b.number; local = a.local ∙ b.local; remote = a.remote ∙ b.remote })
+    (λ n. record { number = a.number ∙ b.number; local = a.local ∙ b.local; remote = a.remote ∙ b.remote }) where
       valid-same : (b : Bool) (p : PairRecord) → SamePlace p (if b then validated p else p)
       valid-same true p = record { number = refl; local = refl; remote = refl }
       valid-same false p = record { number = refl; local = refl; remote = refl }
 
 request-same : {H P : Type 0} (q : RequestRecord) (s : AgentRecord H P) (p : PairRecord) → SamePlace p (after_request q s p)
 request-same q s p =
-    let k = served-same s.controlling s.lite q (triggered_by q s p) in
+    let k = served-same s.controlling s.lite (as_taken (numbers s) q) (triggered_by q s p) in
     let t = by_trigger (λ (x : PairRecord). SamePlace p x) q s p (λ due. record { number = refl; local = refl; remote = refl }) in
     record { number = k.number ∙ t.number; local = k.local ∙ t.local; remote = k.remote ∙ t.remote }
 
@@ -130,7 +133,7 @@ module _ {H P : Type 0} where
   failure-last : (old new : AgentRecord H P) (via : Path) (m : Message) (emitted : Emitted) → TakesFailure old via m emitted new → new.last_nominated ≡ old.last_nominated
   failure-last old new via m emitted h = either (is_role_conflict m) h (λ _ k. gives k) (λ _ k. ap (λ (a : AgentRecord H P). a.last_nominated) k.1) where
     gives : LeavesRole old via m emitted new → new.last_nominated ≡ old.last_nominated
-    gives (p, c, has, on, keeps, id_is, k) = either (same c.controlling old.controlling) k
+    gives (p, c, has, on, keeps, id_is, k) = either (same c.controlling old.controlling && not (keeps_role old)) k
         (λ _ z. ap (λ (a : AgentRecord H P). a.last_nominated) z.1)
         (λ _ z. ap (λ (a : AgentRecord H P). a.last_nominated) z.1)
 
@@ -140,8 +143,8 @@ module _ {H P : Type 0} where
     -- The record stays, and if the request nominates, no success response is issued. Or it is the pair that is served.
     abbrev Notes : AgentRecord H P → Emitted → AgentRecord H P → Type 0
     Notes s emitted new =
-        ((new.last_nominated ≡ s.last_nominated) × (q.use_candidate ≡ true → new.controlling ≡ false → NoSuccess emitted))
-        ⊎ ((q.use_candidate ≡ true) × (new.controlling ≡ false) × IsRecordedOn new (reversed q.path)
+        ((new.last_nominated ≡ s.last_nominated) × (nominates s q ≡ true → new.controlling ≡ false → NoSuccess emitted))
+        ⊎ ((nominates s q ≡ true) × (new.controlling ≡ false) × IsRecordedOn new (reversed q.path)
         × (emitted.issued ≡ Some (issued_as (reversed q.path) class.Success q.id)))
 
     dropped : (s new : AgentRecord H P) (emitted : Emitted) → Drops s emitted new → Notes s emitted new
@@ -156,7 +159,7 @@ module _ {H P : Type 0} where
         (path : Option Path) (mid : AgentRecord H P)
         (nominating : NominatesWhere (selects_at_requests s && is_valid_at number s.pairs) (pair_served q number s) path mid)
         (out : emitted.issued ≡ Some (issued_as (path_between s l r) class.Success q.id)) (made : new ≡ replied mac q (path_between s l r) mid) where
-      record-is : new.last_nominated ≡ nominated_last s.controlling q number s.last_nominated
+      record-is : new.last_nominated ≡ nominated_last s.controlling (as_taken (numbers s) q) number s.last_nominated
       record-is = ap (λ (a : AgentRecord H P). a.last_nominated) made ∙ where-last (selects_at_requests s && is_valid_at number s.pairs) (pair_served q number s) mid path nominating
 
       role-is : new.controlling ≡ s.controlling
@@ -177,20 +180,20 @@ module _ {H P : Type 0} where
           ap (λ n. path_between s n after.remote) (k.local ∙ there.3) ∙ ap (λ n. path_between s l n) (k.remote ∙ there.4) ∙ via
 
       -- the pair may be selected by the request
-      named : s.controlling ≡ false → q.use_candidate ≡ true → HasNominated mid number (reversed q.path)
+      named : s.controlling ≡ false → nominates s q ≡ true → HasNominated mid number (reversed q.path)
       named role uses = where_nominated (selects_at_requests s && is_valid_at number s.pairs) (pair_served q number s) mid path number (reversed q.path) nominating (
         after,
         after-has,
         (request-same q s there.0).number ∙ there.2,
-        served_nominated s.controlling s.lite q (triggered_by q s there.0) role uses,
+        served_nominated s.controlling s.lite (as_taken (numbers s) q) (triggered_by q s there.0) role uses,
         after-path,
       )
 
-      recorded : s.controlling ≡ false → q.use_candidate ≡ true → IsRecordedOn new (reversed q.path)
+      recorded : s.controlling ≡ false → nominates s q ≡ true → IsRecordedOn new (reversed q.path)
       recorded role uses =
           let k = named role uses in
           let is : new.last_nominated ≡ Some k.0.number =
-          record-is ∙ (ap (λ c. if not c && q.use_candidate then Some number else s.last_nominated) role
+          record-is ∙ (ap (λ c. if not c && (as_taken (numbers s) q).use_candidate then Some number else s.last_nominated) role
           ∙ (ap (λ u. if u then Some number else s.last_nominated) uses ∙ ap Some (sym k.2))) in (
             k.0,
             subst (λ (a : AgentRecord H P). Has a.pairs k.0) (sym made) k.1,
@@ -199,14 +202,14 @@ module _ {H P : Type 0} where
             k.3,
           )
 
-      noted : (c u : Bool) → s.controlling ≡ c → q.use_candidate ≡ u → Notes s emitted new
+      noted : (c u : Bool) → s.controlling ≡ c → nominates s q ≡ u → Notes s emitted new
       noted true u role uses = inl (
-        record-is ∙ ap (λ c. if not c && q.use_candidate then Some number else s.last_nominated) role,
+        record-is ∙ ap (λ c. if not c && (as_taken (numbers s) q).use_candidate then Some number else s.last_nominated) role,
         λ _ controlled. true-false (sym (role-is ∙ role) ∙ controlled),
       )
       noted false false role uses = inl (
-        record-is ∙ (ap (λ c. if not c && q.use_candidate then Some number else s.last_nominated) role ∙ ap (λ u. if u then Some number else s.last_nominated) uses),
-        λ nominates _. true-false (sym nominates ∙ uses),
+        record-is ∙ (ap (λ c. if not c && (as_taken (numbers s) q).use_candidate then Some number else s.last_nominated) role ∙ ap (λ u. if u then Some number else s.last_nominated) uses),
+        λ asks _. true-false (sym asks ∙ uses),
       )
       noted false true role uses = inr (
         uses,
@@ -218,7 +221,7 @@ module _ {H P : Type 0} where
     pair : (l r number : ℕ) (s new : AgentRecord H P) (emitted : Emitted) → path_between s l r ≡ reversed q.path → IsThere s l r number
         → RecordsAndResponds mac q l r number s emitted new → Notes s emitted new
     pair l r number s new emitted via there (path, mid, nominating, (values, is, made)) =
-        noted l r number s new emitted via there path mid nominating (ap (λ (x : Emitted). x.issued) is) made s.controlling q.use_candidate refl refl
+        noted l r number s new emitted via there path mid nominating (ap (λ (x : Emitted). x.issued) is) made s.controlling (nominates s q) refl refl
 
     takes : (l r : ℕ) (number : Option ℕ) (s new : AgentRecord H P) (emitted : Emitted) → path_between s l r ≡ reversed q.path → IsPairBetween s.pairs l r number
         → FindsOrAddsPair mac q l r number s emitted new → Notes s emitted new
@@ -288,17 +291,17 @@ module _ {H P : Type 0} where
     silent last none = inl (last, λ path k. none-some (issued_as path class.Success k.1) (sym none ∙ k.4))
 
     by-serving : (q : RequestRecord) (a b : AgentRecord H P) (emitted : Emitted) → IsServing old x.call x.entry q → x.entry.emitted ≡ emitted
-        → a.last_nominated ≡ old.last_nominated → new ≡ b → Notes mac q a emitted b → Records old x new
-    by-serving q a b emitted serving is last made (inl (kept, none)) = inl (
+        → numbers a ≡ numbers old → a.last_nominated ≡ old.last_nominated → new ≡ b → Notes mac q a emitted b → Records old x new
+    by-serving q a b emitted serving is counts last made (inl (kept, none)) = inl (
       ap (λ (y : AgentRecord H P). y.last_nominated) made ∙ kept ∙ last,
-      λ path k. none (uses-too old x.call x.entry k.0 q k.2 serving k.3) (sym (ap (λ (y : AgentRecord H P). y.controlling) made) ∙ k.5) path k.1
+      λ path k. none (ap (λ n. (as_taken n q).use_candidate) counts ∙ uses-too old x.call x.entry k.0 q k.2 serving k.3) (sym (ap (λ (y : AgentRecord H P). y.controlling) made) ∙ k.5) path k.1
           (sym (ap (λ (y : Emitted). y.issued) is) ∙ k.4),
     )
-    by-serving q a b emitted serving is last made (inr (uses, controlled, on, out)) = inr (
+    by-serving q a b emitted serving is counts last made (inr (uses, controlled, on, out)) = inr (
       reversed q.path,
       subst (λ (y : AgentRecord H P). IsRecordedOn y (reversed q.path)) (sym made) on,
       λ other k. ap (λ (i : Issued). i.path) (some_is _ _ (sym k.4 ∙ (ap (λ (y : Emitted). y.issued) is ∙ out))),
-      (q, q.id, serving, uses, ap (λ (y : Emitted). y.issued) is ∙ out, ap (λ (y : AgentRecord H P). y.controlling) made ∙ controlled),
+      (q, q.id, serving, sym (ap (λ n. (as_taken n q).use_candidate) counts) ∙ uses, ap (λ (y : Emitted). y.issued) is ∙ out, ap (λ (y : AgentRecord H P). y.controlling) made ∙ controlled),
     )
 
     -- ---- packets and timeouts
@@ -321,13 +324,13 @@ module _ {H P : Type 0} where
       request None none is (nothing, same_is) =
           silent (last-by (ap (λ (a : AgentRecord H P). a.last_nominated) same_is)) (ap (λ (y : Emitted). y.issued) (emitted-is ∙ nothing))
       request (Some peer) known is h =
-          by-serving (request_in now via m) old (discovered_emitted via mid) emitted (serving-now peer known is) emitted-is refl made
+          by-serving (request_in now via m) old (discovered_emitted via mid) emitted (serving-now peer known is) emitted-is refl refl made
           (serves mac (request_in now via m) old mid emitted sound.based h)
 
       failure-silent : TakesFailure old via m emitted mid → emitted.issued ≡ None
       failure-silent h = either (is_role_conflict m) h (λ _ k. gives k) (λ _ k. ap (λ (y : Emitted). y.issued) k.0) where
         gives : LeavesRole old via m emitted mid → emitted.issued ≡ None
-        gives (p, c, has, on, keeps, id_is, k) = either (same c.controlling old.controlling) k (λ _ z. ap (λ (y : Emitted). y.issued) z.0) (λ _ z. ap (λ (y : Emitted). y.issued) z.0)
+        gives (p, c, has, on, keeps, id_is, k) = either (same c.controlling old.controlling && not (keeps_role old)) k (λ _ z. ap (λ (y : Emitted). y.issued) z.0) (λ _ z. ap (λ (y : Emitted). y.issued) z.0)
 
       success-silent : TakesSuccess now old via m emitted mid → emitted.issued ≡ None
       success-silent (recorded, records_it, (path, named, nominating, is, concluded)) = ap (λ (y : Emitted). y.issued) is
@@ -362,7 +365,7 @@ module _ {H P : Type 0} where
     timeout-by now comes emitted None is e_is h = no-response now comes is (maintains-last mac now (timeout_begun now old) new s t emitted h)
     timeout-by now comes emitted (Some q) is e_is (h, drawn) =
         by-serving q (first_taken (at_request now (timeout_begun now old))) new emitted
-        (subst (λ (c : Call P). IsServing old c x.entry q) (sym comes) (is, ap (λ (y : Entry). y.answer) e_is)) (ap (λ (y : Entry). y.emitted) e_is) refl refl
+        (subst (λ (c : Call P). IsServing old c x.entry q) (sym comes) (is, ap (λ (y : Entry). y.answer) e_is)) (ap (λ (y : Entry). y.emitted) e_is) refl refl refl
         (serves mac q (first_taken (at_request now (timeout_begun now old))) new emitted sound.based h)
 
     timeout : (now : ℕ) → x.call ≡ HandleTimeout now → (r : Result (Unit {0}) IceError) (emitted : Emitted) → x.entry ≡ record { answer = answer_by done r; emitted = emitted }

@@ -1,24 +1,23 @@
 -- Renomination in executions of one agent that may share its random source. The preconditions that mutants/specifications changes are read by
 -- tactics where they are used: if one of them is weaker, that goal stays unproved.
-use Rattle.std.proofs.Common.{◌≡◌, ℕ, ◌&&◌, ◌||◌, true, false, not, List, [], ◌∷◌, ◌++◌, Option, Some, None, inl, inr, ◌⊎◌, refl, ap, sym, ◌∙◌, subst, if◌then◌else◌}
+use Rattle.std.proofs.Common.{◌≡◌, ℕ, ◌&&◌, ◌||◌, true, false, not, List, [], ◌∷◌, ◌++◌, Option, Some, None, inl, inr, ◌⊎◌, refl, ap, sym, ◌∙◌, subst, if◌then◌else◌, Bool}
 use Rattle.std.specs.Option.{option_and_then}
 use Rattle.rand_core.specs.Stream.{Stream}
 use Rattle.is_proto.specs.Lists.{Has}
 use Rattle.is_candidate.specs.Candidates.{CandidateRecord}
 use Rattle.is_pair.specs.Multiset.{change_at, change_pair, keeps_check, is_named_by}
-use Rattle.is_pair.specs.Pairs.{PairRecord, checked, is_nominated, is_valid}
+use Rattle.is_pair.specs.Pairs.{PairRecord, is_nominated, is_valid}
 use Rattle.is_rules.specs.declared.emitted.Path.{Path}
 use Rattle.is_rules.specs.Agent.{AgentRecord}
 use Rattle.is_rules.specs.Answers.{goes_back}
 use Rattle.is_theorems.specs.Asked.{IsOnlyPair, UsesAddressesOf}
 use Rattle.is_theorems.specs.AskedCourses.{selected_along, AcceptsSuccessOn, Ends, EndsAlong, IsAnsweredAlong}
 use Rattle.is_theorems.specs.Asking.{AreNominatedOn, AcceptsNomination}
-use Rattle.is_rules.specs.Checking.{check_sent}
 use Rattle.is_rules.specs.Effects.{PathEffect}
 use Rattle.is_theorems.specs.Exchange.{Course}
 use Rattle.is_rules.specs.Issuing.{via_out}
 use Rattle.is_theorems.specs.Logs.{Logged}
-use Rattle.is_rules.specs.Nominating.{eligible_numbered, followed, if_eligible, stays_nominated}
+use Rattle.is_rules.specs.Nominating.{eligible_numbered, followed, if_eligible, stays_nominated, nominates_at_once, numbers}
 use Rattle.is_rules.specs.Points.{IsTopSelected}
 use Rattle.is_rules.specs.Queue.{request_at}
 use Rattle.is_rules.specs.Sending.{path_of}
@@ -39,8 +38,9 @@ use Rattle.is_theorems.proofs.StoredPairs.TransactionsOverPackets.{sound-course}
 use Rattle.is_theorems.specs.RenominatingCourses.{AcceptsNominationLastAlong, AcceptsNominationOnlyAlong, LastAcceptedNominationsAreLast, NominatedAreLast}
 use Rattle.is_theorems.specs.Shared.{IsNewlyCreated}
 use Rattle.is_theorems.proofs.RenominatedPaths.LastNominatedPair.{IsRecordedOn, Records, records-by}
-use Rattle.is_theorems.proofs.RenominatedPaths.OnePathAtBothAgents.{selects-followed}
+use Rattle.is_theorems.proofs.RenominatedPaths.OnePathAtBothAgents.{follows-last, path-sent, selects-followed}
 use Rattle.is_theorems.proofs.ExecutionLogs.SharedRandomSource.{sound_run}
+use Rattle.is_theorems.proofs.BasicLemmas.PairsInTurn.{sent_at, pairs-sent}
 
 abbrev logged_once : {P : Type 0} → Call P → Entry → Logged P
 logged_once call e = record { number = 0; call = call; entry = e }
@@ -51,12 +51,12 @@ module _ {H P : Type 0} where
   IsValidAt path a = (p : PairRecord) × Has a.pairs p × (is_valid p ≡ true) × UsesAddressesOf a path p
 
   module _ (mac : H → List ℕ → List ℕ → List ℕ) (answers : P → CandidateRecord → ℕ → ℕ → Type 0) where
-    new-sound : (a : AgentRecord H P) → IsNewlyCreated a → IsSound a
+    pub new-sound : (a : AgentRecord H P) → IsNewlyCreated a → IsSound a
     new-sound a new = sound_run mac answers a a [] new refl
 
     -- ---- the path that was selected last
 
-    names : (xs : List (Call P × Entry)) (first last : AgentRecord H P) → IsNewlyCreated first → Course mac answers xs first last → IsNamed (selected_along None xs) last
+    pub names : (xs : List (Call P × Entry)) (first last : AgentRecord H P) → IsNewlyCreated first → Course mac answers xs first last → IsNamed (selected_along None xs) last
     names xs first last new course = names-from mac answers xs first last (new-sound first new) (ap (λ (a : AgentRecord H P). a.pairs) new.3) course
 
     -- ---- the controlling agent
@@ -69,13 +69,14 @@ module _ {H P : Type 0} where
 
           by : Checks mac answers now (via_out check) id sent → selected_along None (before ++ (HandleTimeout now, timeout) ∷ []) ≡ Some (via_out check)
           by c =
-              let after : PairRecord = checked now c.old.timing c.old.controlling id c.pair in
-              let own : change_at c.pair.number (checked now c.old.timing c.old.controlling id) c.pair ≡ after = ap (λ b. if b then after else c.pair) (number_same c.pair.number) in
-              let kept : Has (check_sent mac now c.remote c.pair id c.old).pairs after =
-              subst (λ (z : PairRecord). Has (change_pair c.pair.number (checked now c.old.timing c.old.controlling id) c.old.pairs) z) own
-              (Has-mapped (change_at c.pair.number (checked now c.old.timing c.old.controlling id)) c.old.pairs c.pair c.has) in
-              let there : Has sent.pairs after = subst (λ (a : AgentRecord H P). Has a.pairs after) (sym c.made) kept in
-              let on : path_of sent after ≡ via_out check = ap (λ (a : AgentRecord H P). path_of a after) c.made ∙ c.path in
+              let begins : Bool = nominates_at_once c.old in
+              let change : PairRecord → PairRecord = sent_at begins now c.old.timing c.old.controlling id in
+              let after : PairRecord = change c.pair in
+              let own : change_at c.pair.number change c.pair ≡ after = ap (λ b. if b then after else c.pair) (number_same c.pair.number) in
+              let there : Has sent.pairs after =
+              subst (λ ps. Has ps after) (sym (pairs-sent mac now c.remote c.pair id c.old sent c.made))
+              (subst (λ (z : PairRecord). Has (change_pair c.pair.number change c.old.pairs) z) own (Has-mapped (change_at c.pair.number change) c.old.pairs c.pair c.has)) in
+              let on : path_of sent after ≡ via_out check = ap (λ (a : AgentRecord H P). path_of a after) c.made ∙ (path-sent mac answers begins now c.old id c.pair ∙ c.path) in
               let renominates : sent.renominates ≡ true = search set in
               let each : AreNominatedOn sent (via_out check) = search nominated in
               let stays : stays_nominated sent after ≡ true = each after there on in
@@ -171,11 +172,10 @@ module _ {H P : Type 0} where
       -- ---- it is selected
 
       -- the recorded pair is followed, and eligible
-      selected-is : (a : AgentRecord H P) (p : PairRecord) → IsSound a → a.renominates ≡ true → a.controlling ≡ false → Has a.pairs p → a.last_nominated ≡ Some p.number → is_valid p ≡ true → is_nominated p ≡ true
+      selected-is : (a : AgentRecord H P) (p : PairRecord) → IsSound a → a.renominates ≡ true → numbers a ≡ false → a.controlling ≡ false → Has a.pairs p → a.last_nominated ≡ Some p.number → is_valid p ≡ true → is_nominated p ≡ true
           → IsTopSelected a → a.selected_pair ≡ Some p.number
-      selected-is a p sound set role has last_is valid nominated top =
-          let follows : followed a ≡ Some p.number =
-          ap (λ b. if b && not a.controlling then a.last_nominated else None) set ∙ (ap (λ c. if not c then a.last_nominated else None) role ∙ last_is) in
+      selected-is a p sound set plain role has last_is valid nominated top =
+          let follows : followed a ≡ Some p.number = follows-last mac answers a p.number set plain role last_is in
           let able : eligible_numbered a.controlling a.pairs p.number ≡ Some p =
           ap (λ (o : Option PairRecord). option_and_then (if_eligible a.controlling) o) (numbered-found a.pairs p sound.rising has)
           ∙ ap (λ b. if b then Some p else None) (nominated-eligible a.controlling p valid nominated) in
@@ -196,7 +196,7 @@ module _ {H P : Type 0} where
     ]
 
     pub last-nomination_accepted : LastAcceptedNominationsAreLast mac answers
-    last-nomination_accepted first start near last before xs s t now timeout path new led course step done none set controlled asks replied only_pair =
+    last-nomination_accepted first start near last before xs s t now timeout path new led course step done none set plain controlled asks replied only_pair =
         by (sound-course mac answers before first start (new-sound first new) led) where
           Said : Type 0
           Said = (selected_along None (before ++ (xs ++ (HandleTimeout now, timeout) ∷ [])) ≡ Some path)
@@ -212,10 +212,11 @@ module _ {H P : Type 0} where
               let one_pair : IsOnlyPair last path = search only_pair in
               let idle : request_at now near ≡ None = search none in
               let renominates : last.renominates ≡ true = search set in
+              let unnumbered : numbers last ≡ false = search plain in
               let role : last.controlling ≡ false = role-stays near last s t now timeout sound step idle ∙ search controlled in
               let one : w.0 ≡ r.0 = one_pair w.0 r.0 w.1 r.1 w.3 (ap (λ (z : Path). z.source) r.3, ap (λ (z : Path). z.destination) r.3) in
               let valid : is_valid r.0 ≡ true = subst (λ (p : PairRecord). is_valid p ≡ true) one w.2 in
-              let selected = selected-is path last r.0 law.1 renominates role r.1 r.2 valid r.4 (law.0.points (done, idle)) in
+              let selected = selected-is path last r.0 law.1 renominates unnumbered role r.1 r.2 valid r.4 (law.0.points (done, idle)) in
               inl ((names (before ++ (xs ++ (HandleTimeout now, timeout) ∷ [])) first last new whole r.0 r.1 selected).2 ∙ ap Some r.3)
 
           at_timeout : IsSound near → IsRecordedOn near path → IsValidAt path near → Said

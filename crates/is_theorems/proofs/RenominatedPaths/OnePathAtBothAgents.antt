@@ -8,17 +8,17 @@ use Rattle.is_proto.specs.Lists.{Has}
 use Rattle.is_proto.specs.Packets.{Packet}
 use Rattle.is_candidate.specs.Candidates.{CandidateRecord}
 use Rattle.is_pair.specs.Multiset.{change_at, change_pair, is_numbered, pair_numbered, IsGreatest, is_named_by}
-use Rattle.is_pair.specs.Pairs.{PairRecord, checked, is_nominated, is_valid}
+use Rattle.is_pair.specs.Pairs.{PairRecord, is_nominated, is_valid}
 use Rattle.is_stun.specs.Message.{AttributesRecord, Message}
 use Rattle.is_stun.specs.Reading.{Reads}
 use Rattle.is_stun.specs.Writing.{written}
 use Rattle.is_rules.specs.declared.emitted.Path.{Path}
 use Rattle.is_rules.specs.Agent.{AgentRecord}
 use Rattle.is_theorems.specs.Asked.{IsOnlyPair, IsAnsweredIn, IsAskedOn, MayEndIn}
-use Rattle.is_rules.specs.Checking.{check_message, check_sent}
+use Rattle.is_rules.specs.Checking.{check_message}
 use Rattle.is_rules.specs.Issuing.{via_out}
 use Rattle.is_theorems.specs.Logs.{Logged, last_selected}
-use Rattle.is_rules.specs.Nominating.{eligible_numbered, favored, followed, if_eligible, is_eligible, remains, selection_of, stays_nominated, IsChosen}
+use Rattle.is_rules.specs.Nominating.{eligible_numbered, favored, followed, if_eligible, is_eligible, remains, selection_of, stays_nominated, IsChosen, nominates_at_once, numbers, followed_by_number}
 use Rattle.is_rules.specs.Brought.{IsServing}
 use Rattle.is_rules.specs.Points.{IsNominationPoint, IsTopSelected}
 use Rattle.is_rules.specs.Queue.{request_at}
@@ -40,6 +40,7 @@ use Rattle.is_theorems.proofs.CallEffects.ServedRequests.{Has-mapped}
 use Rattle.is_theorems.proofs.StoredPairs.PairsThatStay.{pairs-stay}
 use Rattle.is_theorems.specs.Renominating.{BothSelectOnePath, FollowedAreSelected, IsAskedLast, IsToFollow, LastAskedAreSelected, NominatesNone, OnlySelectedAreNominated}
 use Rattle.is_theorems.proofs.RenominatedPaths.LastNominatedPair.{IsRecordedOn, Records, records-by}
+use Rattle.is_theorems.proofs.BasicLemmas.PairsInTurn.{sent-number, sent_at, pairs-sent}
 
 -- ---- a pair that is found by its number
 
@@ -47,7 +48,7 @@ if-same : (b : Bool) (q p : PairRecord) → (if b then Some q else None) ≡ Som
 if-same true q p h = same-some q p h
 if-same false q p h = absurd (no-some p h)
 
-numbered-is : (c : Bool) (ps : List PairRecord) (n : ℕ) (p : PairRecord) → eligible_numbered c ps n ≡ Some p → Has ps p × (p.number ≡ n)
+pub numbered-is : (c : Bool) (ps : List PairRecord) (n : ℕ) (p : PairRecord) → eligible_numbered c ps n ≡ Some p → Has ps p × (p.number ≡ n)
 numbered-is c ps n p h = by (pair_numbered n ps) refl h where
   by : (o : Option PairRecord) → pair_numbered n ps ≡ o → option_and_then (if_eligible c) o ≡ Some p → Has ps p × (p.number ≡ n)
   by None is k = absurd (no-some p k)
@@ -64,6 +65,11 @@ module _ {H P : Type 0} (mac : H → List ℕ → List ℕ → List ℕ) (answer
       ((holds mac answers (path_theorem mac answers) first s fresh (x ∷ before) after at.following (run_to mac answers first s log before mid x after at)).named p has named).2
 
   -- ---- the controlling agent
+
+  -- a check leaves the pair's path
+  pub path-sent : (begins : Bool) (now : ℕ) (a : AgentRecord H P) (id : List ℕ) (p : PairRecord) → path_of a (sent_at begins now a.timing a.controlling id p) ≡ path_of a p
+  path-sent true now a id p = refl
+  path-sent false now a id p = refl
 
   pub only-selected : OnlySelectedAreNominated mac answers
   only-selected first s log before x check fresh h = by (checks-as mac answers h.mid h.after h.point.at h.point.following h.now (via_out check) h.id x.entry h.sends.emitted step) where
@@ -90,16 +96,26 @@ module _ {H P : Type 0} (mac : H → List ℕ → List ℕ → List ℕ) (answer
         let named : is_named_by c.old.selected_pair c.pair ≡ true =
         subst (λ r. (not r || is_named_by c.old.selected_pair c.pair) ≡ true) on
         (both (is_nominated c.pair) (not c.old.renominates || is_named_by c.old.selected_pair c.pair) stays).1 in
-        let after : PairRecord = checked h.now c.old.timing c.old.controlling h.id c.pair in
-        let own : change_at c.pair.number (checked h.now c.old.timing c.old.controlling h.id) c.pair ≡ after = ap (λ b. if b then after else c.pair) (number_same c.pair.number) in
-        let there : Has (check_sent mac h.now c.remote c.pair h.id c.old).pairs after =
-        subst (λ (z : PairRecord). Has (change_pair c.pair.number (checked h.now c.old.timing c.old.controlling h.id) c.old.pairs) z) own
-        (Has-mapped (change_at c.pair.number (checked h.now c.old.timing c.old.controlling h.id)) c.old.pairs c.pair c.has) in
-        path-named first s log before h.mid x h.after fresh h.point after (subst (λ (a : AgentRecord H P). Has a.pairs after) (sym c.made) there)
-        (ap (λ (a : AgentRecord H P). a.selected_pair) c.made ∙ named-by c.old.selected_pair c.pair named)
-        ∙ ap Some (ap (λ (a : AgentRecord H P). path_of a after) c.made ∙ c.path)
+        let begins : Bool = nominates_at_once c.old in
+        let change : PairRecord → PairRecord = sent_at begins h.now c.old.timing c.old.controlling h.id in
+        let after : PairRecord = change c.pair in
+        let own : change_at c.pair.number change c.pair ≡ after = ap (λ b. if b then after else c.pair) (number_same c.pair.number) in
+        let there : Has h.after.pairs after =
+        subst (λ ps. Has ps after) (sym (pairs-sent mac h.now c.remote c.pair h.id c.old h.after c.made))
+        (subst (λ (z : PairRecord). Has (change_pair c.pair.number change c.old.pairs) z) own (Has-mapped (change_at c.pair.number change) c.old.pairs c.pair c.has)) in
+        path-named first s log before h.mid x h.after fresh h.point after there
+        (ap (λ (a : AgentRecord H P). a.selected_pair) c.made ∙ (named-by c.old.selected_pair c.pair named
+        ∙ ap Some (sym (sent-number begins h.now c.old.timing c.old.controlling h.id c.pair))))
+        ∙ ap Some (ap (λ (a : AgentRecord H P). path_of a after) c.made ∙ (path-sent begins h.now c.old h.id c.pair ∙ c.path))
 
   -- ---- the controlled agent
+
+  -- without numbers it is the pair that was nominated last
+  pub follows-last : (a : AgentRecord H P) (number : ℕ) → a.renominates ≡ true → numbers a ≡ false → a.controlling ≡ false → a.last_nominated ≡ Some number → followed a ≡ Some number
+  follows-last a number set plain role is =
+      ap (λ b. if b && not a.controlling then (if numbers a && a.numbers_seen then followed_by_number a else a.last_nominated) else None) set
+      ∙ (ap (λ c. if not c then (if numbers a && a.numbers_seen then followed_by_number a else a.last_nominated) else None) role
+      ∙ (ap (λ b. if b && a.numbers_seen then followed_by_number a else a.last_nominated) plain ∙ is))
 
   -- the favored pair is chosen
   chosen-is : (a : AgentRecord H P) (number : ℕ) (p : PairRecord) (top : Option PairRecord) → followed a ≡ Some number → eligible_numbered a.controlling a.pairs number ≡ Some p
@@ -198,8 +214,8 @@ module _ {H P : Type 0} (mac : H → List ℕ → List ℕ → List ℕ) (answer
     follows p is =
         let set : h.last.renominates ≡ true = search h.renominates in
         let role : h.last.controlling ≡ false = search h.controlled in
-        ap (λ b. if b && not h.last.controlling then h.last.last_nominated else None) set
-        ∙ (ap (λ c. if not c then h.last.last_nominated else None) role ∙ is)
+        let plain : numbers h.last ≡ false = search h.unnumbered in
+        follows-last h.last p.number set plain role is
 
     -- and eligible, if the pair that is answered is the only one on the path
     able : IsSound h.last → (p : PairRecord) → Has h.last.pairs p → is_valid p ≡ true → is_nominated p ≡ true → eligible_numbered h.last.controlling h.last.pairs p.number ≡ Some p

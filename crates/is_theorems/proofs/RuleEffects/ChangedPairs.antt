@@ -75,7 +75,7 @@ self_nominated false true true p is h = refl
 self_nominated false true false p is h = refl
 self_nominated false false l p is h = let no : false ≡ true = h in cc
 
-module _ (asks met : Path → Type 0) (sent : Path → List ℕ → Bool → Type 0) where
+module _ (asks : Path → ℕ → Type 0) (met : Path → Type 0) (sent : Path → List ℕ → Bool → Type 0) where
   -- the possible changes of one pair
   pub record Changed (path : Path) (was now : PairRecord) : Type 0 where
     pub number : now.number ≡ was.number
@@ -83,7 +83,8 @@ module _ (asks met : Path → Type 0) (sent : Path → List ℕ → Bool → Typ
     pub remote : now.remote ≡ was.remote
     pub checks : (c : Check) → Has now.checks c → ((d : Check) × Has was.checks d × (d.id ≡ c.id) × (d.controlling ≡ c.controlling)) ⊎ sent path c.id c.controlling
     pub valid : is_valid now ≡ true → (is_valid was ≡ true) ⊎ met path
-    pub asked : is_nominated now ≡ true → (is_nominated was ≡ true) ⊎ asks path
+    pub asked : is_nominated now ≡ true → (is_nominated was ≡ true) ⊎ asks path 0
+    pub numbered : (m : ℕ) → m ≤ now.greatest_number → (m ≤ was.greatest_number) ⊎ asks path m
     pub still_valid : is_valid was ≡ true → is_valid now ≡ true
     pub still_nominated : is_nominated was ≡ true → is_nominated now ≡ true
     pub started : IsStarted was → IsStarted now
@@ -97,6 +98,7 @@ module _ (asks met : Path → Type 0) (sent : Path → List ℕ → Bool → Typ
     checks = λ c keeps. inl (c, keeps, refl, refl);
     valid = λ is. inl is;
     asked = λ is. inl is;
+    numbered = λ m le. inl le;
     still_valid = λ is. is;
     still_nominated = λ is. is;
     started = λ s. s;
@@ -121,7 +123,8 @@ module _ (asks met : Path → Type 0) (sent : Path → List ℕ → Bool → Typ
           path = path;
           checks = λ k keeps. elim (c.checks k keeps) [ inl d ↦ inl d | inr out ↦ inr (subst (λ z. sent z k.id k.controlling) path out) ];
           valid = λ is. elim (c.valid is) [ inl v ↦ inl v | inr m ↦ inr (subst met path m) ];
-          asked = λ is. elim (c.asked is) [ inl v ↦ inl v | inr m ↦ inr (subst asks path m) ];
+          asked = λ is. elim (c.asked is) [ inl v ↦ inl v | inr m ↦ inr (subst (λ z. asks z 0) path m) ];
+          numbered = λ m le. elim (c.numbered m le) [ inl v ↦ inl v | inr a ↦ inr (subst (λ z. asks z m) path a) ];
           still_valid = c.still_valid;
           still_nominated = c.still_nominated;
         })));
@@ -155,7 +158,7 @@ module _ (asks met : Path → Type 0) (sent : Path → List ℕ → Bool → Typ
 
   -- ---- nomination
 
-  nominates_now : (path : Path) (lite : Bool) (p : PairRecord) → asks path → Changed path p (nominated lite p)
+  nominates_now : (path : Path) (lite : Bool) (p : PairRecord) → asks path 0 → Changed path p (nominated lite p)
   nominates_now path true p asking = record {
     number = refl;
     local = refl;
@@ -163,6 +166,7 @@ module _ (asks met : Path → Type 0) (sent : Path → List ℕ → Bool → Typ
     checks = λ c keeps. inl (c, keeps, refl, refl);
     valid = λ is. inl is;
     asked = λ is. inr asking;
+    numbered = λ m le. inl le;
     still_valid = λ is. is;
     still_nominated = λ is. refl;
     started = λ s. s;
@@ -175,13 +179,14 @@ module _ (asks met : Path → Type 0) (sent : Path → List ℕ → Bool → Typ
     checks = λ c keeps. inl (c, keeps, refl, refl);
     valid = λ is. inl is;
     asked = λ is. inr asking;
+    numbered = λ m le. inl le;
     still_valid = λ is. is;
     still_nominated = λ is. refl;
     started = λ s. s;
     consented = λ _ had. had;
   }
 
-  by_self : (fresh free : Bool) (path : Path) (lite : Bool) (p : PairRecord) → (free ≡ true → asks path) → Changed path p (if fresh && free then nominated lite p else p)
+  by_self : (fresh free : Bool) (path : Path) (lite : Bool) (p : PairRecord) → (free ≡ true → asks path 0) → Changed path p (if fresh && free then nominated lite p else p)
   by_self true true path lite p asking = nominates_now path lite p (asking refl)
   by_self true false path lite p asking = unchanged path p
   by_self false free path lite p asking = unchanged path p
@@ -191,7 +196,7 @@ module _ (asks met : Path → Type 0) (sent : Path → List ℕ → Bool → Typ
     parts_of a = record { local = a.local; remote = a.remote; pairs = a.pairs; next_number = a.next_number }
 
     -- nomination leaves everything except nominations, and selects a valid path
-    selects_one : (old new : AgentRecord H P) (path : Option Path) → ((old.controlling || old.lite) ≡ true → (p : Path) → asks p) → Fit (parts_of old) → SelectsPath old path new
+    selects_one : (old new : AgentRecord H P) (path : Option Path) → ((old.controlling || old.lite) ≡ true → (p : Path) (m : ℕ) → asks p m) → Fit (parts_of old) → SelectsPath old path new
         → Onward asks met sent (parts_of old) (parts_of new) × Evaluates asks met sent (parts_of old) (parts_of new) old.selected_pair new.selected_pair path
     selects_one old new path free fit (None, none, (is, same)) = (
       subst (λ (a : AgentRecord H P). Onward asks met sent (parts_of old) (parts_of a)) (sym same) (here asks met sent (parts_of old) fit),
@@ -205,7 +210,7 @@ module _ (asks met : Path → Type 0) (sent : Path → List ℕ → Bool → Typ
         (λ _ k. (
           subst (λ (a : AgentRecord H P). Onward asks met sent (parts_of old) (parts_of a)) (sym k.1)
               (one_changed (parts_of old) top.number g fit
-              (λ p there is. by_self (not (is_nominated p)) (old.controlling || old.lite) (path_of old p) old.lite p (λ allowed. free allowed (path_of old p)))),
+              (λ p there is. by_self (not (is_nominated p)) (old.controlling || old.lite) (path_of old p) old.lite p (λ allowed. free allowed (path_of old p) 0))),
           subst (λ (a : AgentRecord H P). Evaluates asks met sent (parts_of old) (parts_of a) old.selected_pair a.selected_pair path) (sym k.1)
               (subst (λ (o : Option Path). Evaluates asks met sent (parts_of old) (parts_of (selected_paths top old)) old.selected_pair (Some top.number) o) (sym k.0) evaluates),
         )) where
@@ -221,8 +226,8 @@ module _ (asks met : Path → Type 0) (sent : Path → List ℕ → Bool → Typ
           facts : Kept_by_self top (nominated_by_self old.controlling old.lite top)
           facts = self_kept (not (is_nominated top) && (old.controlling || old.lite)) old.lite top
 
-          asking : (c : Bool) → old.controlling ≡ c → is_eligible c top ≡ true → (path : Path) → path_of old top ≡ path → IsNominatedIn (parts_of old) path ⊎ asks path
-          asking true role able path is = inr (free (ap (λ b. b || old.lite) role) path)
+          asking : (c : Bool) → old.controlling ≡ c → is_eligible c top ≡ true → (path : Path) → path_of old top ≡ path → IsNominatedIn (parts_of old) path ⊎ asks path 0
+          asking true role able path is = inr (free (ap (λ b. b || old.lite) role) path 0)
           asking false role able path is = inl (top, has, right (is_valid top) (is_nominated top) able, is)
 
           is_top : (p : PairRecord) → Has (change_pair top.number (nominated_by_self old.controlling old.lite) old.pairs) p → Some top.number ≡ Some p.number
@@ -253,12 +258,12 @@ module _ (asks met : Path → Type 0) (sent : Path → List ℕ → Bool → Typ
             };
           }
 
-    pub nominates : (old new : AgentRecord H P) (path : Option Path) → ((old.controlling || old.lite) ≡ true → (p : Path) → asks p) → Fit (parts_of old) → Nominates old path new
+    pub nominates : (old new : AgentRecord H P) (path : Option Path) → ((old.controlling || old.lite) ≡ true → (p : Path) (m : ℕ) → asks p m) → Fit (parts_of old) → Nominates old path new
         → Onward asks met sent (parts_of old) (parts_of new) × Evaluates asks met sent (parts_of old) (parts_of new) old.selected_pair new.selected_pair path
     nominates old new path free fit h = selects_one old new path free fit (selects_path old new path h)
 
     -- pairs that are removed after timeout
-    pub removes_expired_moves : (now : ℕ) (old new : AgentRecord H P) (path : Option Path) → ((old.controlling || old.lite) ≡ true → (p : Path) → asks p) → Fit (parts_of old) → RemovesExpired now old path new
+    pub removes_expired_moves : (now : ℕ) (old new : AgentRecord H P) (path : Option Path) → ((old.controlling || old.lite) ≡ true → (p : Path) (m : ℕ) → asks p m) → Fit (parts_of old) → RemovesExpired now old path new
         → Onward asks met sent (parts_of old) (parts_of new) × Evaluates asks met sent (parts_of old) (parts_of new) old.selected_pair new.selected_pair path
     removes_expired_moves now old new path free fit h = either (list_any (is_expired now old) old.pairs) h
         (λ _ k. (

@@ -1,5 +1,5 @@
 -- The effect of each change on pairs: a pair existed before, or is added.
-use Rattle.std.proofs.Common.{◌≡◌, ℕ, ◌+◌, ◌<◌, ◌≤◌, Bool, true, false, not, List, [], ◌∷◌, ◌++◌, filter, length, is_some, Option, Some, None, inl, inr, ◌⊎◌, refl, ap, sym, ◌∙◌, subst, arith, if◌then◌else◌}
+use Rattle.std.proofs.Common.{◌≡◌, ℕ, ◌+◌, ◌<◌, ◌≤◌, Bool, true, false, not, List, [], ◌∷◌, ◌++◌, filter, length, max, is_some, Option, Some, None, inl, inr, ◌⊎◌, refl, ap, sym, ◌∙◌, subst, arith, if◌then◌else◌}
 use Rattle.std.specs.Prelude.{nat_lt}
 use Rattle.is_proto.specs.Lists.{Has}
 use Rattle.is_candidate.specs.Candidates.{CandidateRecord, base_of, candidate_at}
@@ -13,6 +13,7 @@ use Rattle.is_pair.specs.declared.pair.states.NominationState.TheVariants.{None 
 use Rattle.is_theorems.proofs.BasicLemmas.EqualAddresses.{both, same_address-sound, same_protocol-sound}
 use Rattle.is_rules.specs.declared.emitted.Path.{Path}
 use Rattle.is_pair.specs.Multiset.{is_numbered, without}
+use Rattle.is_rules.proofs.PairLists.CountedPairs.{less-or}
 use Rattle.is_rules.proofs.PairLists.RemovedInTurn.{removes, RemovesInTurn}
 use Rattle.is_rules.proofs.PairLists.RisingNumbers.{AreRising, AllBelow}
 use Rattle.is_rules.specs.Sound.{IsPlaced, ArePlaced}
@@ -95,8 +96,18 @@ IsValidIn x path = (p : PairRecord) × Has x.pairs p × (is_valid p ≡ true) ×
 abbrev pub IsNominatedIn : Parts → Path → Type 0
 IsNominatedIn x path = (p : PairRecord) × Has x.pairs p × (is_nominated p ≡ true) × (path_in x p ≡ path)
 
--- `asks`: the peer nominates a path; `met`: a path is answered; `sent`: a check is sent on a path
-module _ (asks met : Path → Type 0) (sent : Path → List ℕ → Bool → Type 0) where
+-- a pair on the path was nominated by m at least
+abbrev pub IsNumberedIn : Parts → Path → ℕ → Type 0
+IsNumberedIn x path m = (p : PairRecord) × Has x.pairs p × (m ≤ p.greatest_number) × (path_in x p ≡ path)
+
+pub below_max : (m a b : ℕ) → m ≤ max a b → (m ≤ a) ⊎ (m ≤ b)
+below_max m a b le = elim (less-or a m) [ inl lt ↦ inr (omega (arith, le, lt)) | inr ge ↦ inl ge ]
+
+pub not_below : {R : Type 0} (m : ℕ) → 0 < m → m ≤ 0 → R
+not_below m pos le = absurd (let none : ⊥ = omega (arith, pos, le) in none)
+
+-- `asks`: the peer nominates a path, by this number at least; `met`: a path is answered; `sent`: a check is sent on a path
+module _ (asks : Path → ℕ → Type 0) (met : Path → Type 0) (sent : Path → List ℕ → Bool → Type 0) where
   abbrev pub WasKept : PairRecord → Path → Check → Type 0
   WasKept was path c = ((d : Check) × Has was.checks d × (d.id ≡ c.id) × (d.controlling ≡ c.controlling)) ⊎ sent path c.id c.controlling
 
@@ -107,7 +118,8 @@ module _ (asks met : Path → Type 0) (sent : Path → List ℕ → Bool → Typ
     pub path : path_in x was ≡ path_in y p
     pub checks : (c : Check) → Has p.checks c → WasKept was (path_in y p) c
     pub valid : is_valid p ≡ true → (is_valid was ≡ true) ⊎ met (path_in y p)
-    pub asked : is_nominated p ≡ true → (is_nominated was ≡ true) ⊎ asks (path_in y p)
+    pub asked : is_nominated p ≡ true → (is_nominated was ≡ true) ⊎ asks (path_in y p) 0
+    pub numbered : (m : ℕ) → m ≤ p.greatest_number → (m ≤ was.greatest_number) ⊎ asks (path_in y p) m
     pub still_valid : is_valid was ≡ true → is_valid p ≡ true
     pub still_nominated : is_nominated was ≡ true → is_nominated p ≡ true
 
@@ -116,7 +128,8 @@ module _ (asks met : Path → Type 0) (sent : Path → List ℕ → Bool → Typ
     pub below : p.number < y.next_number
     pub checks : (c : Check) → Has p.checks c → sent (path_in y p) c.id c.controlling
     pub valid : is_valid p ≡ true → IsValidIn x (path_in y p) ⊎ met (path_in y p)
-    pub asked : is_nominated p ≡ true → IsNominatedIn x (path_in y p) ⊎ asks (path_in y p)
+    pub asked : is_nominated p ≡ true → IsNominatedIn x (path_in y p) ⊎ asks (path_in y p) 0
+    pub numbered : (m : ℕ) → 0 < m → m ≤ p.greatest_number → IsNumberedIn x (path_in y p) m ⊎ asks (path_in y p) m
 
   pub record Onward (x y : Parts) : Type 0 where
     pub counter : x.next_number ≤ y.next_number
@@ -131,10 +144,16 @@ module _ (asks met : Path → Type 0) (sent : Path → List ℕ → Bool → Typ
     | inr j ↦ elim (j.valid is) [ inl v ↦ inl (subst (λ z. IsValidIn x z) same v) | inr m ↦ inr (subst met same m) ]
   ]
 
-  pub nominated_before : (x y : Parts) → Onward x y → (path : Path) → IsNominatedIn y path → IsNominatedIn x path ⊎ asks path
+  pub nominated_before : (x y : Parts) → Onward x y → (path : Path) → IsNominatedIn y path → IsNominatedIn x path ⊎ asks path 0
   nominated_before x y o path (p, has, is, same) = elim (o.pairs p has) [
-    | inl s ↦ elim (s.asked is) [ inl v ↦ inl (s.was, s.there, v, s.path ∙ same) | inr m ↦ inr (subst asks same m) ]
-    | inr j ↦ elim (j.asked is) [ inl v ↦ inl (subst (λ z. IsNominatedIn x z) same v) | inr m ↦ inr (subst asks same m) ]
+    | inl s ↦ elim (s.asked is) [ inl v ↦ inl (s.was, s.there, v, s.path ∙ same) | inr m ↦ inr (subst (λ z. asks z 0) same m) ]
+    | inr j ↦ elim (j.asked is) [ inl v ↦ inl (subst (λ z. IsNominatedIn x z) same v) | inr m ↦ inr (subst (λ z. asks z 0) same m) ]
+  ]
+
+  pub numbered_before : (x y : Parts) → Onward x y → (path : Path) (m : ℕ) → 0 < m → IsNumberedIn y path m → IsNumberedIn x path m ⊎ asks path m
+  numbered_before x y o path m pos (p, has, le, same) = elim (o.pairs p has) [
+    | inl s ↦ elim (s.numbered m le) [ inl v ↦ inl (s.was, s.there, v, s.path ∙ same) | inr a ↦ inr (subst (λ z. asks z m) same a) ]
+    | inr j ↦ elim (j.numbered m pos le) [ inl v ↦ inl (subst (λ z. IsNumberedIn x z m) same v) | inr a ↦ inr (subst (λ z. asks z m) same a) ]
   ]
 
   persisted : (x y z : Parts) (p : PairRecord) (k : Persisted y z p) → Persisted x y k.was → Persisted x z p
@@ -151,7 +170,8 @@ module _ (asks met : Path → Type 0) (sent : Path → List ℕ → Bool → Typ
       | inr out ↦ inr out
     ];
     valid = λ is. elim (k.valid is) [ inl v ↦ elim (h.valid v) [ inl w ↦ inl w | inr m ↦ inr (subst met k.path m) ] | inr m ↦ inr m ];
-    asked = λ is. elim (k.asked is) [ inl v ↦ elim (h.asked v) [ inl w ↦ inl w | inr m ↦ inr (subst asks k.path m) ] | inr m ↦ inr m ];
+    asked = λ is. elim (k.asked is) [ inl v ↦ elim (h.asked v) [ inl w ↦ inl w | inr m ↦ inr (subst (λ z. asks z 0) k.path m) ] | inr m ↦ inr m ];
+    numbered = λ m le. elim (k.numbered m le) [ inl v ↦ elim (h.numbered m v) [ inl w ↦ inl w | inr a ↦ inr (subst (λ z. asks z m) k.path a) ] | inr a ↦ inr a ];
     still_valid = λ v. k.still_valid (h.still_valid v);
     still_nominated = λ v. k.still_nominated (h.still_nominated v);
   }
@@ -169,8 +189,12 @@ module _ (asks met : Path → Type 0) (sent : Path → List ℕ → Bool → Typ
       | inr m ↦ inr m
     ];
     asked = λ is. elim (k.asked is) [
-      | inl v ↦ elim (h.asked v) [ inl w ↦ inl (subst (λ z. IsNominatedIn x z) k.path w) | inr m ↦ inr (subst asks k.path m) ]
+      | inl v ↦ elim (h.asked v) [ inl w ↦ inl (subst (λ z. IsNominatedIn x z) k.path w) | inr m ↦ inr (subst (λ z. asks z 0) k.path m) ]
       | inr m ↦ inr m
+    ];
+    numbered = λ m pos le. elim (k.numbered m le) [
+      | inl v ↦ elim (h.numbered m pos v) [ inl w ↦ inl (subst (λ z. IsNumberedIn x z m) k.path w) | inr a ↦ inr (subst (λ z. asks z m) k.path a) ]
+      | inr a ↦ inr a
     ];
   }
 
@@ -181,6 +205,7 @@ module _ (asks met : Path → Type 0) (sent : Path → List ℕ → Bool → Typ
     checks = j.checks;
     valid = λ is. elim (j.valid is) [ inl v ↦ valid_before x y o (path_in z p) v | inr m ↦ inr m ];
     asked = λ is. elim (j.asked is) [ inl v ↦ nominated_before x y o (path_in z p) v | inr m ↦ inr m ];
+    numbered = λ m pos le. elim (j.numbered m pos le) [ inl v ↦ numbered_before x y o (path_in z p) m pos v | inr a ↦ inr a ];
   }
 
   pub onward : (x y z : Parts) → Onward x y → Onward y z → Onward x z
@@ -204,6 +229,7 @@ module _ (asks met : Path → Type 0) (sent : Path → List ℕ → Bool → Typ
     checks = λ c keeps. inl (c, keeps, refl, refl);
     valid = λ is. inl is;
     asked = λ is. inl is;
+    numbered = λ m le. inl le;
     still_valid = λ is. is;
     still_nominated = λ is. is;
   }
@@ -229,9 +255,10 @@ module _ (asks met : Path → Type 0) (sent : Path → List ℕ → Bool → Typ
   pub pushed : (x : Parts) (ps : List PairRecord) (p : PairRecord) → Fit x → ((q : PairRecord) → Has ps q → Has x.pairs q) → AreRising ps
       → p.number ≡ x.next_number → IsPlaced x.local x.remote p → p.checks ≡ [] → IsConsented p
       → (is_valid p ≡ true → IsValidIn x (path_in x p) ⊎ met (path_in x p))
-      → (is_nominated p ≡ true → IsNominatedIn x (path_in x p) ⊎ asks (path_in x p))
+      → (is_nominated p ≡ true → IsNominatedIn x (path_in x p) ⊎ asks (path_in x p) 0)
+      → ((m : ℕ) → 0 < m → m ≤ p.greatest_number → IsNumberedIn x (path_in x p) m ⊎ asks (path_in x p) m)
       → Onward x (record x { pairs = ps ++ p ∷ []; next_number = x.next_number + 1 })
-  pushed x ps p fit among rising number placed unchecked consented valid asked = record {
+  pushed x ps p fit among rising number placed unchecked consented valid asked with_numbers = record {
     counter = omega arith;
     pairs = λ q has. elim (Has-push ps p q has) [
       | inl was ↦ inl (stays x _ q (among q was) refl)
@@ -241,6 +268,7 @@ module _ (asks met : Path → Type 0) (sent : Path → List ℕ → Bool → Typ
         checks = λ c keeps. absurd (subst (λ cs. Has cs c) unchecked keeps);
         valid = valid;
         asked = asked;
+        numbered = with_numbers;
       }))
     ];
     fit = record {
@@ -305,6 +333,10 @@ module _ (asks met : Path → Type 0) (sent : Path → List ℕ → Bool → Typ
   taken_nomination true other p = refl
   taken_nomination false other p = refl
 
+  taken_number : (lite : Bool) (other p : PairRecord) → (taking_over lite other p).greatest_number ≡ max other.greatest_number p.greatest_number
+  taken_number true other p = refl
+  taken_number false other p = refl
+
   taken_rest : (lite : Bool) (other p : PairRecord) → ((taking_over lite other p).checks ≡ p.checks) × ((taking_over lite other p).number ≡ p.number)
       × ((taking_over lite other p).local ≡ p.local) × ((taking_over lite other p).remote ≡ p.remote)
   taken_rest true other p = (refl, refl, refl, refl)
@@ -332,7 +364,7 @@ module _ (asks met : Path → Type 0) (sent : Path → List ℕ → Bool → Typ
       let p : PairRecord = pair_of s at old.next_number in
       subst (λ (f : Formed). Onward (parts_with s old) (parts_with s f)) (sym made)
       (pushed (parts_with s old) old.pairs p fit (λ q has. has) fit.rising refl placed refl (λ (is : false ≡ true). cc)
-      (λ (is : false ≡ true). cc) (λ (is : false ≡ true). cc))
+      (λ (is : false ≡ true). cc) (λ (is : false ≡ true). cc) (λ m pos le. not_below m pos le))
   tries_one s at old new placed fit (Some found, (has, redundant, greatest), made) =
       choose (nat_lt found.priority (combined_priority s at)) (λ f. new ≡ f) _ old made
       (λ replaced. (
@@ -348,7 +380,11 @@ module _ (asks met : Path → Type 0) (sent : Path → List ℕ → Bool → Typ
       rest.0
       (taken_consented s.lite found own (refl, refl) (fit.consented found has))
       (λ is. inl (found, has, valid-from found.state (ap is_valid_state (sym (taken_state s.lite found own)) ∙ is), same_path))
-      (λ is. inl (found, has, nominated-from found.nomination (ap is_nominated_state (sym (taken_nomination s.lite found own)) ∙ is), same_path)))))
+      (λ is. inl (found, has, nominated-from found.nomination (ap is_nominated_state (sym (taken_nomination s.lite found own)) ∙ is), same_path))
+      (λ m pos le. elim (below_max m found.greatest_number 0 (subst (λ k. m ≤ k) (taken_number s.lite found own) le)) [
+        | inl few ↦ inl (found, has, few, same_path)
+        | inr none ↦ not_below m pos none
+      ]))))
       (λ dropped. subst (λ (f : Formed). Onward (parts_with s old) (parts_with s f)) (sym dropped) (here (parts_with s old) fit))
 
   tries_each : (s : SidesRecord) (all : List Combination) (old new : Formed) → ((at : Combination) → Has all at → IsIn s at) → Fit (parts_with s old) → Each (Tries s) all old new

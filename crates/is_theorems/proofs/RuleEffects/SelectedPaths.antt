@@ -33,21 +33,21 @@ pub record NamedIn (x : Parts) (number : Option ℕ) (path : Path) : Type 0 wher
   pub below : (n : ℕ) → number ≡ Some n → n < x.next_number
   pub is : (p : PairRecord) → Has x.pairs p → number ≡ Some p.number → (path_in x p ≡ path) × (is_valid p ≡ true) × (is_nominated p ≡ true)
 
-module _ (asks met : Path → Type 0) (sent : Path → List ℕ → Bool → Type 0) where
+module _ (asks : Path → ℕ → Type 0) (met : Path → Type 0) (sent : Path → List ℕ → Bool → Type 0) where
   abbrev Goes : Parts → Parts → Type 0
   Goes x y = Onward asks met sent x y
 
   -- one evaluation: the path that it selects, and `selected_pair` before and after it
   pub record Evaluates (x y : Parts) (before following : Option ℕ) (o : Option Path) : Type 0 where
     pub valid : (path : Path) → o ≡ Some path → IsValidIn x path
-    pub asked : (path : Path) → o ≡ Some path → IsNominatedIn x path ⊎ asks path
+    pub asked : (path : Path) → o ≡ Some path → IsNominatedIn x path ⊎ asks path 0
     pub stays : o ≡ None → following ≡ before
     pub names : (path : Path) → o ≡ Some path → NamedIn y following path
 
   -- a step
   pub record Returns (x y : Parts) (before following : Option ℕ) (paths : List (Option Path)) : Type 0 where
     pub valid : (path : Path) → Has paths (Some path) → IsValidIn x path ⊎ met path
-    pub asked : (path : Path) → Has paths (Some path) → IsNominatedIn x path ⊎ asks path
+    pub asked : (path : Path) → Has paths (Some path) → IsNominatedIn x path ⊎ asks path 0
     pub stays : last_of paths ≡ None → following ≡ before
     pub names : (path : Path) → last_of paths ≡ Some path → NamedIn y following path
 

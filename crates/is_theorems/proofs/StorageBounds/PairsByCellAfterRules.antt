@@ -32,12 +32,12 @@ use Rattle.is_rules.specs.Agent.{AgentRecord}
 use Rattle.is_rules.specs.Answers.{is_left_out, is_role_conflict, local_with, mapped_candidate, success_counted, TakesSuccess, TakesFailure, LeavesRole}
 use Rattle.is_rules.specs.Checking.{MayCheck, ChecksTop, all_asked}
 use Rattle.is_rules.specs.Forming.{Combination, SidesRecord, FormsAll, formed, sides_of, with_pair}
-use Rattle.is_rules.specs.Nominating.{Selection, Nominates, NominatesWhere, NamesTop, nominated_by_self, nominated_emitted, with_selection, followed, remains, selection_of}
+use Rattle.is_rules.specs.Nominating.{Selection, Nominates, NominatesWhere, NamesTop, nominated_by_self, nominated_emitted, with_selection, followed, remains, selection_of, nominates_at_once, numbers}
 use Rattle.is_rules.specs.Places.{is_at, is_live, is_reached, local_place}
 use Rattle.is_rules.specs.Queue.{first_taken, request_at}
 use Rattle.is_rules.specs.Request.{RequestRecord, request_in}
-use Rattle.is_rules.specs.Roles.{conflict_of, switched, switched_sides, with_priority_in}
-use Rattle.is_rules.specs.Serving.{selects_at_requests, after_request, is_misled, names_another, pair_served, request_counted, served, validated_by_peer, with_sender, with_sender_at, Drops, Queues, RecordsAndResponds, FindsOrAddsPair, AddsUnknownSender, CountsAndServes, ResolvesRoleConflictBy, ResolvesRoleConflict, Serves}
+use Rattle.is_rules.specs.Roles.{conflict_of, switched, switched_sides, with_priority_in, keeps_role}
+use Rattle.is_rules.specs.Serving.{selects_at_requests, after_request, is_misled, names_another, pair_served, request_counted, served, validated_by_peer, with_sender, with_sender_at, Drops, Queues, RecordsAndResponds, FindsOrAddsPair, AddsUnknownSender, CountsAndServes, ResolvesRoleConflictBy, ResolvesRoleConflict, Serves, as_taken, nominated_by_peer}
 use Rattle.is_rules.specs.States.{evaluated}
 use Rattle.is_rules.specs.Steps.{Entry, Receives}
 use Rattle.is_rules.specs.Timeouts.{at_request, RemovesExpired, MaintainsPairs, TimesOut, at_timeout, expired_gone, is_expired, timeout_begun}
@@ -52,6 +52,9 @@ use Rattle.is_rules.proofs.PairLists.RemovedInTurn.{removes, RemovesInTurn}
 use Rattle.is_theorems.proofs.RuleEffects.SelectedPaths.{some_is}
 use Rattle.is_theorems.proofs.BasicLemmas.CandidatesByIndex.{at-append, found-at}
 use Rattle.is_theorems.proofs.RuleEffects.TriggeredPairs.{triggered_by, by_trigger}
+use Rattle.is_theorems.proofs.BasicLemmas.PairsInTurn.{sent-pairs, sent_at}
+use Rattle.is_stun.specs.declared.timing.StunTiming.{StunTiming}
+use Rattle.is_theorems.proofs.BasicLemmas.ServedPairs.{numbered-by}
 
 -- the local candidate at the index was not brought by a response
 abbrev pub own_at : List CandidateRecord → ℕ → Bool
@@ -74,14 +77,20 @@ validated-cell false p = refl
 served-cell : (c l : Bool) (q : RequestRecord) (p : PairRecord) → cell_of (served c l q p) ≡ cell_of p
 served-cell c l q p =
     let x : PairRecord = validated_by_peer c l (with_request q.time p) in
-    unless-cell (not c && q.use_candidate && not (is_nominated x)) l x ∙ validated-cell (l && not c) (with_request q.time p)
+    let same : cell_of (nominated_by_peer c l q x) ≡ cell_of p =
+    unless-cell (not c && q.use_candidate && not (is_nominated x)) l x ∙ validated-cell (l && not c) (with_request q.time p) in
+    numbered-by (λ y. cell_of y ≡ cell_of p) c q.nomination (nominated_by_peer c l q x) same (λ n. same)
 
 request-cell : {H P : Type 0} (q : RequestRecord) (s : AgentRecord H P) (p : PairRecord) → cell_of (after_request q s p) ≡ cell_of p
-request-cell q s p = served-cell s.controlling s.lite q (triggered_by q s p) ∙ by_trigger (λ (x : PairRecord). cell_of x ≡ cell_of p) q s p (λ due. refl)
+request-cell q s p = served-cell s.controlling s.lite (as_taken (numbers s) q) (triggered_by q s p) ∙ by_trigger (λ (x : PairRecord). cell_of x ≡ cell_of p) q s p (λ due. refl)
 
 heard-cell : (now : ℕ) (last : Option ℕ) (p : PairRecord) → cell_of (heard_at now last p) ≡ cell_of p
 heard-cell now None p = refl
 heard-cell now (Some at) p = refl
+
+sent-cell : (begins : Bool) (now : ℕ) (t : StunTiming) (c : Bool) (id : List ℕ) (p : PairRecord) → cell_of (sent_at begins now t c id p) ≡ cell_of p
+sent-cell true now t c id p = refl
+sent-cell false now t c id p = refl
 
 at-cell : (n : ℕ) (f : PairRecord → PairRecord) (p : PairRecord) → cell_of (f p) ≡ cell_of p → cell_of (change_at n f p) ≡ cell_of p
 at-cell n f p h = by (p.number == n) where
@@ -203,10 +212,13 @@ module _ {H P : Type 0} where
         next : (top : Option PairRecord) → ChecksTop mac now remote top (all_asked now old) s issued new t → Fewer old new
         next None (is, made, drawn) = alike old new (ap (λ (a : AgentRecord H P). grid_of a) made ∙ asked_cells now old)
         next (Some p) (id, drawn, values, is, made) = alike old new (
+            let begins : Bool = nominates_at_once (all_asked now old) in
+            let change : PairRecord → PairRecord = sent_at begins now old.timing old.controlling id in
             ap (λ (a : AgentRecord H P). grid_of a) made
-            ∙ (recast (all_asked now old) (map (change_at p.number (checked now old.timing old.controlling id)) (all_asked now old).pairs)
-            (cells-map (change_at p.number (checked now old.timing old.controlling id))
-            (λ x. at-cell p.number (checked now old.timing old.controlling id) x refl) (all_asked now old).pairs) ∙ asked_cells now old)
+            ∙ (ap (λ ps. grid_of (record (all_asked now old) { pairs = ps })) (sent-pairs begins p.number now old.timing old.controlling id (all_asked now old).pairs)
+            ∙ (recast (all_asked now old) (map (change_at p.number change) (all_asked now old).pairs)
+            (cells-map (change_at p.number change) (λ x. at-cell p.number change x (sent-cell begins now old.timing old.controlling id x)) (all_asked now old).pairs)
+            ∙ asked_cells now old))
             )
 
   maintains_pairs_fewer : (mac : H → List ℕ → List ℕ → List ℕ) (now : ℕ) (old new : AgentRecord H P) (s t : Stream) (emitted : Emitted) → MaintainsPairs mac now old s emitted new t → Fewer old new
@@ -240,7 +252,7 @@ module _ {H P : Type 0} where
   failure_fewer : (old new : AgentRecord H P) (via : Path) (m : Message) (emitted : Emitted) → TakesFailure old via m emitted new → Fewer old new
   failure_fewer old new via m emitted h = either (is_role_conflict m) h (λ _ k. gives k) (λ _ k. unchanged old new k.1) where
     gives : LeavesRole old via m emitted new → Fewer old new
-    gives (p, c, has, on_it, keeps, id_is, h) = either (role.same c.controlling old.controlling) h
+    gives (p, c, has, on_it, keeps, id_is, h) = either (role.same c.controlling old.controlling && not (keeps_role old)) h
         (λ _ k. made-as old (switched old) new k.1 (switched_fewer old)) (λ _ k. unchanged old new k.1)
 
   -- ---- forming

@@ -22,7 +22,7 @@ use Rattle.is_theorems.specs.Logs.{Logged}
 use Rattle.is_rules.specs.Remote.{AddsRemote}
 use Rattle.is_rules.specs.Restarting.{Restarts, Recreates, emptied}
 use Rattle.is_rules.specs.Credentials.{SetsLocal, SetsRemote}
-use Rattle.is_rules.specs.Settings.{SetsMtu}
+use Rattle.is_rules.specs.Settings.{SetsControlling, SetsMtu}
 use Rattle.is_theorems.specs.Runs.{IsFresh, Run, run_to}
 use Rattle.is_rules.specs.Sound.{IsSound}
 use Rattle.is_rules.specs.Steps.{Call, SetMtu, SetControlTieBreaker, SetMaxCandidatePairs, SetMaxDiscovered, SetIceLite, SetRenomination, SetRules, SetTimingAdvance, SetInitialStunRto, SetMaxStunRto, SetMaxStunRetransmits, SetLiteTimeout, SetLocalPreference, SetControlling, SetLocalCredentials, SetRemoteCredentials, SkipPairIds, AddLocalCandidate, AddRemoteCandidate, InvalidateCandidate, RestartIce, RecreateCandidatePairs, ReceivePacket, HandleTimeout, PollTransmit, PollTimeout, PollEvent, Entry, Step, MayDo}
@@ -34,7 +34,7 @@ use Rattle.is_theorems.proofs.CallEffects.AddedCandidates.{by_adding_local, by_a
 use Rattle.is_theorems.proofs.RuleEffects.UnchangedSettings.{either}
 use Rattle.is_theorems.proofs.ExecutionLogs.LogTheorems.{runs_sound}
 use Rattle.is_theorems.proofs.ExecutionLogs.PointsOfSegments.{deeper, later_point}
-use Rattle.is_theorems.proofs.CallEffects.FailedCallsAndNewAgents.{mtu_kept, local_kept, remote_kept, restart_kept, recreation_kept, enrolment_kept, storing_kept}
+use Rattle.is_theorems.proofs.CallEffects.FailedCallsAndNewAgents.{mtu_kept, controlling_kept, local_kept, remote_kept, restart_kept, recreation_kept, enrolment_kept, storing_kept}
 
 -- a changed candidate of the same kind leaves all kinds
 kinds-put : (cs : List CandidateRecord) (r k : ℕ) (c : CandidateRecord) → c.kind ≡ (candidate_at cs r).kind → (candidate_at (slice_set cs r c) k).kind ≡ (candidate_at cs k).kind
@@ -136,7 +136,7 @@ module _ {H P : Type 0} where
     steps sound (SetMaxStunRetransmits k) h = inl (either (k == 0) h (λ _ x. kept x.1) (λ _ x. placed (cells_in _ x.1)))
     steps sound (SetLiteTimeout timeout) (is, made, drawn) = inl (placed (cells_in _ made))
     steps sound (SetLocalPreference object) (is, made, drawn) = inl (placed (cells_in _ made))
-    steps sound (SetControlling controlling) (is, made, drawn) = inl (placed (cells_in _ made))
+    steps sound (SetControlling controlling) h = inl (may (SetsControlling old controlling) (λ k. placed (cells_in _ k.1)) (controlling_kept old new controlling) h)
     steps sound (SetLocalCredentials creds) h = inl (may (SetsLocal old creds) (λ k. placed (cells_in _ k.1)) (local_kept old new creds) h)
     steps sound (SetRemoteCredentials creds) h = inl (may (SetsRemote old creds) (λ k. placed (cells_in _ k.1)) (remote_kept old new creds) h)
     steps sound (SkipPairIds k) (is, made, drawn) = inl (placed (cells_in _ made))

@@ -30,7 +30,7 @@ use Rattle.is_rules.specs.Forming.{Combination, FormsAll, formed, with_pair}
 use Rattle.is_rules.specs.Nominating.{Nominates, NominatesWhere, nominated_emitted, with_selection}
 use Rattle.is_rules.specs.Places.{local_place}
 use Rattle.is_rules.specs.Request.{RequestRecord}
-use Rattle.is_rules.specs.Roles.{conflict_of, switched}
+use Rattle.is_rules.specs.Roles.{conflict_of, switched, keeps_role}
 use Rattle.is_rules.specs.Serving.{selects_at_requests, is_misled, names_another, pair_served, request_counted, with_sender, with_sender_at, Drops, Queues, RecordsAndResponds, FindsOrAddsPair, AddsUnknownSender, CountsAndServes, ResolvesRoleConflictBy, ResolvesRoleConflict, Serves}
 use Rattle.is_rules.specs.States.{evaluated, has_nominated, has_possible, next_state, same_state, with_state}
 use Rattle.is_rules.specs.Timeouts.{RemovesExpired, MaintainsPairs, at_timeout, expired_gone, is_expired, start_emitted, timeout_begun}
@@ -188,7 +188,7 @@ module _ {H P : Type 0} where
   pub failure_adds : (old new : AgentRecord H P) (via : Path) (m : Message) (emitted : Emitted) → TakesFailure old via m emitted new → Adds 0 0 old new
   failure_adds old new via m emitted h = either (is_role_conflict m) h (λ _ k. gives k) (λ _ k. kept old new k.1) where
     gives : LeavesRole old via m emitted new → Adds 0 0 old new
-    gives (p, c, has, on, keeps, id_is, h) = either (role.same c.controlling old.controlling) h
+    gives (p, c, has, on, keeps, id_is, h) = either (role.same c.controlling old.controlling && not (keeps_role old)) h
         (λ _ k. same old new (ap (λ (a : AgentRecord H P). lines_of a) k.1)) (λ _ k. kept old new k.1)
 
   pub forms_adds : (old new : AgentRecord H P) (all : List Combination) → FormsAll old all new → Adds 0 0 old new

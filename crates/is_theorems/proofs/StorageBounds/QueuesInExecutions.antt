@@ -30,12 +30,12 @@ use Rattle.is_rules.specs.Remote.{AddsRemote}
 use Rattle.is_rules.specs.Request.{RequestRecord, request_in}
 use Rattle.is_rules.specs.Restarting.{Restarts, Recreates, cleared, emptied}
 use Rattle.is_rules.specs.Serving.{Serves}
-use Rattle.is_rules.specs.Settings.{SetsMtu}
+use Rattle.is_rules.specs.Settings.{SetsControlling, SetsMtu}
 use Rattle.is_rules.specs.Steps.{Call, SetMtu, SetControlTieBreaker, SetMaxCandidatePairs, SetMaxDiscovered, SetIceLite, SetRenomination, SetRules, SetTimingAdvance, SetInitialStunRto, SetMaxStunRto, SetMaxStunRetransmits, SetLiteTimeout, SetLocalPreference, SetControlling, SetLocalCredentials, SetRemoteCredentials, SkipPairIds, AddLocalCandidate, AddRemoteCandidate, InvalidateCandidate, RestartIce, RecreateCandidatePairs, ReceivePacket, HandleTimeout, PollTransmit, PollTimeout, PollEvent, Entry, Receives, Step, MayDo, Polled, Happened, answer_by, done, quiet}
 use Rattle.is_rules.specs.Timeouts.{at_request, MaintainsPairs, TimesOut, timeout_begun}
 use Rattle.is_theorems.proofs.CallEffects.AddedCandidates.{by_adding_local, by_adding_remote, by_waking}
 use Rattle.is_theorems.proofs.RuleEffects.UnchangedSettings.{either}
-use Rattle.is_theorems.proofs.CallEffects.FailedCallsAndNewAgents.{mtu_kept, local_kept, remote_kept, restart_kept, recreation_kept, enrolment_kept, storing_kept}
+use Rattle.is_theorems.proofs.CallEffects.FailedCallsAndNewAgents.{mtu_kept, controlling_kept, local_kept, remote_kept, restart_kept, recreation_kept, enrolment_kept, storing_kept}
 use Rattle.is_theorems.specs.Limited.{DiscoveriesStayFew}
 use Rattle.is_theorems.specs.Shared.{IsNewlyCreated, SharedRun}
 use Rattle.is_theorems.specs.Waiting.{is_taken, packets_of, leaves_no_packet, finds_no_packet, most_packets, is_discovery, discovery_count, other_count, events_of, leaves_no_event, finds_no_event, most_events, QueuesAreShort}
@@ -302,7 +302,7 @@ module _ {H P : Type 0} where
       moves (SetMaxStunRetransmits k) h = still (either (k == 0) h (λ _ x. kept old new x.1) (λ _ x. same old new (ap (λ (a : AgentRecord H P). lines_of a) x.1)))
       moves (SetLiteTimeout timeout) (is, made, drawn) = still (same old new (ap (λ (a : AgentRecord H P). lines_of a) made))
       moves (SetLocalPreference object) (is, made, drawn) = still (same old new (ap (λ (a : AgentRecord H P). lines_of a) made))
-      moves (SetControlling controlling) (is, made, drawn) = still (same old new (ap (λ (a : AgentRecord H P). lines_of a) made))
+      moves (SetControlling controlling) h = still (may (SetsControlling old controlling) (λ k. ap (λ (a : AgentRecord H P). lines_of a) k.1) (controlling_kept old new controlling) h)
       moves (SetLocalCredentials creds) h = still (may (SetsLocal old creds) (λ k. ap (λ (a : AgentRecord H P). lines_of a) k.1) (local_kept old new creds) h)
       moves (SetRemoteCredentials creds) h = still (may (SetsRemote old creds) (λ k. ap (λ (a : AgentRecord H P). lines_of a) k.1) (remote_kept old new creds) h)
       moves (SkipPairIds k) (is, made, drawn) = still (same old new (ap (λ (a : AgentRecord H P). lines_of a) made))

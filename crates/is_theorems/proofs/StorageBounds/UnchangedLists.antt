@@ -1,5 +1,5 @@
 -- The rules that do not change the lists that a limit bounds.
-use Rattle.std.proofs.Common.{◌≡◌, ℕ, Bool, true, false, List, Option, Some, None, refl, ap, ◌∙◌}
+use Rattle.std.proofs.Common.{◌≡◌, ℕ, Bool, true, false, List, Option, Some, None, refl, ap, ◌∙◌, ◌&&◌, not}
 use Rattle.std.specs.List.{list_any}
 use Rattle.rand_core.specs.Stream.{Stream}
 use Rattle.is_proto.specs.Lists as role
@@ -17,6 +17,7 @@ use Rattle.is_rules.specs.Nominating.{Nominates, NominatesWhere, nominated_emitt
 use Rattle.is_rules.specs.Timeouts.{RemovesExpired, MaintainsPairs, at_timeout, expired_gone, is_expired}
 use Rattle.is_theorems.proofs.RuleEffects.UnchangedSettings.{either}
 use Rattle.is_theorems.proofs.StorageBounds.BoundedLists.{Lists}
+use Rattle.is_rules.specs.Roles.{keeps_role}
 
 module _ {H P : Type 0} where
   abbrev pub lists_of : AgentRecord H P → Lists
@@ -69,7 +70,7 @@ module _ {H P : Type 0} where
   pub failure_same : (old new : AgentRecord H P) (via : Path) (m : Message) (emitted : Emitted) → TakesFailure old via m emitted new → Same old new
   failure_same old new via m emitted h = either (is_role_conflict m) h (λ _ k. gives k) (λ _ k. same old new k.1) where
     gives : LeavesRole old via m emitted new → Same old new
-    gives (p, c, has, on, keeps, id_is, h) = either (role.same c.controlling old.controlling) h
+    gives (p, c, has, on, keeps, id_is, h) = either (role.same c.controlling old.controlling && not (keeps_role old)) h
         (λ _ k. ap (λ (a : AgentRecord H P). lists_of a) k.1) (λ _ k. same old new k.1)
 
   pub forms_same : (old new : AgentRecord H P) (all : List Combination) → FormsAll old all new → Same old new

@@ -24,9 +24,9 @@ use Rattle.is_rules.specs.Request.{RequestRecord, request_in}
 use Rattle.is_rules.specs.Agent.{AgentRecord}
 use Rattle.is_rules.specs.Places.{local_place}
 use Rattle.is_rules.specs.Forming.{formed, with_pair}
-use Rattle.is_rules.specs.Nominating.{nominated_by_self, Nominates, followed, remains, selection_of}
-use Rattle.is_rules.specs.Roles.{conflict_of, switched, switched_sides, with_priority_in}
-use Rattle.is_rules.specs.Serving.{selects_at_requests, after_request, served, is_misled, names_another, pair_served, request_counted, with_sender, with_sender_at, validated_by_peer, Drops, Queues, RecordsAndResponds, FindsOrAddsPair, AddsUnknownSender, CountsAndServes, ResolvesRoleConflictBy, ResolvesRoleConflict, Serves}
+use Rattle.is_rules.specs.Nominating.{nominated_by_self, Nominates, followed, remains, selection_of, nominates_at_once, numbers}
+use Rattle.is_rules.specs.Roles.{conflict_of, switched, switched_sides, with_priority_in, keeps_role}
+use Rattle.is_rules.specs.Serving.{selects_at_requests, after_request, served, is_misled, names_another, pair_served, request_counted, with_sender, with_sender_at, validated_by_peer, Drops, Queues, RecordsAndResponds, FindsOrAddsPair, AddsUnknownSender, CountsAndServes, ResolvesRoleConflictBy, ResolvesRoleConflict, Serves, as_taken, nominated_by_peer}
 use Rattle.is_rules.specs.Answers.{is_role_conflict, TakesSuccess, LeavesRole, TakesFailure}
 use Rattle.is_rules.specs.Accepting.{Takes}
 use Rattle.is_rules.specs.Checking.{all_asked, ChecksTop, MayCheck}
@@ -38,6 +38,8 @@ use Rattle.is_theorems.proofs.CallEffects.ServedRequests.{Has-mapped}
 use Rattle.is_theorems.proofs.RuleEffects.SelectedPaths.{some_is}
 use Rattle.is_theorems.proofs.DuePairs.AfterNominationAndRemoval.{Base, Has-kept, nominates-thins}
 use Rattle.is_theorems.proofs.RuleEffects.TriggeredPairs.{triggered_by, by_trigger}
+use Rattle.is_theorems.proofs.BasicLemmas.PairsInTurn.{sent-number, sent-pairs, sent_at}
+use Rattle.is_theorems.proofs.BasicLemmas.ServedPairs.{numbered-by}
 
 -- ---- lists
 
@@ -84,13 +86,14 @@ nominated-number false p = refl
 
 served-number : (c l : Bool) (q : RequestRecord) (p : PairRecord) → (served c l q p).number ≡ p.number
 served-number c l q p =
-    if-number (not c && q.use_candidate && not (is_nominated (validated_by_peer c l (with_request q.time p))))
-    (nominated l (validated_by_peer c l (with_request q.time p))) (validated_by_peer c l (with_request q.time p))
-    (nominated-number l (validated_by_peer c l (with_request q.time p)))
-    ∙ if-number (l && not c) (validated (with_request q.time p)) (with_request q.time p) refl
+    let v : PairRecord = validated_by_peer c l (with_request q.time p) in
+    let same : (nominated_by_peer c l q v).number ≡ p.number =
+    if-number (not c && q.use_candidate && not (is_nominated v)) (nominated l v) v (nominated-number l v)
+    ∙ if-number (l && not c) (validated (with_request q.time p)) (with_request q.time p) refl in
+    numbered-by (λ x. x.number ≡ p.number) c q.nomination (nominated_by_peer c l q v) same (λ n. same)
 
 request-number : {H P : Type 0} (q : RequestRecord) (s : AgentRecord H P) (p : PairRecord) → (after_request q s p).number ≡ p.number
-request-number q s p = served-number s.controlling s.lite q (triggered_by q s p) ∙ by_trigger (λ (x : PairRecord). x.number ≡ p.number) q s p (λ due. refl)
+request-number q s p = served-number s.controlling s.lite (as_taken (numbers s) q) (triggered_by q s p) ∙ by_trigger (λ (x : PairRecord). x.number ≡ p.number) q s p (λ due. refl)
 
 heard-number : (now : ℕ) (at : Option ℕ) (p : PairRecord) → (heard_at now at p).number ≡ p.number
 heard-number now None p = refl
@@ -168,10 +171,13 @@ module _ {H P : Type 0} where
           next : (top : Option PairRecord) → ChecksTop mac now peer top (all_asked now old) s issued new t → Keep old new
           next None (is, made, drawn) = keep-as old (all_asked now old) new all made
           next (Some p) (id, drawn, values, is, made) =
+              let begins : Bool = nominates_at_once (all_asked now old) in
+              let change : PairRecord → PairRecord = sent_at begins now old.timing old.controlling id in
               keep-as old _ new
-              (keeps-on old.pairs (all_asked now old).pairs (change_pair p.number (checked now old.timing old.controlling id) (all_asked now old).pairs) all
-              (keeps-map (change_at p.number (checked now old.timing old.controlling id)) (all_asked now old).pairs
-              (λ q. if-number (is_numbered p.number q) (checked now old.timing old.controlling id q) q refl))) made
+              (subst (λ ps. Keeps old.pairs ps) (sym (sent-pairs begins p.number now old.timing old.controlling id (all_asked now old).pairs))
+              (keeps-on old.pairs (all_asked now old).pairs (change_pair p.number change (all_asked now old).pairs) all
+              (keeps-map (change_at p.number change) (all_asked now old).pairs
+              (λ q. if-number (is_numbered p.number q) (change q) q (sent-number begins now old.timing old.controlling id q))))) made
 
     pub maintains_pairs-leaves : (now : ℕ) (old new : AgentRecord H P) (s t : Stream) (emitted : Emitted) → MaintainsPairs mac now old s emitted new t → (p : PairRecord) → Has old.pairs p
         → Persists p.number new.pairs ⊎ (is_expired now old p ≡ true)
@@ -252,7 +258,7 @@ module _ {H P : Type 0} where
         (λ _ k. expired k)
         (λ _ k. keep-same old new k.1) where
           expired : LeavesRole old via m emitted new → Keep old new
-          expired (p, c, has, keeps, kept, is, acts) = either (same c.controlling old.controlling) acts
+          expired (p, c, has, keeps, kept, is, acts) = either (same c.controlling old.controlling && not (keeps_role old)) acts
               (λ _ k. keep-as old (switched old) new (keeps-map (with_priority_in (switched_sides old)) old.pairs (λ p. refl)) k.1)
               (λ _ k. keep-same old new k.1)
 

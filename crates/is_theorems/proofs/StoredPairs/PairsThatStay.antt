@@ -32,7 +32,7 @@ use Rattle.is_theorems.proofs.CallEffects.AddedCandidates.{by_waking}
 use Rattle.is_theorems.proofs.RuleEffects.UnchangedSettings.{either}
 use Rattle.is_theorems.proofs.ExecutionLogs.LogTheorems.{runs_sound}
 use Rattle.is_theorems.proofs.ExecutionLogs.LogSegments.{run-on}
-use Rattle.is_theorems.proofs.CallEffects.FailedCallsAndNewAgents.{mtu_kept, local_kept, remote_kept, restart_kept, recreation_kept, enrolment_kept, storing_kept}
+use Rattle.is_theorems.proofs.CallEffects.FailedCallsAndNewAgents.{mtu_kept, controlling_kept, local_kept, remote_kept, restart_kept, recreation_kept, enrolment_kept, storing_kept}
 use Rattle.is_theorems.proofs.StoredPairs.PairsAfterForming.{local-leaves, remote-leaves}
 use Rattle.is_rules.proofs.PairLists.RisingNumbers.{below-each, rising-each}
 use Rattle.is_theorems.proofs.StoredPairs.NumbersThatStay.{Persists, Keeps, Keep, keeps-map, keep-same, keep-as, by-class, keep-serves, maintains_pairs-leaves}
@@ -138,7 +138,8 @@ module _ {H P : Type 0} where
           (λ _ k. inl (becomes _ (λ n x. x) k.1))
       lasts (SetLiteTimeout by) (is, made, drawn) = inl (becomes _ (λ n x. x) made)
       lasts (SetLocalPreference object) (is, made, drawn) = inl (becomes _ (λ n x. x) made)
-      lasts (SetControlling controlling) (is, made, drawn) = inl (becomes _ (λ n x. x) made)
+      lasts (SetControlling controlling) (Ok _, is, h, drawn) = inl (becomes _ (λ n x. x) h.1)
+      lasts (SetControlling controlling) (Err error, is, h, drawn) = inl (as-it-was (controlling_kept old new controlling error h))
       lasts (SetLocalCredentials creds) (Ok _, is, h, drawn) = inl (becomes _ (λ n x. x) h.1)
       lasts (SetLocalCredentials creds) (Err error, is, h, drawn) = inl (as-it-was (local_kept old new creds error h))
       lasts (SetRemoteCredentials creds) (Ok _, is, h, drawn) = inl (becomes _ (λ n x. x) h.1)

@@ -1,5 +1,5 @@
 -- A `handle_timeout` call that sends a check stores it.
-use Rattle.std.proofs.Common.{◌≡◌, ℕ, ◌+◌, ◌-◌, ◌<◌, ◌≤◌, ◌==◌, Bool, true, List, [], ◌∷◌, ◌++◌, length, drop, bytes_eq, Option, Some, None, Result, Ok, Err, inl, inr, refl, ap, sym, ◌∙◌, subst, arith, if◌then◌else◌}
+use Rattle.std.proofs.Common.{◌≡◌, ℕ, ◌+◌, ◌-◌, ◌<◌, ◌≤◌, ◌==◌, Bool, true, List, [], ◌∷◌, ◌++◌, length, drop, bytes_eq, Option, Some, None, Result, Ok, Err, inl, inr, refl, ap, sym, ◌∙◌, subst, arith, if◌then◌else◌, false}
 use Rattle.std.specs.Prelude.{MatchOption}
 use Rattle.std.specs.List.{list_any}
 use Rattle.std.specs.declared.net.socket_addr.SocketAddr.{SocketAddr}
@@ -16,7 +16,7 @@ use Rattle.is_candidate.specs.Addresses.{same_address}
 use Rattle.is_candidate.specs.Candidates.{CandidateRecord, candidate_at}
 use Rattle.is_pair.specs.Multiset.{change_at, change_pair}
 use Rattle.is_pair.specs.Checks.{Check, has_id, is_kept}
-use Rattle.is_pair.specs.Pairs.{PairRecord, check_of, checked}
+use Rattle.is_pair.specs.Pairs.{PairRecord, check_of, checked, renominated}
 use Rattle.is_stun.specs.declared.header.Class.{Class}
 use Rattle.is_stun.specs.declared.header.Class.TheVariants as class
 use Rattle.is_stun.specs.Theorems.{IsPut}
@@ -47,9 +47,10 @@ use Rattle.is_rules.specs.Emitted.{issued_only, issued_as, reversed}
 use Rattle.is_theorems.proofs.CallEffects.PathAndTradeEffects.{path_theorem}
 use Rattle.is_theorems.proofs.RuleEffects.UnchangedSettings.{either}
 use Rattle.is_theorems.proofs.BasicLemmas.UsernamesAndFirstMatches.{any_has}
-use Rattle.is_theorems.proofs.BasicLemmas.PairsInTurn.{next-is-due}
+use Rattle.is_theorems.proofs.BasicLemmas.PairsInTurn.{next-has, sent_at, sent-pairs}
 use Rattle.is_theorems.proofs.CallEffects.ServedRequests.{Has-mapped}
 use Rattle.is_theorems.proofs.RuleEffects.SelectedPaths.{some_is}
+use Rattle.is_rules.specs.Nominating.{nominates_at_once}
 
 pub bytes_same : (a : List ℕ) → bytes_eq a a ≡ true
 bytes_same a = (bytes_eq-Decides a a).1 refl
@@ -142,22 +143,29 @@ module _ {H P : Type 0} (mac : H → List ℕ → List ℕ → List ℕ) (answer
 
   -- ---- the check that is sent
 
+  keeps_sent : (begins : Bool) (now : ℕ) (old : AgentRecord H P) (p : PairRecord) (own : List ℕ) → 0 < old.timing.max_retransmits
+      → keeps_check_on old (reversed (path_of old p)) own (sent_at begins now old.timing old.controlling own p) ≡ true
+  keeps_sent true now old p own some =
+      rw (keeps_now now old.timing.max_retransmits (renominated p) own old.controlling some, back_again (path_of old p)) refl
+  keeps_sent false now old p own some = rw (keeps_now now old.timing.max_retransmits p own old.controlling some, back_again (path_of old p)) refl
+
   checked_pair : (now : ℕ) (remote : IceCreds) (p : PairRecord) (old sent : AgentRecord H P) (s t : Stream) (issued : Option code.Issued) (via : Path) (id : List ℕ)
       → Has old.pairs p → 0 < sent.timing.max_retransmits → issued ≡ Some (issued_as via class.Request id)
       → ChecksPair mac now remote p old s issued sent t → list_any (keeps_check_on sent (reversed via) id) sent.pairs ≡ true
   checked_pair now remote p old sent s t issued via id has some out (own, drawn, values, is, made) =
       let same = emitted_as via (path_of old p) id own (sym out ∙ is) in
-      let after : PairRecord = checked now old.timing old.controlling own p in
+      let begins : Bool = nominates_at_once old in
+      let change : PairRecord → PairRecord = sent_at begins now old.timing old.controlling own in
+      let after : PairRecord = change p in
       let some_old : 0 < old.timing.max_retransmits = subst (λ (a : AgentRecord H P). 0 < a.timing.max_retransmits) made some in
-      let own_change : change_at p.number (checked now old.timing old.controlling own) p ≡ after =
+      let own_change : change_at p.number change p ≡ after =
       ap (λ b. if b then after else p) (number_same p.number) in
-      let persists : Has (change_pair p.number (checked now old.timing old.controlling own) old.pairs) after =
-      subst (λ (x : PairRecord). Has (change_pair p.number (checked now old.timing old.controlling own) old.pairs) x) own_change
-      (Has-mapped (change_at p.number (checked now old.timing old.controlling own)) old.pairs p has) in
-      let passes : keeps_check_on old (reversed (path_of old p)) own after ≡ true =
-      rw (keeps_now now old.timing.max_retransmits p own old.controlling some_old, back_again (path_of old p)) refl in
+      let persists : Has (change_pair p.number change old.pairs) after =
+      subst (λ (x : PairRecord). Has (change_pair p.number change old.pairs) x) own_change (Has-mapped (change_at p.number change) old.pairs p has) in
+      let passes : keeps_check_on old (reversed (path_of old p)) own after ≡ true = keeps_sent begins now old p own some_old in
       let there : list_any (keeps_check_on (check_sent mac now remote p own old) (reversed (path_of old p)) own) (check_sent mac now remote p own old).pairs ≡ true =
-      any_has (keeps_check_on old (reversed (path_of old p)) own) (change_pair p.number (checked now old.timing old.controlling own) old.pairs) after persists passes in
+      subst (λ ps. list_any (keeps_check_on old (reversed (path_of old p)) own) ps ≡ true) (sym (sent-pairs begins p.number now old.timing old.controlling own old.pairs))
+      (any_has (keeps_check_on old (reversed (path_of old p)) own) (change_pair p.number change old.pairs) after persists passes) in
       subst (λ (a : AgentRecord H P). list_any (keeps_check_on a (reversed via) id) a.pairs ≡ true) (sym made)
       (subst (λ w. list_any (keeps_check_on (check_sent mac now remote p own old) (reversed w) id) (check_sent mac now remote p own old).pairs ≡ true) (sym same.0)
       (subst (λ i. list_any (keeps_check_on (check_sent mac now remote p own old) (reversed (path_of old p)) i) (check_sent mac now remote p own old).pairs ≡ true) (sym same.1) there))
@@ -175,7 +183,7 @@ module _ {H P : Type 0} (mac : H → List ℕ → List ℕ → List ℕ) (answer
         next : (top : Option PairRecord) → IsNextToCheck now (all_asked now old) top → ChecksTop mac now remote top (all_asked now old) s issued sent t
             → list_any (keeps_check_on sent (reversed via) id) sent.pairs ≡ true
         next None chosen h = none_out issued via id h.0 out
-        next (Some p) chosen h = checked_pair now remote p (all_asked now old) sent s t issued via id (next-is-due now (all_asked now old) p chosen).0 some out h
+        next (Some p) chosen h = checked_pair now remote p (all_asked now old) sent s t issued via id (next-has now (all_asked now old) p chosen) some out h
 
   pub checks-are-kept : ChecksAreKept mac answers
   checks-are-kept a sent s t now check id e sound step sends =
@@ -234,7 +242,7 @@ module _ {H P : Type 0} (mac : H → List ℕ → List ℕ → List ℕ) (answer
         (λ _ k. next k.0 k.1 k.2) where
           next : (top : Option PairRecord) → IsNextToCheck now (all_asked now old) top → ChecksTop mac now remote top (all_asked now old) s issued sent t → Checks now via id sent
           next None chosen k = none_out issued via id k.0 emitted
-          next (Some p) chosen k = pair_checked remote p (all_asked now old) issued (next-is-due now (all_asked now old) p chosen).0 known emitted k
+          next (Some p) chosen k = pair_checked remote p (all_asked now old) issued (next-has now (all_asked now old) p chosen) known emitted k
 
     timeout : (emitted : Emitted) → e.emitted ≡ emitted → (o : Option RequestRecord)
         → MatchOption o (MaintainsPairs mac now (timeout_begun now a) s emitted sent t) (λ q. ServesQueued mac q (at_request now (timeout_begun now a)) s emitted sent t) → Checks now via id sent

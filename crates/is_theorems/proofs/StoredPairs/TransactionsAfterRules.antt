@@ -9,9 +9,9 @@ use Rattle.rand_core.specs.Stream.{Stream}
 use Rattle.is_proto.specs.Lists.{Has, same}
 use Rattle.is_candidate.specs.Candidates.{candidate_at}
 use Rattle.is_pair.specs.Checks.{Check, answered_at, last_checks}
-use Rattle.is_pair.specs.Pairs.{PairRecord, TakesAnswer, is_nominated, with_request, validated, nominated, check_of, checked, heard, heard_at}
+use Rattle.is_pair.specs.Pairs.{PairRecord, TakesAnswer, is_nominated, with_request, validated, nominated, check_of, checked, heard, heard_at, renominated}
 use Rattle.is_pair.specs.Due as due
-use Rattle.is_pair.specs.Multiset.{is_numbered, change_at, is_valid_at}
+use Rattle.is_pair.specs.Multiset.{is_numbered, change_at, is_valid_at, change_pair}
 use Rattle.is_stun.specs.declared.header.Class.{Class}
 use Rattle.is_stun.specs.declared.header.Class.TheVariants as class
 use Rattle.is_stun.specs.declared.timing.StunTiming.{StunTiming}
@@ -28,9 +28,9 @@ use Rattle.is_rules.specs.Request.{RequestRecord, request_in}
 use Rattle.is_rules.specs.Agent.{AgentRecord}
 use Rattle.is_rules.specs.Places.{local_place}
 use Rattle.is_rules.specs.Forming.{formed, with_pair}
-use Rattle.is_rules.specs.Nominating.{nominated_by_self, Nominates, followed, remains, selection_of}
-use Rattle.is_rules.specs.Roles.{conflict_of, switched, switched_sides, with_priority_in}
-use Rattle.is_rules.specs.Serving.{selects_at_requests, after_request, served, is_misled, names_another, pair_served, request_counted, with_sender, with_sender_at, validated_by_peer, Drops, Queues, RecordsAndResponds, FindsOrAddsPair, AddsUnknownSender, CountsAndServes, ResolvesRoleConflictBy, ResolvesRoleConflict, Serves}
+use Rattle.is_rules.specs.Nominating.{nominated_by_self, Nominates, followed, remains, selection_of, nominates_at_once, numbers}
+use Rattle.is_rules.specs.Roles.{conflict_of, switched, switched_sides, with_priority_in, keeps_role}
+use Rattle.is_rules.specs.Serving.{selects_at_requests, after_request, served, is_misled, names_another, pair_served, request_counted, with_sender, with_sender_at, validated_by_peer, Drops, Queues, RecordsAndResponds, FindsOrAddsPair, AddsUnknownSender, CountsAndServes, ResolvesRoleConflictBy, ResolvesRoleConflict, Serves, as_taken, nominated_by_peer}
 use Rattle.is_rules.specs.Answers.{is_role_conflict, TakesSuccess, LeavesRole, TakesFailure}
 use Rattle.is_rules.specs.Accepting.{Takes}
 use Rattle.is_rules.specs.Checking.{all_asked, check_sent, IsNextToCheck, ChecksTop, MayCheck}
@@ -39,7 +39,7 @@ use Rattle.is_rules.specs.Timeouts.{at_timeout, is_expired, expired_gone, Remove
 use Rattle.is_rules.specs.States.{evaluated}
 use Rattle.is_theorems.proofs.RuleEffects.UnchangedSettings.{either}
 use Rattle.is_theorems.proofs.RuleEffects.NominatedPairs.{SelectsPath, selects_path, expired_nominated}
-use Rattle.is_theorems.proofs.BasicLemmas.PairsInTurn.{next-is-due}
+use Rattle.is_theorems.proofs.BasicLemmas.PairsInTurn.{next-has, sent-number, sent-pairs, sent_at}
 use Rattle.is_theorems.proofs.CallEffects.ServedRequests.{Has-mapped}
 use Rattle.is_theorems.proofs.RuleEffects.SelectedPaths.{some_is}
 use Rattle.is_theorems.proofs.DuePairs.AfterNominationAndRemoval.{Base, Has-kept, nominates-thins, gives-up-thins}
@@ -47,6 +47,7 @@ use Rattle.is_theorems.proofs.StoredPairs.StoredChecks.{number_same}
 use Rattle.is_theorems.specs.Pending.{as_sent, sent_of}
 use Rattle.is_rules.specs.Sending.{path_of}
 use Rattle.is_theorems.proofs.RuleEffects.TriggeredPairs.{triggered_by, by_trigger}
+use Rattle.is_theorems.proofs.BasicLemmas.ServedPairs.{numbered-by}
 
 -- ---- lists
 
@@ -114,13 +115,15 @@ served-same c l q p =
     let v : PairRecord = validated_by_peer c l w in
     let first : Same p w = (refl, refl) in
     let second : Same w v = if-same (l && not c) (validated w) w (refl, refl) in
-    let third : Same v (served c l q p) = if-same (not c && q.use_candidate && not (is_nominated v)) (nominated l v) v (nominated-same l v) in
-    same-on p w (served c l q p) first (same-on w v (served c l q p) second third)
+    let named : PairRecord = nominated_by_peer c l q v in
+    let third : Same v named = if-same (not c && q.use_candidate && not (is_nominated v)) (nominated l v) v (nominated-same l v) in
+    let all : Same p named = same-on p w named first (same-on w v named second third) in
+    numbered-by (λ x. Same p x) c q.nomination named all (λ n. all)
 
 request-same : {H P : Type 0} (q : RequestRecord) (s : AgentRecord H P) (p : PairRecord) → Same p (after_request q s p)
 request-same q s p =
     same-on p (triggered_by q s p) (after_request q s p) (by_trigger (λ (x : PairRecord). Same p x) q s p (λ due. (refl, refl)))
-    (served-same s.controlling s.lite q (triggered_by q s p))
+    (served-same s.controlling s.lite (as_taken (numbers s) q) (triggered_by q s p))
 
 heard-same : (now : ℕ) (at : Option ℕ) (p : PairRecord) → Same p (heard_at now at p)
 heard-same now None p = (refl, refl)
@@ -239,30 +242,46 @@ module _ {H P : Type 0} where
           next None chosen (is, made, drawn) = inl (subst (λ (a : AgentRecord H P). Persists p a.pairs) (sym made) (first, there, (refl, refl)))
           next (Some top) chosen (id, drawn, put, is, made) = subst (λ (a : AgentRecord H P). Persists p a.pairs ⊎ Sends old.timing.max_retransmits p issued a) (sym made)
               (by (is_numbered top.number first) refl) where
+                begins : Bool
+                begins = nominates_at_once all
+
                 change : PairRecord → PairRecord
-                change = checked now old.timing old.controlling id
+                change x = sent_at begins now old.timing old.controlling id x
 
                 sent : AgentRecord H P
                 sent = check_sent mac now peer top id all
 
+                begun : PairRecord → Check
+                begun x = check_of now old.controlling id (if begins then renominated x else x)
+
+                in-sent : (x y : PairRecord) → Has all.pairs x → change_at top.number change x ≡ y → Has sent.pairs y
+                in-sent x y has same =
+                    subst (λ ps. Has ps y) (sym (sent-pairs begins top.number now old.timing old.controlling id all.pairs))
+                    (subst (λ (z : PairRecord). Has (change_pair top.number change all.pairs) z) same (Has-mapped (change_at top.number change) all.pairs x has))
+
+                stores : (b : Bool) (x : PairRecord) → sent_of (sent_at b now old.timing old.controlling id x)
+                    ≡ last_checks old.timing.max_retransmits (sent_of x ++ check_of now old.controlling id (if b then renominated x else x) ∷ [])
+                stores true x = sent-last old.timing.max_retransmits (renominated x) (check_of now old.controlling id (renominated x)) refl
+                stores false x = sent-last old.timing.max_retransmits x (check_of now old.controlling id x) refl
+
+                sent-path : (b : Bool) (x : PairRecord) → path_of all x ≡ path_of sent (sent_at b now old.timing old.controlling id x)
+                sent-path true x = refl
+                sent-path false x = refl
+
                 by : (b : Bool) → is_numbered top.number first ≡ b → Persists p sent.pairs ⊎ Sends old.timing.max_retransmits p issued sent
-                by false apart = inl (
-                  first,
-                  subst (λ (x : PairRecord). Has sent.pairs x) (ap (λ b. if b then change first else first) apart) (Has-mapped (change_at top.number change) all.pairs first there),
-                  (refl, refl),
-                )
+                by false apart = inl (first, in-sent first first there (ap (λ b. if b then change first else first) apart), (refl, refl))
                 by true here = inr (
                   change first,
-                  subst (λ (x : PairRecord). Has sent.pairs x) (ap (λ b. if b then change first else first) here) (Has-mapped (change_at top.number change) all.pairs first there),
-                  refl,
+                  in-sent first (change first) there (ap (λ b. if b then change first else first) here),
+                  sent-number begins now old.timing old.controlling id first,
                   (
-                    check_of now old.controlling id first,
-                    sent-last old.timing.max_retransmits first (check_of now old.controlling id first) refl,
+                    begun first,
+                    stores begins first,
                     (
                       change top,
-                      subst (λ (x : PairRecord). Has sent.pairs x) (ap (λ b. if b then change top else top) (number_same top.number)) (Has-mapped (change_at top.number change) all.pairs top (next-is-due now all top chosen).0),
-                      sym (eqb-true first.number top.number here),
-                      is,
+                      in-sent top (change top) (next-has now all top chosen) (ap (λ b. if b then change top else top) (number_same top.number)),
+                      sent-number begins now old.timing old.controlling id top ∙ sym (eqb-true first.number top.number here),
+                      is ∙ ap (λ w. Some (issued_as w class.Request id)) (sent-path begins top),
                     ),
                   ),
                 )
@@ -352,7 +371,7 @@ module _ {H P : Type 0} where
         (λ _ k. expired k)
         (λ _ k. keep-same old new k.1) where
           expired : LeavesRole old via m emitted new → Keep old new
-          expired (p, c, has, keeps, kept, is, acts) = either (same c.controlling old.controlling) acts
+          expired (p, c, has, keeps, kept, is, acts) = either (same c.controlling old.controlling && not (keeps_role old)) acts
               (λ _ k. keep-as old (switched old) new (keeps-map (with_priority_in (switched_sides old)) old.pairs (λ p. (refl, refl))) k.1)
               (λ _ k. keep-same old new k.1)
 

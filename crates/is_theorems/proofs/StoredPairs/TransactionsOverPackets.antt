@@ -28,14 +28,14 @@ use Rattle.is_rules.specs.Answers.{is_left_out, is_role_conflict, goes_back, kee
 use Rattle.is_theorems.specs.Exchange.{AreBetween, Course, ChecksStay}
 use Rattle.is_rules.specs.Forming.{formed, with_pair}
 use Rattle.is_rules.specs.Limit.{IsSenderPlace}
-use Rattle.is_rules.specs.Nominating.{nominated_by_self, Nominates, NominatesWhere, followed, remains, selection_of}
+use Rattle.is_rules.specs.Nominating.{nominated_by_self, Nominates, NominatesWhere, followed, remains, selection_of, numbers}
 use Rattle.is_rules.specs.Places.{local_place}
 use Rattle.is_rules.specs.Polls.{NextTimeoutFrom, is_waiting, is_idle}
 use Rattle.is_rules.specs.Request.{RequestRecord, request_in}
-use Rattle.is_rules.specs.Roles.{conflict_of, switched, switched_sides, with_priority_in}
+use Rattle.is_rules.specs.Roles.{conflict_of, switched, switched_sides, with_priority_in, keeps_role}
 use Rattle.is_theorems.specs.Rounds.{is_between}
 use Rattle.is_rules.specs.Sending.{path_of, path_between}
-use Rattle.is_rules.specs.Serving.{selects_at_requests, after_request, served, validated_by_peer, is_misled, names_another, pair_served, request_counted, with_sender, with_sender_at, sender_candidate, replied, Drops, Queues, RecordsAndResponds, FindsOrAddsPair, AddsUnknownSender, CountsAndServes, ResolvesRoleConflictBy, ResolvesRoleConflict, Serves}
+use Rattle.is_rules.specs.Serving.{selects_at_requests, after_request, served, validated_by_peer, is_misled, names_another, pair_served, request_counted, with_sender, with_sender_at, sender_candidate, replied, Drops, Queues, RecordsAndResponds, FindsOrAddsPair, AddsUnknownSender, CountsAndServes, ResolvesRoleConflictBy, ResolvesRoleConflict, Serves, as_taken, nominated_by_peer}
 use Rattle.is_rules.specs.Sound.{IsSound, IsPlaced}
 use Rattle.is_rules.specs.Steps.{Call, Entry, ReceivePacket, PollTransmit, PollTimeout, PollEvent, Step}
 use Rattle.is_theorems.proofs.BasicLemmas.EqualAddresses.{both}
@@ -51,6 +51,7 @@ use Rattle.is_theorems.proofs.RuleEffects.SelectedPaths.{some_is}
 use Rattle.is_theorems.proofs.BasicLemmas.VacantIndices.{KeepsRemote, keeps-remote-put, vacant-at}
 use Rattle.is_theorems.proofs.BasicLemmas.CandidatesByIndex.{at-append}
 use Rattle.is_theorems.proofs.RuleEffects.TriggeredPairs.{triggered_by, by_trigger}
+use Rattle.is_theorems.proofs.BasicLemmas.ServedPairs.{numbered-by}
 
 -- ---- lists
 
@@ -114,14 +115,16 @@ served_alike c l q p =
     let w : PairRecord = with_request q.time p in
     let v : PairRecord = validated_by_peer c l w in
     let first : Alike p w = record { local = refl; remote = refl; checks = λ id. refl } in
-    alike_on p w (served c l q p) first
-    (alike_on w v (served c l q p) (validated_alike (l && not c) w) (self_alike (not c && q.use_candidate && not (is_nominated v)) l v))
+    let asked : PairRecord = nominated_by_peer c l q v in
+    let all : Alike p asked =
+    alike_on p w asked first (alike_on w v asked (validated_alike (l && not c) w) (self_alike (not c && q.use_candidate && not (is_nominated v)) l v)) in
+    numbered-by (λ x. Alike p x) c q.nomination asked all (λ n. record { local = all.local; remote = all.remote; checks = all.checks })
 
 request_alike : {H P : Type 0} (q : RequestRecord) (s : AgentRecord H P) (p : PairRecord) → Alike p (after_request q s p)
 request_alike q s p =
     alike_on p (triggered_by q s p) (after_request q s p)
     (by_trigger (λ (x : PairRecord). Alike p x) q s p (λ due. record { local = refl; remote = refl; checks = λ id. refl }))
-    (served_alike s.controlling s.lite q (triggered_by q s p))
+    (served_alike s.controlling s.lite (as_taken (numbers s) q) (triggered_by q s p))
 
 at_alike : (n : ℕ) (f : PairRecord → PairRecord) (p : PairRecord) → Alike p (f p) → Alike p (change_at n f p)
 at_alike n f p a = by (is_numbered n p) where
@@ -301,7 +304,7 @@ module _ {H P : Type 0} where
     fails : (s new : AgentRecord H P) (via : Path) (m : Message) (emitted : Emitted) → TakesFailure s via m emitted new → Stays s new
     fails s new via m emitted h = either (is_role_conflict m) h (λ _ k. expired k) (λ _ k. stays_same s new k.1) where
       expired : LeavesRole s via m emitted new → Stays s new
-      expired (p, c, has, keeps, kept, is, acts) = either (same c.controlling s.controlling) acts
+      expired (p, c, has, keeps, kept, is, acts) = either (same c.controlling s.controlling && not (keeps_role s)) acts
           (λ _ k. subst (λ (a : AgentRecord H P). Stays s a) (sym k.1) (switches s))
           (λ _ k. stays_same s new k.1)
 

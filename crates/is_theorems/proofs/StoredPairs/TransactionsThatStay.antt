@@ -11,7 +11,7 @@ use Rattle.is_candidate.specs.Candidates.{CandidateRecord, candidate_at}
 use Rattle.is_candidate.specs.Priorities.{candidate_priority}
 use Rattle.is_pair.specs.Due.{asked}
 use Rattle.is_pair.specs.Checks.{Check, has_id, last_checks}
-use Rattle.is_pair.specs.Pairs.{PairRecord, undue, is_valid, check_of, checked}
+use Rattle.is_pair.specs.Pairs.{PairRecord, undue, is_valid, check_of, checked, renominated}
 use Rattle.is_stun.specs.declared.header.Class.TheVariants as class
 use Rattle.is_rules.specs.Agent.{AgentRecord}
 use Rattle.is_rules.specs.Accepting.{discovered_emitted}
@@ -32,7 +32,7 @@ use Rattle.std.specs.Prelude.{bytes_eq}
 use Rattle.std.specs.List.{list_any}
 use Rattle.is_proto.specs.Packets.{Packet}
 use Rattle.is_candidate.specs.Addresses.{protocol_number}
-use Rattle.is_pair.specs.Multiset.{change_at, keeps_check}
+use Rattle.is_pair.specs.Multiset.{change_at, keeps_check, change_pair}
 use Rattle.is_rules.specs.Answers.{goes_back, keeps_check_on}
 use Rattle.is_theorems.specs.AskedCourses.{EndsAlong}
 use Rattle.is_rules.specs.Checking.{check_sent}
@@ -54,12 +54,14 @@ use Rattle.is_rules.specs.Timeouts.{at_request, timeout_begun, MaintainsPairs, S
 use Rattle.is_theorems.proofs.CallEffects.PathAndTradeEffects.{path_theorem}
 use Rattle.is_theorems.proofs.CallEffects.AddedCandidates.{by_waking}
 use Rattle.is_theorems.proofs.RuleEffects.UnchangedSettings.{either}
-use Rattle.is_theorems.proofs.CallEffects.FailedCallsAndNewAgents.{mtu_kept, local_kept, remote_kept, restart_kept, recreation_kept, enrolment_kept, storing_kept}
+use Rattle.is_theorems.proofs.CallEffects.FailedCallsAndNewAgents.{mtu_kept, controlling_kept, local_kept, remote_kept, restart_kept, recreation_kept, enrolment_kept, storing_kept}
 use Rattle.is_theorems.proofs.StoredPairs.PairsAfterForming.{local-leaves, remote-leaves}
 use Rattle.is_rules.proofs.PairLists.RisingNumbers.{below-each, rising-each}
 use Rattle.is_theorems.proofs.StoredPairs.TransactionsAfterRules.{Persists, Keeps, Keep, Sends, keeps-self, keeps-map, keep-same, keep-as, by-class, keep-serves, maintains_pairs, sent-last}
 use Rattle.is_theorems.proofs.RuleEffects.SelectedPaths.{one_pair}
 use Rattle.is_theorems.proofs.DuePairs.AfterNominationAndRemoval.{Has-kept}
+use Rattle.is_rules.specs.Nominating.{nominates_at_once}
+use Rattle.is_theorems.proofs.BasicLemmas.PairsInTurn.{by-begins, sent-number, sent-pairs, sent_at}
 
 keeps-if : (b : Bool) (xs ys : List PairRecord) → Keeps xs ys → Keeps xs (if b then xs else ys)
 keeps-if true xs ys k = keeps-self xs
@@ -171,7 +173,8 @@ module _ {H P : Type 0} where
           (λ _ k. inl (becomes _ (keeps-self old.pairs) k.1))
       lasts (SetLiteTimeout by) (is, made, drawn) = inl (becomes _ (keeps-self old.pairs) made)
       lasts (SetLocalPreference object) (is, made, drawn) = inl (becomes _ (keeps-self old.pairs) made)
-      lasts (SetControlling controlling) (is, made, drawn) = inl (becomes _ (keeps-self old.pairs) made)
+      lasts (SetControlling controlling) (Ok _, is, h, drawn) = inl (becomes _ (keeps-self old.pairs) h.1)
+      lasts (SetControlling controlling) (Err error, is, h, drawn) = inl (as-it-was (controlling_kept old new controlling error h))
       lasts (SetLocalCredentials creds) (Ok _, is, h, drawn) = inl (becomes _ (keeps-self old.pairs) h.1)
       lasts (SetLocalCredentials creds) (Err error, is, h, drawn) = inl (as-it-was (local_kept old new creds error h))
       lasts (SetRemoteCredentials creds) (Ok _, is, h, drawn) = inl (becomes _ (keeps-self old.pairs) h.1)
@@ -334,30 +337,44 @@ module _ {H P : Type 0} where
     -- ---- exchanges
 
     -- the check that is sent is pending
+    begun : (now : ℕ) (via : Path) (id : List ℕ) (sent : AgentRecord H P) → Checks mac answers now via id sent → PairRecord
+    begun now via id sent k = if nominates_at_once k.old then renominated k.pair else k.pair
+
     pends-now : (now : ℕ) (via : Path) (id : List ℕ) (sent : AgentRecord H P) → 0 < sent.timing.max_retransmits → (k : Checks mac answers now via id sent)
-        → Pends sent k.pair.number via (check_of now k.old.controlling id k.pair) 0
+        → Pends sent k.pair.number via (check_of now k.old.controlling id (begun now via id sent k)) 0
+    unfolding begun
     pends-now now via id sent some k = subst (λ (a : AgentRecord H P). Pends a k.pair.number via c 0) (sym k.made) (record {
       pair = after;
-      there = subst (λ (x : PairRecord). Has needed.pairs x) (ap (λ b. if b then after else k.pair) (number_same k.pair.number))
-          (Has-mapped (change_at k.pair.number (checked now k.old.timing k.old.controlling id)) k.old.pairs k.pair k.has);
-      numbered = refl;
-      on = k.path;
+      there = subst (λ ps. Has ps after) (sym (sent-pairs begins k.pair.number now k.old.timing k.old.controlling id k.old.pairs))
+          (subst (λ (x : PairRecord). Has (change_pair k.pair.number (sent_at begins now k.old.timing k.old.controlling id) k.old.pairs) x)
+          (ap (λ b. if b then after else k.pair) (number_same k.pair.number))
+          (Has-mapped (change_at k.pair.number (sent_at begins now k.old.timing k.old.controlling id)) k.old.pairs k.pair k.has));
+      numbered = sent-number begins now k.old.timing k.old.controlling id k.pair;
+      on = by-begins begins (λ x. path_of needed x ≡ via) now k.old.timing k.old.controlling id k.pair k.path k.path;
       before = drop (length (sent_of k.pair ++ c ∷ []) - kept) (sent_of k.pair);
       following = [];
-      split = sent-last kept k.pair c refl ∙ drop-append-le (length (sent_of k.pair ++ c ∷ []) - kept) (sent_of k.pair) (c ∷ []) within;
+      split = stores begins ∙ drop-append-le (length (sent_of k.pair ++ c ∷ []) - kept) (sent_of k.pair) (c ∷ []) within;
       count = refl;
     }) where
       needed : AgentRecord H P
       needed = check_sent mac now k.remote k.pair id k.old
 
+      begins : Bool
+      begins = nominates_at_once k.old
+
       kept : ℕ
       kept = k.old.timing.max_retransmits
 
       c : Check
-      c = check_of now k.old.controlling id k.pair
+      c = check_of now k.old.controlling id (begun now via id sent k)
 
       after : PairRecord
-      after = checked now k.old.timing k.old.controlling id k.pair
+      after = sent_at begins now k.old.timing k.old.controlling id k.pair
+
+      stores : (b : Bool) → sent_of (sent_at b now k.old.timing k.old.controlling id k.pair)
+          ≡ last_checks kept (sent_of k.pair ++ check_of now k.old.controlling id (if b then renominated k.pair else k.pair) ∷ [])
+      stores true = sent-last kept (renominated k.pair) (check_of now k.old.controlling id (renominated k.pair)) refl
+      stores false = sent-last kept k.pair (check_of now k.old.controlling id k.pair) refl
 
       positive : 0 < kept
       positive = subst (λ (a : AgentRecord H P). 0 < a.timing.max_retransmits) k.made some
@@ -384,7 +401,7 @@ module _ {H P : Type 0} where
     still-kept a sent mid s t now limit check answer id timeout xs sound_a step sends course keeps few returns =
         let sound_sent = (path_theorem mac answers a sent s t (HandleTimeout now) timeout sound_a tt step).1 in
         let k = checks-as mac answers a sent s t now (via_out check) id timeout sends.emitted step in
-        let c : Check = check_of now k.old.controlling id k.pair in
+        let c : Check = check_of now k.old.controlling id (begun now (via_out check) id sent k) in
         elim (checks-pend-along sent mid xs k.pair.number (via_out check) c 0 limit sound_sent course keeps (pends-now now (via_out check) id sent sound_sent.checks k) (omega (arith, few))) [
           | inl (n, le, still) ↦ inl (pends-kept mid k.pair.number (via_out check) (via_out answer) c n returns still)
           | inr ends ↦ inr ends

@@ -96,6 +96,8 @@ module _ {H P : Type 0} (mac : H → List ℕ → List ℕ → List ℕ) (provid
         ∷ IceConnectionStateChange Completed ∷ DiscoveredRecv Udp address_2 ∷ [];
     discovered_sources = record { proto = Udp; address = address_2 } ∷ [];
     selected_pair = Some 0;
+    nominations = 1;
+    nomination_due = true;
     pairs = record (new_pair 0 0 0 9151313343271665150) {
       checks = record { id = id; sent = 0; answered = Some (milliseconds 50); nominated = false; controlling = true } ∷ [];
       checks_sent = 1;
@@ -148,6 +150,8 @@ module _ {H P : Type 0} (mac : H → List ℕ → List ℕ → List ℕ) (provid
     events = IceRestart creds_1 ∷ IceConnectionStateChange Checking ∷ NominatedSend Udp address_1 address_2 ∷ [];
     last_time = Some 0;
     selected_pair = Some 0;
+    nominations = 1;
+    nomination_due = true;
     stats = record no_stats { bind_request_recv = 1; nomination_send_count = 1 };
   }
 
@@ -179,6 +183,7 @@ request id = record {
   id = id;
   priority = 1853824767;
   use_candidate = true;
+  nomination = None;
   ufrag = codes "bbbb";
   ice_controlling = Some 7960;
   ice_controlled = None;

@@ -4,7 +4,7 @@ use crate::tests::playing::ends;
 use std::test::Fail;
 
 /// Scripts, and what they print. The packets were written by another program, from RFC 8445, section 7.2, and RFC 8489.
-static SCRIPTS: [(&str, &str); 6] = [
+static SCRIPTS: [(&str, &str); 7] = [
     // The second check is of the server-reflexive candidate.
     (
         r#"{"call":"agent","ufrag":"AAAA","pass":"PPPP","tie":10,"polls":false}
@@ -122,6 +122,21 @@ static SCRIPTS: [(&str, &str); 6] = [
         A timeout ok\n\
         A poll ok\n\
         A event state Disconnected\n",
+    ),
+    // A lite agent that keeps its role is not made controlling.
+    (
+        r#"{"call":"agent","ufrag":"AAAA","pass":"PPPP","tie":1,"polls":false}
+{"call":"rules","name":"original","lite_keeps_role":true,"polls":false}
+{"call":"lite","flag":true,"polls":false}
+{"call":"controlling","flag":true,"polls":false}
+{"call":"rules","name":"modern","lite_keeps_role":false,"polls":false}
+{"call":"controlling","flag":true,"polls":false}"#,
+        "A agent ok\n\
+        A rules ok\n\
+        A lite ok\n\
+        A controlling refused LiteStaysControlled\n\
+        A rules ok\n\
+        A controlling ok\n",
     ),
     // A time follows a call that serves an early request.
     (

@@ -2,8 +2,13 @@ use Rattle.is_pair.specs.Checklists.{multiset_of}
 use Rattle.is_pair.specs.Due.{triggered}
 use Rattle.is_rules.specs.RequestView.{request_view}
 use Rattle.is_rules.specs.Serving.{served}
-use Rattle.is_rules.proofs.PairLists.PairsInLists.{placed-changed, request-places}
+use Rattle.is_rules.proofs.PairLists.PairsInLists.{placed-changed, request-keys, request-places}
 use Rattle.is_rules.proofs.pairs.serve_pair.Goals as goal
+
+pub change-requires : goal.change-requires
+change-requires c =
+    let by = c.args.role in let q = request_view c.args.request.now in let after = c.args.trigger in
+    record { keys = request-keys by.controlling by.lite q after.most after.at.0 }
 
 pub returns-clause-placed : goal.returns-clause-placed
 returns-clause-placed c = λ local remote placed.

@@ -16,4 +16,5 @@ returns c = λ channel. record {
   ice_controlled = c.number64_fits.ensures;
   ice_controlling = c.number64_fits-2.ensures;
   network_cost = c.cost_fits.ensures;
+  nomination = c.number32_fits-3.ensures;
 }

@@ -2,4 +2,4 @@ use Rattle.is_theorems.proofs.PollingRounds.AddedCandidatesPerAgent.{courses-rea
 use Rattle.is_theorems.proofs.reaching.courses_reach_from_due.Goals as goal
 
 pub returns : goal.returns
-returns g c = courses-reach-from-due _ _ c.open_courses_reach.ensures c.reached_from_due.ensures
+returns g c = courses-reach-from-due _ _

@@ -2,4 +2,4 @@ use Rattle.is_theorems.proofs.PollingRounds.AddedCandidatesPerAgent.{open-course
 use Rattle.is_theorems.proofs.reaching.open_courses_reach.Goals as goal
 
 pub returns : goal.returns
-returns g c = open-courses-reach _ _ c.pairs_are_reached.ensures
+returns g c = open-courses-reach _ _

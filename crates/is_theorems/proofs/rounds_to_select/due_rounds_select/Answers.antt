@@ -2,4 +2,4 @@ use Rattle.is_theorems.proofs.PollingRounds.AddedCandidatesInLogs.{due-rounds-an
 use Rattle.is_theorems.proofs.rounds_to_select.due_rounds_select.Goals as goal
 
 pub returns : goal.returns
-returns g c = due-rounds-announce _ _ c.reached_from_due.ensures
+returns g c = due-rounds-announce _ _

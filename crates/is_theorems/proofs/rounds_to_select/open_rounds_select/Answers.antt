@@ -2,4 +2,4 @@ use Rattle.is_theorems.proofs.PollingRounds.AddedCandidatesInLogs.{open-rounds-a
 use Rattle.is_theorems.proofs.rounds_to_select.open_rounds_select.Goals as goal
 
 pub returns : goal.returns
-returns g c = open-rounds-announce g.H.Sha1HmacProvider.mac g.P.LocalPreference.answers c.answered_rounds_select.ensures c.pairs_are_reached.ensures
+returns g c = open-rounds-announce g.H.Sha1HmacProvider.mac g.P.LocalPreference.answers c.answered_rounds_select.ensures

@@ -107,12 +107,13 @@ fn errors_of_messages(rt: HostRuntime) {
 }
 
 /// Errors of calls, and their texts.
-const CALL_ERRORS: [(IceError, &str); 5] = [
+const CALL_ERRORS: [(IceError, &str); 6] = [
     (IceError::OutOfMemory, "out of memory"),
     (IceError::PairIdsExhausted, "pair ids exhausted"),
     (IceError::MtuTooSmall, "MTU target too small"),
     (IceError::CredentialsTooLong, "ICE credentials too long"),
     (IceError::PriorityTooHigh, "candidate priority too high"),
+    (IceError::LiteStaysControlled, "lite agent stays controlled"),
 ];
 
 /// Whether each of the errors has its text.

@@ -191,6 +191,7 @@ fn every_attribute() -> StunMessage<'static> {
         .ice_controlled(2)
         .ice_controlling(3)
         .network_cost(4, 5)
+        .nomination(6)
         .build(ID)
 }
 
@@ -212,6 +213,7 @@ fn has_its_numbers(read: &StunMessage<'_>) -> bool {
         && read.ice_controlled() == Some(2)
         && read.ice_controlling() == Some(3)
         && read.network_cost() == Some((4, 5))
+        && read.nomination() == Some(6)
 }
 
 fn has_its_addresses(read: &StunMessage<'_>) -> bool {

@@ -34,6 +34,9 @@ returns-clause-mirror g c = c.lone_paths_mirror.ensures _ _ _
 pub returns-clause-one_path : goal.returns-clause-one_path
 returns-clause-one_path g c = c.one_path_is_selected.ensures _ _ _
 
+pub returns-clause-by_number : goal.returns-clause-by_number
+returns-clause-by_number g c = c.leading_path_is_selected.ensures _ _ _
+
 pub returns-clause-both : goal.returns-clause-both
 returns-clause-both g c = c.both_select.ensures _ _ _
 

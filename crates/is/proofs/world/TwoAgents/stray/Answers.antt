@@ -1,5 +1,5 @@
 use Rattle.is_agent.specs.View.{record_of}
-use Rattle.is.specs.declared.world.Side.TheVariants.{A, B}
+use Rattle.is.specs.declared.world_events.Side.TheVariants.{A, B}
 use Rattle.is.specs.Views.{entry_view}
 use Rattle.is.specs.World.{world_of, outcome_of}
 use Rattle.is.proofs.TwoAgentEvents.StatesAfterMethods.{strayed}

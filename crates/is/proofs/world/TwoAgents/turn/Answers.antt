@@ -1,6 +1,6 @@
 use Rattle.std.proofs.Common.{None, refl}
 use Rattle.is_agent.specs.View.{record_of}
-use Rattle.is.specs.declared.world.Side.TheVariants.{A, B}
+use Rattle.is.specs.declared.world_events.Side.TheVariants.{A, B}
 use Rattle.is.specs.Views.{call_view, entry_view}
 use Rattle.is.specs.World.{world_of, outcome_of}
 use Rattle.is_rules.specs.Effects.{clears}

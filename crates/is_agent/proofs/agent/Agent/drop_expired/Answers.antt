@@ -1,10 +1,10 @@
-use Rattle.std.proofs.Common.{is_some, not}
+use Rattle.std.proofs.Common.{◌||◌, is_some, not}
 use Rattle.std.specs.List.{list_any}
 use Rattle.is_pair.specs.Checklists.{multiset_of}
-use Rattle.is_rules.specs.Due.{falls_due}
+use Rattle.is_rules.specs.Due.{falls_due, may_nominate}
 use Rattle.is_rules.specs.Timeouts.{is_expired}
 use Rattle.is_agent.specs.View.{record_of}
-use Rattle.is_agent.proofs.AgentParts.DuePairsAfterRemoval.{and-third, falls-left}
+use Rattle.is_agent.proofs.AgentParts.DuePairsAfterRemoval.{and-third, falls-left, or-second}
 use Rattle.is_rules.proofs.PairLists.PairsInLists.{placed-without}
 use Rattle.is_agent.proofs.agent.Agent.drop_expired.Goals as goal
 
@@ -12,8 +12,9 @@ pub returns-clause-checks : goal.returns-clause-checks
 returns-clause-checks g c = λ t room falls.
     let self = c.args.self.now in let due = falls_due self.controlling t self.timing in
     let fewer = falls-left due (is_expired c.args.now.0 (record_of self)) (multiset_of self.pairs) in
-    let before = and-third (not self.lite) (is_some self.remote_creds) (list_any due (multiset_of self.pairs)) (list_any due (multiset_of c.remove_where.new.self))
-    (λ h. fewer (rw (c.remove_where.ensures.left) at h)) falls in
+    let nominates = may_nominate (record_of self) in
+    let before = and-third (not self.lite) (is_some self.remote_creds) (nominates || list_any due (multiset_of self.pairs)) (nominates || list_any due (multiset_of c.remove_where.new.self))
+    (or-second nominates (list_any due (multiset_of self.pairs)) (list_any due (multiset_of c.remove_where.new.self)) (λ h. fewer (rw (c.remove_where.ensures.left) at h))) falls in
     let old = room before in
     (old.0, c.remove_where.ensures.check_room old.1, old.2)
 

@@ -1,11 +1,11 @@
-use Rattle.std.proofs.Common.{is_some, not, subst}
+use Rattle.std.proofs.Common.{◌||◌, is_some, not, subst}
 use Rattle.std.specs.List.{list_any}
 use Rattle.is_pair.specs.Checklists.{multiset_of}
-use Rattle.is_rules.specs.Due.{falls_due}
+use Rattle.is_rules.specs.Due.{falls_due, may_nominate}
 use Rattle.is_agent.specs.View.{record_of}
 use Rattle.is_rules.specs.Forming.{sides_of}
 use Rattle.is_rules.specs.Nominating.{Names, selection}
-use Rattle.is_agent.proofs.AgentParts.DuePairsAfterRemoval.{and-third}
+use Rattle.is_agent.proofs.AgentParts.DuePairsAfterRemoval.{and-third, or-second}
 use Rattle.is_agent.proofs.agent.Agent.evaluate_nomination.Goals as goal
 
 pub returns-clause-nominates : goal.returns-clause-nominates
@@ -20,7 +20,10 @@ pub returns-clause-checks : goal.returns-clause-checks
 returns-clause-checks g c = λ now room.
     let self = c.args.self.now in
     c.emit_nominated.ensures.checks now (λ falls.
-    let all = and-third (not self.lite) (is_some self.remote_creds) (list_any (falls_due self.controlling now self.timing) (multiset_of self.pairs))
-    (list_any (falls_due self.controlling now self.timing) (multiset_of c.select_pair-path.new.pairs)) (c.select_pair-path.ensures.due now self.timing) falls in
+    let nominates = may_nominate (record_of self) in
+    let before = list_any (falls_due self.controlling now self.timing) (multiset_of self.pairs) in
+    let named = list_any (falls_due self.controlling now self.timing) (multiset_of c.select_pair-path.new.pairs) in
+    let all = and-third (not self.lite) (is_some self.remote_creds) (nominates || before) (nominates || named)
+    (or-second nominates before named (c.select_pair-path.ensures.due now self.timing)) falls in
     let old = room all in
     (old.0, c.select_pair-path.ensures.check_room old.1, old.2))

@@ -1,27 +1,30 @@
-use Rattle.std.proofs.Common.{◌≡◌, ℕ, List, Option, IfSome, refl, subst, sym}
-use Rattle.std.specs.Prelude.{Bool, MatchBool}
+use Rattle.std.proofs.Common.{◌≡◌, ℕ, List, Option, IfSome, subst}
 use Rattle.is_stun.specs.MessageView.{message_view}
 use Rattle.is_pair.specs.Pairs.{PairRecord}
 use Rattle.is_rules.specs.Due.{IsSentUnder}
 use Rattle.is_agent.specs.View.{record_of}
 use Rattle.is_rules.specs.Roles.{switched}
-use Rattle.is_agent.proofs.AgentParts.ReceivedResponses.{role-expired}
+use Rattle.is_agent.proofs.AgentParts.ReceivedResponses.{role-expired, role-switches, role-kept, role-stays}
+use Rattle.is_agent.proofs.agent.Agent.leave_role.Goals.{else-present-via-then-present+else-not-keeps, else-present-via-else-present}
 use Rattle.is_agent.proofs.agent.Agent.leave_role.Goals as goal
 
-pub returns-then-is_of_present_role-clause-removes_expired : goal.returns-then-is_of_present_role-clause-removes_expired
-returns-then-is_of_present_role-clause-removes_expired g c =
+pub returns-then-not-keeps-clause-removes_expired : goal.returns-then-not-keeps-clause-removes_expired
+returns-then-not-keeps-clause-removes_expired g c =
     let old = record_of c.args.self.now in let new = record_of c.switch_role.new.self in let m = message_view c.args.message.now in
-    let (p, found, on) = c.requires.kept in let present = c.is_of_present_role.result in
-    let under = subst (λ (o : Option PairRecord). IfSome o (λ (q : PairRecord). IsSentUnder q c.trans_id.result.0 old.controlling present)) found c.is_of_present_role.ensures in
+    let (p, found, on) = c.requires.kept in let present = c.is_of_present_role-present.result in let keeps = c.keeps_role-keeps.result in
+    let under = subst (λ (o : Option PairRecord). IfSome o (λ (q : PairRecord). IsSentUnder q c.trans_id.result.0 old.controlling present)) found c.is_of_present_role-present.ensures in
     let named = subst (λ (id : List ℕ). IsSentUnder p id old.controlling present) c.trans_id.ensures under in
-    role-expired old new c.args.path.now m c.args.number p present found on named
-    (subst (λ (b : Bool). MatchBool b (new ≡ switched old) (new ≡ old)) (sym c.if-is_of_present_role.true) c.switch_role.ensures.record)
+    role-expired old new c.args.path.now m c.args.number p present keeps found on named c.keeps_role-keeps.ensures
+    (role-switches old new (switched old) present keeps c.if-present.true c.if-not-keeps.true c.switch_role.ensures.record)
 
-pub returns-else-is_of_present_role-clause-removes_expired : goal.returns-else-is_of_present_role-clause-removes_expired
-returns-else-is_of_present_role-clause-removes_expired g c =
+pub returns-else-present-clause-removes_expired : goal.returns-else-present-clause-removes_expired
+returns-else-present-clause-removes_expired g c =
     let old = record_of c.args.self.now in let m = message_view c.args.message.now in
-    let (p, found, on) = c.requires.kept in let present = c.is_of_present_role.result in
-    let under = subst (λ (o : Option PairRecord). IfSome o (λ (q : PairRecord). IsSentUnder q c.trans_id.result.0 old.controlling present)) found c.is_of_present_role.ensures in
+    let (p, found, on) = c.requires.kept in let present = c.is_of_present_role-present.result in let keeps = c.keeps_role-keeps.result in
+    let under = subst (λ (o : Option PairRecord). IfSome o (λ (q : PairRecord). IsSentUnder q c.trans_id.result.0 old.controlling present)) found c.is_of_present_role-present.ensures in
     let named = subst (λ (id : List ℕ). IsSentUnder p id old.controlling present) c.trans_id.ensures under in
-    role-expired old old c.args.path.now m c.args.number p present found on named
-    (subst (λ (b : Bool). MatchBool b (old ≡ switched old) (old ≡ old)) (sym c.if-is_of_present_role.false) refl)
+    role-expired old old c.args.path.now m c.args.number p present keeps found on named c.keeps_role-keeps.ensures
+    (elim c.else-present.branch [
+      | else-present-via-then-present+else-not-keeps w ↦ role-kept old (switched old) present keeps w.if-not-keeps.false
+      | else-present-via-else-present w ↦ role-stays old (switched old) present keeps w.if-present.false
+    ])

@@ -10,3 +10,8 @@ returns g c =
     let (second, expired, paths) = c.remove_expired.ensures.expired in
     let (issued, checked, emitted) = c.may_check.ensures first.result second paths in
     (first.result, second, issued, record_of first.new.self, record_of c.remove_expired.new.self, nominates, expired, checked, emitted)
+
+pub may_check-requires : goal.may_check-requires
+may_check-requires g c =
+    let now = c.args.now.0 in
+    c.remove_expired.ensures.checks now (c.evaluate_nomination-first.ensures.checks now c.requires.checks)

@@ -1,10 +1,13 @@
-use Rattle.std.proofs.Common.{List, ◌≡◌, ap, is_some, not, rules, true}
+use Rattle.std.proofs.Common.{List, ◌≡◌, ◌||◌, ap, is_some, map, not, rules, true}
 use Rattle.std.specs.List.{list_any}
 use Rattle.is_pair.specs.Pairs.{PairRecord}
 use Rattle.is_pair.specs.Checklists.{multiset_of}
-use Rattle.is_rules.specs.Due.{falls_due}
+use Rattle.is_pair.specs.Due.{asked, is_due}
+use Rattle.is_rules.specs.Checking.{all_asked}
+use Rattle.is_rules.specs.Due.{falls_due, may_nominate}
+use Rattle.is_rules.specs.Nominating.{nominates_at_once}
 use Rattle.is_agent.specs.View.{record_of}
-use Rattle.is_agent.proofs.AgentParts.DuePairsAfterRemoval.{all-three, falls-asked, may-check}
+use Rattle.is_agent.proofs.AgentParts.DuePairsAfterRemoval.{all-three, falls-asked, may-check, nominates-may, or-both}
 use Rattle.is_agent.proofs.AgentParts.PairsInLists.{placed-asked, placed-heard}
 use Rattle.is_agent.proofs.agent.Agent.may_check.Goals as goal
 
@@ -15,8 +18,12 @@ check_next-requires g c =
     let known : is_some self.remote_creds ≡ true = search rules in
     record {
       room = λ due.
-          let falls = falls-asked self.controlling now self.timing (multiset_of self.pairs) (rw (c.fix_due_times.ensures.asked) at due) in
-          let old = c.requires (all-three (not self.lite) (is_some self.remote_creds) (list_any (falls_due self.controlling now self.timing) (multiset_of self.pairs)) full known falls) in
+          let all = all_asked now (record_of self) in
+          let either : nominates_at_once all || list_any (is_due now self.timing) (map (asked now self.timing) (multiset_of self.pairs)) ≡ true = rw (c.fix_due_times.ensures.asked) at due in
+          let before = list_any (falls_due self.controlling now self.timing) (multiset_of self.pairs) in
+          let falls = or-both (nominates_at_once all) (list_any (is_due now self.timing) (map (asked now self.timing) (multiset_of self.pairs))) (may_nominate (record_of self)) before
+          (λ h. nominates-may all h) (λ h. falls-asked self.controlling now self.timing (multiset_of self.pairs) h) either in
+          let old = c.requires (all-three (not self.lite) (is_some self.remote_creds) (may_nominate (record_of self) || before) full known falls) in
           (old.0, c.fix_due_times.ensures.check_room old.1, old.2);
     }
 

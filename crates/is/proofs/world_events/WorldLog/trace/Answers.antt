@@ -1,6 +1,6 @@
 use Rattle.std.proofs.Common.{◌≡◌, ◌+◌, suc, arith}
 use Rattle.is.proofs.RolesAndChains.FirstMarkedEntries.{none_selected, selected_first}
-use Rattle.is.proofs.world.WorldLog.trace.Goals as goal
+use Rattle.is.proofs.world_events.WorldLog.trace.Goals as goal
 
 pub returns-in-Some : goal.returns-in-Some
 returns-in-Some c =

@@ -1,0 +1,13 @@
+use Rattle.std.proofs.Common.{refl, ◌∙◌}
+use Rattle.is_pair.specs.Checklists.{multiset_of}
+use Rattle.is_pair.specs.Pairs.{renominated}
+use Rattle.is_rules.proofs.PairLists.PairsInLists.{changed-has, placed-changed}
+use Rattle.is_rules.proofs.nomination.begin_nomination.Goals as goal
+
+pub returns-then-begins-clause-placed : goal.returns-then-begins-clause-placed
+returns-then-begins-clause-placed c = λ local remote placed.
+    rw (c.change.ensures.changed)
+    (placed-changed local remote c.args.number renominated (multiset_of c.args.pairs.now) (record { local = λ p. refl; remote = λ p. refl }) placed)
+
+pub returns-then-begins-clause-has : goal.returns-then-begins-clause-has
+returns-then-begins-clause-has c = λ has. rw (c.change.ensures.changed) (changed-has c.args.number (multiset_of c.args.pairs.now) ∙ has)
