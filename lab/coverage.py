@@ -7,8 +7,9 @@ from collections.abc import Callable, Iterable, Sequence
 from dataclasses import dataclass, field, replace
 
 from .clauses import (
-    both, completed_nominations_are_selected, connect, connected_are_answered, connected_have_consent, consent_ends_in_time, consent_holds,
-    due_rounds, in_time, meet, nomination_accepted, nominations, of_use, one_path, rounds, successes, valid_have_consented, world_rounds)
+    both, by_number, completed_nominations_are_selected, connect, connected_are_answered, connected_have_consent, consent_ends_in_time,
+    consent_holds, due_rounds, in_time, meet, nomination_accepted, nominations, of_use, one_path, rounds, successes,
+    valid_have_consented, world_rounds)
 from .clauses.execution import Execution
 from .clauses.accepted_nominations import Network
 from .clauses.verdict import Verdict
@@ -23,7 +24,8 @@ from .session import Session
 # The clauses of progress of `World::run` and of `run`, and theorems of `is_theorems` on one agent.
 WORLD: dict[str, Callable[[Network], Verdict]] = {
     "meet": meet.find, "rounds": world_rounds.find, "in_time": lambda network: in_time.find(network.x),
-    "nomination_accepted": nomination_accepted.find, "connect": connect.find, "both": both.find, "one_path": one_path.find}
+    "nomination_accepted": nomination_accepted.find, "connect": connect.find, "both": both.find, "one_path": one_path.find,
+    "by_number": by_number.find}
 RUN: dict[str, Callable[[Execution], Verdict]] = {
     "run: of_use": of_use.find, "run: successes": successes.find, "run: nominations": nominations.find, "run: rounds": rounds.find,
     "run: due_rounds": due_rounds.find}

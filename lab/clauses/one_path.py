@@ -1,11 +1,11 @@
-"""`World::run`, clause `one_path` (`OnePathIsSelected`): with renomination at both sides the controlling one nominates a path last, and a
-check of the controlled one on it is answered. Then both selected it last, by a `handle_timeout` call of the controlled one that serves no
-early request."""
+"""`World::run`, clause `one_path` (`OnePathIsSelected`): with renomination at both sides, and without numbers, the controlling one
+nominates a path last, and a check of the controlled one on it is answered. Then both selected it last, by a `handle_timeout` call of the
+controlled one that serves no early request."""
 
 from __future__ import annotations
 
 from bisect import bisect_left
-from collections.abc import Iterator
+from collections.abc import Callable, Iterator
 from dataclasses import dataclass
 
 from ..pairs import Path, reversed_path
@@ -63,27 +63,37 @@ def _is_its(h: Handed, c: Choice) -> bool:
     return h.path == c.its and h.over == reversed_path(c.path)
 
 
-def is_nominated_last(n: Network, c: Choice, part: range) -> Lacks:
+def check_that_nominates(n: Network, c: Choice, part: range, besides: Callable[[Handed], Lacks]) -> Lacks:
     """A check of the other side on its path is delivered on the reverse of this one, its pairs are nominated, and after that it selects no
-    path and nominates no other one (`IsNominatedLast`)."""
+    path (`IsNominated`). `besides` says what else is missing."""
 
     def missing(h: Handed) -> Lacks:
         stays = not any_in(changes_path(n.x, h.side), range(h.sent + 1, part.stop))
-        last = not any_in(nominates_other(n.x, c.side, c.path), range(h.arrived + 1, part.stop))
-        return [*h.missing, *lacks(nominated=h.nominates, stays=stays, last=last)]
+        return [*h.missing, *lacks(nominated=h.nominates, stays=stays), *besides(h)]
 
     found = [h for h in n.handed[other(c.side)] if _is_its(h, c) and h.sent in part and h.arrived in part]
     return fewest([missing(h) for h in found], ["handed"])
+
+
+def is_nominated_last(n: Network, c: Choice, part: range) -> Lacks:
+    """The same, and no other path is nominated after that (`IsNominatedLast`)."""
+    others = nominates_other(n.x, c.side, c.path)
+    return check_that_nominates(n, c, part, lambda h: lacks(last=not any_in(others, range(h.arrived + 1, part.stop))))
+
+
+def is_segment(n: Network, c: Choice, whole: range) -> dict[str, bool | Lacks]:
+    """Returns the parts of `IsControlledSegment`, and whether both have renomination."""
+    return {"IsNewAgent": are_new_agents(n.x), "IsControlled": is_controlled(n.x, c.side, whole),
+            "request_at": serves_no_request(n.x, c.side, c.moment), "IsOnlyPair": is_alone(n.x.state(c.moment + 1, c.side), c.path),
+            "Renominate": renominate(n.x, whole)}
 
 
 def lacking(n: Network, c: Choice) -> Lacks:
     """Returns the preconditions that do not hold."""
     part, whole = range(c.start, c.moment), range(c.start, c.moment + 1)
     return lacks(
-        IsNewAgent=are_new_agents(n.x), IsControlled=is_controlled(n.x, c.side, whole), request_at=serves_no_request(n.x, c.side, c.moment),
-        IsOnlyPair=is_alone(n.x.state(c.moment + 1, c.side), c.path), Renominate=renominate(n.x, whole),
-        IsNominatedLast=is_nominated_last(n, c, part), IsExchangedOver=is_exchanged_over(n, c.side, c.path, part),
-        MayEndAt=not may_end_in(n.x, c.side, c.path, whole))
+        **is_segment(n, c, whole), unnumbered=not n.x.state(c.moment + 1, c.side).numbers, IsNominatedLast=is_nominated_last(n, c, part),
+        IsExchangedOver=is_exchanged_over(n, c.side, c.path, part), MayEndAt=not may_end_in(n.x, c.side, c.path, whole))
 
 
 # ---- the search and the conclusion
@@ -110,7 +120,7 @@ def selected_after(x: Execution, side: str) -> list[tuple[int, Path | None]]:
     return found
 
 
-def find(n: Network) -> Verdict:
+def find(n: Network, missing: Callable[[Network, Choice], Lacks] = lacking, first: str = "IsNominatedLast.handed") -> Verdict:
     """Returns the first such call, or one after which the sides selected other paths."""
     paths = {side: selected_after(n.x, side) for side in SIDES}
 
@@ -121,4 +131,4 @@ def find(n: Network) -> Verdict:
         time, both = n.x.time(c.moment), (last(other(c.side), c.moment), last(c.side, c.moment))
         return Verdict("", n.x.time(c.start), time, time if both == (c.its, c.path) else None)
 
-    return first_of_all(choices(n), lambda c: lacking(n, c), verdict, "IsNominatedLast.handed")
+    return first_of_all(choices(n), lambda c: missing(n, c), verdict, first)

@@ -1,16 +1,17 @@
-"""Tests the checkers of `of_use`, `successes` and `nominations` of `run` and of `one_path` of `World::run`: for each precondition, a log
-that lacks exactly it; and a log in which the conclusion does not come true."""
+"""Tests the checkers of `of_use`, `successes` and `nominations` of `run`, and of `one_path` and `by_number` of `World::run`: for each
+precondition, a log that lacks exactly it; and a log in which the conclusion does not come true."""
 
 import unittest
 from dataclasses import replace
 from typing import Any
 
 from is_ice import SocketAddress
-from lab.clauses import nominations, of_use, one_path, successes
+from lab.clauses import by_number, nominations, of_use, one_path, successes
 from lab.clauses.accepted_nominations import Network
 from lab.clauses.execution import Execution, Lacks
 from lab.clauses.verdict import Verdict
 from lab.clock import MILLISECOND
+from lab.kinds import Rules
 from lab.replay import replay
 from lab.tests.stories import TO_A, TO_B, Story
 from lab.tests.test_theorems import REQUEST, altered, answered, at, without_selections
@@ -194,6 +195,55 @@ class OnePath(unittest.TestCase):
     def test_a_side_that_selects_another_path_or_none(self) -> None:
         for side in "ab":
             self.assertTrue(one_path.find(Network(without_selections(self.story(), side))).is_broken)
+
+
+class ByNumber(unittest.TestCase):
+    def story(self, numbers: bool = True) -> Story:
+        """A's check at 50 nominates its path by 1, and B's check at 60 is answered. B's timeout follows at 120."""
+        story = Story(rules=Rules(numbered_nominations=numbers))
+        for side in "ab":
+            story.set(side, "set_renomination", True)
+        story.exchange("a", 0)
+        story.exchange("a", 50)
+        story.exchange("b", 60)
+        story.timeout("b", 120)
+        return story
+
+    def lacking(self, n: Network) -> Lacks:
+        """Of B's last choice."""
+        return by_number.lacking(n, [c for c in one_path.choices(n) if c.side == "b"][-1])
+
+    def test_both_select_the_path(self) -> None:
+        n = self.story().network()
+        self.assertEqual(self.lacking(n), [])
+        self.assertEqual(by_number.find(n), Verdict("", at(50), at(120), at(120)))
+        self.assertIn("unnumbered", one_path.lacking(n, [c for c in one_path.choices(n) if c.side == "b"][-1]))
+
+    def test_the_preconditions(self) -> None:
+        story = self.story()
+        end = story.moments["b"][-1] + 1
+        self.assertEqual(self.lacking(self.story(numbers=False).network()), ["LeadsByNumber"])
+        self.assertEqual(self.lacking(story.altered(end, "b", numbers_seen=False)), ["LeadsByNumber"])
+        self.assertEqual(self.lacking(story.altered(end, "b", controlling=True)), ["LeadsByNumber"])
+        self.assertEqual(by_number.find(Story().network()).failed, "IsNominated.handed")
+
+    def test_the_same_number_on_another_path(self) -> None:
+        story = Story(rules=Rules(numbered_nominations=True))
+        for side in "ab":
+            story.set(side, "set_renomination", True)
+        story.exchange("a", 0)
+        check = story.timeout("a", 50)
+        story.deliver(check, "b", 55)
+        story.exchange("b", 60)
+        story.deliver(check, "b", 80, (OUTSIDE, TO_B[1]))  # the same check, by another path
+        story.timeout("b", 120)
+        n = story.network()
+        choice = one_path.Choice("b", TO_A, TO_B, n.handed["a"][1].sent, story.moments["b"][-1])
+        self.assertEqual(by_number.lacking(n, choice), ["LeadsByNumber"])
+
+    def test_a_side_that_selects_another_path_or_none(self) -> None:
+        for side in "ab":
+            self.assertTrue(by_number.find(Network(without_selections(self.story(), side))).is_broken)
 
 
 if __name__ == "__main__":
