@@ -1016,6 +1016,7 @@ typedef struct is_ice_stun_message {
     is_ice_stun_number channel_number; /* 0x4000 to 0x7FFF (RFC 8656, section 18.1) */
     is_ice_stun_number network_id;     /* NETWORK-COST: the ID of the sender's network */
     is_ice_stun_number network_cost;   /* and its cost */
+    is_ice_stun_number nomination;     /* NOMINATION: the number of a nomination (draft-thatcher-ice-renomination) */
     is_ice_address mapped;             /* XOR-MAPPED-ADDRESS (RFC 8489, section 14.2) */
     is_ice_address peer;               /* XOR-PEER-ADDRESS (RFC 8656, section 18.3) */
     is_ice_address relayed;            /* XOR-RELAYED-ADDRESS (RFC 8656, section 18.5) */
@@ -1108,13 +1109,13 @@ typedef struct is_ice_stun_texts {
  * With it the message is longer by 4 bytes and the length of DATA, rounded up to a multiple of four.
  *
  * IS_ICE_OK: *length is the length of the message. After an error the buffer and *length are unchanged:
- * - IS_ICE_BAD_MESSAGE: a class or method that is not listed above, or an error code outside 300 to 699. A priority or
- *   lifetime of more than 32 bits, or a channel number, network ID or cost of more than 16. Only one of network_id and
- *   network_cost. A span that ends after the last byte.
+ * - IS_ICE_BAD_MESSAGE: a class or method that is not listed above, or an error code outside 300 to 699. A priority,
+ *   lifetime or nomination of more than 32 bits, or a channel number, network ID or cost of more than 16. Only one of
+ *   network_id and network_cost. A span that ends after the last byte.
  * - IS_ICE_BAD_ADDRESS: a family other than 0, 4 and 6. IS_ICE_NOT_UTF8: a text that is set, except DATA.
  * - IS_ICE_MESSAGE_TOO_LONG: a text is too long, or more than 65535 bytes would follow the header.
  * - IS_ICE_BUFFER_TOO_SHORT: the message does not fit, and nothing else is wrong with it. */
-enum { IS_ICE_STUN_WRITE_LENGTH = 1228 };
+enum { IS_ICE_STUN_WRITE_LENGTH = 1236 };
 IS_ICE_CALL int32_t is_ice_stun_write(
     const is_ice_stun_message *message, const is_ice_stun_texts *texts, const uint8_t *bytes, size_t bytes_length,
     const uint8_t *key, size_t key_length, uint8_t *buffer, size_t size, size_t *length);
@@ -1147,7 +1148,7 @@ IS_ICE_SIZE(is_ice_agent_rules, 40);
 IS_ICE_SIZE(is_ice_stun_transaction, 12);
 IS_ICE_SIZE(is_ice_stun_result, 32);
 IS_ICE_SIZE(is_ice_stun_number, 16);
-IS_ICE_SIZE(is_ice_stun_message, 232);
+IS_ICE_SIZE(is_ice_stun_message, 248);
 IS_ICE_SIZE(is_ice_stun_span, 24);
 IS_ICE_SIZE(is_ice_stun_texts, 144);
 #undef IS_ICE_SIZE
