@@ -335,6 +335,7 @@ class Sessions(unittest.TestCase):
         pair = a.nominated_pair
         assert pair is not None
         self.assertEqual((pair.source, pair.destination), (HERE, THERE))
+        self.assertEqual(a.media_addresses(), (HERE, THERE))
         events = []
         while event := a.poll_event():
             events.append(event)
@@ -360,6 +361,7 @@ class Sessions(unittest.TestCase):
     def test_a_path_is_valid_before_it_is_selected(self) -> None:
         a, b = two_agents()
         self.assertIsNone(b.valid_path)
+        self.assertIsNone(b.media_addresses())
         b.handle_timeout(BEGINNING)
         for agent, other in ((b, a), (a, b)):
             packet = agent.poll_transmit()
@@ -367,6 +369,7 @@ class Sessions(unittest.TestCase):
             self.assertTrue(other.handle_packet(BEGINNING, packet.source, packet.destination, packet.contents))
         self.assertIsNone(b.nominated_pair)
         self.assertEqual(b.valid_path, MediaPath(THERE, HERE, Protocol.UDP))
+        self.assertEqual(b.media_addresses(), (THERE, HERE))
 
     def test_a_query_of_the_selected_pair_polls_no_events(self) -> None:
         """Once as many events wait as `set_max_discovered` allows, by default 32, no further source is reported."""
