@@ -207,7 +207,7 @@ static is_ice_stun_message fields(void)
     m.controlling.value = one_in(4) ? number() : 2, m.controlled.value = one_in(4) ? number() : 1;
     if (kind >> 7) {
         m.error_code = stun_number(700), m.lifetime = stun_number(UINT32_MAX), m.channel_number = stun_number(0x8000);
-        m.network_id = stun_number(65536), m.network_cost = stun_number(65536);
+        m.network_id = stun_number(65536), m.network_cost = stun_number(65536), m.nomination = stun_number(UINT32_MAX);
         m.peer = address(), m.relayed = address();
         if (one_in(8)) m.method = (uint16_t)number(), m.cls = take();
     }

@@ -325,7 +325,7 @@ static void messages(struct story *s)
     is_ice_stun_texts texts;
     is_ice_stun_result result;
     is_ice_stun_number *numbers[] = {&m.priority, &m.controlled, &m.controlling, &m.lifetime, &m.channel_number, &m.network_id,
-        &m.network_cost};
+        &m.network_cost, &m.nomination};
     size_t length, receiver;
     uint64_t time;
     memset(letters, 'e', sizeof letters);

@@ -48,10 +48,10 @@ static void offsets(void)
     AT(is_ice_stun_number, value, 0), AT(is_ice_stun_number, is_set, 8);
     AT(is_ice_stun_message, priority, 0), AT(is_ice_stun_message, controlled, 16), AT(is_ice_stun_message, controlling, 32);
     AT(is_ice_stun_message, error_code, 48), AT(is_ice_stun_message, lifetime, 64), AT(is_ice_stun_message, channel_number, 80);
-    AT(is_ice_stun_message, network_id, 96), AT(is_ice_stun_message, network_cost, 112), AT(is_ice_stun_message, mapped, 128);
-    AT(is_ice_stun_message, peer, 156), AT(is_ice_stun_message, relayed, 184), AT(is_ice_stun_message, id, 212);
-    AT(is_ice_stun_message, method, 224), AT(is_ice_stun_message, cls, 226), AT(is_ice_stun_message, use_candidate, 227);
-    AT(is_ice_stun_message, has_integrity, 228), AT(is_ice_stun_message, has_fingerprint, 229);
+    AT(is_ice_stun_message, network_id, 96), AT(is_ice_stun_message, network_cost, 112), AT(is_ice_stun_message, nomination, 128);
+    AT(is_ice_stun_message, mapped, 144), AT(is_ice_stun_message, peer, 172), AT(is_ice_stun_message, relayed, 200);
+    AT(is_ice_stun_message, id, 228), AT(is_ice_stun_message, method, 240), AT(is_ice_stun_message, cls, 242);
+    AT(is_ice_stun_message, use_candidate, 243), AT(is_ice_stun_message, has_integrity, 244), AT(is_ice_stun_message, has_fingerprint, 245);
     AT(is_ice_stun_span, start, 0), AT(is_ice_stun_span, length, 8), AT(is_ice_stun_span, is_set, 16);
     AT(is_ice_stun_texts, username, 0), AT(is_ice_stun_texts, reason, 24), AT(is_ice_stun_texts, data, 48);
     AT(is_ice_stun_texts, realm, 72), AT(is_ice_stun_texts, nonce, 96), AT(is_ice_stun_texts, software, 120);
@@ -126,6 +126,7 @@ static void reads_any_message(void)
     HOLD(m.priority.is_set && m.priority.value == 0x6e0001ff && !m.use_candidate);
     HOLD(m.controlled.is_set && m.controlled.value == UINT64_C(0x932ff9b151263b36) && !m.controlling.is_set);
     HOLD(!m.error_code.is_set && !m.lifetime.is_set && !m.channel_number.is_set && !m.network_id.is_set && !m.network_cost.is_set);
+    HOLD(!m.nomination.is_set && m.nomination.value == 0);
     HOLD(m.mapped.family == 0 && m.peer.family == 0 && m.relayed.family == 0 && m.has_integrity && m.has_fingerprint);
     HOLD(is_ice_stun_text(IS_ICE_STUN_USERNAME, bytes, size, text, sizeof text, &length) == IS_ICE_OK);
     HOLD(length == 9 && memcmp(text, "evtj:h6vY", 9) == 0);
@@ -159,6 +160,7 @@ static void same_again(
     HOLD(m.channel_number.is_set == wanted->channel_number.is_set && m.channel_number.value == wanted->channel_number.value);
     HOLD(m.network_id.is_set == wanted->network_id.is_set && m.network_id.value == wanted->network_id.value);
     HOLD(m.network_cost.is_set == wanted->network_cost.is_set && m.network_cost.value == wanted->network_cost.value);
+    HOLD(m.nomination.is_set == wanted->nomination.is_set && m.nomination.value == wanted->nomination.value);
     HOLD(m.mapped.family == wanted->mapped.family && m.mapped.port == wanted->mapped.port);
     HOLD(m.mapped.family == 0 || memcmp(m.mapped.bytes, wanted->mapped.bytes, m.mapped.family == 4 ? 4 : 16) == 0);
     HOLD(m.use_candidate == wanted->use_candidate && m.has_integrity == wanted->has_integrity && m.has_fingerprint);
@@ -227,6 +229,34 @@ static void writes_an_error(void)
     HOLD(write_it(&m, &texts, "not: no", written, sizeof written, &length) == IS_ICE_OK && length == 28);
 }
 
+/* A Binding request without credentials and with NOMINATION: its attribute, byte by byte (draft-thatcher-ice-renomination). */
+static void writes_a_nomination(void)
+{
+    static const uint8_t header[8] = {0, 1, 0, 16, 0x21, 0x12, 0xa4, 0x42}, attribute[8] = {0xc0, 1, 0, 4, 0x12, 0x34, 0x56, 0x78};
+    uint8_t written[48];
+    size_t length;
+    is_ice_stun_message m;
+    is_ice_stun_texts none;
+    memset(&m, 0, sizeof m);
+    memset(&none, 0, sizeof none);
+    memset(written, 0xaa, sizeof written);
+    m.method = IS_ICE_STUN_BINDING, m.id = id, m.nomination.value = 0x12345678, m.nomination.is_set = true;
+    HOLD(write_it(&m, &none, "", written, sizeof written, &length) == IS_ICE_OK && length == 36 && written[36] == 0xaa);
+    HOLD(memcmp(written, header, 8) == 0 && memcmp(written + 8, id.bytes, 12) == 0 && memcmp(written + 20, attribute, 8) == 0);
+    same_again(&m, 0, NULL, written, length);
+    static const uint64_t numbers[] = {0, 1, UINT32_MAX};
+    for (size_t i = 0; i < sizeof numbers / sizeof *numbers; i++) {
+        m.nomination.value = numbers[i];
+        HOLD(write_it(&m, &none, "", written, sizeof written, &length) == IS_ICE_OK && length == 36);
+        same_again(&m, 0, NULL, written, length);
+    }
+    /* LIFETIME made a NOMINATION of three bytes: it is left out */
+    m.nomination.is_set = false, m.nomination.value = 0, m.lifetime.value = 1, m.lifetime.is_set = true;
+    HOLD(write_it(&m, &none, "", written, sizeof written, &length) == IS_ICE_OK && length == 36);
+    written[20] = 0xc0, written[21] = 1, written[23] = 3;
+    HOLD(is_ice_stun_read(written, length, &m) == IS_ICE_OK && !m.nomination.is_set && m.nomination.value == 0 && !m.lifetime.is_set);
+}
+
 static is_ice_stun_span whole(size_t length)
 {
     is_ice_stun_span span = {0, 0, true};
@@ -242,13 +272,13 @@ static void writes_all_attributes(void)
     size_t length;
     is_ice_stun_message m;
     is_ice_stun_texts texts;
-    is_ice_stun_number *numbers[8] = {&m.priority, &m.controlled, &m.controlling, &m.error_code, &m.lifetime,
-                                      &m.channel_number, &m.network_id, &m.network_cost};
+    is_ice_stun_number *numbers[9] = {&m.priority, &m.controlled, &m.controlling, &m.error_code, &m.lifetime,
+                                      &m.channel_number, &m.network_id, &m.network_cost, &m.nomination};
     memset(text, 'x', 508);
     memset(&m, 0, sizeof m);
     memset(&texts, 0, sizeof texts);
     m.method = IS_ICE_STUN_CHANNEL_BIND, m.cls = IS_ICE_STUN_INDICATION, m.id = id;
-    for (int i = 0; i < 8; i++) numbers[i]->value = 0x4000 + (uint64_t)i, numbers[i]->is_set = true;
+    for (int i = 0; i < 9; i++) numbers[i]->value = 0x4000 + (uint64_t)i, numbers[i]->is_set = true;
     m.error_code.value = 699;
     m.mapped.family = m.peer.family = m.relayed.family = 6;
     m.use_candidate = m.has_integrity = true;
@@ -286,6 +316,7 @@ static void refuses_what_is_no_message(void)
     m = good, m.cls = 4, HOLD(refused(&m, &none, "") == IS_ICE_BAD_MESSAGE);
     m = good, m.priority = big, HOLD(refused(&m, &none, "") == IS_ICE_BAD_MESSAGE);
     m = good, m.lifetime = big, HOLD(refused(&m, &none, "") == IS_ICE_BAD_MESSAGE);
+    m = good, m.nomination = big, HOLD(refused(&m, &none, "") == IS_ICE_BAD_MESSAGE);
     m = good, m.channel_number = big, HOLD(refused(&m, &none, "") == IS_ICE_BAD_MESSAGE);
     m = good, m.error_code = small, HOLD(refused(&m, &none, "") == IS_ICE_BAD_MESSAGE);
     m = good, m.network_id = small, HOLD(refused(&m, &none, "") == IS_ICE_BAD_MESSAGE);
@@ -398,6 +429,7 @@ int main(void)
     offsets();
     writes_the_samples();
     writes_an_error();
+    writes_a_nomination();
     writes_all_attributes();
     refuses_what_is_no_message();
     writes_a_request();

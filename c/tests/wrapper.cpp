@@ -170,6 +170,11 @@ static void has_stun_messages()
     auto written = is_ice::stun_write(message, texts, "peer", "");
     HOLD(is_ice::stun_text(IS_ICE_STUN_SOFTWARE, written.data(), written.size()) == "peer");
     HOLD(thrown([] { is_ice::stun_read("media", 5); }).code() == IS_ICE_UNPARSED);
+    message.nomination = {258, true};
+    written = is_ice::stun_write(message, {}, "", "");
+    HOLD(std::string(written.begin() + 20, written.begin() + 28) == std::string("\xc0\1\0\4\0\0\1\2", 8));
+    auto number = is_ice::stun_read(written.data(), written.size()).nomination;
+    HOLD(number.is_set && number.value == 258);
 }
 
 static void passes_codes_on()

@@ -33,9 +33,10 @@ class Browser:
 
     program = ""
 
-    def __init__(self, mdns: bool = False, page: str = PAGE) -> None:
-        """`mdns`: host candidates have an mDNS name instead of the address, as browsers do by default."""
-        self.mdns, self.page = mdns, page
+    def __init__(self, mdns: bool = False, page: str = PAGE, capture: bool = False) -> None:
+        """`mdns`: host candidates have an mDNS name instead of the address, as browsers do by default. `capture`: the page captures sound,
+        which only Chromium does."""
+        self.mdns, self.page, self.capture = mdns, page, capture
         self.version = ""
         self._profile = Path(tempfile.mkdtemp(prefix="browser-"))
         self._process: asyncio.subprocess.Process | None = None

@@ -15,6 +15,7 @@ _QUIET = ["--disable-background-networking", "--disable-component-update", "--di
           "--autoplay-policy=no-user-gesture-required",
           # a page in the background would be slowed down
           "--disable-background-timer-throttling", "--disable-renderer-backgrounding", "--disable-backgrounding-occluded-windows"]
+_CAPTURE = ["--use-fake-ui-for-media-stream", "--use-fake-device-for-media-stream"]
 
 
 class Chromium(Browser):
@@ -24,9 +25,10 @@ class Chromium(Browser):
 
     def _command(self) -> list[str]:
         hidden = [] if self.mdns else ["--disable-features=WebRtcHideLocalIpsWithMdns"]
+        capture = _CAPTURE if self.capture else []
         sandbox = ["--no-sandbox"] if os.geteuid() == 0 else []  # Chromium has no sandbox for root
         return [self.program, "--headless=new", *sandbox, "--disable-gpu", "--remote-debugging-port=0",
-                f"--user-data-dir={self._profile}", *_QUIET, *hidden, "about:blank"]
+                f"--user-data-dir={self._profile}", *_QUIET, *hidden, *capture, "about:blank"]
 
     async def _endpoint(self) -> str:
         port, path = (await self._profile_file("DevToolsActivePort")).split()
@@ -40,6 +42,8 @@ class Chromium(Browser):
         self._session = attached["sessionId"]
         while not await self._is_loaded():
             await asyncio.sleep(0.05)
+        if self.capture:
+            await self.call("capture")
 
     async def _is_loaded(self) -> bool:
         try:

@@ -113,7 +113,8 @@ class Run:
             return "python3-aiortc is not installed"
         if not self._count(case):
             return "too long for --quick"
-        if not case.aiortc and session.local_address(case.ipv6) is None:
+        versions = (False, True) if case.both else (case.ipv6,)
+        if not case.aiortc and None in map(session.local_address, versions):
             return "the machine has no address of this IP version"
         return ""
 
@@ -153,7 +154,7 @@ class Run:
         await asyncio.gather(*waiting)
 
     async def browser(self, name: str) -> None:
-        """Runs the cases with a browser, in one browser without and one with mDNS names."""
+        """Runs the cases with a browser: one without mDNS names, one with them, and one whose page captures sound."""
         import cases
         kind = getattr(importlib.import_module(name), name.capitalize())
         chosen = [case for case in cases.WITH_BROWSER if self._is_chosen(case) and case.only in ("", name)]
@@ -161,12 +162,12 @@ class Run:
             for case in chosen:
                 self._print(self._row(name, case, f"{missing} is not installed"))
             return
-        for mdns in (False, True):
-            part = [case for case in chosen if case.mdns == mdns]
+        for mdns, capture in ((False, False), (True, False), (False, True)):
+            part = [case for case in chosen if (case.mdns, case.capture) == (mdns, capture)]
             if not part:
                 continue
             try:
-                async with kind(mdns) as browser:
+                async with kind(mdns, capture=capture) as browser:
                     await self._cases(browser.version, browser, part)
             except Exception as error:
                 print(f"{name}: {error!r}", flush=True)

@@ -38,12 +38,19 @@ class Session:
     async def begin(cls, browser: Browser, setup: Setup) -> Session:
         """Binds a socket, exchanges descriptions and candidates, and starts both sides."""
         session = cls(browser, Side(setup), setup)
-        address = local_address(setup.ipv6)
-        assert address, "the machine has no such address"
-        await session.side.loop.bind(address)
-        await session.call("create")
+        for ipv6 in (setup.ipv6, not setup.ipv6)[:1 + setup.both]:
+            await session.bind(ipv6)
+        await session.call("create", False, None, setup.option)
         await session._signal()
         return session
+
+    async def bind(self, ipv6: bool) -> str:
+        """Binds a socket of the agent, and returns the candidate."""
+        address = local_address(ipv6)
+        assert address, "the machine has no such address"
+        line = await self.side.loop.bind(address)
+        assert line, "the candidate is redundant"
+        return line
 
     async def call(self, function: str, *arguments: object) -> Any:
         """Runs a function of the page for this session."""
@@ -82,13 +89,21 @@ class Session:
         """Returns whether both sides say so."""
         return self.side.agent.state.is_connected() and self.told["ice"] in CONNECTED
 
+    def agent_path(self) -> tuple[int, int] | None:
+        """Returns the ports of the path that the agent selected last: its own and the browser's."""
+        if not self.side.paths:
+            return None
+        path = self.side.paths[-1][1]
+        return path.source.port, path.destination.port
+
+    def browser_path(self) -> tuple[int, int] | None:
+        """Returns the same of the path that the browser reported last when it selected another one."""
+        return next(((agent, own) for _, own, agent in reversed(self.told["moves"])), None)
+
     async def is_on_one_path(self) -> bool:
         """Returns whether both sides selected the same path."""
         pair = await self.call("selected")
-        if not self.side.paths or not pair:
-            return False
-        path = self.side.paths[-1][1]
-        return (path.source.port, path.destination.port) == (pair["remote"], pair["local"])
+        return bool(pair) and self.agent_path() == (pair["remote"], pair["local"])
 
     def browser_reached(self, names: tuple[str, ...], since: float = 0.0) -> float | None:
         """Returns when the browser first was in one of these ICE states, at this time or later."""

@@ -8,7 +8,9 @@ from dataclasses import dataclass
 
 from is_ice import (
     IceAgent, IceAgentEvent, IceConnectionStateChange, IceCreds, IceError, NominatedSend, SocketAddress, has_mdns_name, new_creds)
-from is_ice.loop import IceLoop
+from is_ice.lines import line_fields
+from is_ice.loop import EventHandler, IceLoop, StunHandler
+from nominations import Nomination, nominations
 
 # No DTLS runs in these sessions: the browser's iceConnectionState does not depend on it.
 _FINGERPRINT = ":".join(["AB"] * 32)
@@ -24,6 +26,10 @@ class Setup:
     mdns: bool = False
     conflict: bool = False  # the agent begins in the browser's role
     ipv6: bool = False
+    both: bool = False  # the agent has an address of the other IP version too
+    option: bool = False  # both descriptions have a=ice-options:renomination
+    renomination: bool = False  # the agent's setting
+    only_ipv4: bool = False  # the agent gets no IPv6 candidate of the browser by signaling
     checks: int | None = None  # unanswered checks before the agent removes a pair; None: the default
     lite_timeout: int | None = None  # seconds without a check until a lite agent removes a pair; None: the default
 
@@ -34,34 +40,49 @@ class Setup:
 
 
 class CutLoop(IceLoop):
-    """A loop whose datagrams are lost in both directions while `cut` is True."""
+    """A loop whose datagrams are lost in both directions: all while `cut` is True, and those of the local addresses in `lost`.
+
+    `sent` and `received` are the nominations among the others.
+    """
 
     cut = False
 
+    def __init__(self, agent: IceAgent, on_event: EventHandler, on_stun: StunHandler) -> None:
+        super().__init__(agent, on_event, lambda *_: None, on_stun)
+        self.lost: set[SocketAddress] = set()
+        self.sent: list[Nomination] = []
+        self.received: list[Nomination] = []
+
     def send(self, source: SocketAddress, destination: SocketAddress, data: bytes) -> None:
         """Sends a datagram, or loses it."""
-        if not self.cut:
+        if self._passes(source):
+            self.sent += nominations(source, destination, data)
             super().send(source, destination, data)
 
     def receive(self, source: SocketAddress, local: SocketAddress, data: bytes) -> None:
         """Takes a datagram, or loses it."""
-        if not self.cut:
+        if self._passes(local):
+            self.received += nominations(local, source, data)
             super().receive(source, local, data)
+
+    def _passes(self, local: SocketAddress) -> bool:
+        return not self.cut and local not in self.lost
 
 
 class Side:
     """The agent with its loop. Times are those of time.time()."""
 
     def __init__(self, setup: Setup) -> None:
-        self.lite = setup.lite
+        self.setup = setup
         self.agent = IceAgent()
         self.agent.set_controlling(setup.controlling)
         self.agent.set_ice_lite(setup.lite)
+        self.agent.set_renomination(setup.renomination)
         if setup.checks:
             self.agent.set_max_stun_retransmits(setup.checks)
         if setup.lite_timeout:
             self.agent.set_lite_timeout(setup.lite_timeout * 1_000_000_000)
-        self.loop = CutLoop(self.agent, self._on_event, lambda *_: None, self._on_stun)
+        self.loop = CutLoop(self.agent, self._on_event, self._on_stun)
         self.states: list[tuple[float, str]] = []
         self.paths: list[tuple[float, NominatedSend]] = []
         self.dropped = 0  # STUN messages that the agent did not accept
@@ -77,11 +98,11 @@ class Side:
 
     def description(self, offer: bool, candidates: bool) -> str:
         """Writes a description for the browser. `candidates`: with those of the agent."""
-        creds = self.agent.local_credentials
+        creds, option = self.agent.local_credentials, " renomination" if self.setup.option else ""
         lines = ["v=0", "o=- 1 1 IN IP4 127.0.0.1", "s=-", "t=0 0", "a=group:BUNDLE 0"]
-        lines += ["a=ice-lite"] if self.lite else []
+        lines += ["a=ice-lite"] if self.setup.lite else []
         lines += ["m=application 9 UDP/DTLS/SCTP webrtc-datachannel", "c=IN IP4 0.0.0.0", f"a=ice-ufrag:{creds.ufrag}",
-                  f"a=ice-pwd:{creds.pass_}", "a=ice-options:trickle", f"a=fingerprint:sha-256 {_FINGERPRINT}",
+                  f"a=ice-pwd:{creds.pass_}", f"a=ice-options:trickle{option}", f"a=fingerprint:sha-256 {_FINGERPRINT}",
                   f"a=setup:{'actpass' if offer else 'passive'}", "a=mid:0", "a=sctp-port:5000", "a=max-message-size:262144"]
         if candidates:
             lines += [f"a={line}" for line in self.agent.local_candidates()] + ["a=end-of-candidates"]
@@ -90,7 +111,8 @@ class Side:
     def read(self, description: str, candidates: bool) -> None:
         """Takes the browser's description. `candidates`: with those in it."""
         lines = [line[2:] for line in description.splitlines() if line.startswith("a=")]
-        told = dict(line.split(":", 1) for line in lines if line.startswith(("ice-ufrag:", "ice-pwd:")))
+        told = dict(line.split(":", 1) for line in lines if line.startswith(("ice-ufrag:", "ice-pwd:", "ice-options:")))
+        assert ("renomination" in told["ice-options"].split()) == self.setup.option
         self.agent.set_remote_credentials(IceCreds(told["ice-ufrag"], told["ice-pwd"]))
         for line in lines:
             if candidates and line.startswith("candidate:"):
@@ -99,7 +121,7 @@ class Side:
 
     def add(self, line: str) -> None:
         """Adds a candidate of the browser. Those with an mDNS name are left out: the browser's checks bring the address."""
-        if has_mdns_name(line):
+        if has_mdns_name(line) or self.setup.only_ipv4 and line_fields(line).address.version == 6:
             return
         try:
             self.agent.add_remote_candidate(line)

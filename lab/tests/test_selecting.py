@@ -120,17 +120,34 @@ class OfUse(unittest.TestCase):
             self.assertFalse(of_use.find(Execution(session)).is_broken)
 
 
+def renominated(story: Story, renominate: bool = True) -> Story:
+    """A's first check selects its path, its check at 50 nominates it, and B's check at 60 is answered. B's timeout follows at 120."""
+    for side in "ab" if renominate else "":
+        story.set(side, "set_renomination", True)
+    story.exchange("a", 0)
+    story.exchange("a", 50)
+    story.exchange("b", 60)
+    story.timeout("b", 120)
+    return story
+
+
+def replayed(story: Story) -> tuple[Network, one_path.Choice]:
+    """The same, but the check that nominates arrives once more at 80, by another path. Returns the choice of the first one."""
+    for side in "ab":
+        story.set(side, "set_renomination", True)
+    story.exchange("a", 0)
+    check = story.timeout("a", 50)
+    story.deliver(check, "b", 55)
+    story.exchange("b", 60)
+    story.deliver(check, "b", 80, (OUTSIDE, TO_B[1]))
+    story.timeout("b", 120)
+    n = story.network()
+    return n, one_path.Choice("b", TO_A, TO_B, n.handed["a"][1].sent, story.moments["b"][-1])
+
+
 class OnePath(unittest.TestCase):
-    def story(self, renominate: bool = True, hosts: tuple[int, int] = (1, 1)) -> Story:
-        """A's first check selects its path, its check at 50 nominates it, and B's check at 60 is answered. B's timeout follows at 120."""
-        story = Story(hosts=hosts)
-        for side in "ab" if renominate else "":
-            story.set(side, "set_renomination", True)
-        story.exchange("a", 0)
-        story.exchange("a", 50)
-        story.exchange("b", 60)
-        story.timeout("b", 120)
-        return story
+    def story(self, renominate: bool = True) -> Story:
+        return renominated(Story(), renominate)
 
     def lacking(self, n: Network) -> Lacks:
         """Of B's last choice."""
@@ -171,17 +188,7 @@ class OnePath(unittest.TestCase):
         self.assertEqual(self.lacking(story.network()), ["MayEndAt"])
 
     def test_the_last_nomination(self) -> None:
-        story = Story()
-        for side in "ab":
-            story.set(side, "set_renomination", True)
-        story.exchange("a", 0)
-        check = story.timeout("a", 50)
-        story.deliver(check, "b", 55)
-        story.exchange("b", 60)
-        story.deliver(check, "b", 80, (OUTSIDE, TO_B[1]))  # the same check, by another path
-        story.timeout("b", 120)
-        n = story.network()
-        choice = one_path.Choice("b", TO_A, TO_B, n.handed["a"][1].sent, story.moments["b"][-1])
+        n, choice = replayed(Story())
         self.assertEqual(one_path.lacking(n, choice), ["IsNominatedLast.last"])
 
     def test_the_controlling_side_selects_another_path(self) -> None:
@@ -199,15 +206,7 @@ class OnePath(unittest.TestCase):
 
 class ByNumber(unittest.TestCase):
     def story(self, numbers: bool = True) -> Story:
-        """A's check at 50 nominates its path by 1, and B's check at 60 is answered. B's timeout follows at 120."""
-        story = Story(rules=Rules(numbered_nominations=numbers))
-        for side in "ab":
-            story.set(side, "set_renomination", True)
-        story.exchange("a", 0)
-        story.exchange("a", 50)
-        story.exchange("b", 60)
-        story.timeout("b", 120)
-        return story
+        return renominated(Story(rules=Rules(numbered_nominations=numbers)))
 
     def lacking(self, n: Network) -> Lacks:
         """Of B's last choice."""
@@ -228,17 +227,7 @@ class ByNumber(unittest.TestCase):
         self.assertEqual(by_number.find(Story().network()).failed, "IsNominated.handed")
 
     def test_the_same_number_on_another_path(self) -> None:
-        story = Story(rules=Rules(numbered_nominations=True))
-        for side in "ab":
-            story.set(side, "set_renomination", True)
-        story.exchange("a", 0)
-        check = story.timeout("a", 50)
-        story.deliver(check, "b", 55)
-        story.exchange("b", 60)
-        story.deliver(check, "b", 80, (OUTSIDE, TO_B[1]))  # the same check, by another path
-        story.timeout("b", 120)
-        n = story.network()
-        choice = one_path.Choice("b", TO_A, TO_B, n.handed["a"][1].sent, story.moments["b"][-1])
+        n, choice = replayed(Story(rules=Rules(numbered_nominations=True)))
         self.assertEqual(by_number.lacking(n, choice), ["LeadsByNumber"])
 
     def test_a_side_that_selects_another_path_or_none(self) -> None:

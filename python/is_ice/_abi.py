@@ -14,7 +14,7 @@ TIMEOUT_RANDOM = 12
 UFRAG_LENGTH = 16
 PASS_LENGTH = 22
 STUN_REQUEST_LENGTH = 28
-STUN_WRITE_LENGTH = 1228
+STUN_WRITE_LENGTH = 1236
 FOUNDATION_START = 10
 
 
@@ -161,8 +161,6 @@ class AgentRules(ctypes.Structure):
         ("timeout_after_requests", c_bool),
         ("lite_keeps_role", c_bool),
         ("numbered_nominations", c_bool),
-        ("discovered_if_served", c_bool),
-        ("state_after_nomination", c_bool),
     ]
 
 
@@ -196,6 +194,7 @@ class StunMessage(ctypes.Structure):
         ("channel_number", StunNumber),
         ("network_id", StunNumber),
         ("network_cost", StunNumber),
+        ("nomination", StunNumber),
         ("mapped", Address),
         ("peer", Address),
         ("relayed", Address),
@@ -222,8 +221,8 @@ class StunTexts(ctypes.Structure):
 
 # The sizes of the structs that c/is_ice.h asserts.
 SIZES = {Agent: 16, Address: 28, Candidate: 60, Fields: 120, Packet: 72, Event: 68, Status: 40, Stats: 40, Nominated: 88, MediaPath: 60,
-         Pair: 96, KindPreferences: 8, PreferenceTable: 16, AgentRules: 48, StunTransaction: 12, StunResult: 32, StunNumber: 16,
-         StunMessage: 232, StunSpan: 24, StunTexts: 144}
+         Pair: 96, KindPreferences: 8, PreferenceTable: 16, AgentRules: 40, StunTransaction: 12, StunResult: 32, StunNumber: 16,
+         StunMessage: 248, StunSpan: 24, StunTexts: 144}
 
 _AGENT = POINTER(Agent)
 _BYTES = [c_char_p, c_size_t]

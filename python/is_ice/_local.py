@@ -80,13 +80,21 @@ class LocalCandidates:
     async def gather(self, sources: Sources) -> None:
         """Gathers candidates from all sources. ImportError if addresses are to be hidden and aioice is not installed."""
         self._hides = sources.hides
-        bases = [base for ip in sources.addresses if (base := await self._opened(ip))]
+        bases = [base for ip in self._with_room(sources) if (base := await self._opened(ip))]
         if not sources.relay_only:  # otherwise the sockets only serve the STUN server
             for base in bases:
                 if self._hides:
                     self._names[ip_address(base.ip)] = await self._mdns.offer(base.ip)
                 self._add(Candidate.host(base), sources)
         await all_of(self._gather_reflexive(bases, sources), self._gather_relayed(sources))
+
+    def _with_room(self, sources: Sources) -> Sequence[str]:
+        """Returns the addresses for which the agent has places, of which one is left for the relayed candidate."""
+        limit, found = self._agent.max_candidates, sources.addresses
+        room = len(found) if limit is None else max(0, limit - (sources.turn_server is not None))
+        if len(found) > room:
+            self._log.warning("host candidates at %d of %d addresses", room, len(found))
+        return found[:room]
 
     async def _opened(self, ip: str) -> SocketAddress | None:
         try:

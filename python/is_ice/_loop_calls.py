@@ -20,6 +20,8 @@ from .events import Transmit
 
 # is_ice_packet as bytes: source and destination, the length, the protocol.
 PACKET = struct.Struct("=56sQB7x")
+# The source and the destination, with which is_ice_nominated_pair and is_ice_media_path begin.
+PATH = struct.Struct("=56s")
 _PACKET_LENGTH = 2048
 _GREATEST_TIME = (1 << 64) - 1
 _new_tuple = tuple.__new__  # of a NamedTuple, in half the time of its constructor
@@ -30,7 +32,7 @@ class _Arguments:
     may make another call on the same agent in the same thread before this one is made, or before its result is read."""
 
     __slots__ = ("now", "protocol", "length", "due", "event", "packet", "buffer", "handle_packet", "handle_timeout", "poll_timeout",
-                 "poll_event", "poll_transmit", "next_packet")
+                 "poll_event", "poll_transmit", "next_packet", "pair", "nominated", "valid_path")
 
     def __init__(self, library: ctypes.PyDLL, agent: object) -> None:
         self.now, self.protocol, self.length, self.due = c_uint64(), c_uint8(), c_size_t(), c_uint64()
@@ -40,6 +42,9 @@ class _Arguments:
         self.poll_timeout = partial(library.is_ice_poll_timeout, agent, byref(self.due))
         self.poll_event = partial(library.is_ice_poll_event, agent, byref(self.event))
         self.poll_transmit = partial(library.is_ice_poll_transmit, agent)
+        self.pair = _abi.Nominated()  # the longer one of both structs
+        self.nominated = partial(library.is_ice_nominated, agent, byref(self.pair))
+        self.valid_path = partial(library.is_ice_valid_path, agent, byref(self.pair))
         self.make_room(_PACKET_LENGTH)
 
     def make_room(self, length: int) -> None:
@@ -99,6 +104,20 @@ class LoopCalls:
         finally:
             self._release()
         return due if done(code) else None
+
+    def media_addresses(self) -> tuple[SocketAddress, SocketAddress] | None:
+        """`IceAgent.media_addresses`."""
+        self._acquire()
+        try:
+            own = self._spare.pop() if self._spare else self._new()
+            code = own.nominated()
+            if code == NOTHING:
+                code = own.valid_path()
+            (path,) = PATH.unpack_from(own.pair)
+            self._spare.append(own)
+        finally:
+            self._release()
+        return PATHS[path] if done(code) else None
 
     def poll_event(self) -> _abi.Event | None:
         """The next event, or None. Whoever calls this holds the lock."""

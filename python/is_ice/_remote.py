@@ -10,7 +10,7 @@ from ._grammar import is_foundation
 from ._session_log import SessionLog
 from .candidate import CandidateFields
 from .errors import IceError, TooManyCandidates
-from .lines import line_fields, line_name, line_with_address
+from .lines import line_fields, line_fields_with_address, line_name
 from .loop import IceLoop
 from .mdns import Mdns
 
@@ -53,16 +53,15 @@ class RemoteCandidates:
             return
         try:
             if (name := line_name(line)) is None:
-                self._add(line)
+                self._add(line_fields(line))
             else:
-                _checked_fields(line_with_address(line, "0.0.0.0"))
+                _checked(line_fields_with_address(line, "0.0.0.0"))
                 self._resolve(line, name)
         except (IceError, ValueError) as error:
             self._leave_out(error)
 
-    def _add(self, line: str) -> None:
-        fields = _checked_fields(line)
-        result = self._loop.agent.add_remote_candidate(line)
+    def _add(self, fields: CandidateFields) -> None:
+        result = self._loop.agent.add_remote_candidate(_checked(fields).text)
         self._log.info("remote candidate %s %s: %s", fields.address, fields.kind.name, result.name)
         self._loop.wake()
 
@@ -85,15 +84,14 @@ class RemoteCandidates:
             return
         self.unknown_hosts -= 1
         try:
-            self._add(line_with_address(line, ip))
+            self._add(line_fields_with_address(line, ip))
         except (IceError, ValueError) as error:
             self._leave_out(error)
         self._resolved()
 
 
-def _checked_fields(line: str) -> CandidateFields:
-    """Returns the fields of a candidate. ValueError if it is not one, or if its foundation is not in the grammar of RFC 8839."""
-    fields = line_fields(line)
+def _checked(fields: CandidateFields) -> CandidateFields:
+    """Returns the candidate. ValueError if its foundation is not in the grammar of RFC 8839."""
     if not is_foundation(fields.foundation):
         raise ValueError(f"the foundation {fields.foundation!r} does not have 1 to 32 letters, digits, '+' and '/'")
     return fields

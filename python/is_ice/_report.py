@@ -2,11 +2,12 @@
 
 from __future__ import annotations
 
-from collections.abc import Iterable, Mapping
+from collections.abc import Callable, Iterable, Mapping
 from itertools import islice
 
 from .agent import IceAgent
 from .candidate import CandidateFields
+from .errors import NoAgent
 from .events import CandidatePair
 
 _MOST = 8  # of a list
@@ -41,3 +42,16 @@ def tried(agent: IceAgent, discarded: Mapping[str, int]) -> str:
         _listed("pairs", (_pair_text(pair, local, remote) for pair in pairs), len(pairs)),
         f"{stats.bind_request_sent} checks sent, {stats.bind_success_recv} answered, {stats.bind_request_recv} received in all",
         _listed("discarded", (f"{count} x {kind}" for kind, count in discarded.items()), len(discarded))])
+
+
+def failure(why: str, what_was_tried: Callable[[], str], unknown_hosts: int, ended: bool) -> str:
+    """Says why a connection failed, and what it tried. `unknown_hosts`: mDNS names of the peer without an address. `ended`: the peer
+    signaled the end of its candidates."""
+    told = f"ICE negotiation failed: {why}"
+    try:
+        told += "; " + what_was_tried()
+    except NoAgent:
+        return told
+    if unknown_hosts:
+        told += f"; mDNS names of the peer without an address: {unknown_hosts}"
+    return told if ended else told + "; the peer did not signal the end of its candidates"

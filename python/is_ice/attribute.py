@@ -6,7 +6,7 @@ from dataclasses import dataclass, replace
 
 from .address import Protocol
 from .candidate import CandidateFields, CandidateKind, TcpType
-from .lines import line_fields, line_name, line_with_address
+from .lines import line_fields, line_fields_with_address, line_name
 
 _TRANSPORTS = {Protocol.UDP: "udp", Protocol.TCP: "tcp", Protocol.SSL_TCP: "ssltcp", Protocol.TLS: "tls"}
 _TYPES = {CandidateKind.HOST: "host", CandidateKind.PEER_REFLEXIVE: "prflx", CandidateKind.SERVER_REFLEXIVE: "srflx",
@@ -41,7 +41,7 @@ class CandidateAttribute:
         line = "candidate:" + sdp.removeprefix("candidate:")
         if (name := line_name(line)) is None:
             return cls.from_fields(line_fields(line))
-        return replace(cls.from_fields(line_fields(line_with_address(line, _UNSPECIFIED))), host=name)
+        return replace(cls.from_fields(line_fields_with_address(line, _UNSPECIFIED)), host=name)
 
     @classmethod
     def from_fields(cls, fields: CandidateFields) -> CandidateAttribute:

@@ -17,6 +17,7 @@ Datagrams may come from any address, as with aioice: authenticate them, as DTLS 
 from __future__ import annotations
 
 import asyncio
+import contextlib
 import enum
 import logging
 from collections.abc import Callable, Coroutine, Sequence
@@ -26,14 +27,15 @@ from ._grammar import checked
 from ._inbox import Inbox
 from ._local import LocalCandidates, Sources
 from ._remote import RemoteCandidate, RemoteCandidates
+from ._report import failure
 from ._session_log import SessionLog
 from ._unique import Unique
 from .address import SocketAddress
-from .agent import IceAgent
+from .agent import IceAgent, first_role
 from .attribute import CandidateAttribute
 from .candidate import CandidateKind
-from .errors import HasAgent, IceError, NoAgent
-from .events import IceAgentEvent, IceConnectionState, IceConnectionStateChange, IceCreds, NominatedSend
+from .errors import HasAgent, IceError, LiteStaysControlled, NoAgent
+from .events import IceAgentEvent, IceConnectionStateChange, IceCreds, NominatedSend
 from .gather import ServerAddress, TurnServer, all_of, turn_client
 from .interfaces import host_addresses
 from .loop import EventHandler, IceLoop
@@ -116,7 +118,7 @@ class Connection(Unique):
     def _start_state(self) -> None:
         self._gathering: asyncio.Task[None] | None = None
         self._connected = self._closed = False
-        self._path: tuple[SocketAddress, SocketAddress] | None = None
+        self._unchecked: tuple[SocketAddress, SocketAddress] | None = None  # the path of `set_selected_pair`
         self._found: asyncio.Future[str | None] | None = None  # None: a path was found. Else why not
         self._event: asyncio.Future[Any] | None = None
         self._closing: asyncio.Task[None] | None = None  # after consent was lost
@@ -203,16 +205,8 @@ class Connection(Unique):
         turn = None
         if self.turn_server:
             turn = TurnServer(self.turn_server, self.turn_username, self.turn_password, self.turn_ssl, self.turn_transport)
-        await self._local.gather(Sources(self._host_addresses(), self.stun_server, turn, self._relay_only, self.hide_addresses))
-
-    def _host_addresses(self) -> Sequence[str]:
-        found = host_addresses(self._use_ipv4, self._use_ipv6) if self._addresses is None else self._addresses
-        if self.max_candidates is None:
-            return found
-        room = max(0, self.max_candidates - (self.turn_server is not None))
-        if len(found) > room:
-            self._log.warning("host candidates at %d of %d addresses", room, len(found))
-        return found[:room]
+        addresses = host_addresses(self._use_ipv4, self._use_ipv6) if self._addresses is None else self._addresses
+        await self._local.gather(Sources(addresses, self.stun_server, turn, self._relay_only, self.hide_addresses))
 
     # ---- signaling
 
@@ -249,29 +243,24 @@ class Connection(Unique):
             self.agent.set_remote_credentials(checked(IceCreds(self.remote_username, self.remote_password)))
         except (IceError, ValueError) as error:
             raise ConnectionError(f"the remote credentials cannot be used: {error}") from error
-        if self.remote_is_lite:
-            self.agent.set_controlling(True)  # RFC 8445, section 6.1.1
+        try:
+            self.agent.set_controlling(first_role(self.agent.controlling, self.agent.ice_lite, self.remote_is_lite))
+        except LiteStaysControlled as error:
+            raise ConnectionError(f"both agents are lite: {error}") from error
         if self._found is None or self._found.done():
             self._found = asyncio.get_running_loop().create_future()
         self._loop.begin()
         try:
-            failure = await asyncio.wait_for(asyncio.shield(self._found), _PATIENCE)
+            told = await asyncio.wait_for(asyncio.shield(self._found), _PATIENCE)
         except asyncio.TimeoutError:
-            failure = self._failure(f"there is no path after {_PATIENCE:g} s")
-        if failure:
-            self._log.info("%s", failure)
-            raise ConnectionError(failure)
+            told = self._failure(f"there is no path after {_PATIENCE:g} s")
+        if told:
+            self._log.info("%s", told)
+            raise ConnectionError(told)
 
     def _failure(self, why: str) -> str:
         """Says why there is no connection, and what was tried."""
-        failure = f"ICE negotiation failed: {why}"
-        try:
-            failure += "; " + self._loop.tried()
-        except NoAgent:
-            return failure
-        if self._remote.unknown_hosts:
-            failure += f"; mDNS names of the peer without an address: {self._remote.unknown_hosts}"
-        return failure if self._remote.ended else failure + "; the peer did not signal the end of its candidates"
+        return failure(why, self._loop.tried, self._remote.unknown_hosts, self._remote.ended)
 
     def _may_not_connect(self) -> bool:
         """Whether nothing is left to try: no candidate comes any more, and there is none."""
@@ -286,11 +275,9 @@ class Connection(Unique):
 
     def _on_event(self, event: IceAgentEvent) -> None:
         if isinstance(event, NominatedSend):
-            self._path, self._connected = (event.source, event.destination), True
+            self._unchecked, self._connected = None, True
             if self._found and not self._found.done():
                 self._found.set_result(None)
-        elif isinstance(event, IceConnectionStateChange) and event.state is IceConnectionState.CHECKING:
-            self._path = None  # consent for it was lost, and there may be another one
         elif isinstance(event, IceConnectionStateChange) and event.state.is_disconnected():
             if self._connected:
                 self._closing = asyncio.ensure_future(self._close())  # after this event was reported
@@ -333,12 +320,10 @@ class Connection(Unique):
         return self._ending
 
     def _shut(self) -> None:
-        try:
+        with contextlib.suppress(NoAgent):
             self._controlling = self.agent.controlling
-        except NoAgent:
-            pass
         self._fail("the connection was closed")
-        self._closed, self._connected, self._path = True, False, None
+        self._closed, self._connected = True, False
         self._local.close()
         self._loop.close()
         self.agent.close()
@@ -389,12 +374,12 @@ class Connection(Unique):
     async def send(self, data: bytes) -> None:
         """Sends a datagram. ConnectionError if the connection is not connected, or is closed.
 
-        If consent for the path was lost and another path is being checked, the datagram is lost (RFC 7675).
+        If consent was lost and another path is being checked, the datagram is lost (RFC 7675).
         """
         if not self._connected:
             raise ConnectionError("not connected")
-        if self._path:
-            self._loop.send(*self._path, data)
+        if path := self._unchecked or self.agent.media_addresses():
+            self._loop.send(*path, data)
 
     async def sendto(self, data: bytes, component: int) -> None:
         """Sends a datagram on component 1."""
@@ -409,4 +394,4 @@ class Connection(Unique):
         if remote is None:
             raise ValueError(f"no remote candidate has the foundation {remote_foundation}")
         source = local.address if local.kind is CandidateKind.RELAYED else local.local
-        self._path, self._connected = (source, remote.address), True
+        self._unchecked, self._connected = (source, remote.address), True

@@ -3,9 +3,9 @@
 from __future__ import annotations
 
 import enum
+from ctypes import c_size_t
 
-_MAGIC_COOKIE = b"\x21\x12\xa4\x42"
-_HEADER = 20  # bytes of a STUN header
+from ._library import library
 
 
 class PacketKind(enum.Enum):
@@ -29,9 +29,6 @@ def packet_kind(data: bytes) -> PacketKind:
 
 def is_stun(data: bytes) -> bool:
     """Returns whether a datagram begins as a STUN message: with two zero bits, a whole header and its magic cookie (RFC 8489)."""
-    return data[4:8] == _MAGIC_COOKIE and data[0] < 4 and len(data) >= _HEADER
-
-
-def is_stun_request(data: bytes) -> bool:
-    """Returns whether a STUN message is a request: both bits of its class are 0 (RFC 8489, section 5)."""
-    return not data[0] & 0x01 and not data[1] & 0x10
+    if type(data) is not bytes:
+        data = bytes(memoryview(data))
+    return not library.loop_calls.is_ice_is_stun(data, c_size_t(len(data)))

@@ -7,6 +7,11 @@ import ipaddress
 import os
 import socket
 from collections.abc import Iterator
+from ctypes import byref
+
+from ._library import library
+from .address import SocketAddress, address_of
+from .errors import done
 
 _UP, _LOOPBACK = 0x1, 0x8
 # Where an address is in its sockaddr, and its length, by family.
@@ -24,9 +29,9 @@ _Interface._fields_ = [
 
 def _addresses() -> Iterator[tuple[int, bytes]]:
     """Finds the flags and the address of each interface, for each of its addresses."""
-    library = ctypes.CDLL(None, use_errno=True)
+    system = ctypes.CDLL(None, use_errno=True)
     first = ctypes.POINTER(_Interface)()
-    if library.getifaddrs(ctypes.byref(first)):
+    if system.getifaddrs(ctypes.byref(first)):
         raise OSError(ctypes.get_errno(), os.strerror(ctypes.get_errno()))
     try:
         at = first
@@ -38,18 +43,20 @@ def _addresses() -> Iterator[tuple[int, bytes]]:
                     yield told.flags, ctypes.string_at(told.address + start, length)
             at = told.next
     finally:
-        library.freeifaddrs(first)
+        system.freeifaddrs(first)
 
 
 def host_addresses(use_ipv4: bool = True, use_ipv6: bool = True) -> list[str]:
-    """Returns the addresses for host candidates: of each interface that is up, without loopback and link-local IPv6 addresses.
-
-    A candidate has no scope ID, so a link-local IPv6 address would not reach the peer.
-    """
+    """Returns the addresses for host candidates: of each interface that is up and no loopback, without those that none should have (RFC
+    8445, section 5.1.1.1), as link-local ones."""
     found: dict[str, None] = {}
     for flags, packed in _addresses():
         ip = ipaddress.ip_address(packed)
-        usable = flags & _UP and not flags & _LOOPBACK and not ip.is_loopback
-        if usable and (use_ipv4 if ip.version == 4 else use_ipv6 and not ip.is_link_local):
+        usable = flags & _UP and not flags & _LOOPBACK
+        if usable and (use_ipv4 if ip.version == 4 else use_ipv6) and _is_host_address(str(ip)):
             found[str(ip)] = None
     return list(found)
+
+
+def _is_host_address(ip: str) -> bool:
+    return done(library.calls.is_ice_is_host_address(byref(address_of(SocketAddress(ip, 0)))))

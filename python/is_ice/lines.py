@@ -67,12 +67,19 @@ def line_with_address(line: str, ip: str) -> str:
 
     BadCandidate if it is not a candidate then.
     """
-    text, address = utf8(line), byref(address_of(SocketAddress(ip, 0)))
+    return line_fields_with_address(line, ip).text
+
+
+def line_fields_with_address(line: str, ip: str) -> CandidateFields:
+    """Returns the fields of that candidate."""
+    text, address, fields = utf8(line), byref(address_of(SocketAddress(ip, 0))), _abi.Fields()
     refusal = _refusal(text)
     if line_name(line) is not None:
         refusal = _no_refusal  # it would be that a name is no address
-    return bytes_or_refusal(lambda *into: library.calls.is_ice_line_with_address(text, len(text), address, *into), refusal,
-                            f"{line}: not a candidate with an address either").decode()
+    written = bytes_or_refusal(
+        lambda *into: library.calls.is_ice_line_with_address_fields(text, len(text), address, *into, byref(fields)), refusal,
+        f"{line}: not a candidate with an address either")
+    return fields_of(written, fields)
 
 
 def line_with_ufrag(line: str, ufrag: str) -> str:

@@ -15,15 +15,16 @@ from ._unique import Unique
 from .address import SocketAddress
 from .agent import IceAgent
 from .candidate import Candidate
-from .demux import is_stun, is_stun_request
+from .demux import is_stun
 from .errors import HasAgent, IceError, NoAgent, Unparsed
 from .events import IceAgentEvent
 
 _log = logging.getLogger(__name__)
 
-# The least pacing interval (RFC 8445, section 14.2): how soon after a timeout a packet of the peer may cause the next one.
+# How soon after a `handle_timeout` call the next one may be made once the agent has changed: the least Ta (RFC 8445, section 14.2). By the
+# agent's own Ta, 50 ms by default, the check that a packet triggers would wait longer than a round trip takes in a local network.
 _LEAST_PACING = 5_000_000
-_WITHOUT_TIMEOUT = 50_000_000
+_AGAIN = 50_000_000  # nanoseconds until `handle_timeout` is called again if it failed, or if the agent names no time
 _EARLY_CHECKS = 16
 _RECEIVE_BUFFER = 256 * 1024
 
@@ -72,6 +73,7 @@ class IceLoop(Unique):
         self._early: deque[tuple[SocketAddress, SocketAddress, bytes]] = deque(maxlen=_EARLY_CHECKS)
         self._timer: asyncio.TimerHandle | None = None
         self._last_timeout = 0
+        self._due: int | None = None  # the earliest time that the timer was set to since then
         self._began = self._closed = False
 
     def now(self) -> int:
@@ -107,9 +109,10 @@ class IceLoop(Unique):
             self._closes.append(close)
 
     def begin(self) -> None:
-        """Starts the session: calls `handle_timeout` now, and at each later time that `poll_timeout` returns.
+        """Starts the session: calls `handle_timeout` now, and at each later time that `poll_timeout` returns, or sooner after `wake`.
 
-        Checks that came before, up to 16 of them, are passed to the agent.
+        Checks that came before, up to 16 of them, are passed to the agent: all at once, since it serves one that it stored itself in
+        each `handle_timeout` call.
         """
         self._began = not self._closed
         self._timed_out()
@@ -129,14 +132,10 @@ class IceLoop(Unique):
         """Takes a datagram that arrived at a local address. The loop's own sockets call it themselves."""
         if self._closed:
             return
-        if not is_stun(data):
-            self._on_media(source, local, data)
-        elif self._began:
+        if is_stun(data):
             self._take(source, local, data)
-        elif is_stun_request(data):
-            self._early.append((source, local, data))
         else:
-            self._pass_on(source, local, data)
+            self._on_media(source, local, data)
 
     def tried(self) -> str:
         """Says what the session tried and what came back: candidates, pairs with their checks, counters, STUN messages that nobody took.
@@ -157,16 +156,20 @@ class IceLoop(Unique):
     def _timed_out(self) -> None:
         if not self._began:
             return
-        self._last_timeout = self.now()
+        self._last_timeout, self._due = self.now(), None
         try:
             self.agent.handle_timeout(self._last_timeout)
+            self._turn(soon=False)
+        except NoAgent:
+            self.close()
         except IceError:
-            pass  # as when out of memory: it is repeated at the next timeout
-        self._turn(soon=False)
+            pass  # as when out of memory: the agent is unchanged
+        if self._began and self._due is None:
+            self._set_timer(self.now() + _AGAIN)
 
     def _take(self, source: SocketAddress, local: SocketAddress, data: bytes) -> None:
         try:
-            accepted = self.agent.handle_packet(self.now(), source, local, data)
+            accepted = self.agent.handle_packet(self.now(), source, local, data) if self._began else self.agent.accepts_message(bytes(data))
         except Unparsed:
             accepted = False  # a response without MESSAGE-INTEGRITY, as of a STUN server
         except NoAgent:
@@ -174,21 +177,24 @@ class IceLoop(Unique):
             return
         except IceError:
             return  # the agent is unchanged, as if the datagram had been lost
-        if accepted:
+        if not accepted:
+            self._pass_on(source, local, data)
+        elif self._began:
             self._turn(soon=True)
         else:
-            self._pass_on(source, local, data)
+            self._early.append((source, local, bytes(data)))
 
     def _pass_on(self, source: SocketAddress, local: SocketAddress, data: bytes) -> None:
         if not self._report(self._on_stun, source, local, data):
             self.log.message_discarded(source, local, data)
 
     def _turn(self, soon: bool) -> None:
-        """`soon`: something changed, so the next timeout need not wait for the pacing interval that the agent has."""
+        """`soon`: the agent has changed since `handle_timeout`, so the next call need not wait for its pacing interval."""
         if not self._began:
             return
         try:
-            self._set_timer(self.agent.poll_timeout(), soon)  # before packets are polled, and before handlers run
+            if (due := self.agent.poll_timeout()) is not None:  # before packets are polled, and before handlers run
+                self._set_timer(min(due, self._last_timeout + _LEAST_PACING) if soon else due)
             while self._began and (packet := self.agent.poll_transmit()):
                 self.send(packet.source, packet.destination, packet.contents)
             while self._began and (event := self.agent.poll_event()):
@@ -197,14 +203,14 @@ class IceLoop(Unique):
         except NoAgent:
             self.close()
 
-    def _set_timer(self, due: int | None, soon: bool) -> None:
-        now = self.now()
-        due = now + _WITHOUT_TIMEOUT if due is None else due
-        if soon:
-            due = min(due, self._last_timeout + _LEAST_PACING)
+    def _set_timer(self, due: int) -> None:
+        """Sets the timer, unless it is set to an earlier time."""
+        if self._due is not None and self._due <= due:
+            return
+        self._due = due
         if self._timer:
             self._timer.cancel()
-        self._timer = asyncio.get_running_loop().call_later(max(0, due - now) / 1e9, self._timed_out)
+        self._timer = asyncio.get_running_loop().call_later(max(0, due - self.now()) / 1e9, self._timed_out)
 
     def _report(self, handler: Callable[..., object] | None, *told: object) -> object:
         """Calls a handler, and returns what it returns."""

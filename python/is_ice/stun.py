@@ -127,6 +127,7 @@ def write_message(
     realm: str | None = None, nonce: str | None = None, software: str | None = None,
     peer_address: SocketAddress | None = None, relayed_address: SocketAddress | None = None, data: bytes | None = None,
     lifetime: int | None = None, channel_number: int | None = None, network_cost: tuple[int, int] | None = None,
+    nomination: int | None = None,
 ) -> bytes:
     """Writes a message: the attributes that are not None, MESSAGE-INTEGRITY if there is a key, and FINGERPRINT.
 
@@ -137,7 +138,7 @@ def write_message(
     flat = _abi.StunMessage(id=_id_of(transaction), method=int(method), cls=int(class_), use_candidate=use_candidate)
     numbers = (("priority", priority, 32), ("controlled", ice_controlled, 64), ("controlling", ice_controlling, 64),
                ("error_code", error and error[0], 16), ("lifetime", lifetime, 32), ("channel_number", channel_number, 16),
-               ("network_id", network, 16), ("network_cost", cost, 16))
+               ("network_id", network, 16), ("network_cost", cost, 16), ("nomination", nomination, 32))
     for name, number, bits in numbers:
         if number is not None:
             setattr(flat, name, _abi.StunNumber(in_range(number, bits, name), True))
@@ -244,6 +245,11 @@ class StunMessage:
         """NETWORK-COST: the ID of the sender's network, and its cost."""
         network, cost = _number(self._flat.network_id), _number(self._flat.network_cost)
         return None if network is None or cost is None else (network, cost)
+
+    @property
+    def nomination(self) -> int | None:
+        """NOMINATION: the number of a nomination (draft-thatcher-ice-renomination)."""
+        return _number(self._flat.nomination)
 
     @property
     def username(self) -> str | None:

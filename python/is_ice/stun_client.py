@@ -5,14 +5,24 @@ from __future__ import annotations
 import asyncio
 import os
 from collections.abc import Callable
+from ctypes import byref, c_uint64
 
+from ._library import library
 from .address import SocketAddress
+from .errors import done
 from .stun import TRANSACTION_LENGTH, binding_request, binding_response
 
-_INITIAL_RTO = 0.5  # seconds, then doubled (RFC 8489, section 6.2.1)
+# The first RTO and the number of requests of RFC 8489, section 6.2.1, for the library's formula of the RTO. It has no longest one.
+_INITIAL_RTO, _REQUESTS, _LONGEST_RTO = 500_000_000, 7, (1 << 64) - 1
 _PATIENCE = 5.0
 
 Send = Callable[[SocketAddress, SocketAddress, bytes], None]
+
+
+def _seconds_after(sent: int) -> float:
+    delay = c_uint64()
+    done(library.calls.is_ice_retransmit_delay(_INITIAL_RTO, _LONGEST_RTO, _REQUESTS, sent, byref(delay)))
+    return delay.value / 1e9
 
 
 class StunClient:
@@ -20,7 +30,7 @@ class StunClient:
 
     def __init__(self, send: Send) -> None:
         self._send = send
-        self._pending: dict[bytes, tuple[SocketAddress, SocketAddress, asyncio.Future[SocketAddress | None]]] = {}
+        self._pending: dict[bytes, tuple[SocketAddress, SocketAddress, asyncio.Future[SocketAddress | None]]] = {}  # by transaction ID
 
     async def binding(self, local: SocketAddress, server: SocketAddress, patience: float = _PATIENCE) -> SocketAddress | None:
         """Returns the address at which the server sees a local socket, or None without a success response within `patience` s."""
@@ -37,21 +47,15 @@ class StunClient:
             del self._pending[transaction]
 
     async def _repeat(self, local: SocketAddress, server: SocketAddress, request: bytes) -> None:
-        wait = _INITIAL_RTO
-        while True:
+        for sent in range(1, _REQUESTS + 1):
             self._send(local, server, request)
-            await asyncio.sleep(wait)
-            wait *= 2
+            await asyncio.sleep(_seconds_after(sent))
 
     def receive(self, source: SocketAddress, local: SocketAddress, data: bytes) -> bool:
         """Takes a STUN message, and returns whether it is the response to a pending request, from its server and at its socket."""
-        transaction = data[8 : 8 + TRANSACTION_LENGTH]
-        at, server, result = self._pending.get(transaction, (None, None, None))
-        if result is None or (at, server) != (local, source):
-            return False
-        response = binding_response(transaction, data)
-        if response is None:
-            return False
-        if not result.done():
-            result.set_result(response.mapped)
-        return True
+        for transaction, (at, server, result) in self._pending.items():
+            if (at, server) == (local, source) and (response := binding_response(transaction, data)) is not None:
+                if not result.done():
+                    result.set_result(response.mapped)
+                return True
+        return False

@@ -335,6 +335,7 @@ class Sessions(unittest.TestCase):
         pair = a.nominated_pair
         assert pair is not None
         self.assertEqual((pair.source, pair.destination), (HERE, THERE))
+        self.assertEqual(a.media_addresses(), (HERE, THERE))
         events = []
         while event := a.poll_event():
             events.append(event)
@@ -360,6 +361,7 @@ class Sessions(unittest.TestCase):
     def test_a_path_is_valid_before_it_is_selected(self) -> None:
         a, b = two_agents()
         self.assertIsNone(b.valid_path)
+        self.assertIsNone(b.media_addresses())
         b.handle_timeout(BEGINNING)
         for agent, other in ((b, a), (a, b)):
             packet = agent.poll_transmit()
@@ -367,6 +369,7 @@ class Sessions(unittest.TestCase):
             self.assertTrue(other.handle_packet(BEGINNING, packet.source, packet.destination, packet.contents))
         self.assertIsNone(b.nominated_pair)
         self.assertEqual(b.valid_path, MediaPath(THERE, HERE, Protocol.UDP))
+        self.assertEqual(b.media_addresses(), (THERE, HERE))
 
     def test_a_query_of_the_selected_pair_polls_no_events(self) -> None:
         """Once as many events wait as `set_max_discovered` allows, by default 32, no further source is reported."""
@@ -510,18 +513,16 @@ class Errors(unittest.TestCase):
         self.assertEqual(self.agent.rules, Rules.modern())
         self.assertEqual(Rules.modern(), Rules(
             kinds_in_turn=True, triggered_checks=4, early_rto=early, selects_at_once=True, consent=Consent(29_600_000_000, strict=False),
-            selected_first=True, timeout_after_requests=True, lite_keeps_role=True, numbered_nominations=True, discovered_if_served=True,
-            state_after_nomination=True))
+            selected_first=True, timeout_after_requests=True, lite_keeps_role=True, numbered_nominations=True))
         self.assertEqual(Rules.original(), Rules(
             kinds_in_turn=False, triggered_checks=None, early_rto=None, selects_at_once=False, consent=None, selected_first=False,
-            timeout_after_requests=False, lite_keeps_role=False, numbered_nominations=False, discovered_if_served=False,
-            state_after_nomination=False))
+            timeout_after_requests=False, lite_keeps_role=False, numbered_nominations=False))
         most = (1 << 64) - 1
         changes: tuple[dict[str, Any], ...] = (
             {"kinds_in_turn": False}, {"triggered_checks": None}, {"triggered_checks": most}, {"early_rto": None},
             {"early_rto": EarlyRto(most, most)}, {"early_rto": EarlyRto(1, 0)}, {"selects_at_once": False}, {"consent": None},
             {"consent": Consent(most, strict=True)}, {"consent": Consent(1)}, {"selected_first": False}, {"timeout_after_requests": False},
-            {"lite_keeps_role": False}, {"numbered_nominations": False}, {"discovered_if_served": False}, {"state_after_nomination": False},
+            {"lite_keeps_role": False}, {"numbered_nominations": False},
         )
         for change in changes:
             for rules in (Rules.modern(), Rules.original()):

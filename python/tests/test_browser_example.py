@@ -84,7 +84,7 @@ class BrowserExample(unittest.IsolatedAsyncioTestCase):
         self.assertEqual(told["role"], "controlled")
         pair = next(pair for pair in told["pairs"] if [pair["local"], pair["remote"]] == told["selected"])
         self.assertTrue(pair["nominated"])
-        self.assertGreater(min(pair["checks_received"], pair["responses_sent"]), 0)
+        self.assertGreater(min(pair["checks_received"], pair["responses_received"]), 0)
         self.assertTrue(told["events"][0][1].startswith("IceRestart"))
         await page.peer.close()
 

@@ -10,7 +10,7 @@ from collections.abc import Awaitable, Callable
 from unittest import mock
 
 import is_ice.connection
-from is_ice import BadCandidate, IceConnectionState, IceConnectionStateChange, NominatedSend, Protocol
+from is_ice import BadCandidate, IceAgent, IceConnectionState, SocketAddress
 from is_ice._inbox import Inbox
 from is_ice.attribute import CandidateAttribute
 from is_ice.connection import Connection, ConnectionClosed, TransportPolicy
@@ -37,6 +37,23 @@ class Sessions(unittest.IsolatedAsyncioTestCase):
             start = time.monotonic()
             await join(a, b)
             took.append(time.monotonic() - start)
+            await close(a, b)
+        check_soon(self, took)
+
+    async def test_checks_before_the_remote_credentials_are_served_at_once(self) -> None:
+        """The agent itself would serve one that it stored in each pacing interval."""
+        took = [1.0]
+        while min(took) > 0.04 and len(took) < 10:  # the machine may be busy
+            a, b = agent(True), agent(False)
+            await gather(a, b)
+            await add_candidates(a, b)
+            early = asyncio.ensure_future(a.connect())
+            await asyncio.sleep(0.35)
+            self.assertEqual((b.agent.stats.bind_request_recv, b.agent.state), (0, IceConnectionState.NEW))
+            start = time.monotonic()
+            await asyncio.wait_for(asyncio.gather(early, b.connect()), 2)
+            took.append(time.monotonic() - start)
+            self.assertGreater(b.agent.stats.bind_request_recv, 1)
             await close(a, b)
         check_soon(self, took)
 
@@ -84,6 +101,25 @@ class Sessions(unittest.IsolatedAsyncioTestCase):
         await join(a, b)
         self.assertEqual((a.ice_controlling, b.ice_controlling), (True, False))
         await talk(a, b)
+        await close(a, b)
+
+    async def test_two_lite_agents(self) -> None:
+        a, b = agent(True), agent(False)
+        a.agent.set_ice_lite(True)
+        a.remote_is_lite = True
+        await gather(a, b)
+        await add_candidates(a, b)
+        with self.assertRaisesRegex(ConnectionError, "both agents are lite"):
+            await a.connect()
+        await close(a, b)
+
+    async def test_a_lite_agent_that_made_the_offer(self) -> None:
+        """The full agent is controlling (RFC 8445, section 6.1.1)."""
+        a, b = agent(True), agent(False)
+        a.agent.set_ice_lite(True)
+        b.remote_is_lite = True
+        await join(a, b)
+        self.assertEqual((a.ice_controlling, b.ice_controlling), (False, True))
         await close(a, b)
 
     async def test_a_pair_without_checks(self) -> None:
@@ -187,17 +223,31 @@ class Failures(unittest.IsolatedAsyncioTestCase):
         with self.assertRaises(ConnectionError):
             await a.send(b"x")
 
-    async def test_nothing_is_sent_without_consent(self) -> None:
+    async def test_media_goes_where_the_agent_says(self) -> None:
         a, b = agent(True), agent(False)
         await join(a, b)
-        path = a._path
-        assert path is not None
-        a._on_event(IceConnectionStateChange(IceConnectionState.CHECKING))
-        await a.send(b"lost")
-        a._on_event(NominatedSend(Protocol.UDP, *path))  # another path, or this one again
-        await a.send(b"sent")
-        self.assertEqual(await asyncio.wait_for(b.recv(), 1), b"sent")
+        here, there = (SocketAddress(side.local_candidates[0].host, side.local_candidates[0].port) for side in (a, b))
+        for path in (None, (here, there), None):
+            with mock.patch.object(IceAgent, "media_addresses", return_value=path):
+                await a.send(b"%d" % bool(path))
+        await a.send(b"1")
+        for _ in range(2):
+            self.assertEqual(await asyncio.wait_for(b.recv(), 1), b"1")
         await close(a, b)
+
+    async def test_nothing_is_sent_without_consent(self) -> None:
+        """The pair is removed, and a candidate that comes later keeps the agent from giving up."""
+        a, b = agent(True), agent(False)
+        await join(a, b)
+        await b.close()
+        a._loop._start -= 40_000_000_000  # 40 s pass for the agent
+        a.agent.add_remote_candidate(NOBODY)
+        a._loop.begin()
+        self.assertEqual((a.agent.state, a.agent.media_addresses()), (IceConnectionState.CHECKING, None))
+        with mock.patch.object(a._loop, "send") as sent:
+            await a.send(b"lost")
+        sent.assert_not_called()
+        await a.close()
 
     async def test_close_ends_what_other_tasks_wait_for(self) -> None:
         a, b = agent(True), agent(False)

@@ -11,7 +11,7 @@ import unittest
 from pathlib import Path
 from unittest import mock
 
-from is_ice import Candidate, IceAgent, IceCreds, NominatedSend, SocketAddress
+from is_ice import Candidate, IceAgent, IceCreds, NominatedSend, OutOfMemory, SocketAddress
 from is_ice.demux import PacketKind, is_stun, packet_kind
 from is_ice.loop import IceLoop
 from is_ice.stun import StunClass, StunMethod, write_message
@@ -112,6 +112,22 @@ class Handlers(unittest.IsolatedAsyncioTestCase):
         side.loop.receive(SocketAddress("127.0.0.1", 9), SocketAddress("127.0.0.1", 10), b"media")
         self.assertEqual((str(side.agent.state), side.media), ("State.New", []))
 
+    async def test_a_timeout_that_fails_is_repeated_later(self) -> None:
+        for begun in (False, True):
+            with self.subTest(begun=begun):
+                a, b = await two_sides()
+                if begun:
+                    a.loop.begin()
+                with mock.patch.object(a.agent, "handle_timeout", side_effect=OutOfMemory) as failed:
+                    if not begun:
+                        a.loop.begin()
+                    await asyncio.sleep(0.32)
+                self.assertIn(failed.call_count, range(2, 8))
+                b.loop.begin()
+                await asyncio.wait_for(asyncio.gather(a.path, b.path), 2)
+                a.loop.close()
+                b.loop.close()
+
 
 class Datagrams(unittest.IsolatedAsyncioTestCase):
     async def test_checks_before_the_session_are_served_at_its_start(self) -> None:
@@ -141,12 +157,29 @@ class Datagrams(unittest.IsolatedAsyncioTestCase):
     async def test_the_last_16_early_checks_are_kept(self) -> None:
         side = Side(False)
         at = SocketAddress("127.0.0.1", 10)
-        for count in range(20):
-            side.loop.receive(SocketAddress("127.0.0.1", 1000 + count), at, BINDING_REQUEST)
-        with mock.patch.object(side.agent, "handle_packet", return_value=True) as taken:
+        with (mock.patch.object(side.agent, "accepts_message", return_value=True),
+              mock.patch.object(side.agent, "handle_packet", return_value=True) as taken):
+            for count in range(20):
+                side.loop.receive(SocketAddress("127.0.0.1", 1000 + count), at, BINDING_REQUEST)
+            taken.assert_not_called()
             side.loop.begin()
         self.assertEqual([call.args[1].port for call in taken.call_args_list], list(range(1004, 1020)))
         side.loop.close()
+
+    async def test_early_requests_of_strangers_are_not_kept(self) -> None:
+        a, b = await two_sides()
+        a.agent.handle_timeout(a.loop.now())
+        request = a.agent.poll_transmit()
+        assert request is not None
+        source, local = SocketAddress("127.0.0.1", 9), local_of(b)
+        forged = request.contents[:-10] + bytes(10)
+        for message in (BINDING_REQUEST, forged, bytearray(request.contents), request.contents):
+            b.loop.receive(source, local, message)
+        self.assertEqual(b.stun, [(source, local, BINDING_REQUEST), (source, local, forged)])
+        b.loop.begin()
+        self.assertEqual((len(b.stun), b.agent.stats.bind_request_recv), (2, 2))
+        a.loop.close()
+        b.loop.close()
 
     async def test_responses_of_servers_are_reported_before_and_after_the_start(self) -> None:
         side = Side(False)

@@ -11,7 +11,7 @@ from typing import Any
 
 from is_ice import Candidate, IceAgent, IceCreds, Protocol, SocketAddress, Unparsed
 from is_ice._loop_calls import LoopCalls
-from is_ice.errors import OK
+from is_ice.errors import NOTHING, OK
 
 HERE, THERE = SocketAddress("10.0.0.1", 1000), SocketAddress("10.0.0.2", 2000)
 
@@ -52,6 +52,14 @@ class Library:
         buffer._obj[:number] = bytes([number]) * number
         return self._ends()
 
+    def is_ice_nominated(self, agent: Any, pair: Any) -> int:
+        return NOTHING
+
+    def is_ice_valid_path(self, agent: Any, pair: Any) -> int:
+        pair._obj.source.family = pair._obj.destination.family = 4
+        pair._obj.source.port = self._next()
+        return self._ends()
+
     def is_ice_poll_event(self, agent: Any, event: Any) -> int:
         event._obj.kind = self._next()
         return self._ends()
@@ -90,6 +98,9 @@ class Reentry(unittest.TestCase):
         self.library.meanwhile = lambda: found.append(call())
         found.insert(0, call())
         return found
+
+    def test_a_path_before_the_result_is_read(self) -> None:
+        self.assertEqual([path[0].port for path in self.nested(self.calls.media_addresses)], [1, 2])
 
     def test_polls_before_the_result_is_read(self) -> None:
         self.assertEqual(self.nested(self.calls.poll_timeout), [1, 2])

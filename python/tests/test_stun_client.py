@@ -68,6 +68,7 @@ class Reading(unittest.TestCase):
         self.assertEqual((message.username, message.priority, message.use_candidate), ("evtj:h6vY", 0x6E0001FF, False))
         self.assertEqual((message.ice_controlled, message.ice_controlling), (0x932FF9B151263B36, None))
         self.assertEqual((message.error_code, message.lifetime, message.channel_number, message.network_cost), (None,) * 4)
+        self.assertIsNone(message.nomination)
         self.assertEqual((message.mapped_address, message.peer_address, message.relayed_address), (None,) * 3)
         self.assertEqual((message.text(StunText.REALM), message.value_of_data), (None, None))
         self.assertTrue(message.verify(PASSWORD))
@@ -161,15 +162,26 @@ class Writing(unittest.TestCase):
         written = write_message(
             StunMethod.ALLOCATE, StunClass.INDICATION, bytes(12), username="a:b", priority=1, use_candidate=True, ice_controlled=2,
             ice_controlling=3, mapped_address=at, error=(699, ""), realm="r", nonce="n", software="s", peer_address=at,
-            relayed_address=at, data=bytes(70), lifetime=4, channel_number=0x4000, network_cost=(5, 6))
+            relayed_address=at, data=bytes(70), lifetime=4, channel_number=0x4000, network_cost=(5, 6), nomination=7)
         m = StunMessage(written)
         self.assertEqual((m.method, m.class_, m.transaction, m.username), (StunMethod.ALLOCATE, StunClass.INDICATION, bytes(12), "a:b"))
         self.assertEqual((m.priority, m.use_candidate, m.ice_controlled, m.ice_controlling), (1, True, 2, 3))
         self.assertEqual((m.mapped_address, m.peer_address, m.relayed_address, m.error_code), (at, at, at, 699))
         texts = [m.text(text) for text in (StunText.ERROR_CODE, StunText.REALM, StunText.NONCE, StunText.SOFTWARE)]
         self.assertEqual(texts, ["", "r", "n", "s"])
-        self.assertEqual((m.value_of_data, m.lifetime, m.channel_number, m.network_cost), (bytes(70), 4, 0x4000, (5, 6)))
+        self.assertEqual((m.value_of_data, m.lifetime, m.channel_number, m.network_cost, m.nomination), (bytes(70), 4, 0x4000, (5, 6), 7))
         self.assertEqual(m.to_bytes(), written)
+
+    def test_a_nomination_has_a_number(self) -> None:
+        """NOMINATION byte by byte: its type, its length, the number (draft-thatcher-ice-renomination)."""
+        written = write_message(StunMethod.BINDING, StunClass.REQUEST, ID, nomination=0x12345678)
+        self.assertEqual((len(written), written[20:28]), (36, b"\xc0\x01\x00\x04\x12\x34\x56\x78"))
+        self.assertEqual(StunMessage(written).nomination, 0x12345678)
+        for number in (0, (1 << 32) - 1):
+            check = write_message(StunMethod.BINDING, StunClass.REQUEST, ID, key=PASSWORD, username="a:b", priority=1, nomination=number)
+            message = StunMessage(check, strict=True)
+            self.assertEqual((message.nomination, message.use_candidate, message.verify(PASSWORD)), (number, False, True))
+            self.assertEqual(message.to_bytes(PASSWORD), check)
 
     def test_what_cannot_be_written(self) -> None:
         kind = StunMethod.BINDING, StunClass.REQUEST, ID
@@ -177,6 +189,7 @@ class Writing(unittest.TestCase):
         self.assertRaises(BadMessage, write_message, *kind, error=(700, ""))
         self.assertRaises(MessageTooLong, write_message, *kind, realm="r" * 129)
         self.assertRaises(ValueError, write_message, *kind, priority=1 << 32)
+        self.assertRaises(ValueError, write_message, *kind, nomination=1 << 32)
         self.assertRaises(ValueError, write_message, StunMethod.BINDING, StunClass.REQUEST, b"")
         self.assertEqual(len(write_message(*kind, data=bytes(65000))), 20 + 4 + 65000 + 8)
 

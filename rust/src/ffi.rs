@@ -219,8 +219,6 @@ pub(crate) struct AgentRules {
     pub(crate) timeout_after_requests: bool,
     pub(crate) lite_keeps_role: bool,
     pub(crate) numbered_nominations: bool,
-    pub(crate) discovered_if_served: bool,
-    pub(crate) state_after_nomination: bool,
 }
 
 #[repr(C)]
@@ -254,6 +252,7 @@ pub(crate) struct StunMessage {
     pub(crate) channel_number: StunNumber,
     pub(crate) network_id: StunNumber,
     pub(crate) network_cost: StunNumber,
+    pub(crate) nomination: StunNumber,
     pub(crate) mapped: Address,
     pub(crate) peer: Address,
     pub(crate) relayed: Address,
@@ -290,9 +289,9 @@ const _: () = {
     assert!(size_of::<Fields>() == 120 && std::mem::offset_of!(Fields, foundation_length) == 88);
     assert!(size_of::<Packet>() == 72 && size_of::<Event>() == 68 && size_of::<Status>() == 40);
     assert!(size_of::<Stats>() == 40 && size_of::<Nominated>() == 88 && size_of::<Pair>() == 96);
-    assert!(size_of::<KindPreferences>() == 8 && size_of::<PreferenceTable>() == 16 && size_of::<AgentRules>() == 48);
+    assert!(size_of::<KindPreferences>() == 8 && size_of::<PreferenceTable>() == 16 && size_of::<AgentRules>() == 40);
     assert!(size_of::<StunTransaction>() == 12 && size_of::<StunResult>() == 32);
-    assert!(size_of::<StunNumber>() == 16 && size_of::<StunMessage>() == 232);
+    assert!(size_of::<StunNumber>() == 16 && size_of::<StunMessage>() == 248);
     assert!(size_of::<StunSpan>() == 24 && size_of::<StunTexts>() == 144);
     assert!(std::mem::offset_of!(Agent, at) == 8 && std::mem::offset_of!(Address, flow) == 20);
     assert!(std::mem::offset_of!(Gathered, kind) == 56 && std::mem::offset_of!(Gathered, tcptype) == 58);

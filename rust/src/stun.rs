@@ -447,6 +447,11 @@ impl<'a> StunMessage<'a> {
         Some((number(self.flat.network_id)?, number(self.flat.network_cost)?))
     }
 
+    /// NOMINATION: the number of a nomination (draft-thatcher-ice-renomination).
+    pub fn nomination(&self) -> Option<u32> {
+        number(self.flat.nomination)
+    }
+
     /// Whether the message was parsed and has MESSAGE-INTEGRITY (RFC 8489, section 14.5).
     pub fn has_integrity(&self) -> bool {
         self.flat.has_integrity

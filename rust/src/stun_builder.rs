@@ -209,6 +209,12 @@ impl<'a> Builder<'a, HasClass> {
         self
     }
 
+    /// Sets NOMINATION: the number of a nomination (draft-thatcher-ice-renomination).
+    pub fn nomination(mut self, number: u32) -> Self {
+        self.flat.nomination = set(number);
+        self
+    }
+
     /// Returns the message. It has no MESSAGE-INTEGRITY until it is written with a password.
     pub fn build(self, trans_id: TransId) -> StunMessage<'a> {
         StunMessage::built(ffi::StunMessage { id: trans_id.raw(), ..self.flat }, self.texts)

@@ -217,8 +217,6 @@ impl Session {
         rules.timeout_after_requests = self.random.once_in(2);
         rules.lite_keeps_role = self.random.once_in(2);
         rules.numbered_nominations = self.random.once_in(2);
-        rules.discovered_if_served = self.random.once_in(2);
-        rules.state_after_nomination = self.random.once_in(2);
         rules.triggered_checks = self.random.once_in(2).then_some(count as u64);
         rules.early_rto = self.random.once_in(2).then_some(EarlyRto { retransmits, interval });
         let (timeout, strict) = (self.random.duration(), self.random.once_in(2));
@@ -447,7 +445,7 @@ impl Session {
         };
         let (username, realm, nonce, data) = texts;
         for _ in 0..self.random.below(6) {
-            builder = match self.random.below(15) {
+            builder = match self.random.below(16) {
                 0 => builder.username(username),
                 1 => builder.error_code(number as u16, realm),
                 2 => builder.channel_number(number as u16),
@@ -462,7 +460,8 @@ impl Session {
                 11 => builder.prio(number as u32).use_candidate(),
                 12 => builder.ice_controlled(number as u64),
                 13 => builder.ice_controlling(number as u64),
-                _ => builder.network_cost(number as u16, 7),
+                14 => builder.network_cost(number as u16, 7),
+                _ => builder.nomination(number as u32),
             };
         }
         builder.build(id)

@@ -44,7 +44,7 @@ fn reads_the_sample_request() {
     assert_eq!((message.mapped_address(), message.xor_peer_address(), message.xor_relayed_address()), (None, None, None));
     assert_eq!((message.error_code(), message.lifetime(), message.channel_number()), (None, None, None));
     assert_eq!((message.network_cost(), message.data(), message.realm()), (None, None, None));
-    assert_eq!((message.nonce(), message.software()), (None, None));
+    assert_eq!((message.nonce(), message.software(), message.nomination()), (None, None, None));
     assert!(message.is_signed_by(PASSWORD) && !message.is_signed_by(b"VOkJxbRl1RmTxUk/WvJxB"));
 }
 
@@ -140,6 +140,22 @@ fn a_builder_builds_any_message() {
         assert_eq!((message.xor_peer_address(), message.xor_relayed_address()), (Some(peer), Some(peer)));
         assert_eq!((message.data(), message.realm()), (Some(&[0xff][..]), Some("realm")));
         assert_eq!((message.nonce(), message.software(), message.error_code()), (Some("nonce"), Some("software"), Some((699, ""))));
+    }
+}
+
+/// NOMINATION byte by byte: its type, its length, the number (draft-thatcher-ice-renomination).
+#[test]
+fn a_nomination_has_a_number() {
+    let built = StunMessageBuilder::new().binding().request().nomination(0x12345678).build(ID);
+    let bytes = bytes_of(built, None);
+    assert_eq!((bytes.len(), &bytes[20..28]), (36, &[0xc0, 1, 0, 4, 0x12, 0x34, 0x56, 0x78][..]));
+    assert_eq!((built.nomination(), StunMessage::parse_any(&bytes).unwrap().nomination()), (Some(0x12345678), Some(0x12345678)));
+    for number in [0, u32::MAX] {
+        let check = StunMessageBuilder::new().binding().request().username("evtj:h6vY").prio(1).nomination(number).build(ID);
+        let bytes = bytes_of(check, Some(PASSWORD));
+        let read = StunMessage::parse(&bytes).unwrap();
+        assert!(read.is_signed_by(PASSWORD) && !read.use_candidate());
+        assert_eq!((read.nomination(), read.prio()), (Some(number), Some(1)));
     }
 }
 

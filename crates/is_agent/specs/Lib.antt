@@ -6,4 +6,3 @@ pub mod Listed
 pub mod Ready
 pub mod Room
 pub mod Keys
-pub mod Removed

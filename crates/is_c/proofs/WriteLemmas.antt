@@ -38,10 +38,11 @@ or_right : (a b : Bool) → (a || b) ≡ false → b ≡ false
 or_right true b e = absurd (cc)
 or_right false b e = e
 
--- the first four of seven
-four : (p e l c n k h : Bool) → (p || e || l || c || n || k || h) ≡ false → (p || e || l || c) ≡ false
-four p e l c n k h x =
-    or_left (p || e || l || c) n (or_left (p || e || l || c || n) k (or_left (p || e || l || c || n || k) h x))
+-- the first four of eight
+four : (p e l c n k m h : Bool) → (p || e || l || c || n || k || m || h) ≡ false → (p || e || l || c) ≡ false
+four p e l c n k m h x =
+    or_left (p || e || l || c) n (or_left (p || e || l || c || n) k (or_left (p || e || l || c || n || k) m
+    (or_left (p || e || l || c || n || k || m) h x)))
 
 pub lifetime_fits : (f : Flat) → has_bad_number f ≡ false → is_above 0xFFFFFFFF f.lifetime ≡ false
 lifetime_fits f x =
@@ -49,7 +50,8 @@ lifetime_fits f x =
     let e = is_above 0xFFFF f.error_code in
     let l = is_above 0xFFFFFFFF f.lifetime in
     let c = is_above 0xFFFF f.channel_number in
-    or_right (p || e) l (or_left (p || e || l) c (four p e l c (is_above 0xFFFF f.network_id) (is_above 0xFFFF f.network_cost) (is_half f.network_id.is_set f.network_cost.is_set) x))
+    or_right (p || e) l (or_left (p || e || l) c (four p e l c (is_above 0xFFFF f.network_id) (is_above 0xFFFF f.network_cost)
+    (is_above 0xFFFFFFFF f.nomination) (is_half f.network_id.is_set f.network_cost.is_set) x))
 
 pub channel_fits : (f : Flat) → has_bad_number f ≡ false → is_above 0xFFFF f.channel_number ≡ false
 channel_fits f x =
@@ -57,7 +59,19 @@ channel_fits f x =
     let e = is_above 0xFFFF f.error_code in
     let l = is_above 0xFFFFFFFF f.lifetime in
     let c = is_above 0xFFFF f.channel_number in
-    or_right (p || e || l) c (four p e l c (is_above 0xFFFF f.network_id) (is_above 0xFFFF f.network_cost) (is_half f.network_id.is_set f.network_cost.is_set) x)
+    or_right (p || e || l) c (four p e l c (is_above 0xFFFF f.network_id) (is_above 0xFFFF f.network_cost)
+    (is_above 0xFFFFFFFF f.nomination) (is_half f.network_id.is_set f.network_cost.is_set) x)
+
+pub nomination_fits : (f : Flat) → has_bad_number f ≡ false → is_above 0xFFFFFFFF f.nomination ≡ false
+nomination_fits f x =
+    let p = is_above 0xFFFFFFFF f.priority in
+    let e = is_above 0xFFFF f.error_code in
+    let l = is_above 0xFFFFFFFF f.lifetime in
+    let c = is_above 0xFFFF f.channel_number in
+    let n = is_above 0xFFFF f.network_id in
+    let k = is_above 0xFFFF f.network_cost in
+    let m = is_above 0xFFFFFFFF f.nomination in
+    or_right (p || e || l || c || n || k) m (or_left (p || e || l || c || n || k || m) (is_half f.network_id.is_set f.network_cost.is_set) x)
 
 -- ---- attributes of an empty builder
 
@@ -77,9 +91,9 @@ filled f t bytes w are =
     (rw (or_none (piece_in bytes t.nonce)) (rw (or_none (piece_in bytes t.software))
     (rw (or_none (error_of (number_in f.error_code) (piece_in bytes t.reason)))
     (rw (or_none (number_in f.priority)) (rw (or_none (number_in f.controlled)) (rw (or_none (number_in f.controlling))
-    (rw (or_none (number_in f.lifetime)) (rw (or_none (number_in f.channel_number)) (rw (or_none (cost_in f))
+    (rw (or_none (number_in f.lifetime)) (rw (or_none (number_in f.channel_number)) (rw (or_none (cost_in f)) (rw (or_none (number_in f.nomination))
     (rw (or_none (socket_of f.mapped)) (rw (or_none (socket_of f.peer)) (rw (or_none (socket_of f.relayed))
-    (rw (or_false f.use_candidate) refl)))))))))))))))))))))
+    (rw (or_false f.use_candidate) refl))))))))))))))))))))))
 
 -- ---- the bytes
 

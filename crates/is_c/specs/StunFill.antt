@@ -25,6 +25,7 @@ numbers_set f a =
       lifetime = option_or (number_in f.lifetime) a.lifetime;
       channel_number = option_or (number_in f.channel_number) a.channel_number;
       network_cost = option_or (cost_in f) a.network_cost;
+      nomination = option_or (number_in f.nomination) a.nomination;
       use_candidate = f.use_candidate || a.use_candidate;
     }
 

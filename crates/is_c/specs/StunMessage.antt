@@ -56,6 +56,7 @@ pub record IsFlat (m : Message) (f : Flat) : Type 0 where
   pub channel_number : f.channel_number ≡ number_of m.attributes.channel_number
   pub network_id : f.network_id ≡ number_of (option_map (λ c. c.0) m.attributes.network_cost)
   pub network_cost : f.network_cost ≡ number_of (option_map (λ c. c.1) m.attributes.network_cost)
+  pub nomination : f.nomination ≡ number_of m.attributes.nomination
   pub mapped : IsAddress m.attributes.xor_mapped_address f.mapped
   pub peer : IsAddress m.attributes.xor_peer_address f.peer
   pub relayed : IsAddress m.attributes.xor_relayed_address f.relayed

@@ -60,6 +60,7 @@ has_bad_number f =
     || is_above 0xFFFF f.channel_number
     || is_above 0xFFFF f.network_id
     || is_above 0xFFFF f.network_cost
+    || is_above 0xFFFFFFFF f.nomination
     || is_half f.network_id.is_set f.network_cost.is_set
 
 -- neither family 4 nor 6, nor 0, which says that there is no address
@@ -101,7 +102,7 @@ attributes_in f t bytes =
       ice_controlled = number_in f.controlled;
       ice_controlling = number_in f.controlling;
       network_cost = cost_in f;
-      nomination = None;
+      nomination = number_in f.nomination;
       fingerprint = None;
     }
 

@@ -118,6 +118,15 @@ fn with_network_cost<'a>(to: Begun<'a>, value: Option<(u16, u16)>) -> Begun<'a>
     }
 }
 
+fn with_nomination<'a>(to: Begun<'a>, value: Option<u32>) -> Begun<'a>
+    ensures { Sets (λ a. record a { nomination = option_or value a.nomination }) to.entry result }
+{
+    match value {
+        Some(value) => to.nomination(value),
+        None => to,
+    }
+}
+
 /// Puts all numbers except that of ERROR-CODE into the builder, and USE-CANDIDATE.
 fn with_numbers<'a>(to: Begun<'a>, message: &Message) -> Begun<'a>
     requires { has_bad_number message.now ≡ false }
@@ -129,6 +138,7 @@ fn with_numbers<'a>(to: Begun<'a>, message: &Message) -> Begun<'a>
     let to = with_lifetime(to, number32(&message.lifetime));
     let to = with_channel_number(to, number16(&message.channel_number));
     let to = with_network_cost(to, network_cost(message));
+    let to = with_nomination(to, number32(&message.nomination));
     if message.use_candidate {
         to.use_candidate()
     } else {

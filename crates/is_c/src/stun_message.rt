@@ -40,6 +40,8 @@ pub struct Message {
     /// NETWORK-COST: the ID of the network, and its cost.
     pub network_id: Number,
     pub network_cost: Number,
+    /// NOMINATION: the number of a nomination.
+    pub nomination: Number,
     pub mapped: Address,
     pub peer: Address,
     pub relayed: Address,
@@ -162,6 +164,7 @@ fn flat(message: &StunMessage<'_>) -> Message
         channel_number: number16_of(message.channel_number()),
         network_id: number16_of(network),
         network_cost: number16_of(cost),
+        nomination: number32_of(message.nomination()),
         mapped: address_if(message.mapped_address()),
         peer: address_if(message.xor_peer_address()),
         relayed: address_if(message.xor_relayed_address()),

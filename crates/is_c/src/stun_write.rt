@@ -77,6 +77,7 @@ fn has_bad_number(message: &Message) -> bool
         || is_above(MAX_16, &message.channel_number)
         || is_above(MAX_16, &message.network_id)
         || is_above(MAX_16, &message.network_cost)
+        || is_above(MAX_32, &message.nomination)
         || is_half(message.network_id.is_set, message.network_cost.is_set)
 }
 

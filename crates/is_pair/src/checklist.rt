@@ -2,7 +2,7 @@
 //! checks, and their order by priority.
 
 ghost use Rattle.std.specs.Prelude.{◌≡◌, true};
-ghost use Rattle.is_pair.specs.Entries.{are_ordered, ids_rise, IsIndex, IsRanking};
+ghost use Rattle.is_pair.specs.Entries.{pairs_of, are_keyed, are_ordered, ids_rise, IsIndex, IsRanking};
 ghost use Rattle.is_pair.specs.Multiset.{rises};
 
 mod changes;
@@ -11,22 +11,20 @@ mod entries;
 mod evicting;
 mod expired;
 mod index;
-mod listed;
+mod mapped;
 mod pair_change;
 mod pair_test;
 mod ranks;
 mod reading;
-mod removed;
 mod rule;
 
 use crate::pair::{BindingAttempt, CandidatePair};
 use entries::{Kept, Rank};
 pub use expired::Expired;
-use is_proto::reserve_few;
-pub use listed::goes_before;
+use indexmap::IndexMap;
+pub use mapped::goes_before;
 pub use pair_change::PairChange;
 pub use pair_test::PairTest;
-pub use removed::{PairRemoval, Removal, RemovedPair};
 pub use rule::PairPriority;
 use std::alloc::{AllocError, Global};
 use std::collections::VecDeque;
@@ -34,21 +32,20 @@ use std::collections::VecDeque;
 /// The pairs of an agent.
 #[derive(Drop)]
 pub struct Checklist {
-    /// The pairs, in the order of their numbers.
-    pairs: Vec<CandidatePair>,
+    /// Each pair by its number, in the order of the numbers.
+    pairs: IndexMap<u64, CandidatePair>,
     /// Which pairs store checks with which transaction IDs, sorted by ID.
     index: Vec<Kept>,
     /// The priority of each pair, sorted by priority.
     ranks: Vec<Rank>,
     /// Receives the checks of a pair whose queue is full.
     spare: VecDeque<BindingAttempt>,
-    /// The pairs that were removed last, the oldest first.
-    removed: VecDeque<RemovedPair>,
-    ghost rising: { rises pairs.items ≡ true },
+    ghost keyed: { are_keyed pairs.entries ≡ true },
+    ghost rising: { rises (pairs_of pairs.entries) ≡ true },
     ghost by_id: { ids_rise index.items ≡ true },
-    ghost indexed: { IsIndex index.items pairs.items },
+    ghost indexed: { IsIndex index.items (pairs_of pairs.entries) },
     ghost ordered: { are_ordered ranks.items ≡ true },
-    ghost ranked: { IsRanking ranks.items pairs.items },
+    ghost ranked: { IsRanking ranks.items (pairs_of pairs.entries) },
 }
 
 impl Checklist {
@@ -62,11 +59,10 @@ impl Checklist {
         ensures { multiset_of result ≡ [] }
     {
         Checklist {
-            pairs: Vec::new(alloc),
+            pairs: IndexMap::new(alloc),
             index: Vec::new(alloc),
             ranks: Vec::new(alloc),
             spare: VecDeque::new(alloc),
-            removed: VecDeque::new(alloc),
         }
     }
 
@@ -95,7 +91,7 @@ impl Checklist {
         ensures found { option_copied result ≡ pair_numbered number (multiset_of self.now) }
         ensures has { is_some result ≡ has_number number (multiset_of self.now) }
     {
-        listed::get(&self.pairs, number)
+        self.pairs.get(&number)
     }
 
     /// Reserves capacity for n more pairs.
@@ -107,8 +103,8 @@ impl Checklist {
         ensures room { (n : ℕ) → HasRoom n self.old → HasRoom n self.new }
         ensures check_room { HasCheckRoom self.old → HasCheckRoom self.new }
     {
-        reserve_few(&mut self.pairs, n)?;
-        reserve_few(&mut self.ranks, n)
+        self.pairs.reserve(n)?;
+        self.ranks.reserve(n)
     }
 
     /// Adds a newly created pair, whose number is above all others.
@@ -125,32 +121,30 @@ impl Checklist {
             priority: pair.prio(),
             number: pair.id().0,
         };
-        listed::put(&mut self.pairs, pair);
+        mapped::put(&mut self.pairs, pair);
         ranks::put(&mut self.ranks, rank);
     }
 
     /// Removes the pairs that pass the test.
-    pub fn remove_where<T: PairRemoval>(&mut self, test: &T)
+    pub fn remove_where<T: PairTest>(&mut self, test: &T)
         ensures left { multiset_of self.new ≡ without (T.passes test.now) (multiset_of self.old) }
         ensures room { (n : ℕ) → HasRoom n self.old → HasRoom n self.new }
         ensures check_room { HasCheckRoom self.old → HasCheckRoom self.new }
         ensures below { (n : ℕ) → are_below n (multiset_of self.old) ≡ true → are_below n (multiset_of self.new) ≡ true }
     {
-        removed::keep_passing(&mut self.removed, &self.pairs, test);
-        listed::drop_passing(&mut self.pairs, test);
+        mapped::drop_passing(&mut self.pairs, test);
         index::keep_known(&mut self.index, &self.pairs);
         ranks::keep_known(&mut self.ranks, &self.pairs);
     }
 
-    /// Removes the pair with the number, if there is one, for this reason.
-    pub fn remove(&mut self, number: u64, why: Removal)
+    /// Removes the pair with the number, if there is one.
+    pub fn remove(&mut self, number: u64)
         ensures left { multiset_of self.new ≡ without (is_numbered number) (multiset_of self.old) }
         ensures room { (n : ℕ) → HasRoom n self.old → HasRoom n self.new }
         ensures check_room { HasCheckRoom self.old → HasCheckRoom self.new }
         ensures below { (n : ℕ) → are_below n (multiset_of self.old) ≡ true → are_below n (multiset_of self.new) ≡ true }
     {
-        removed::keep_numbered(&mut self.removed, &self.pairs, number, why);
-        listed::take_out(&mut self.pairs, number);
+        mapped::take_out(&mut self.pairs, number);
         index::drop_number(&mut self.index, number);
         ranks::drop_number(&mut self.ranks, number);
     }

@@ -29,7 +29,6 @@ pub mod Nominating
 pub mod Answers
 pub mod Restarting
 pub mod States
-pub mod Settling
 pub mod Checking
 pub mod Due
 pub mod TimeoutStart

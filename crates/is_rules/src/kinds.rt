@@ -232,7 +232,7 @@ pub fn next_ahead<'a>(
         timing,
     };
     let mut first = None;
-    for pair in pairs.as_slice() {
+    for pair in pairs.iter() {
         first = earlier(first, pair, &round);
     }
     first

@@ -39,5 +39,4 @@ pub mod Pacing
 pub mod InTime
 pub mod Consent
 pub mod ConsentCourses
-pub mod Settled
 pub mod AtOnceCourses

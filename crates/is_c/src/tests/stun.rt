@@ -5,6 +5,8 @@ use crate::codes;
 use crate::stun_client::Transaction;
 use crate::stun_message::{Message, Number, is_ice_stun_read, is_ice_stun_read_strict};
 use crate::stun_names::is_ice_stun_username;
+use crate::stun_texts::{Span, Texts};
+use crate::stun_write::is_ice_stun_write;
 
 // A server's response to a Binding request without credentials: XOR-MAPPED-ADDRESS (RFC 5769, section 2.2), and no
 // MESSAGE-INTEGRITY.
@@ -41,6 +43,7 @@ fn no_message() -> Message {
         channel_number: number(),
         network_id: number(),
         network_cost: number(),
+        nomination: number(),
         mapped: address(9, 9),
         peer: address(9, 9),
         relayed: address(9, 9),
@@ -78,6 +81,52 @@ fn a_message_is_read_strictly_or_not(rt: HostRuntime) {
     let cut = is_ice_stun_read_strict(&REQUEST[..99], &mut message);
     assert!(rt; cut == codes::UNPARSED);
     assert!(rt; message.class == 0);
+}
+
+fn no_texts() -> Texts {
+    let none = Span {
+        start: 0,
+        length: 0,
+        is_set: false,
+    };
+    Texts {
+        username: none,
+        reason: none,
+        data: none,
+        realm: none,
+        nonce: none,
+        software: none,
+    }
+}
+
+// NOMINATION is the type 0xC001, the length 4 and the number (draft-thatcher-ice-renomination).
+#[test]
+fn a_nomination_has_a_number(rt: HostRuntime) {
+    let mut message = no_message();
+    let read = is_ice_stun_read(&PLAIN, &mut message);
+    assert!(rt; read == codes::OK);
+    assert!(rt; !message.nomination.is_set);
+    assert!(rt; message.nomination.value == 0);
+    message.nomination = Number {
+        value: 0x12345678,
+        is_set: true,
+    };
+    let mut written = [7; 49];
+    let mut length = 5;
+    let code = is_ice_stun_write(&message, &no_texts(), b"", b"", &mut written, &mut length);
+    assert!(rt; code == codes::OK);
+    assert!(rt; length == 48);
+    assert!(rt; written[20..32] == PLAIN[20..]);
+    assert!(rt; written[32..40] == [0xc0, 0x01, 0x00, 0x04, 0x12, 0x34, 0x56, 0x78][..]);
+    message.nomination.value = 0;
+    let read = is_ice_stun_read(&written[..length], &mut message);
+    assert!(rt; read == codes::OK);
+    assert!(rt; message.nomination.is_set);
+    assert!(rt; message.nomination.value == 0x12345678);
+    message.nomination.value = 0x100000000;
+    let code = is_ice_stun_write(&message, &no_texts(), b"", b"", &mut written, &mut length);
+    assert!(rt; code == codes::BAD_MESSAGE);
+    assert!(rt; length == 48);
 }
 
 #[test]
