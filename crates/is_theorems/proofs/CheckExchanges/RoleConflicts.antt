@@ -200,7 +200,7 @@ module _ {H P : Type 0} (mac : H → List ℕ → List ℕ → List ℕ) (answer
                 subst (λ w. list_any (keeps_check_on sent w id) sent.pairs ≡ true) (sym i.via_back) (kept_law a sent s t now check id timeout sound_a step sends) in
                 let kept = checks-stay mac answers sent near xs (via_out i.rejection) id sound_sent fits_in gone via_back in
                 let sound_near = sound-course mac answers xs sent near sound_sent gone in record {
-                  no_smaller = i.no_smaller;
+                  no_smaller = λ unkept. (let le = i.no_smaller unkept in omega (arith, le));
                   stays = i.stays;
                   rejection = i.rejection;
                   via_back = i.via_back;

@@ -38,7 +38,7 @@ use Rattle.is_rules.specs.Serving.{after_request, pair_served, selects_at_reques
 use Rattle.is_rules.specs.Serving.{Drops, RecordsAndResponds, FindsOrAddsPair, AddsUnknownSender, CountsAndServes, ResolvesRoleConflictBy, ResolvesRoleConflict, Serves}
 use Rattle.is_rules.specs.Sound.{IsSound}
 use Rattle.is_rules.specs.Sending.{path_of}
-use Rattle.is_rules.specs.Steps.{Answer, Flag, answer_by, done, Call, ReceivePacket, HandleTimeout, Entry, Receives, Step}
+use Rattle.is_rules.specs.Steps.{Answer, Done, Flag, answer_by, done, Call, ReceivePacket, HandleTimeout, Entry, Receives, Step}
 use Rattle.is_rules.specs.Timeouts.{at_request, timeout_begun, TimesOut, MaintainsPairs, ServesQueued}
 use Rattle.is_theorems.specs.Logs.{Logged, clears_at, last_selected}
 use Rattle.is_theorems.specs.Numbered.{GoesByNumbers, GreatestAreKept, GreatestAreLast, GreatestAreSelected, GreatestStay, IsGreatest, IsNumberedByPeer, LeadsByNumber, LeadsWith, StaysAhead, StaysGreatest}
@@ -65,9 +65,6 @@ use Rattle.is_theorems.proofs.RuleEffects.ChangedPairs.{eligible_valid, one_chan
 use Rattle.is_theorems.proofs.RuleEffects.EarlierAndNewPairs.{numbered_before, path_in, pushed}
 use Rattle.is_theorems.proofs.RuleEffects.UnchangedSettings.{either}
 
-no-less : {A : Type 0} (n a b : ℕ) → n ≤ a → a ≤ b → b < n → A
-no-less n a b one two three = absurd (let no : ⊥ = omega (arith, one, two, three) in no)
-
 -- a number equals itself
 differ : (x y : ℕ) → (x == y) ≡ false → x ≡ y → ⊥
 differ x y apart same = let no : true ≡ false = sym (eq-eqb x y same) ∙ apart in cc
@@ -85,10 +82,11 @@ module _ {H P : Type 0} where
   follows-first : (a : AgentRecord H P) → GoesByNumbers a → followed a ≡ followed_by_number a
   follows-first a goes =
       let set : a.renominates ≡ true = (both a.renominates a.rules.numbered_nominations goes.numbers).0 in
+      let controlled : a.controlling ≡ false = search goes.controlled in let seen : a.numbers_seen ≡ true = search goes.seen in
       ap (λ b. if b && not a.controlling then (if numbers a && a.numbers_seen then followed_by_number a else a.last_nominated) else None) set
-      ∙ (ap (λ c. if not c then (if numbers a && a.numbers_seen then followed_by_number a else a.last_nominated) else None) goes.controlled
+      ∙ (ap (λ c. if not c then (if numbers a && a.numbers_seen then followed_by_number a else a.last_nominated) else None) controlled
       ∙ (ap (λ b. if b && a.numbers_seen then followed_by_number a else a.last_nominated) goes.numbers
-      ∙ ap (λ b. if b then followed_by_number a else a.last_nominated) goes.seen))
+      ∙ ap (λ b. if b then followed_by_number a else a.last_nominated) seen))
 
   -- that is the one with the greatest number
   pub follows-greatest : (a : AgentRecord H P) (number n : ℕ) (path : Path) → GoesByNumbers a → IsGreatest a number n path → followed a ≡ Some number
@@ -109,7 +107,8 @@ module _ {H P : Type 0} where
       numbered true same = ap Some (eqb-true q.number number same)
       numbered false apart =
           let le : number_of most.pair ≤ number_of q = first-most a.controlling a.selected_pair a.pairs q is most.pair able.0 able.1 in
-          no-less n (number_of most.pair) (number_of q) most.by le (most.others q there.0 (λ same. differ q.number number apart same) nominated)
+          let by = most.by in let less = most.others q there.0 (λ same. differ q.number number apart same) nominated in
+          absurd (let no : ⊥ = omega (arith, by, le, less) in no)
 
   module _ (mac : H → List ℕ → List ℕ → List ℕ) (answers : P → CandidateRecord → ℕ → ℕ → Type 0) where
     pub greatest-selected : GreatestAreSelected mac answers
@@ -334,7 +333,7 @@ module _ {H P : Type 0} where
               let fit : IsSound mid = runs_sound mac answers (path_theorem mac answers) first mid s w (xs ++ before) fresh here in
               let sound : IsSound a = runs_sound mac answers (path_theorem mac answers) first a s v (x ∷ (xs ++ before)) fresh whole in
               let now_on : AreOn a n path =
-              stay-on mid a w v x.call x.entry n path fit (omega (arith, several)) near.plain near.goes.controlled leads.goes.controlled step requests k.0 in
+              stay-on mid a w v x.call x.entry n path fit (omega (arith, several)) near.plain near.goes.controlled leads.goes.controlled step (search requests) k.0 in
               let law = (path_theorem mac answers mid a w v x.call x.entry fit given step).0 in (
                 now_on,
                 elim (settles mac answers mid a w v x.entry fit x.call step) [
@@ -363,8 +362,8 @@ module _ {H P : Type 0} where
     greatest-last first near last before s t now timeout number path new led step done none (goes, (n, most)) =
         let fit : IsSound near = sound-course mac answers before first near (new-sound mac answers first new) led in
         let law = path_theorem mac answers near last s t (HandleTimeout now) timeout fit tt step in
-        let idle : request_at now near ≡ None = search none in
-        let selected = selects-followed mac answers last number most.pair (follows-greatest last number n path goes most) most.eligible (law.0.points (done, idle)) in
+        let well : timeout.answer ≡ Done = search done in let idle : request_at now near ≡ None = search none in
+        let selected = selects-followed mac answers last number most.pair (follows-greatest last number n path goes most) most.eligible (law.0.points (well, idle)) in
         let able = numbered-is last.controlling last.pairs number most.pair most.eligible in
         let whole = course_on mac answers before ((HandleTimeout now, timeout) ∷ []) first near last led (last, s, t, tt, step, refl) in
         (names mac answers (before ++ (HandleTimeout now, timeout) ∷ []) first last new whole most.pair able.0 (selected ∙ ap Some (sym able.1))).2 ∙ ap Some most.on
