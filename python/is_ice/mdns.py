@@ -1,22 +1,26 @@
 """Names of multicast DNS in place of IP addresses (RFC 6762): the peer's are resolved, and names of one's own are offered.
 
-Both by aioice's client, which is optional. It uses IPv4, and the interface of the default route.
+Both by aioice's client, which is optional. It uses IPv4, and the interface of the default route. It is imported with this module: that
+takes longer than a session takes to connect, and in a thread of its own it would take the interpreter's lock from the session.
 """
 
 from __future__ import annotations
 
 import asyncio
+import contextlib
 import logging
-import sys
 import uuid
 from typing import Any
 
-from ._aioice import needed_part
+from ._aioice import aioice_part, needed_part
 
 _log = logging.getLogger(__name__)
 
 _WAITS = (1.0, 2.0)  # seconds after each query of a name: at least 1 s, then twice as long (RFC 6762, section 5.2)
 _CLOSING = 1.0  # seconds for the socket to be opened or closed
+
+with contextlib.suppress(Exception):  # whoever needs it is told why it cannot be used
+    aioice_part("mdns")
 
 
 def mdns_client() -> Any:
@@ -25,8 +29,6 @@ def mdns_client() -> Any:
 
 
 async def _open() -> Any:
-    if "aioice.mdns" not in sys.modules:
-        await asyncio.to_thread(mdns_client)  # to import it takes longer than a session takes to connect
     return await mdns_client().create_mdns_protocol()
 
 

@@ -18,8 +18,8 @@ from is_ice.mdns import Mdns
 from pairs import HIDDEN, LOOPBACK, add_candidates, agent, aioice, close, gather, join, nobody, other_tasks, talk
 from test_stun_client import SEEN, StunServer
 
-# Two connections over loopback in a new process, so that it imports aioice. Prints the seconds from the first candidate until both connect.
-# Its argument is the name of a further candidate of each side, or "".
+# Two connections over loopback in a new process. Prints the seconds from the first candidate until both connect, and the modules that were
+# imported meanwhile. Its argument is the name of a further candidate of each side, or "".
 SESSION = """
 import asyncio, sys, time
 from is_ice.connection import Connection
@@ -27,7 +27,7 @@ from is_ice.connection import Connection
 async def play():
     sides = Connection(True, addresses=["127.0.0.1"]), Connection(False, addresses=["127.0.0.1"])
     await asyncio.gather(*(side.gather_candidates() for side in sides))
-    start = time.monotonic()
+    start, modules = time.monotonic(), set(sys.modules)
     for one, other in (sides, sides[::-1]):
         one.remote_username, one.remote_password = other.local_username, other.local_password
         if sys.argv[1]:
@@ -37,16 +37,17 @@ async def play():
     await asyncio.gather(*(side.connect() for side in sides))
     took = time.monotonic() - start
     await asyncio.gather(*(side.close() for side in sides))
-    return took
+    return took, *set(sys.modules) - modules
 
-print(asyncio.run(play()))
+print(*asyncio.run(play()))
 """
 
 
-def session_took(name: str) -> float:
-    """How long two connections take in a new process, in seconds."""
+def session_took(name: str) -> tuple[float, list[str]]:
+    """How long two connections take in a new process, in seconds, and the modules that they import."""
     ran = subprocess.run([sys.executable, "-c", SESSION, name], stdout=subprocess.PIPE, text=True, timeout=60, check=True)
-    return float(ran.stdout)
+    took, *modules = ran.stdout.split()
+    return float(took), modules
 
 
 class Client:
@@ -298,10 +299,12 @@ async def is_without_multicast(*sides: Connection) -> bool:
 class Delays(unittest.TestCase):
     @unittest.skipIf(aioice is None, "aioice is not installed (Debian's python3-aioice)")
     def test_a_name_that_nobody_resolves(self) -> None:
-        """It delays a session at most 0.3 s, the import of aioice and its socket included."""
+        """It delays a session at most 0.3 s, its socket included, and brings no import of aioice, which a busy machine makes long."""
         delay = 1.0
         for _ in range(5):  # the machine may be busy
-            delay = min(delay, session_took(f"{uuid.uuid4()}.local") - session_took(""))
+            took, modules = session_took(f"{uuid.uuid4()}.local")
+            self.assertEqual([module for module in modules if module.partition(".")[0] in ("aioice", "dns")], [])
+            delay = min(delay, took - session_took("")[0])
             if delay <= 0.3:
                 break
         self.assertLessEqual(delay, 0.3)
