@@ -9,13 +9,28 @@ from typing import Protocol
 from ..pairs import Pair, Path
 from .execution import Execution, Lacks, Round, fewest, is_in_round, lacks
 from .accepted_nominations import ALL, Network
-from .progress import is_in_line, is_lasting, suffices
-from .selections import are_enough, are_kept, checks_in
+from .progress import is_in_line, is_lasting, nominations_ahead, suffices
+from .selections import are_kept, checks_in
 from .staying import may_end_in_rounds
 from .verdict import C, C_co
 
 
 # ---- rounds that suffice
+
+def selections_of(x: Execution, side: str, part: range) -> int:
+    """Returns how many calls of the side select a path (`selections_of`)."""
+    found = x.announces(side)
+    return bisect_left(found, part.stop) - bisect_left(found, part.start)
+
+
+def side_rounds_reach(x: Execution, side: str, is_early: bool, first: int, second: int, later: int, end: int) -> bool:
+    """Whether rounds suffice, each nomination that the side may send at once included (`SideRoundsReach`). They begin with the entries
+    `first` and `second`, and so many more, and end at an entry. `is_early`: the pair is due before the first one."""
+    start, following = x.state(first, side), x.state(second, side)
+    all_ahead = nominations_ahead(start, selections_of(x, side, range(first, end)))
+    ahead = nominations_ahead(following, selections_of(x, side, range(second, end)))
+    return suffices(0, int(is_early), start, following, x.state(end, side), later, all_ahead, ahead)
+
 
 def has_rounds_for(x: Execution, side: str, pair: Pair, rounds: list[Round], last: int) -> Lacks:
     """The rounds up to the entry `last` suffice for this pair, which is due by the first one."""
@@ -24,7 +39,7 @@ def has_rounds_for(x: Execution, side: str, pair: Pair, rounds: list[Round], las
     by = min(pair.due_at(first.now, agent.timing), first.now)
     return lacks(line=is_in_line(first.now, by, agent, pair), kept=are_kept(x, side, by, rounds),
                  lasting=all(is_lasting(r.now, agent, pair) for r in rounds[1:]),
-                 enough=are_enough(x, side, by, rounds, last))
+                 enough=side_rounds_reach(x, side, by < first.now, first.moment, first.behind.stop, len(rounds) - 1, last))
 
 
 def has_rounds(x: Execution, side: str, path: Path, rounds: list[Round], last: int) -> Lacks:
@@ -40,7 +55,6 @@ class Rows:
 
     def __init__(self, x: Execution, side: str) -> None:
         self.x, self.side, self.timeouts = x, side, x.timeouts[side]
-        self._agents = [x.state(at, side) for at in self.timeouts]
         self._lines: dict[int, list[Path]] = {}
 
     def latest(self, end: int, path: Path | None = None) -> tuple[int, Path] | None:
@@ -54,9 +68,9 @@ class Rows:
         return None
 
     def _may_suffice(self, place: int, stop: int, end: int) -> bool:
-        """Whether `suffices` holds, if the pair is due before the first round."""
-        later, last = stop - place - 1, self.x.state(end, self.side)
-        return suffices(0, 1, self._agents[place], self._agents[place + 1] if later else last, last, later)
+        """Whether there are enough rounds, if the pair is due before the first one."""
+        later = stop - place - 1
+        return side_rounds_reach(self.x, self.side, True, self.timeouts[place], self.timeouts[place + 1] if later else end, later, end)
 
     def _path_at(self, place: int, end: int, path: Path | None) -> Path | None:
         lines = [p for p in self.lines(place) if path in (None, p)]

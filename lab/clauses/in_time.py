@@ -10,11 +10,10 @@ from dataclasses import dataclass
 
 from ..pairs import Path
 from ..scenario import SIDES
-from .connections import Rows, has_rounds, succeeds_in
+from .connections import Rows, has_rounds, side_rounds_reach, succeeds_in
 from .execution import Execution, Lacks, Round, is_in_round, lacks
 from .fair import are_new_agents
 from .opening import most_rounds
-from .progress import suffices
 from .staying import may_end_in_rounds
 from .verdict import Verdict, first_that_holds
 
@@ -75,13 +74,12 @@ def lacking(x: Execution, c: Choice) -> Lacks:
 
 # ---- the search
 
-def least_count(x: Execution, side: str, place: int) -> int | None:
-    """Returns how many rounds suffice at least for a pair that is due before the call at this place among the side's."""
+def least_count(x: Execution, side: str, place: int, is_early: bool) -> int | None:
+    """Returns how many rounds suffice at least for a pair that is due by the call at this place among the side's, or before it."""
     row = x.timeouts[side]
-    first = x.state(row[place], side)
     for later in range(most_rounds(x, side, place, is_in_round)):
-        last = x.state(row[place + later] + 1, side)
-        if suffices(0, 1, first, x.state(row[place + 1], side) if later else last, last, later):
+        end = row[place + later] + 1
+        if side_rounds_reach(x, side, is_early, row[place], row[place + 1] if later else end, later, end):
             return later + 1
     return None
 
@@ -92,9 +90,9 @@ def choices(x: Execution) -> Iterator[Choice]:
     for side in SIDES:
         rows = Rows(x, side)
         for place, first in enumerate(rows.timeouts):
-            count = least_count(x, side, place) if rows.lines(place) else None
-            for last in () if count is None else rows.timeouts[place + count - 1:place + count + 1]:
-                found += [Choice(side, path, first, last + 1) for path in rows.lines(place)]
+            counts = {least_count(x, side, place, is_early) for is_early in (True, False)} if rows.lines(place) else ()
+            lasts = {last for count in counts if count for last in rows.timeouts[place + count - 1:place + count + 1]}
+            found += [Choice(side, path, first, last + 1) for last in lasts for path in rows.lines(place)]
     yield from sorted(found, key=lambda c: c.end)
 
 

@@ -40,8 +40,8 @@ def is_unanswered(agent: Agent, pair: Pair) -> Lacks:
 
 
 def is_in_line(at: int, by: int, agent: Agent, pair: Pair) -> Lacks:
-    """The pair waits for its check, nothing nominates it first, and nominations have no numbers (`IsInLine`)."""
-    return lacks(checking=is_checking(agent), queue=not agent.queue, unnumbered=not agent.numbers, there=is_there(agent, pair),
+    """The pair waits for its check, and nothing nominates it first (`IsInLine`)."""
+    return lacks(checking=is_checking(agent), queue=not agent.queue, there=is_there(agent, pair),
                  due=pair.due_at(at, agent.timing) <= by, settled=not pair.is_valid or pair.due is not None,
                  young=pair.is_young(agent.timing), lasting=is_lasting(at, agent, pair))
 
@@ -58,6 +58,12 @@ def checks_for(rules: Rules, count: int) -> int:
     return 2 * count if rules.goes_ahead else count
 
 
+def nominations_ahead(agent: Agent, selections: int) -> int:
+    """Returns how many nominations may be sent at once, before pairs that are due earlier, while so many calls select a path: none if
+    they have no numbers (`nominations_ahead`)."""
+    return agent.nomination_due + selections if agent.numbers else 0
+
+
 def due_by(by: int, now: int, agent: Agent) -> int:
     """Returns how many pairs are due by a time, with due times computed now (`due_by`)."""
     return sum(p.due_at(now, agent.timing) <= by for p in agent.pairs)
@@ -68,9 +74,11 @@ def are_as_many_as_due(by: int, agent: Agent, times: Sequence[int]) -> bool:
     return bool(times) and checks_for(agent.rules, due_by(by, times[0], agent)) <= len(times)
 
 
-def are_open_enough(first: Agent, last: Agent, rounds: int) -> bool:
-    """Whether there are 2n - 1 rounds for n pairs, and one for each pair that is added; if checks may go ahead, 4n - 1, and two."""
-    return checks_for(first.rules, 2 * len(first.pairs) + last.next_number) <= rounds + 1 + checks_for(first.rules, first.next_number)
+def are_open_enough(first: Agent, last: Agent, rounds: int, ahead: int = 0) -> bool:
+    """Whether there are 2n - 1 rounds for n pairs, and one for each pair that is added, and for each nomination that may be sent at once:
+    so many are `ahead`. If checks may go ahead, it is 4n - 1, and two."""
+    needed = checks_for(first.rules, 2 * len(first.pairs) + last.next_number + ahead)
+    return needed <= rounds + 1 + checks_for(first.rules, first.next_number)
 
 
 def suffice_for_due(by: int, now: int, first: Agent, second: Agent, later: Sequence[int]) -> bool:
@@ -80,14 +88,15 @@ def suffice_for_due(by: int, now: int, first: Agent, second: Agent, later: Seque
     return len(first.pairs) <= 1 or are_as_many_as_due(by, second, later)
 
 
-def suffices_from_due(first: Agent, second: Agent, last: Agent, later: int) -> bool:
+def suffices_from_due(first: Agent, second: Agent, last: Agent, later: int, ahead: int = 0) -> bool:
     """Whether so many rounds after the first one suffice for a pair that is due by the first one (`SufficesFromDue`)."""
-    return len(first.pairs) <= 1 or are_open_enough(second, last, later)
+    return len(first.pairs) <= 1 or are_open_enough(second, last, later, ahead)
 
 
-def suffices(by: int, now: int, first: Agent, second: Agent, last: Agent, later: int) -> bool:
-    """The same; or the first one counts too, if the pair is due before it (`Suffices`)."""
-    return (by < now and are_open_enough(first, last, later + 1)) or suffices_from_due(first, second, last, later)
+def suffices(by: int, now: int, first: Agent, second: Agent, last: Agent, later: int, all_ahead: int = 0, ahead: int = 0) -> bool:
+    """The same; or the first one counts too, if the pair is due before it (`Suffices`). So many nominations may be sent at once:
+    `all_ahead` in all rounds, and `ahead` in those after the first."""
+    return (by < now and are_open_enough(first, last, later + 1, all_ahead)) or suffices_from_due(first, second, last, later, ahead)
 
 
 # ---- selection

@@ -17,7 +17,7 @@ def lacking(x: Execution, c: Choice) -> Lacks:
     """Returns the preconditions that do not hold."""
     rounds, by = c.rounds(x), min(due_of(x, c), x.now(c.first))
     passing: Lacks = next((missing for r in rounds if (missing := is_passing(x, c.side, by, r))), [])
-    return lacks(**shared(x, c, by), IsPassing=passing, AreEnough=are_enough(x, c.side, by, rounds))
+    return lacks(**shared(x, c, by), IsPassing=passing, OpenRoundsSuffice=are_enough(x, c.side, by, rounds))
 
 
 # ---- the search

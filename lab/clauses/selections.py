@@ -36,7 +36,7 @@ def makes_polls_in(x: Execution, side: str, rounds: list[Round]) -> bool:
 
 
 def are_enough(x: Execution, side: str, by: int, rounds: list[Round], last: int) -> bool:
-    """Whether there are enough rounds, which end at the entry `last`, also if candidates are added in them (`AreEnough`)."""
+    """Whether there are enough rounds, which end at the entry `last`, also if candidates are added in them (`SideRoundsSuffice`)."""
     first, second = x.state(rounds[0].moment, side), x.state(rounds[0].behind.stop, side)
     return suffices(by, rounds[0].now, first, second, x.state(last, side), len(rounds) - 1)
 
@@ -52,7 +52,7 @@ def are_polled_or_enough(x: Execution, side: str, by: int, rounds: list[Round]) 
     """One of both, up to the end of the rounds."""
     polled = are_each_polled(x, side, by, rounds)
     is_enough = are_enough(x, side, by, rounds, rounds[-1].behind.stop)
-    return [] if is_enough or not polled else [f"AreEachPolled.{part}" for part in polled] + ["AreEnough"]
+    return [] if is_enough or not polled else [f"AreEachPolled.{part}" for part in polled] + ["SideRoundsSuffice"]
 
 
 def checks(x: Execution, side: str, path: Path, r: Round) -> bool:

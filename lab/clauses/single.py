@@ -52,7 +52,7 @@ def is_answered(x: Execution, side: str, path: Path, r: Round) -> bool:
 
 
 def are_enough(x: Execution, side: str, by: int, rounds: list[Round]) -> bool:
-    """Whether there are as many plain rounds as pairs that are due, or 2n - 1 for n pairs and one for each added one (`AreEnough`).
+    """Whether there are as many plain rounds as pairs that are due, or 2n - 1 for n pairs and one for each added one (`OpenRoundsSuffice`).
 
     If checks may go ahead, it is twice as many, or 4n - 1 and two."""
     first, last = x.state(rounds[0].moment, side), x.state(rounds[-1].behind.stop, side)

@@ -1,13 +1,16 @@
-"""Tests the checkers of `connect` and `both` of `World::run`: for each precondition, a log that lacks exactly it."""
+"""Tests the checkers of `connect` and `both` of `World::run`: for each precondition, a log that lacks exactly it. And those of `connect`
+and `in_time` for agents whose nominations have numbers."""
 
 import unittest
 from dataclasses import replace
 
 from is_ice import SocketAddress
-from lab.clauses import both, connect
+from lab.clauses import both, connect, in_time
 from lab.clauses.accepted_nominations import Network
+from lab.clauses.selections import are_enough
 from lab.clauses.verdict import Verdict
 from lab.clock import BEGINNING, MILLISECOND
+from lab.kinds import Rules
 from lab.requests import Request
 from lab.pairs import Check, Pair
 from lab.tests.stories import TO_A, TO_B, A, B, Story
@@ -48,7 +51,7 @@ class Late(unittest.TestCase):
         return {"a": (story.moments["a"][-1], "a"), "b": (story.moments["b"][-2], "b")}
 
     def altered(self, side: str) -> list[tuple[str, Network]]:
-        """Logs in which a part of `IsInLine` or of `AreEnough` does not hold of the side, with its name."""
+        """Logs in which a part of `IsInLine` or of `SideRoundsReach` does not hold of the side, with its name."""
         story = self.story()
         first, _ = self.rows(story)[side]
         pair = story.session().steps[first].before[side].pairs[0]
@@ -171,6 +174,54 @@ class Connecting(Late):
         self.assertEqual(connect.find(self.end(story).network()).failed, "Asks.asked.nominated")
 
 
+class Numbered(unittest.TestCase):
+    """Nominations have numbers. A has two pairs. It selects the lesser one at 60 ms and nominates it at 100 ms, and the greater one at
+    260 and 310 ms. B's checks are answered, and it follows at 520 ms. A's rounds for the greater pair begin at 250 ms, B's at 520 ms."""
+
+    def story(self, asking: tuple[float, ...], asked: tuple[float, ...]) -> Story:
+        """The log with these later timeouts of A and of B, whose checks are lost."""
+        story = Story(hosts=(2, 1), rules=Rules(numbered_nominations=True))
+        for side in "ab":
+            story.set(side, "set_renomination", True)
+        story.timeout("a", 0)
+        for side, time in (("b", 1), ("a", 50), ("b", 61), ("a", 100), ("a", 250), ("a", 310)):
+            story.exchange(side, time)
+        story.passes("a", *asking)
+        story.exchange("b", 520)
+        story.passes("b", *asked)
+        return story
+
+    def choice(self, n: Network) -> connect.Choice:
+        """B's path to A's greater pair, with these rounds."""
+        a, b = ([at for at in n.x.timeouts[side] if n.x.now(at) >= since] for side, since in (("a", at(250)), ("b", at(520))))
+        return connect.Choice("b", TO_A, TO_B, a[0], a[0], b[0], b[-1])
+
+    def test_with_numbers(self) -> None:
+        n = self.story((360, 410, 460), (570, 620, 670, 720)).network()
+        self.assertEqual(connect.lacking(n, self.choice(n)), [])
+        found = connect.find(n)
+        self.assertEqual((found.held, found.is_broken, found.fact), (True, False, at(520)))
+
+    def test_each_nomination_of_the_controlling_agent_counts(self) -> None:
+        n = self.story((360, 410), (570, 620, 670, 720)).network()
+        choice = self.choice(n)
+        self.assertEqual(connect.lacking(n, choice), ["asking.enough"])
+        self.assertTrue(are_enough(n.x, "a", at(250), n.x.rounds("a", choice.asking, choice.moment), choice.moment))
+
+    def test_each_selection_of_the_controlled_agent_counts(self) -> None:
+        n = self.story((360, 410, 460), (570, 620, 670)).network()
+        choice = self.choice(n)
+        self.assertEqual(connect.lacking(n, choice), ["asked.enough"])
+        self.assertTrue(are_enough(n.x, "b", at(519), n.x.rounds("b", choice.asked, choice.moment), choice.moment))
+
+    def test_checks_in_time(self) -> None:
+        for later, missing in (((360, 410), ["has.enough"]), ((360, 410, 460), [])):
+            n = self.story(later, (570,)).network()
+            choice = in_time.Choice("a", TO_B, self.choice(n).asking, len(n.x))
+            self.assertEqual(in_time.lacking(n.x, choice), missing)
+            self.assertFalse(in_time.verdict_of(n.x, choice).is_broken)
+
+
 class Both(Late):
     def lacking(self, n: Network, pair: int = 0, start: int | None = None, count: int = 1, leads: int = -1) -> list[str]:
         a, b = n.x.timeouts["a"], n.x.timeouts["b"]
@@ -209,7 +260,7 @@ class Both(Late):
         for part, pairs in (("IsUnanswered.young", (silent(pair),)),
                             ("IsUnanswered.invalid", (pair, replace(pair, number=9, state="succeeded"))),
                             ("Awaits.due", (replace(pair, due=at(9)),))):
-            missing = [f"Opens.{part}"] + ["Opens.enough.AreEachPolled.few", "Opens.enough.AreEnough"] * (len(pairs) > 1)
+            missing = [f"Opens.{part}"] + ["Opens.enough.AreEachPolled.few", "Opens.enough.SideRoundsSuffice"] * (len(pairs) > 1)
             self.assertEqual(self.lacking(story.altered(first, "a", pairs=pairs)), missing)
         self.assertEqual(self.lacking(story.altered(first, "a", queue=(REQUEST,))), ["Opens.Awaits.queue"])
         self.assertEqual(self.lacking(story.altered(first, "a", lite=True)), ["Opens.Awaits.checking.full"])
@@ -220,7 +271,7 @@ class Both(Late):
         agent = story.session().steps[first].before["a"]
         remote, pair = replace(agent.remote[0], address=OUTSIDE), replace(agent.pairs[0], number=9, remote=1)
         found = self.lacking(story.altered(first, "a", remote=(*agent.remote, remote), pairs=(*agent.pairs, pair)), 9)
-        self.assertEqual(found, ["Opens.on", "Opens.enough.AreEachPolled.few", "Opens.enough.AreEnough"])
+        self.assertEqual(found, ["Opens.on", "Opens.enough.AreEachPolled.few", "Opens.enough.SideRoundsSuffice"])
 
     def test_the_opening_ends_before_the_last_segment(self) -> None:
         story = self.story()

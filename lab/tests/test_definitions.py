@@ -8,12 +8,13 @@ from lab.clauses.execution import MAX, is_in_round
 from lab.clauses.fair import is_fair_world
 from lab.clauses.accepted_nominations import (is_exchanged_over, is_reached_by, is_returned, is_returned_in_time,
                                               know_each_other, stays_pending)
-from lab.clauses.progress import (are_as_many_as_due, awaits, has_announced, is_in_line, is_paced, is_unanswered, suffice_for_due, suffices,
-                                  suffices_from_due)
+from lab.clauses.progress import (are_as_many_as_due, awaits, has_announced, is_in_line, is_paced, is_unanswered, nominations_ahead,
+                                  suffice_for_due, suffices, suffices_from_due)
 from lab.clauses.selections import are_each_polled, are_enough, are_kept, is_answered_in_time, makes_in_round
 from lab.clauses.single import are_plain
 from lab.clauses.staying import may_end_in
 from lab.clock import BEGINNING, MILLISECOND
+from lab.kinds import Rules
 from lab.model import Agent
 from lab.requests import Request
 from lab.pairs import Check, Place, Timing
@@ -102,6 +103,12 @@ class Waiting(unittest.TestCase):
     def test_no_early_request(self) -> None:
         self.assertEqual(self.both(replace(self.agent, queue=(REQUEST,))), (["queue"], ["queue"]))
 
+    def test_with_numbers(self) -> None:
+        numbered = replace(self.agent, renominates=True, rules=Rules(numbered_nominations=True), selected=self.pair.number)
+        due = replace(numbered, nomination_due=True)
+        self.assertEqual([self.both(agent) for agent in (numbered, due)], [([], []), ([], [])])
+        self.assertEqual([is_unanswered(agent, self.pair) for agent in (numbered, due)], [[], ["calm"]])
+
     def test_it_is_due(self) -> None:
         self.assertEqual(self.both(self.agent, self.now - 1), (["due"], ["due"]))
 
@@ -157,6 +164,24 @@ class Enough(unittest.TestCase):
     def test_one_round_suffices_for_a_single_pair(self) -> None:
         self.assertTrue(suffices_from_due(self.one, self.two, self.two, 0))
         self.assertTrue(suffice_for_due(1, 1, self.one, self.one, []))
+
+    def test_nominations_that_may_be_sent_at_once(self) -> None:
+        numbered = replace(self.two, renominates=True, rules=Rules(numbered_nominations=True))
+        due = replace(numbered, nomination_due=True)
+        unnumbered = (replace(due, renominates=False), replace(due, rules=Rules()))
+        self.assertEqual([nominations_ahead(agent, 2) for agent in (numbered, due, *unnumbered)], [2, 3, 0, 0])
+
+    def test_they_count_like_pairs_that_are_added(self) -> None:
+        for later, all_ahead, ahead in ((2, 0, 9), (3, 1, 9), (4, 2, 9), (4, 9, 1)):
+            self.assertTrue(suffices(0, 1, self.two, self.two, self.two, later, all_ahead, ahead))
+            self.assertFalse(suffices(0, 1, self.two, self.two, self.two, later - 1, all_ahead, ahead))
+        self.assertFalse(suffices(1, 1, self.two, self.two, self.two, 4, 0, 2))
+        self.assertTrue(suffices(0, 1, self.one, self.one, self.one, 0, 9, 9))
+
+    def test_they_count_twice_if_checks_may_go_ahead(self) -> None:
+        two = replace(self.two, rules=Rules(kinds_in_turn=True))
+        self.assertFalse(suffices(0, 1, two, two, two, 7, 1, 9))
+        self.assertTrue(suffices(0, 1, two, two, two, 8, 1, 9))
 
     def test_as_many_rounds_as_due_pairs(self) -> None:
         self.assertTrue(are_as_many_as_due(at(0), self.two, [at(0), at(50)]))

@@ -100,14 +100,14 @@ class Rounds(unittest.TestCase):
         story.passes("a", 0)
         story.exchange("a", 50)
         pair = story.session().steps[story.moments["a"][1]].before["a"].pairs[1].number
-        self.assertEqual(self.lacking(story.network(), pair=pair), ["AreEnough"])
+        self.assertEqual(self.lacking(story.network(), pair=pair), ["OpenRoundsSuffice"])
         story.exchange("a", 100)
         self.assertEqual(self.lacking(story.network(), pair=pair), [])
 
     def test_candidates_are_added(self) -> None:
         story = self.story()
         story.host("a", A._replace(port=7), 1, 320)
-        self.assertEqual(self.lacking(story.network()), ["AreEnough"])
+        self.assertEqual(self.lacking(story.network()), ["OpenRoundsSuffice"])
         story.exchange("a", 400)
         self.assertEqual(self.lacking(story.network()), [])
 

@@ -11,6 +11,7 @@ from lab.clauses import both, connect, due_rounds, in_time, meet, nomination_acc
 from lab.clauses.execution import Execution, Lacks
 from lab.clauses.accepted_nominations import Network
 from lab.clauses.verdict import Verdict
+from lab.kinds import Rules
 from lab.pairs import Path
 from lab.scenario import SIDES
 from lab.tests.stories import Story
@@ -19,9 +20,12 @@ C = TypeVar("C")
 
 
 def random_story(seed: int) -> Story:
-    """Timeouts of both sides, packets that are lost, delayed or delivered, and perhaps a role conflict or added candidates."""
+    """Timeouts of both sides, packets that are lost, delayed or delivered, and perhaps a role conflict, added candidates, or nominations
+    with numbers."""
     random = Random(seed)
-    story = Story(roles=(True, seed % 3 == 0), hosts=(1 + seed % 2, 1))
+    story = Story(roles=(True, seed % 3 == 0), hosts=(1 + seed % 2, 1), rules=Rules(numbered_nominations=seed % 4 > 1))
+    for side in "ab" if seed % 4 > 1 else "":
+        story.set(side, "set_renomination", True)
     waiting: list[tuple[float, str, Transmit]] = []
     time = 0.0
     for _ in range(9):

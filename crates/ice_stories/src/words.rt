@@ -64,6 +64,10 @@ fn rules(text: &str) -> Option<Rules> {
             kinds_in_turn: true,
             ..Rules::original()
         }),
+        "numbers" => Some(Rules {
+            numbered_nominations: true,
+            ..Rules::original()
+        }),
         _ => None,
     }
 }

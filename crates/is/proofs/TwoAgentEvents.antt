@@ -5,3 +5,4 @@ pub mod DeliveredPackets
 pub mod OwnExecutions
 pub mod EventsOfSegments
 pub mod OwnLogs
+pub mod SelectionsOfSegments

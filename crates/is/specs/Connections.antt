@@ -1,24 +1,37 @@
 -- How both of two agents select a path, if each has rounds in which the network delivers (RFC 8445, sections 6.1.4.2, 7.2.5.3 and
 -- 7.3.1.5).
-use Rattle.std.specs.Prelude.{◌≡◌, ℕ, List, [], ◌∷◌, ◌++◌, Some, ◌⊎◌, slice_get}
+use Rattle.std.specs.Prelude.{◌≡◌, ℕ, ◌&&◌, List, [], ◌∷◌, ◌++◌, length, count_by, Some, ◌⊎◌, slice_get}
 use Rattle.is_proto.specs.Lists.{Has}
 use Rattle.is_candidate.specs.Candidates.{CandidateRecord}
 use Rattle.is_pair.specs.Pairs.{PairRecord}
 use Rattle.is_rules.specs.declared.emitted.Path.{Path}
 use Rattle.is_theorems.specs.AskedCourses.{AcceptsSuccessOn}
-use Rattle.is_theorems.specs.Reached.{IsInLine, IsLasting}
+use Rattle.is_theorems.specs.FirstTimeouts.{Suffices}
+use Rattle.is_theorems.specs.Reached.{IsInLine, IsLasting, nominations_ahead, selects}
 use Rattle.is_rules.specs.Sending.{path_of}
 use Rattle.is_rules.specs.Steps as agent
 use Rattle.is.specs.declared.world_events.Side.{Side}
-use Rattle.is.specs.AcceptedNominationsIn.{Occurrence, IsAskedOver, IsExchangedOver, occurrences_in}
+use Rattle.is.specs.AcceptedNominationsIn.{Occurrence, IsAskedOver, IsExchangedOver, is_of, occurrences_in}
 use Rattle.is.specs.AcceptedNominations.{IsControlledSegment, MayEndIn, SelectsTop}
-use Rattle.is.specs.Selections.{SideRound, all_of, AreKept, MayEndInRounds, SideRoundsSuffice, RoundChecks}
+use Rattle.is.specs.Selections.{SideRound, all_of, state_after, AreKept, MayEndInRounds, RoundChecks}
 use Rattle.is.specs.World.{WorldRecord, InFlightRecord, Deliver, LoggedEvent, WorldRun, at, other, Streams}
 
 module _ {H P : Type 0} where
-  -- The side has rounds in the segment that suffice for a pair on the path, which is due by the time `by` when they begin. If the side
-  -- has n pairs, there are 2n - 1 rounds, and one more for each pair that is added in them, also by candidates that the side adds; if
-  -- checks may go ahead, 4n - 1, and two more (`SideRoundsSuffice`).
+  -- how many calls of the side select a path
+  abbrev pub selections_of : Side → List (Occurrence H P) → ℕ
+  selections_of side all = count_by (λ (x : Occurrence H P). is_of side x.entry.outcome.side && selects x.entry.outcome.entry) all
+
+  -- The rounds suffice for a pair of the side that is due by the time `by` (`Suffices`): 2n - 1 rounds for n pairs, and one more for
+  -- each pair that is added in them, also by candidates that the side adds, and for each nomination that the side may send at once; if
+  -- checks may go ahead, 4n - 1, and two more.
+  abbrev pub SideRoundsReach : Side → ℕ → SideRound H P → List (SideRound H P) → WorldRecord H P → Type 0
+  SideRoundsReach side by first later last =
+      Suffices by first.now (at side first.timeout.before) (at side (state_after first.timeout.following first.following)) (at side last) (length later)
+      (nominations_ahead (at side first.timeout.before) (selections_of side (all_of (first ∷ later))))
+      (nominations_ahead (at side (state_after first.timeout.following first.following)) (selections_of side (all_of later)))
+
+  -- The side has rounds in the segment that suffice for a pair on the path, which is due by the time `by` when they begin
+  -- (`SideRoundsReach`).
   pub record HasRounds (side : Side) (path : Path) (part : List (Occurrence H P)) (last : WorldRecord H P) : Type 0 where
     pub ahead : List (Occurrence H P)
     pub first : SideRound H P
@@ -30,7 +43,7 @@ module _ {H P : Type 0} where
     pub on : path_of (at side first.timeout.before) pair ≡ path
     pub kept : AreKept side by first later
     pub lasting : (r : SideRound H P) → Has later r → IsLasting r.now (at side first.timeout.before) pair
-    pub enough : SideRoundsSuffice side by first later last
+    pub enough : SideRoundsReach side by first later last
 
   -- A success response that is received on the reverse path is accepted.
   pub record Succeeds (side : Side) (path : Path) (x : Occurrence H P) : Type 0 where

@@ -66,10 +66,11 @@ module _ {H P : Type 0} where
   MayEndInRounds answers side path rounds = (r : SideRound H P) × Has rounds r × ((x : Occurrence H P) × Has r.following x × MayEndAt answers side path x)
 
   -- The rounds suffice for a pair of the side that is due by the time `by` (`Suffices`): 2n - 1 rounds for n pairs, and one more for
-  -- each pair that is added in them, also by candidates that the side adds; if checks may go ahead, 4n - 1, and two more.
+  -- each pair that is added in them, also by candidates that the side adds; if checks may go ahead, 4n - 1, and two more. No nomination
+  -- is to be sent at once in them.
   abbrev pub SideRoundsSuffice : Side → ℕ → SideRound H P → List (SideRound H P) → WorldRecord H P → Type 0
   SideRoundsSuffice side by first later last =
-      Suffices by first.now (at side first.timeout.before) (at side (state_after first.timeout.following first.following)) (at side last) (length later)
+      Suffices by first.now (at side first.timeout.before) (at side (state_after first.timeout.following first.following)) (at side last) (length later) 0 0
 
   -- In the rounds the side makes only polls, and there are enough of them (`SufficeForDue`): n rounds, if n pairs of the side are due
   -- by the time `by` when they begin, and this time is earlier. If it is not, one round suffices for a single pair, and otherwise n

@@ -160,8 +160,10 @@ impl<H: Sha1HmacProvider + Drop, P: LocalPreference> TwoAgents<H, P> {
 
         // Progress of both: the controlling agent has a nominated pair, and the controlled agent a pair. Each has rounds that
         // suffice: 2n - 1 if it has n pairs, and one more for each pair that is added, or 4n - 1 and two more if checks may go ahead. If
-        // checks are sent on the two paths in these rounds, one of each agent is delivered, and so is the success response to the
-        // controlled agent, as above. Then the controlled agent selected a path by its next `handle_timeout` call, as above.
+        // nominations have numbers, each path that it selects in them, or selected before and has not checked since, counts like a pair
+        // that is added. If checks are sent on the two paths in these rounds, one of each agent is delivered, and so is the success
+        // response to the controlled agent, as above. Then the controlled agent selected a path by its next `handle_timeout` call, as
+        // above.
         ensures connect { BothConnect H.mac P.answers (world_of self.old) (sources (R.stream rng_a.old) (S.stream rng_b.old)) (logged events.items result.entries.items) }
 
         // In nanoseconds: a side has rounds as in `connect`, k after the first, and its caller is punctual: it calls `handle_timeout` at most

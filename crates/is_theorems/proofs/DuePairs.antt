@@ -7,4 +7,5 @@ pub mod AfterPackets
 pub mod NoNominationDue
 pub mod WithoutValidPair
 pub mod PollingCycles
+pub mod NominationsAhead
 pub mod ConsentAfterTimeouts

@@ -1,6 +1,7 @@
 -- Rounds in which a pair is checked, or a path selected.
 pub mod AnsweredRounds
 pub mod AnsweredRoundsInLogs
+pub mod CountedSelections
 pub mod InTurnAlong
 pub mod DuePairsInLogs
 pub mod DuePairsPerAgent

@@ -9,14 +9,15 @@ use Rattle.is_theorems.specs.Asked.{IsAnsweredIn}
 use Rattle.is_theorems.specs.Bounds.{FormsFew, IsLimited, gathered_count, pair_bound, signal_count}
 use Rattle.is_theorems.specs.Logs.{Logged}
 use Rattle.is_theorems.specs.Progress.{checks_for}
-use Rattle.is_theorems.specs.Reached.{ChecksIn, IsEndedIn, IsInLine, IsLasting, IsPassing}
+use Rattle.is_theorems.specs.Reached.{ChecksIn, IsEndedIn, IsInLine, IsLasting, IsPassing, nominations_ahead, selection_count}
 use Rattle.is_theorems.specs.Rounds.{LoggedRound, Part, began_at, entries_of}
 use Rattle.is_theorems.specs.Runs.{IsFresh}
 use Rattle.is_rules.specs.Sending.{path_of}
 
 module _ {H P : Type 0} where
   -- The rounds suffice for a pair that is due by the time `by` when they begin. For a bound of n pairs there are at least 2n - 1
-  -- rounds, and one more for each pair that is added in them; if checks may go ahead, 4n - 1, and two more.
+  -- rounds, and one more for each pair that is added in them, and for each nomination that may be sent at once; if checks may go
+  -- ahead, 4n - 1, and two more.
   pub record SufficeWithin (bound by : ℕ) (start : AgentRecord H P) (rounds : List (LoggedRound P)) (last : AgentRecord H P)
       (p : PairRecord) : Type 0 where
     pub at : ℕ
@@ -24,7 +25,8 @@ module _ {H P : Type 0} where
     pub line : IsInLine at by start p
     pub passing : (r : LoggedRound P) → Has rounds r → IsPassing by r
     pub lasting : (r : LoggedRound P) → Has rounds r → IsLasting r.now start p
-    pub enough : checks_for start.rules (2 * bound + last.next_number) ≤ length rounds + 1 + checks_for start.rules start.next_number
+    pub enough : checks_for start.rules (2 * bound + last.next_number + nominations_ahead start (selection_count (entries_of rounds)))
+        ≤ length rounds + 1 + checks_for start.rules start.next_number
 
   module _ (mac : H → List ℕ → List ℕ → List ℕ) (answers : P → CandidateRecord → ℕ → ℕ → Type 0) where
     -- Then a check is sent on the pair's path in one of them, unless a success response is received on the path in one of them, or

@@ -32,7 +32,7 @@ module _ {H P : Type 0} (mac : H → List ℕ → List ℕ → List ℕ) (answer
       → ((x : LoggedRound P) → Has (r ∷ later) x → IsAnsweredInRound (path_of start p) x)
       → IsControllingIn mac answers before start one.at (entries_of (r ∷ [])) second one.following one.run
       → IsControllingIn mac answers (entries_of (r ∷ []) ++ before) second others.at (entries_of later) last others.following others.run
-      → SufficesFromDue start second last (length later)
+      → SufficesFromDue start second last (length later) 0
       → SegmentSelects mac answers first s log (entries_of later ++ entries_of (r ∷ []))
       ⊎ (IsEndedIn mac answers before start one.at (entries_of (r ∷ [])) second one.following one.run (path_of start p)
       ⊎ IsEndedIn mac answers (entries_of (r ∷ []) ++ before) second others.at (entries_of later) last others.following others.run (path_of start p))

@@ -14,8 +14,8 @@ use Rattle.is_theorems.specs.Courses.{AcceptsSuccess, CourseRound}
 use Rattle.is_theorems.specs.Exchange.{Course}
 use Rattle.is_theorems.specs.Logs.{Logged}
 use Rattle.is_theorems.specs.Progress.{Awaits, IsUnanswered, checks_for}
-use Rattle.is_theorems.specs.Reached.{IsInLine, IsLasting, is_in_round, IsPassing, ChecksIn, IsEndedIn}
-use Rattle.is_theorems.specs.ReachedCourses.{ChecksAmong, IsAnsweredAmong, PassRounds}
+use Rattle.is_theorems.specs.Reached.{IsInLine, IsLasting, is_in_round, IsPassing, ChecksIn, IsEndedIn, nominations_ahead, selection_count}
+use Rattle.is_theorems.specs.ReachedCourses.{ChecksAmong, IsAnsweredAmong, PassRounds, selections_among}
 use Rattle.is_theorems.specs.Rounds.{LoggedRound, entries_of, Part}
 use Rattle.is_theorems.specs.Runs.{IsFresh}
 use Rattle.is_rules.specs.Sending.{path_of}
@@ -34,18 +34,25 @@ pub record IsOpenRound {P : Type 0} (by : ℕ) (r : CourseRound P) : Type 0 wher
 
 -- Enough rounds follow the first one. Let there be n pairs when the first call comes, and m when the second one does. If n is 1, the
 -- first round suffices. Otherwise 2m - 1 rounds after it do, and one more for each pair that is added in these; if checks may go
--- ahead, 4m - 1, and two more for each such pair.
-abbrev pub SufficesFromDue : {H P : Type 0} → AgentRecord H P → AgentRecord H P → AgentRecord H P → ℕ → Type 0
-SufficesFromDue first second last later =
+-- ahead, 4m - 1, and two more for each such pair. Each nomination that may be sent at once in these counts like such a pair: so many
+-- are `ahead`.
+abbrev pub SufficesFromDue : {H P : Type 0} → (first second last : AgentRecord H P) → (later ahead : ℕ) → Type 0
+SufficesFromDue first second last later ahead =
     (length first.pairs ≤ 1)
-    ⊎ (checks_for second.rules (2 * length second.pairs + last.next_number) ≤ later + 1 + checks_for second.rules second.next_number)
+    ⊎ (checks_for second.rules (2 * length second.pairs + last.next_number + ahead) ≤ later + 1 + checks_for second.rules second.next_number)
 
 -- The same for a pair that is due by the time `by`, if the first call comes at time `now`. If this is later than `by`, 2n - 1 rounds
--- suffice, the first included, and one more for each pair that is added in them; if checks may go ahead, 4n - 1, and two more.
-abbrev pub Suffices : {H P : Type 0} → ℕ → ℕ → AgentRecord H P → AgentRecord H P → AgentRecord H P → ℕ → Type 0
-Suffices by now first second last later =
-    ((by < now) × (checks_for first.rules (2 * length first.pairs + last.next_number) ≤ later + 2 + checks_for first.rules first.next_number))
-    ⊎ SufficesFromDue first second last later
+-- suffice, the first included, and one more for each pair that is added in them; if checks may go ahead, 4n - 1, and two more. Each
+-- nomination that may be sent at once counts like such a pair: so many are `all_ahead` in all rounds, and `ahead` in those after the first.
+abbrev pub Suffices : {H P : Type 0} → (by now : ℕ) → (first second last : AgentRecord H P) → (later all_ahead ahead : ℕ) → Type 0
+Suffices by now first second last later all_ahead ahead =
+    ((by < now) × (checks_for first.rules (2 * length first.pairs + last.next_number + all_ahead) ≤ later + 2 + checks_for first.rules first.next_number))
+    ⊎ SufficesFromDue first second last later ahead
+
+-- The same for rounds of an execution, if `many` of them follow the first one or more.
+abbrev pub RoundsSuffice : {H P : Type 0} → (by : ℕ) → (first second last : AgentRecord H P) → CourseRound P → List (CourseRound P) → (many : ℕ) → Type 0
+RoundsSuffice by first second last r later many =
+    Suffices by r.now first second last many (nominations_ahead first (selections_among (r ∷ later))) (nominations_ahead second (selections_among later))
 
 module _ {H P : Type 0} (mac : H → List ℕ → List ℕ → List ℕ) (answers : P → CandidateRecord → ℕ → ℕ → Type 0) where
   -- ---- in an execution
@@ -61,14 +68,16 @@ module _ {H P : Type 0} (mac : H → List ℕ → List ℕ → List ℕ) (answer
   IsReached rounds old new run path = ChecksAmong rounds path ⊎ (IsAnsweredAmong rounds path ⊎ EndsAmong rounds old new run path)
 
   -- An execution starts with a newly created agent. One of n pairs waits for its check, due by an earlier time `by`. At least
-  -- 2n - 1 rounds follow, and one more for each pair that is added in them, by the caller or by the peer; if checks may go
-  -- ahead, 4n - 1, and two more. Then the pair's path is reached. This holds in either role, whatever the agent receives and nominates.
+  -- 2n - 1 rounds follow, and one more for each pair that is added in them, by the caller or by the peer, and for each nomination that
+  -- may be sent at once; if checks may go ahead, 4n - 1, and two more. Then the pair's path is reached. This holds in either role,
+  -- whatever the agent receives and nominates.
   abbrev pub OpenCoursesReach : Type 0
   OpenCoursesReach =
       (first start last : AgentRecord H P) (xs : List (Call P × Entry)) (r : CourseRound P) (rounds : List (CourseRound P)) (p : PairRecord) (by : ℕ)
       → IsFresh first → Course mac answers xs first start → IsInLine r.now by start p → (run : PassRounds mac answers (r ∷ rounds) start last)
       → ((x : CourseRound P) → Has (r ∷ rounds) x → IsOpenRound by x) → ((x : CourseRound P) → Has (r ∷ rounds) x → IsLasting x.now start p)
-      → checks_for start.rules (2 * length start.pairs + last.next_number) ≤ length (r ∷ rounds) + 1 + checks_for start.rules start.next_number
+      → checks_for start.rules (2 * length start.pairs + last.next_number + nominations_ahead start (selections_among (r ∷ rounds)))
+      ≤ length (r ∷ rounds) + 1 + checks_for start.rules start.next_number
       → IsReached (r ∷ rounds) start last run (path_of start p)
 
   -- The same of a pair that is due by the first `handle_timeout` call of the rounds, and maybe not before it. All others are later.
@@ -78,18 +87,18 @@ module _ {H P : Type 0} (mac : H → List ℕ → List ℕ → List ℕ) (answer
       → IsFresh first → Course mac answers xs first start → IsInLine r.now by start p
       → by ≤ r.now → r.timeout.answer ≡ Done → r.now < MAX → AreInRound r.following
       → (run : PassRounds mac answers (r ∷ later) start last) → ((x : CourseRound P) → Has later x → IsOpenRound by x)
-      → ((x : CourseRound P) → Has later x → IsLasting x.now start p) → Suffices by r.now start run.1 last (length later)
+      → ((x : CourseRound P) → Has later x → IsLasting x.now start p) → RoundsSuffice by start run.1 last r later (length later)
       → IsReached (r ∷ later) start last run (path_of start p)
 
-  -- The same for a controlling agent without a valid pair, whether its nominations have numbers or not: unless a success response is
-  -- accepted in the rounds.
+  -- The same for a controlling agent without a valid pair, which sends no nomination at once, whether nominations have numbers or not:
+  -- unless a success response is accepted in the rounds.
   abbrev pub CoursesReachUnanswered : Type 0
   CoursesReachUnanswered =
       (first start last : AgentRecord H P) (xs : List (Call P × Entry)) (r : CourseRound P) (later : List (CourseRound P)) (p : PairRecord) (by : ℕ)
       → IsFresh first → Course mac answers xs first start → start.controlling ≡ true → Awaits r.now by start p → IsUnanswered start p
       → by ≤ r.now → r.timeout.answer ≡ Done → r.now < MAX → AreInRound r.following
       → (run : PassRounds mac answers (r ∷ later) start last) → ((x : CourseRound P) → Has later x → IsOpenRound by x)
-      → Suffices by r.now start run.1 last (length later)
+      → Suffices by r.now start run.1 last (length later) 0 0
       → ((x : CourseRound P) × Has (r ∷ later) x × ((y : Call P × Entry) × Has x.following y × AcceptsSuccess y.0 y.1))
       ⊎ IsReached (r ∷ later) start last run (path_of start p)
 
@@ -112,7 +121,8 @@ module _ {H P : Type 0} (mac : H → List ℕ → List ℕ → List ℕ) (answer
       → (others : Part mac answers first s log (entries_of (r ∷ []) ++ before) second (entries_of later) last)
       → IsInLine r.now by start p → by ≤ r.now → r.timeout.call ≡ HandleTimeout r.now → r.timeout.entry.answer ≡ Done
       → ((x : Logged P) → Has r.following x → is_in_round x.call ≡ true) → ((x : LoggedRound P) → Has later x → IsPassing by x)
-      → ((x : LoggedRound P) → Has later x → IsLasting x.now start p) → SufficesFromDue start second last (length later)
+      → ((x : LoggedRound P) → Has later x → IsLasting x.now start p)
+      → SufficesFromDue start second last (length later) (nominations_ahead second (selection_count (entries_of later)))
       → IsReachedIn (r ∷ []) one (path_of start p) ⊎ IsReachedIn later others (path_of start p)
 
   abbrev pub PairsAreReachedFromDue : Type 0

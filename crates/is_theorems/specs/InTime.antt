@@ -20,7 +20,7 @@ use Rattle.is_theorems.specs.Runs.{IsFresh}
 use Rattle.is_rules.specs.Sending.{path_of}
 use Rattle.is_rules.specs.Steps.{Call, Entry, HandleTimeout, PollTimeout, SetTimingAdvance, Done, NextTimeout, Step}
 use Rattle.is_theorems.specs.FirstChecks.{SufficeForDue, times_of}
-use Rattle.is_theorems.specs.FirstTimeouts.{AreInRound, IsOpenRound, EndsAmong, Suffices}
+use Rattle.is_theorems.specs.FirstTimeouts.{AreInRound, IsOpenRound, EndsAmong, RoundsSuffice}
 
 -- A `handle_timeout` call sends a check on the path.
 abbrev pub SendsCheckOn : Entry → Path → Type 0
@@ -98,7 +98,7 @@ module _ {H P : Type 0} (mac : H → List ℕ → List ℕ → List ℕ) (answer
       → IsFresh first → Course mac answers xs first start → IsInLine r.now by start p
       → by ≤ r.now → r.timeout.answer ≡ Done → r.now < MAX → AreInRound r.following
       → (run : PassRounds mac answers (r ∷ later) start last) → ((x : CourseRound P) → Has later x → IsOpenRound by x)
-      → ((x : CourseRound P) → Has later x → IsLasting x.now start p) → Suffices by r.now start run.1 last many → many ≤ length later → IsTimed pace delay start r later
+      → ((x : CourseRound P) → Has later x → IsLasting x.now start p) → RoundsSuffice by start run.1 last r later many → many ≤ length later → IsTimed pace delay start r later
       → IsReachedBy (r.now + many * (pace + delay)) (r ∷ later) start last run (path_of start p)
 
   -- A controlling agent without a valid pair, in rounds in which only packets and polls come: if they suffice for the pair, a check is

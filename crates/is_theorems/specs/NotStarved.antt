@@ -1,5 +1,5 @@
 -- With limits on pairs and on what packets bring, a pair that is due is checked within a number of rounds that depends on nothing
--- that the agent receives in them.
+-- that the agent receives in them. If nominations have numbers, each path that is selected in the rounds may take one more.
 use Rattle.std.specs.Prelude.{◌≡◌, ℕ, ◌+◌, ◌*◌, ◌≤◌, ◌⊎◌, Bool, true, false, List, [], ◌∷◌, length, count_by, Some}
 use Rattle.rand_core.specs.Stream.{Stream}
 use Rattle.is_proto.specs.Lists.{Has}
@@ -11,7 +11,7 @@ use Rattle.is_theorems.specs.Asked.{IsAnsweredIn}
 use Rattle.is_theorems.specs.Bounds.{FormsFew, IsLimited, gathered_count, pair_bound, signal_count}
 use Rattle.is_theorems.specs.Logs.{Logged}
 use Rattle.is_theorems.specs.Progress.{checks_for}
-use Rattle.is_theorems.specs.Reached.{ChecksIn, IsInLine, IsLasting, IsPassing, is_in_round}
+use Rattle.is_theorems.specs.Reached.{ChecksIn, IsInLine, IsLasting, IsPassing, is_in_round, nominations_ahead, selection_count}
 use Rattle.is_theorems.specs.Rounds.{LoggedRound, Part, RunsOn, began_at, entries_of}
 use Rattle.is_theorems.specs.Runs.{IsFresh}
 use Rattle.is_rules.specs.Sending.{path_of}
@@ -43,7 +43,8 @@ module _ {H P : Type 0} where
 
   -- The rounds suffice for a pair that is due by the time `by` when they begin, whatever pairs requests add in them. For at most n
   -- pairs and m retransmits, m at least 2, k rounds suffice if k is at least (3n - 1) * m / (m - 1). If checks may go ahead, m is at
-  -- least 3, and k at least (6n - 1) * m / (m - 2).
+  -- least 3, and k at least (6n - 1) * m / (m - 2). If s nominations may be sent at once, read 3n + s for 3n: each takes one of the
+  -- rounds, and nothing that the caller chooses bounds how many paths are selected in them.
   pub record SufficeSteady (bound by : ℕ) (start : AgentRecord H P) (rounds : List (LoggedRound P)) (p : PairRecord) : Type 0 where
     pub at : ℕ
     pub began : began_at rounds ≡ Some at
@@ -51,7 +52,8 @@ module _ {H P : Type 0} where
     pub passing : (r : LoggedRound P) → Has rounds r → IsPassing by r
     pub lasting : (r : LoggedRound P) → Has rounds r → IsLasting r.now start p
     pub steady : AreSteady (entries_of rounds)
-    pub enough : checks_for start.rules (3 * bound) * start.timing.max_retransmits + checks_for start.rules (length rounds)
+    pub enough : checks_for start.rules (3 * bound + nominations_ahead start (selection_count (entries_of rounds))) * start.timing.max_retransmits
+        + checks_for start.rules (length rounds)
         ≤ (length rounds + 1) * start.timing.max_retransmits
 
   module _ (mac : H → List ℕ → List ℕ → List ℕ) (answers : P → CandidateRecord → ℕ → ℕ → Type 0) where
@@ -75,7 +77,7 @@ module _ {H P : Type 0} where
     RequestsAddFew = (first : AgentRecord H P) (s : Stream) (log : List (Logged P)) → IsFresh first → RequestsAddFewIn first s log
 
     -- If consent lasts in the rounds, a check is sent on the pair's path in one of them, unless a success response is received on it in
-    -- one of them. The bound depends on the caller only.
+    -- one of them. Besides the caller's choices the bound depends only on how many paths are selected, if nominations have numbers.
     abbrev pub SteadyRoundsReach : AgentRecord H P → Stream → List (Logged P) → Type 0
     SteadyRoundsReach first s log =
         (most limit : ℕ) → IsLimited mac answers most first s log → FormsFew mac answers limit first s log

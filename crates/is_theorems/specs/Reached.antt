@@ -1,7 +1,7 @@
 -- How soon a pair that is due is checked, in either role, whatever the agent receives and while candidates are added: other pairs may
--- be checked first, each at most twice. So a controlled agent selects a path, if the peer nominates the pair's path and the checks on
--- it are answered.
-use Rattle.std.specs.Prelude.{◌≡◌, ℕ, ◌+◌, ◌*◌, ◌<◌, ◌≤◌, ◌⊎◌, Bool, true, false, not, List, [], ◌∷◌, ◌++◌, length, Some, None, is_some}
+-- be checked first, each at most twice, and paths that are nominated at once. So a controlled agent selects a path, if the peer
+-- nominates the pair's path and the checks on it are answered.
+use Rattle.std.specs.Prelude.{◌≡◌, ℕ, ◌+◌, ◌*◌, ◌<◌, ◌≤◌, ◌⊎◌, Bool, true, false, not, List, [], ◌∷◌, ◌++◌, length, count_by, Some, None, is_some, if◌then◌else◌}
 use Rattle.rand_core.specs.Stream.{Stream}
 use Rattle.is_proto.specs.Lists.{Has}
 use Rattle.is_proto.specs.Times.{MAX}
@@ -11,17 +11,19 @@ use Rattle.is_pair.specs.Due.{due_time_of, stays_answered}
 use Rattle.is_pair.specs.Pairs.{PairRecord, is_valid}
 use Rattle.is_stun.specs.declared.header.Class.TheVariants as class
 use Rattle.is_rules.specs.Agent.{AgentRecord}
+use Rattle.is_rules.specs.Effects.{last_of}
 use Rattle.is_theorems.specs.Asked.{IsOnlyPair, IsAnsweredIn, IsAskedIn, MayEndIn}
 use Rattle.is_theorems.specs.AskedCourses.{Ends}
 use Rattle.is_rules.specs.declared.emitted.Path.{Path}
 use Rattle.is_theorems.specs.Logs.{Logged}
 use Rattle.is_theorems.specs.Progress.{IsChecking, checks_for}
 use Rattle.is_rules.specs.Nominating.{numbers}
+use Rattle.is_rules.specs.Owed.{one_if}
 use Rattle.is_rules.specs.Queue.{request_at}
 use Rattle.is_theorems.specs.Rounds.{LoggedRound, entries_of, began_at, is_between, Part, RunsOn}
 use Rattle.is_theorems.specs.Runs.{IsFresh, IsTopPath}
 use Rattle.is_rules.specs.Sending.{path_of}
-use Rattle.is_rules.specs.Steps.{Call, SetMtu, SetControlTieBreaker, SetMaxCandidatePairs, SetMaxDiscovered, SetRenomination, SetTimingAdvance, SetLocalPreference, SetControlling, SetLocalCredentials, AddLocalCandidate, AddRemoteCandidate, HandleTimeout, Done}
+use Rattle.is_rules.specs.Steps.{Call, Entry, SetMtu, SetControlTieBreaker, SetMaxCandidatePairs, SetMaxDiscovered, SetRenomination, SetTimingAdvance, SetLocalPreference, SetControlling, SetLocalCredentials, AddLocalCandidate, AddRemoteCandidate, HandleTimeout, Done}
 use Rattle.is_rules.specs.Emitted.{issued_as}
 
 -- What may come between two `handle_timeout` calls: packets and polls, candidates that are added, and settings that change neither
@@ -57,19 +59,31 @@ ChecksIn rounds path =
 abbrev pub IsMetOn : {P : Type 0} → Path → LoggedRound P → Type 0
 IsMetOn path r = (id : List ℕ) → r.timeout.entry.emitted.issued ≡ Some (issued_as path class.Request id) → IsAnsweredIn r.following path
 
+-- The call selects a path.
+abbrev pub selects : Entry → Bool
+selects e = is_some (last_of e.emitted.selected_paths)
+
+-- how many calls of the segment select a path
+abbrev pub selection_count : {P : Type 0} → List (Logged P) → ℕ
+selection_count part = count_by (λ (x : Logged _). selects x.entry) part
+
 module _ {H P : Type 0} where
+  -- If nominations have numbers, each path that is selected is checked at once, before pairs that are due earlier
+  -- (`nominates_at_once`). So many such checks may be sent from this state on, while so many calls select a path: one for each of them,
+  -- and one if a nomination is to be sent already.
+  abbrev pub nominations_ahead : AgentRecord H P → ℕ → ℕ
+  nominations_ahead a selections = if numbers a then one_if a.nomination_due + selections else 0
+
   -- Consent does not end before this time: the last check of the pair that got a response is recent enough, or consent does not end
   -- by a clock. A pair that is not valid never got one.
   abbrev pub IsLasting : ℕ → AgentRecord H P → PairRecord → Type 0
   IsLasting now a p = is_valid p ≡ true → stays_answered a.timing.consent now p ≡ true
 
   -- A pair waits for its check: its due time, computed at time `at`, is at most `by`, and it will not be removed after timeout, or when
-  -- consent ends, before the check. It is not valid, so nothing nominates it first, or its due time is fixed already. Nominations have no
-  -- numbers: with them each path that is selected is checked at once.
+  -- consent ends, before the check. It is not valid, so nothing nominates it first, or its due time is fixed already.
   pub record IsInLine (at by : ℕ) (a : AgentRecord H P) (p : PairRecord) : Type 0 where
     pub checking : IsChecking a
     pub queue : a.queue ≡ []
-    pub unnumbered : numbers a ≡ false
     pub there : Has a.pairs p
     pub due : due_time_of at a.timing p ≤ by
     pub settled : (is_valid p ≡ false) ⊎ (is_some p.due ≡ true)
@@ -78,14 +92,15 @@ module _ {H P : Type 0} where
 
   -- The rounds suffice for a pair that is due by the time `by` when they begin: their `handle_timeout` calls are later than `by`.
   -- For n pairs there are at least 2n - 1 rounds, and one more for each pair that is added in them; if checks may go ahead,
-  -- 4n - 1, and two more for each such pair.
+  -- 4n - 1, and two more for each such pair. Each nomination that may be sent at once (`nominations_ahead`) counts like such a pair.
   pub record Suffice (by : ℕ) (start : AgentRecord H P) (rounds : List (LoggedRound P)) (last : AgentRecord H P) (p : PairRecord) : Type 0 where
     pub at : ℕ
     pub began : began_at rounds ≡ Some at
     pub line : IsInLine at by start p
     pub passing : (r : LoggedRound P) → Has rounds r → IsPassing by r
     pub lasting : (r : LoggedRound P) → Has rounds r → IsLasting r.now start p
-    pub enough : checks_for start.rules (2 * length start.pairs + last.next_number) ≤ length rounds + 1 + checks_for start.rules start.next_number
+    pub enough : checks_for start.rules (2 * length start.pairs + last.next_number + nominations_ahead start (selection_count (entries_of rounds)))
+        ≤ length rounds + 1 + checks_for start.rules start.next_number
 
   module _ (mac : H → List ℕ → List ℕ → List ℕ) (answers : P → CandidateRecord → ℕ → ℕ → Type 0) where
     -- Between the `handle_timeout` calls of a segment, a call may remove a pair that uses the path's addresses. Only the addition

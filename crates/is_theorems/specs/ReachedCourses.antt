@@ -1,6 +1,6 @@
 -- How soon a pair that is due is checked, for an agent that may share its random source: in an execution, as in a log. For a
 -- controlling agent without a valid pair the bound is smaller.
-use Rattle.std.specs.Prelude.{◌≡◌, ℕ, true, ◌+◌, ◌*◌, ◌<◌, ◌≤◌, ◌⊎◌, List, [], ◌∷◌, length, Some}
+use Rattle.std.specs.Prelude.{◌≡◌, ℕ, true, ◌+◌, ◌*◌, ◌<◌, ◌≤◌, ◌⊎◌, List, [], ◌∷◌, length, count_by, Some}
 use Rattle.rand_core.specs.Stream.{Stream}
 use Rattle.is_proto.specs.Lists.{Has}
 use Rattle.is_proto.specs.Times.{MAX}
@@ -14,7 +14,8 @@ use Rattle.is_theorems.specs.AskedCourses.{IsAnsweredAlong}
 use Rattle.is_theorems.specs.Courses.{CourseRound, SelectsAmong, CourseRounds}
 use Rattle.is_theorems.specs.Exchange.{AreBetween, Course}
 use Rattle.is_theorems.specs.Progress.{checks_for, Awaits, IsUnanswered}
-use Rattle.is_theorems.specs.Reached.{IsInLine, IsLasting}
+use Rattle.is_rules.specs.Owed.{one_if}
+use Rattle.is_theorems.specs.Reached.{IsInLine, IsLasting, nominations_ahead, selects}
 use Rattle.is_theorems.specs.Runs.{IsFresh}
 use Rattle.is_rules.specs.Sending.{path_of}
 use Rattle.is_rules.specs.Steps.{Call, Entry, HandleTimeout, Done, Step}
@@ -36,6 +37,11 @@ ChecksAmong rounds path =
 abbrev pub IsAnsweredAmong : {P : Type 0} → List (CourseRound P) → Path → Type 0
 IsAnsweredAmong rounds path = (r : CourseRound _) × Has rounds r × IsAnsweredAlong r.following path
 
+-- how many calls of the rounds select a path
+abbrev pub selections_among : {P : Type 0} → List (CourseRound P) → ℕ
+selections_among [] = 0
+selections_among (r ∷ later) = one_if (selects r.timeout) + (count_by (λ (x : Call _ × Entry). selects x.1) r.following + selections_among later)
+
 module _ {H P : Type 0} (mac : H → List ℕ → List ℕ → List ℕ) (answers : P → CandidateRecord → ℕ → ℕ → Type 0) where
   -- one round after another, in either role
   abbrev pub PassRounds : List (CourseRound P) → AgentRecord H P → AgentRecord H P → Type 0
@@ -45,15 +51,16 @@ module _ {H P : Type 0} (mac : H → List ℕ → List ℕ → List ℕ) (answer
       × Course mac answers r.following mid next × PassRounds later next new
 
   -- An execution starts with a newly created agent. One of n pairs waits for its check, and at least 2n - 1 rounds follow, and
-  -- one more for each pair that is added in them; if checks may go ahead, 4n - 1, and two more. Then a check is sent on the pair's
-  -- path in one of them, unless a success response is received on the path in one of them. This holds in either role, whatever the agent
-  -- receives and nominates.
+  -- one more for each pair that is added in them, and for each nomination that may be sent at once (`nominations_ahead`); if checks may
+  -- go ahead, 4n - 1, and two more. Then a check is sent on the pair's path in one of them, unless a success response is received on
+  -- the path in one of them. This holds in either role, whatever the agent receives and nominates.
   abbrev pub CoursesReach : Type 0
   CoursesReach =
       (first start last : AgentRecord H P) (xs : List (Call P × Entry)) (r : CourseRound P) (rounds : List (CourseRound P)) (p : PairRecord) (by : ℕ)
       → IsFresh first → Course mac answers xs first start → IsInLine r.now by start p → PassRounds (r ∷ rounds) start last
       → ((x : CourseRound P) → Has (r ∷ rounds) x → IsPassed by x) → ((x : CourseRound P) → Has (r ∷ rounds) x → IsLasting x.now start p)
-      → checks_for start.rules (2 * length start.pairs + last.next_number) ≤ length (r ∷ rounds) + 1 + checks_for start.rules start.next_number
+      → checks_for start.rules (2 * length start.pairs + last.next_number + nominations_ahead start (selections_among (r ∷ rounds)))
+      ≤ length (r ∷ rounds) + 1 + checks_for start.rules start.next_number
       → ChecksAmong (r ∷ rounds) (path_of start p) ⊎ IsAnsweredAmong (r ∷ rounds) (path_of start p)
 
   -- An execution starts with a newly created agent. At the start of the rounds no pair is valid, and n pairs are due by an

@@ -2,6 +2,9 @@
 //! those if checks may not go ahead of pairs that are due earlier (`Rules`). If they may, 2n - 1 becomes 4n - 1, with two more for each
 //! pair that is added, and n becomes 2n, since every second check may be of another pair. A single pair still needs one round.
 //!
+//! If nominations have numbers, each path that is selected is checked at once. So in either role each call of the rounds that selects a path
+//! counts like a pair that is added, and so does a path that was selected before them and not checked since (`nominations_ahead`).
+//!
 //! With the rule `consent` a pair that is valid when the rounds begin also has to keep consent in them: at each of their timeouts its last
 //! check that got a response before them is recent enough (`IsLasting`). Otherwise it may be removed before its check.
 

@@ -2,6 +2,7 @@
 use super::history::{Does, History, Note};
 use super::seen::Seen;
 use crate::names::{of, other};
+use is::stun::Class;
 use is::{Issued, Path, Side};
 
 /// The entry delivers to the side the packet that was issued so, and the call does not fail (`Hands`).
@@ -95,6 +96,42 @@ impl History {
         path
     }
 
+    /// How many of these entries of the side select a path (`selections_of`).
+    fn selections(&self, side: Side, first: usize, end: usize) -> u64 {
+        let mut count: u64 = 0;
+        for number in first..end {
+            if self.selects(side, number, number.saturating_add(1)) {
+                count = count.saturating_add(1);
+            }
+        }
+        count
+    }
+
+    /// Before this entry the side selected a path, and did not check it since.
+    fn is_to_nominate(&self, side: Side, end: usize) -> bool {
+        let (mut due, mut path) = (false, None);
+        for note in self.notes.iter().take(end) {
+            path = note.selected_after(side, path);
+            if note.side == side {
+                due = (due || note.selected != [None, None]) && !note.checks(path);
+            }
+        }
+        due
+    }
+
+    /// So many nominations the side may send at once in these entries, before pairs that are due earlier (`nominations_ahead`).
+    pub fn nominations_ahead(&self, side: Side, first: usize, end: usize) -> u64 {
+        if !self.before(first, side).numbered {
+            return 0;
+        }
+        let count = self.selections(side, first, end);
+        if self.is_to_nominate(side, first) {
+            count.saturating_add(1)
+        } else {
+            count
+        }
+    }
+
     /// Each side selected its own path last.
     pub fn are_on_one_path(&self, end: usize) -> bool {
         let [a, b] = self.paths;
@@ -103,6 +140,14 @@ impl History {
 }
 
 impl Note {
+    /// A `handle_timeout` call sends a check on this path.
+    fn checks(&self, path: Option<Path>) -> bool {
+        match self.issued {
+            Some(issued) => issued.class == Class::Request && Some(issued.path) == path,
+            None => false,
+        }
+    }
+
     /// The call clears the side's pairs.
     fn clears(&self, side: Side) -> bool {
         self.side == side && self.done && matches!(self.does, Does::Clears)

@@ -35,9 +35,8 @@ const YOUNG: Rounds = "Young";
 /// Consent does not end before its check (`IsLasting`).
 const LASTING: Rounds = "Lasting";
 
-/// Its nominations have no numbers. In `rounds` they may, if none is to be sent at once (`nominates_at_once`): as none of its pairs was
-/// selected.
-const UNNUMBERED: Rounds = "Unnumbered";
+/// In `rounds`: no nomination is to be sent at once (`nominates_at_once`), as none of its pairs was selected.
+const CALM: Rounds = "Calm";
 
 /// Each `handle_timeout` call returns Ok.
 const DONE: Rounds = "Done";
@@ -45,7 +44,8 @@ const DONE: Rounds = "Done";
 /// Between them the side polls, adds candidates, and changes only settings that no pair depends on.
 const BETWEEN: Rounds = "Between";
 
-/// The rounds suffice (`AreEnough`); in `rounds` also n rounds with polls only, for n pairs that are due (`AreEachPolled`).
+/// The rounds suffice (`SideRoundsReach`); in `rounds` without nominations that are sent at once (`SideRoundsSuffice`), and also n rounds
+/// with polls only, for n pairs that are due (`AreEachPolled`).
 const ENOUGH: Rounds = "Enough";
 
 /// Rounds of a side (`AreKept`).
@@ -63,7 +63,7 @@ struct Kept {
     polls: bool,
 }
 
-/// What the pair lacks for rounds that begin at this time (`IsInLine`, except for `unnumbered`).
+/// What the pair lacks for rounds that begin at this time (`IsInLine`).
 fn lacks_in_line(seen: Seen, now: Instant) -> Result<Instant, Rounds> {
     if !seen.checking {
         return Err(CHECKING);
@@ -121,12 +121,13 @@ fn checks_for(start: Seen, n: u64) -> u64 {
     }
 }
 
-/// 2n - 1 rounds for n pairs, and one for each pair that is added until the last.
-fn are_enough(rounds: u64, first: Seen, last: Seen) -> bool {
+/// 2n - 1 rounds for n pairs, and one for each pair that is added until the last, and for each of so many nominations at once.
+fn are_enough(rounds: u64, first: Seen, last: Seen, ahead: u64) -> bool {
     let Ok(pairs) = u64::try_from(first.pairs) else {
         return false;
     };
-    let needed = checks_for(first, pairs.saturating_mul(2).saturating_add(last.numbers));
+    let others = last.numbers.saturating_add(ahead);
+    let needed = checks_for(first, pairs.saturating_mul(2).saturating_add(others));
     let before = checks_for(first, first.numbers);
     needed <= rounds.saturating_add(1).saturating_add(before)
 }
@@ -223,21 +224,30 @@ impl History {
         Ok(kept)
     }
 
-    /// The rounds suffice (`Suffices`).
-    fn suffices(&self, kept: Kept, side: Side, first: usize, end: usize) -> bool {
+    /// The rounds suffice (`Suffices`), with so many nominations at once in all of them, and in those after the first.
+    fn suffices(&self, kept: Kept, side: Side, first: usize, end: usize, ahead: [u64; 2]) -> bool {
+        let [in_all, later] = ahead;
         let (start, last) = (self.before(first, side), self.before(end, side));
         let is_early = kept.by < kept.from;
         start.pairs <= 1
-            || is_early && are_enough(kept.later.saturating_add(1), start, last)
-            || are_enough(kept.later, self.before(kept.second, side), last)
+            || is_early && are_enough(kept.later.saturating_add(1), start, last, in_all)
+            || are_enough(kept.later, self.before(kept.second, side), last, later)
+    }
+
+    /// The same, with those that the side may send (`SideRoundsReach`).
+    fn reaches(&self, kept: Kept, side: Side, first: usize, end: usize) -> bool {
+        let ahead = [
+            self.nominations_ahead(side, first, end),
+            self.nominations_ahead(side, kept.second, end),
+        ];
+        self.suffices(kept, side, first, end, ahead)
     }
 
     /// What the side's rounds lack.
     pub fn lacks_rounds(&self, side: Side, first: usize, end: usize) -> Option<Rounds> {
         match self.kept(side, first, end) {
             Err(missed) => Some(missed),
-            Ok(_) if self.before(first, side).numbered => Some(UNNUMBERED),
-            Ok(kept) if self.suffices(kept, side, first, end) => None,
+            Ok(kept) if self.reaches(kept, side, first, end) => None,
             Ok(_) => Some(ENOUGH),
         }
     }
@@ -248,13 +258,13 @@ impl History {
         let kept = match self.kept(side, first, end) {
             Err(missed) => return Some(missed),
             Ok(_) if start.is_valid => return Some(INVALID),
-            Ok(_) if start.numbered && start.selected => return Some(UNNUMBERED),
+            Ok(_) if start.numbered && start.selected => return Some(CALM),
             Ok(kept) => kept,
         };
         let due = u64::try_from(start.due).ok()?;
         let is_polled = kept.polls && kept.by < kept.from;
         if is_polled && checks_for(start, due) <= kept.later.saturating_add(1)
-            || self.suffices(kept, side, first, end)
+            || self.suffices(kept, side, first, end, [0, 0])
         {
             None
         } else {

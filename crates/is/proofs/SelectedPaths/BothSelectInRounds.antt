@@ -1,7 +1,8 @@
 -- Both of two agents select a path in rounds in which the network delivers. The preconditions that mutants/specifications
 -- changes are read by tactics.
-use Rattle.std.proofs.Common.{◌≡◌, ℕ, suc, ◌<◌, Bool, true, false, List, [], ◌∷◌, ◌++◌, ◌&&◌, length, Option, Some, None, inl, inr, ◌⊎◌, refl, ap, sym, ◌∙◌, subst, arith, if◌then◌else◌, Ok}
+use Rattle.std.proofs.Common.{◌≡◌, ℕ, suc, ◌+◌, ◌<◌, ◌≤◌, Bool, true, false, List, [], ◌∷◌, ◌++◌, ◌&&◌, cond, length, Option, Some, None, inl, inr, ◌⊎◌, refl, ap, sym, ◌∙◌, subst, arith, if◌then◌else◌, Ok}
 use Rattle.std.specs.Prelude.{slice_get}
+use Rattle.std.proofs.lemmas.List.Sums.{sum_by-append, sum_by-cons}
 use Rattle.is_proto.specs.Lists.{Has}
 use Rattle.is_proto.specs.Packets.{Packet}
 use Rattle.is_candidate.specs.Candidates.{CandidateRecord}
@@ -19,17 +20,17 @@ use Rattle.is_theorems.proofs.BasicLemmas.EqualAddresses.{same_address-same}
 use Rattle.is_rules.specs.Effects.{PathTheorem}
 use Rattle.is_rules.specs.Queue.{request_at}
 use Rattle.is_theorems.specs.Exchange.{AreBetween, Course}
-use Rattle.is_theorems.specs.Reached.{IsInLine, IsLasting}
-use Rattle.is_theorems.specs.ReachedCourses.{IsPassed, PassRounds}
+use Rattle.is_theorems.specs.Reached.{IsInLine, IsLasting, nominations_ahead, selects}
+use Rattle.is_theorems.specs.ReachedCourses.{IsPassed, PassRounds, selections_among}
 use Rattle.is_rules.specs.Sending.{path_of}
 use Rattle.is_theorems.specs.FirstChecks.{times_of}
-use Rattle.is_theorems.specs.FirstTimeouts.{CoursesReachUnanswered, AreInRound, IsOpenRound, EndsAmong, Suffices, CoursesReachFromDue}
+use Rattle.is_theorems.specs.FirstTimeouts.{CoursesReachUnanswered, AreInRound, IsOpenRound, EndsAmong, RoundsSuffice, Suffices, CoursesReachFromDue}
 use Rattle.is_rules.specs.Sound.{FreshIsSound}
 use Rattle.is_rules.specs.Steps as agent
 use Rattle.is_rules.specs.Steps.{Answer, Entry, Done, Rejected, quiet, Step}
 use Rattle.is.specs.declared.world_events.Side.{Side}
-use Rattle.is.specs.Connections.{HasRounds, Succeeds, BothConnect}
-use Rattle.is.specs.AcceptedNominationsIn.{Occurrence, IsAskedOver}
+use Rattle.is.specs.Connections.{HasRounds, SideRoundsReach, Succeeds, BothConnect, selections_of}
+use Rattle.is.specs.AcceptedNominationsIn.{is_of, Occurrence, IsAskedOver}
 use Rattle.is.specs.Deliveries.{MakesPolls}
 use Rattle.is.specs.Selections.{SideRound, all_of, times_in, state_after, IsKept, AreKept, MayEndInRounds, SideRoundsSuffice, AreEachPolled, RoundChecks}
 use Rattle.is.specs.Sides.{only, polled_as, received_as, acts}
@@ -40,6 +41,7 @@ use Rattle.is.specs.WorldRoles.{IsNewAgent}
 use Rattle.is.proofs.ExternalViews.ViewsOfExecutions.{Has-front, Has-rear, AreSound}
 use Rattle.is.proofs.TwoAgentEvents.OwnExecutions.{only_own, course_on, turn_step}
 use Rattle.is.proofs.TwoAgentEvents.EventsOfSegments.{Follow, follows, cut, state_is, meet, acts_at, own, own_course, own_from, own_between, own_in_round, own_has, owned, Found}
+use Rattle.is.proofs.TwoAgentEvents.SelectionsOfSegments.{ahead-fewer, chosen-along, is-own, one-counted, suffice-fewer}
 use Rattle.is.proofs.SelectedPaths.SelectedAfterNomination.{apart_at, answered, selected_where}
 
 module _ {H P : Type 0} (mac : H → List ℕ → List ℕ → List ℕ) (answers : P → CandidateRecord → ℕ → ℕ → Type 0) where
@@ -83,6 +85,34 @@ module _ {H P : Type 0} (mac : H → List ℕ → List ℕ → List ℕ) (answer
         (at side r.timeout.following, at side c.0, source_of side s, moves.0, moves.1, o.0, k.0),
         λ ends. elim ends [ inl here ↦ (r, inl refl, o.1 here) | inr others ↦ (let m = k.1 others in (m.0, inr m.1, m.2)) ],
       )
+
+  -- no more of its calls select a path there
+  chosen_among : (side : Side) (rounds : List (SideRound H P)) (w last : WorldRecord H P) → Follow mac answers w (all_of rounds) last → ((r : SideRound H P) → Has rounds r → Moves side r)
+      → selections_among (rounds_of side rounds) ≤ selections_of side (all_of rounds)
+  chosen_among side [] w last is comes = omega arith
+  chosen_among side (r ∷ later) w last (from, s, t, happens, more) comes =
+      let c = cut mac answers r.following (all_of later) r.timeout.following last more in
+      let turn : TakesTurn mac answers r.timeout.before s side (agent.HandleTimeout r.now) r.timeout.entry.outcome r.timeout.following t =
+      subst (λ (v : Event P). Happens mac answers r.timeout.before s v r.timeout.entry.outcome r.timeout.following t) (comes r (inl refl)) happens in
+      let first = one-counted (selects r.timeout.entry.outcome.entry) (is_of side r.timeout.entry.outcome.side) (ap (λ o. is_of side o) turn.side_is ∙ is-own side) in
+      let inside = chosen-along mac answers side r.following r.timeout.following c.0 c.1 in
+      let others = chosen_among side later c.0 last c.2 (λ y has. comes y (inr has)) in
+      let all = sum_by-cons (λ (y : Occurrence H P). cond (is_of side y.entry.outcome.side && selects y.entry.outcome.entry) 1 0) r.timeout (r.following ++ all_of later) in
+      let both = sum_by-append (λ (y : Occurrence H P). cond (is_of side y.entry.outcome.side && selects y.entry.outcome.entry) 1 0) r.following (all_of later) in
+      omega (arith, first, inside, others, all, both)
+
+  -- so rounds that suffice here suffice there
+  pub rounds_suffice : (side : Side) (by : ℕ) (r : SideRound H P) (later : List (SideRound H P)) (mid last : WorldRecord H P) → Follow mac answers r.timeout.before (all_of (r ∷ later)) last
+      → Follow mac answers mid (all_of later) last → ((x : SideRound H P) → Has (r ∷ later) x → Moves side x) → state_after r.timeout.following r.following ≡ mid → SideRoundsReach side by r later last
+      → RoundsSuffice by (at side r.timeout.before) (at side mid) (at side last) (round_of side r) (rounds_of side later) (length later)
+  rounds_suffice side by r later mid last all rest comes second enough =
+      suffice-fewer by r.now (at side r.timeout.before) (at side mid) (at side last) (length later)
+      (nominations_ahead (at side r.timeout.before) (selections_among (rounds_of side (r ∷ later)))) (nominations_ahead (at side r.timeout.before) (selections_of side (all_of (r ∷ later))))
+      (nominations_ahead (at side mid) (selections_among (rounds_of side later))) (nominations_ahead (at side mid) (selections_of side (all_of later)))
+      (ahead-fewer (at side r.timeout.before) (selections_among (rounds_of side (r ∷ later))) (selections_of side (all_of (r ∷ later))) (chosen_among side (r ∷ later) r.timeout.before last all comes))
+      (ahead-fewer (at side mid) (selections_among (rounds_of side later)) (selections_of side (all_of later)) (chosen_among side later mid last rest (λ x has. comes x (inr has))))
+      (subst (λ (w : WorldRecord H P). Suffices by r.now (at side r.timeout.before) (at side w) (at side last) (length later)
+      (nominations_ahead (at side r.timeout.before) (selections_of side (all_of (r ∷ later)))) (nominations_ahead (at side w) (selections_of side (all_of later)))) second (search enough))
 
   abbrev pub are_all : (CourseRound P → Type 0) → Side → List (SideRound H P) → Type 0
   are_all Q side rounds = (c : CourseRound P) → Has (rounds_of side rounds) c → Q c
@@ -143,7 +173,7 @@ module _ {H P : Type 0} (mac : H → List ℕ → List ℕ → List ℕ) (answer
   pub reached : CoursesReachFromDue {H = H} {P = P} mac answers → (side : Side) (first last : WorldRecord H P) (s : Streams) (xs : List (agent.Call P × Entry)) (r : SideRound H P) (later : List (SideRound H P)) (p : PairRecord) (by : ℕ)
       → IsNewAgent (at side first) → Course mac answers xs (at side first) (at side r.timeout.before) → Follow mac answers r.timeout.before (all_of (r ∷ later)) last
       → IsInLine r.now by (at side r.timeout.before) p → AreKept side by r later
-      → ((x : SideRound H P) → Has later x → IsLasting x.now (at side r.timeout.before) p) → SideRoundsSuffice side by r later last
+      → ((x : SideRound H P) → Has later x → IsLasting x.now (at side r.timeout.before) p) → SideRoundsReach side by r later last
       → Reaches side (path_of (at side r.timeout.before) p) (r ∷ later)
   reached reach side first last s xs r later p by n led (same, u, v, happens, more) line kept lasting enough =
       let path : Path = path_of (at side r.timeout.before) p in
@@ -154,9 +184,9 @@ module _ {H P : Type 0} (mac : H → List ℕ → List ℕ → List ℕ) (answer
       let moves = moved side r u v own_first.comes happens in
       let many = as_many side later in
       let second : state_after r.timeout.following r.following ≡ c.0 = state_is mac answers r.following r.timeout.following c.0 c.1 in
-      let so_many : Suffices by r.now (at side r.timeout.before) (at side c.0) (at side last) (length (rounds_of side later)) =
-      subst (λ i. Suffices by r.now (at side r.timeout.before) (at side c.0) (at side last) i) (sym many)
-      (subst (λ (w : WorldRecord H P). Suffices by r.now (at side r.timeout.before) (at side w) (at side last) (length later)) second (search enough)) in
+      let so_many : RoundsSuffice by (at side r.timeout.before) (at side c.0) (at side last) (round_of side r) (rounds_of side later) (length (rounds_of side later)) =
+      subst (λ i. RoundsSuffice by (at side r.timeout.before) (at side c.0) (at side last) (round_of side r) (rounds_of side later) i) (sym many)
+      (rounds_suffice side by r later c.0 last (same, u, v, happens, more) c.2 (λ x has. (kept.kept x has).comes) second enough) in
       elim (reach (fresh (at side first).provider n.0 n.1) (at side r.timeout.before) (at side last) ((agent.SetControlling n.2, quiet Done) ∷ xs) (round_of side r) (rounds_of side later) p by
       (n.0, n.1, refl) (at side first, source_of side s, source_of side s, tt, (Ok _, refl, (refl, n.3), refl), led) line (let from = kept.from in omega (arith, from)) own_first.done own_first.early (is_open side r own_first)
       (at side r.timeout.following, at side c.0, source_of side u, moves.0, moves.1, o.0, k.0) (are_open side by r later kept)
@@ -193,9 +223,9 @@ module _ {H P : Type 0} (mac : H → List ℕ → List ℕ → List ℕ) (answer
       let moves = moved side r u v own_first.comes happens in
       let many = as_many side later in
       let second : state_after r.timeout.following r.following ≡ c.0 = state_is mac answers r.following r.timeout.following c.0 c.1 in
-      let so_many : Suffices by r.now (at side r.timeout.before) (at side c.0) (at side last) (length (rounds_of side later)) =
-      subst (λ i. Suffices by r.now (at side r.timeout.before) (at side c.0) (at side last) i) (sym many)
-      (subst (λ (w : WorldRecord H P). Suffices by r.now (at side r.timeout.before) (at side w) (at side last) (length later)) second (search enough)) in
+      let so_many : Suffices by r.now (at side r.timeout.before) (at side c.0) (at side last) (length (rounds_of side later)) 0 0 =
+      subst (λ i. Suffices by r.now (at side r.timeout.before) (at side c.0) (at side last) i 0 0) (sym many)
+      (subst (λ (w : WorldRecord H P). Suffices by r.now (at side r.timeout.before) (at side w) (at side last) (length later) 0 0) second (search enough)) in
       elim (reach (fresh (at side first).provider n.0 n.1) (at side r.timeout.before) (at side last) ((agent.SetControlling n.2, quiet Done) ∷ xs) (round_of side r) (rounds_of side later) p by
       (n.0, n.1, refl) (at side first, source_of side s, source_of side s, tt, (Ok _, refl, (refl, n.3), refl), led) role waits unanswered (let from = kept.from in omega (arith, from)) own_first.done own_first.early
       (is_open side r own_first) (at side r.timeout.following, at side c.0, source_of side u, moves.0, moves.1, o.0, k.0) (are_open side by r later kept) so_many) [
@@ -221,7 +251,7 @@ module _ {H P : Type 0} (mac : H → List ℕ → List ℕ → List ℕ) (answer
       (reached reach side first last s (own mac answers side before ++ own mac answers side k.ahead) k.first k.later k.pair k.by n
       (course_on mac answers (own mac answers side before) (own mac answers side k.ahead) (at side first) (at side start) (at side begin)
       (own_course mac answers side before first start led) (own_course mac answers side k.ahead start begin to))
-      rest k.line k.kept (λ x has. k.lasting x has) k.enough)
+      rest k.line k.kept (λ x has. k.lasting x has) (search k.enough))
 
   -- what follows a `handle_timeout` call is in the rounds
   pub in_rounds : (rounds : List (SideRound H P)) (r : SideRound H P) (x : Occurrence H P) → Has rounds r → Has r.following x → Has (all_of rounds) x

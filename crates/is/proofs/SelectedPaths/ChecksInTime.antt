@@ -13,23 +13,22 @@ use Rattle.is_rules.specs.Steps.{Answer, Entry, Rejected, quiet}
 use Rattle.is_theorems.specs.AskedCourses.{IsAnsweredAlong}
 use Rattle.is_theorems.specs.Courses.{CourseRound}
 use Rattle.is_theorems.specs.Exchange.{Course}
-use Rattle.is_theorems.specs.FirstTimeouts.{Suffices}
 use Rattle.is_theorems.specs.InTime as law
 use Rattle.is_theorems.specs.InTime.{CoursesReachInTime}
 use Rattle.is_theorems.specs.Reached.{IsInLine, IsLasting}
 use Rattle.is.specs.declared.world_events.Side.{Side}
 use Rattle.is.specs.declared.world_events.Side.TheVariants.{A, B}
 use Rattle.is.specs.AcceptedNominationsIn.{Occurrence}
-use Rattle.is.specs.Connections.{Succeeds}
+use Rattle.is.specs.Connections.{SideRoundsReach, Succeeds}
 use Rattle.is.specs.Punctual.{IsPrompt, IsPunctual, IsTimed, ChecksBy, ChecksComeInTime}
-use Rattle.is.specs.Selections.{SideRound, all_of, state_after, IsKept, AreKept, MayEndInRounds, SideRoundsSuffice}
+use Rattle.is.specs.Selections.{SideRound, all_of, state_after, IsKept, AreKept, MayEndInRounds}
 use Rattle.is.specs.Sides.{only, polled_as, received_as, acts}
 use Rattle.is.specs.World as world
 use Rattle.is.specs.World.{WorldRecord, InFlightRecord, Event, LoggedEvent, at, other, in_world, Streams, source_of}
 use Rattle.is.specs.WorldRoles.{IsNewAgent}
 use Rattle.is.proofs.TwoAgentEvents.OwnExecutions.{only_own, course_on}
 use Rattle.is.proofs.TwoAgentEvents.EventsOfSegments.{Follow, follows, cut, state_is, acts_at, own, own_course, own_from, own_has, owned}
-use Rattle.is.proofs.SelectedPaths.BothSelectInRounds.{round_of, rounds_of, as_many, moved, passes, each_round, is_open, are_open, back, succeeds_in}
+use Rattle.is.proofs.SelectedPaths.BothSelectInRounds.{round_of, rounds_of, as_many, moved, passes, each_round, is_open, are_open, back, rounds_suffice, succeeds_in}
 
 module _ {H P : Type 0} (mac : H → List ℕ → List ℕ → List ℕ) (answers : P → CandidateRecord → ℕ → ℕ → Type 0) where
   -- ---- what a punctual caller does
@@ -101,7 +100,7 @@ module _ {H P : Type 0} (mac : H → List ℕ → List ℕ → List ℕ) (answer
   reached : CoursesReachInTime {H = H} {P = P} mac answers → (side : Side) (first last : WorldRecord H P) (s : Streams) (xs : List (agent.Call P × Entry)) (r : SideRound H P) (later : List (SideRound H P))
       (p : PairRecord) (by pace delay : ℕ) → IsNewAgent (at side first) → Course mac answers xs (at side first) (at side r.timeout.before)
       → Follow mac answers r.timeout.before (all_of (r ∷ later)) last → IsInLine r.now by (at side r.timeout.before) p → AreKept side by r later
-      → ((x : SideRound H P) → Has later x → IsLasting x.now (at side r.timeout.before) p) → SideRoundsSuffice side by r later last → IsTimed side pace delay r later
+      → ((x : SideRound H P) → Has later x → IsLasting x.now (at side r.timeout.before) p) → SideRoundsReach side by r later last → IsTimed side pace delay r later
       → Comes side (path_of (at side r.timeout.before) p) (r.now + length later * (pace + delay)) (r ∷ later)
   reached reach side first last s xs r later p by pace delay n led (same, u, v, happens, more) line kept lasting enough in_time =
       let path : Path = path_of (at side r.timeout.before) p in
@@ -112,8 +111,7 @@ module _ {H P : Type 0} (mac : H → List ℕ → List ℕ → List ℕ) (answer
       let moves = moved mac answers side r u v own_first.comes happens in
       let many = as_many mac answers side later in
       let second : state_after r.timeout.following r.following ≡ c.0 = state_is mac answers r.following r.timeout.following c.0 c.1 in
-      let so_many : Suffices by r.now (at side r.timeout.before) (at side c.0) (at side last) (length later) =
-      subst (λ (w : WorldRecord H P). Suffices by r.now (at side r.timeout.before) (at side w) (at side last) (length later)) second (search enough) in
+      let so_many = rounds_suffice mac answers side by r later c.0 last (same, u, v, happens, more) c.2 (λ x has. (kept.kept x has).comes) second enough in
       elim (reach (fresh (at side first).provider n.0 n.1) (at side r.timeout.before) (at side last) ((agent.SetControlling n.2, quiet agent.Done) ∷ xs) (round_of mac answers side r)
       (rounds_of mac answers side later) p by pace delay (length later) (n.0, n.1, refl) (at side first, source_of side s, source_of side s, tt, (Ok _, refl, (refl, n.3), refl), led) line
       (let from = kept.from in omega (arith, from)) own_first.done own_first.early (is_open mac answers side r own_first)
@@ -144,7 +142,7 @@ module _ {H P : Type 0} (mac : H → List ℕ → List ℕ → List ℕ) (answer
       (reached reach side first on.0 s (own mac answers side before ++ own mac answers side k.ahead) k.first k.later k.pair k.by pace delay (new side)
       (course_on mac answers (own mac answers side before) (own mac answers side k.ahead) (at side first) (at side led.0) (at side begin)
       (own_course mac answers side before first led.0 led.1) (own_course mac answers side k.ahead led.0 begin to))
-      rest_of k.line k.kept (λ x has. k.lasting x has) (subst (λ (w : WorldRecord H P). SideRoundsSuffice side k.by k.first k.later w) ends k.enough) in_time)
+      rest_of k.line k.kept (λ x has. k.lasting x has) (subst (λ (w : WorldRecord H P). SideRoundsReach side k.by k.first k.later w) ends (search k.enough)) in_time)
     where
       after_both : (xs ys : List (Occurrence H P)) (w mid end : WorldRecord H P) → Follow mac answers w xs mid → Follow mac answers mid ys end → state_after w (xs ++ ys) ≡ end
       after_both [] ys w mid end is more = ap (λ v. state_after v ys) (sym is) ∙ state_is mac answers ys mid end more

@@ -44,14 +44,6 @@ both-facts true true false d e h = refl
 both-facts true false c d e h = refl
 both-facts false b c d e h = refl
 
-never-both : (b c : Bool) → c ≡ false → (b && c) ≡ false
-never-both true c is = is
-never-both false c is = refl
-
--- an agent without numbers nominates no path at once
-pub checks-in-turn : {H P : Type 0} (a : AgentRecord H P) → numbers a ≡ false → (a.controlling && numbers a) ≡ false
-checks-in-turn a is = never-both a.controlling (numbers a) is
-
 module _ {H P : Type 0} (now : ℕ) (a : AgentRecord H P) where
   abbrev Turn : Option PairRecord → Type 0
   Turn next = IsNextInTurn now a next

@@ -25,7 +25,7 @@ calls_left ahead turn n = if ahead then 2 * n + one_if turn else n + 1
 abbrev pub Falls : Bool → Bool → Bool → ℕ → ℕ → Type 0
 Falls ahead turn next_turn n m = (m < n) ⊎ ((m ≤ n) × (ahead ≡ true) × (turn ≡ true) × (next_turn ≡ false))
 
-one-at-most : (b : Bool) → one_if b ≤ 1
+pub one-at-most : (b : Bool) → one_if b ≤ 1
 one-at-most true = omega arith
 one-at-most false = omega arith
 
@@ -71,25 +71,50 @@ calls-go-on ahead turn next_turn n m k total falls counted = on (calls_left ahea
   on : (x y : ℕ) → y + 1 ≤ x → x + k ≤ total → y + suc k ≤ total
   on x y less counted = omega (arith, less, counted)
 
--- if pairs are added, from i to j, each may go first
-pub calls-added : (ahead turn : Bool) (n m i j k base total : ℕ) → m + i ≤ n + j
-    → calls_left ahead turn n + k + times ahead base ≤ total + times ahead i → calls_left ahead turn m + k + times ahead base ≤ total + times ahead j
-calls-added true turn n m i j k base total less counted = twice (one_if turn) less counted where
-  twice : (x : ℕ) → m + i ≤ n + j → 2 * n + x + k + 2 * base ≤ total + 2 * i → 2 * m + x + k + 2 * base ≤ total + 2 * j
+-- if pairs are added, or nominations are to be sent at once, from i to j, each may go first
+pub calls-added : (ahead turn : Bool) (n m i j k was base total : ℕ) → m + i + base ≤ n + j + was
+    → calls_left ahead turn n + k + times ahead was ≤ total + times ahead i → calls_left ahead turn m + k + times ahead base ≤ total + times ahead j
+calls-added true turn n m i j k was base total less counted = twice (one_if turn) less counted where
+  twice : (x : ℕ) → m + i + base ≤ n + j + was → 2 * n + x + k + 2 * was ≤ total + 2 * i → 2 * m + x + k + 2 * base ≤ total + 2 * j
   twice x less counted = omega (arith, less, counted)
-calls-added false turn n m i j k base total less counted = once less counted where
-  once : m + i ≤ n + j → n + 1 + k + base ≤ total + i → m + 1 + k + base ≤ total + j
+calls-added false turn n m i j k was base total less counted = once less counted where
+  once : m + i + base ≤ n + j + was → n + 1 + k + was ≤ total + i → m + 1 + k + base ≤ total + j
   once less counted = omega (arith, less, counted)
 
--- of size pairs, this one not counted, each goes first at most twice
-pub calls-over : (ahead turn last_turn : Bool) (n m size i j k : ℕ) → calls_left ahead last_turn m + k + times ahead i ≤ calls_left ahead turn n + times ahead j
-    → n + 2 ≤ 2 * size → times ahead (2 * size + j) ≤ k + 1 + times ahead i → ⊥
-calls-over true turn last_turn n m size i j k counted few enough = twice (one_if turn) (one_if last_turn) (one-at-most turn) counted few enough where
-  twice : (x y : ℕ) → x ≤ 1 → 2 * m + y + k + 2 * i ≤ 2 * n + x + 2 * j → n + 2 ≤ 2 * size → 2 * (2 * size + j) ≤ k + 1 + 2 * i → ⊥
-  twice x y one counted few enough = omega (arith, one, counted, few, enough)
-calls-over false turn last_turn n m size i j k counted few enough = once counted few enough where
-  once : m + 1 + k + i ≤ n + 1 + j → n + 2 ≤ 2 * size → 2 * size + j ≤ k + 1 + i → ⊥
-  once counted few enough = omega (arith, counted, few, enough)
+-- a check in turn
+pub calls-in-turn : (ahead turn next_turn : Bool) (n m i j k was base total : ℕ) → Falls ahead turn next_turn n m → i + base ≤ j + was
+    → calls_left ahead turn n + k + times ahead was ≤ total + times ahead i → calls_left ahead next_turn m + suc k + times ahead base ≤ total + times ahead j
+calls-in-turn true turn next_turn n m i j k was base total falls less counted =
+    on (calls_left true turn n) (calls_left true next_turn m) (calls-fall true turn next_turn n m falls) less counted where
+      on : (x y : ℕ) → y + 1 ≤ x → i + base ≤ j + was → x + k + 2 * was ≤ total + 2 * i → y + suc k + 2 * base ≤ total + 2 * j
+      on x y fewer less counted = omega (arith, fewer, less, counted)
+calls-in-turn false turn next_turn n m i j k was base total falls less counted =
+    on (calls_left false turn n) (calls_left false next_turn m) (calls-fall false turn next_turn n m falls) less counted where
+      on : (x y : ℕ) → y + 1 ≤ x → i + base ≤ j + was → x + k + was ≤ total + i → y + suc k + base ≤ total + j
+      on x y fewer less counted = omega (arith, fewer, less, counted)
+
+-- a nomination is sent at once: one less is to be sent
+pub calls-at-once : (ahead turn next_turn : Bool) (n m i j k was base total : ℕ) → m ≤ n → i + base + 1 ≤ j + was
+    → calls_left ahead turn n + k + times ahead was ≤ total + times ahead i → calls_left ahead next_turn m + suc k + times ahead base ≤ total + times ahead j
+calls-at-once true turn next_turn n m i j k was base total no_more less counted = twice (one_if turn) (one_if next_turn) (one-at-most next_turn) no_more less counted where
+  twice : (x y : ℕ) → y ≤ 1 → m ≤ n → i + base + 1 ≤ j + was → 2 * n + x + k + 2 * was ≤ total + 2 * i → 2 * m + y + suc k + 2 * base ≤ total + 2 * j
+  twice x y one no_more less counted = omega (arith, one, no_more, less, counted)
+calls-at-once false turn next_turn n m i j k was base total no_more less counted = once no_more less counted where
+  once : m ≤ n → i + base + 1 ≤ j + was → n + 1 + k + was ≤ total + i → m + 1 + suc k + base ≤ total + j
+  once no_more less counted = omega (arith, no_more, less, counted)
+
+-- of size pairs, this one not counted, each goes first at most twice; from i to j pairs are added, and nominations are sent at once: `was`
+-- and `spent` at most, of which `left` are left
+pub calls-over : (ahead turn last_turn : Bool) (n m size i j k was spent left most : ℕ)
+    → calls_left ahead last_turn m + k + times ahead (i + left) ≤ calls_left ahead turn n + times ahead was + times ahead (j + spent)
+    → was + spent ≤ most → n + 2 ≤ 2 * size → times ahead (2 * size + j + most) ≤ k + 1 + times ahead i → ⊥
+calls-over true turn last_turn n m size i j k was spent left most counted within few enough = twice (one_if turn) (one_if last_turn) (one-at-most turn) counted within few enough where
+  twice : (x y : ℕ) → x ≤ 1 → 2 * m + y + k + 2 * (i + left) ≤ 2 * n + x + 2 * was + 2 * (j + spent) → was + spent ≤ most → n + 2 ≤ 2 * size
+      → 2 * (2 * size + j + most) ≤ k + 1 + 2 * i → ⊥
+  twice x y one counted within few enough = omega (arith, one, counted, within, few, enough)
+calls-over false turn last_turn n m size i j k was spent left most counted within few enough = once counted within few enough where
+  once : m + 1 + k + (i + left) ≤ n + 1 + was + (j + spent) → was + spent ≤ most → n + 2 ≤ 2 * size → 2 * size + j + most ≤ k + 1 + i → ⊥
+  once counted within few enough = omega (arith, counted, within, few, enough)
 
 -- if some go first, a call is left
 pub calls-some : (ahead turn : Bool) (n : ℕ) → 0 < n → 2 ≤ calls_left ahead turn n
@@ -119,12 +144,12 @@ times-kept false n m k le enough = once n m le enough where
   once n m le enough = omega (arith, le, enough)
 
 -- no calls suffice for no pair
-pub none-suffices : (ahead : Bool) (size i j : ℕ) → 0 < size → j ≡ i → times ahead (2 * size + j) ≤ 0 + 1 + times ahead i → ⊥
-none-suffices true size i j some same enough = twice some same enough where
-  twice : 0 < size → j ≡ i → 2 * (2 * size + j) ≤ 0 + 1 + 2 * i → ⊥
+pub none-suffices : (ahead : Bool) (size i j most : ℕ) → 0 < size → j ≡ i → times ahead (2 * size + j + most) ≤ 0 + 1 + times ahead i → ⊥
+none-suffices true size i j most some same enough = twice some same enough where
+  twice : 0 < size → j ≡ i → 2 * (2 * size + j + most) ≤ 0 + 1 + 2 * i → ⊥
   twice some same enough = omega (arith, some, same, enough)
-none-suffices false size i j some same enough = once some same enough where
-  once : 0 < size → j ≡ i → 2 * size + j ≤ 0 + 1 + i → ⊥
+none-suffices false size i j most some same enough = once some same enough where
+  once : 0 < size → j ≡ i → 2 * size + j + most ≤ 0 + 1 + i → ⊥
   once some same enough = omega (arith, some, same, enough)
 
 -- ---- the turn

@@ -134,12 +134,6 @@ module _ {H P : Type 0} where
   NoneAtOnce now old =
       (first second : Option Path) (named kept : AgentRecord H P) → Nominates (at_timeout now old) first named → RemovesExpired now named second kept → NoneAtCheck now kept
 
-  -- a controlled agent sends none, nor does one whose nominations have no numbers
-  pub none-in-turn : (now : ℕ) (old : AgentRecord H P) → ChecksInTurn old → NoneAtOnce now old
-  none-in-turn now old turn first second named kept nominating giving =
-      let c = thins-on 0 (at_timeout now old) named kept (nominates-thins 0 (at_timeout now old) named first nominating) (gives-up-thins 0 now named kept second giving) in
-      none-at-once now (all_asked now kept) (turns-by (agent_base (at_timeout now old)) kept c.0 turn)
-
   pub same-path : (a b : AgentRecord H P) (p q : PairRecord) → b.local ≡ a.local → b.remote ≡ a.remote → Matches p q → path_of b q ≡ path_of a p
   same-path a b p q locals remotes m =
       ap (λ cs. via cs b.remote q.local q.remote) locals

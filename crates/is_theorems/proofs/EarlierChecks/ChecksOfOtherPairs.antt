@@ -14,7 +14,7 @@ use Rattle.is_pair.specs.Multiset.{is_numbered}
 use Rattle.is_pair.specs.Checks.{Check, answered_at, last_checks, last_check}
 use Rattle.is_pair.specs.Due.{asked, computed_due_time, next_due_time}
 use Rattle.is_pair.specs.Pairs.{PairRecord, checked, answered, check_of}
-use Rattle.is_pair.specs.States.{nomination_once_sent, nomination_once_answered}
+use Rattle.is_pair.specs.States.{nomination_again, nomination_once_sent, nomination_once_answered}
 use Rattle.is_pair.specs.declared.pair.states.NominationState.{NominationState}
 use Rattle.is_pair.specs.declared.pair.states.NominationState.TheVariants.{None as Unnominated, Nominated, Attempt, Success}
 use Rattle.is_stun.specs.declared.timing.StunTiming.{StunTiming}
@@ -132,6 +132,14 @@ weight-sent-no-more Unnominated false = omega arith
 weight-sent-no-more Nominated e = omega arith
 weight-sent-no-more Attempt e = omega arith
 weight-sent-no-more Success e = omega arith
+
+-- also if its nomination begins again before
+pub weight-again-no-more : (n : NominationState) (e : Bool) → weight (nomination_once_sent (nomination_again n)) false ≤ weight n e
+weight-again-no-more Unnominated true = omega arith
+weight-again-no-more Unnominated false = omega arith
+weight-again-no-more Nominated e = omega arith
+weight-again-no-more Attempt e = omega arith
+weight-again-no-more Success e = omega arith
 
 weight-two : (n : NominationState) (e : Bool) → weight n e ≤ 2
 weight-two Unnominated true = omega arith

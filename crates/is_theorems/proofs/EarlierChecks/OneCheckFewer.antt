@@ -1,5 +1,6 @@
 -- A `handle_timeout` call checks a pair that is due, or another one before it, and then one check fewer goes before
--- it; or a check goes ahead, and then no more checks go before it and the next check may not go ahead.
+-- it; or a check goes ahead, and then no more checks go before it and the next check may not go ahead; or a nomination is sent at once,
+-- and then no more checks go before it.
 use Rattle.std.proofs.Common.{◌≡◌, ℕ, suc, ◌+◌, ◌<◌, ◌≤◌, ◌==◌, ◌&&◌, ◌||◌, Bool, true, false, not, List, map, nat_le, nat_lt, Option, Some, None, is_some, unwrap_or, inl, inr, ◌⊎◌, refl, ap, sym, ◌∙◌, subst, arith, if◌then◌else◌}
 use Rattle.std.specs.List.{list_any}
 use Rattle.std.proofs.lemmas.Bool.{eq-eqb, eqb-true}
@@ -10,7 +11,7 @@ use Rattle.is_proto.specs.Times.{MAX}
 use Rattle.is_pair.specs.Checks.{unanswered_count}
 use Rattle.is_pair.specs.Multiset.{is_numbered, change_at, change_pair}
 use Rattle.is_pair.specs.Due.{asked, due_time_of, is_due, stays_answered, GoesBefore}
-use Rattle.is_pair.specs.Pairs.{PairRecord, is_valid, is_nominated, checked}
+use Rattle.is_pair.specs.Pairs.{PairRecord, is_valid, is_nominated, checked, renominated}
 use Rattle.is_pair.specs.States.{nomination_once_sent}
 use Rattle.is_stun.specs.declared.header.Class.TheVariants as class
 use Rattle.is_stun.specs.declared.timing.StunTiming.{StunTiming}
@@ -26,12 +27,12 @@ use Rattle.is_rules.specs.Sending.{path_of}
 use Rattle.is_rules.specs.Timeouts.{at_timeout, is_expired, expired_gone, RemovesExpired, MaintainsPairs}
 use Rattle.is_rules.specs.Emitted.{issued_as}
 use Rattle.is_theorems.proofs.RuleEffects.UnchangedSettings.{either}
-use Rattle.is_theorems.proofs.EarlierChecks.ChecksOfOtherPairs.{lead, leads, own, own-le, weight, weight-sent, weight-sent-no-more, lead-asked, lead-checked-is, leads-map, leads-less, leads-filter, is_early, sent_by}
+use Rattle.is_theorems.proofs.EarlierChecks.ChecksOfOtherPairs.{lead, leads, own, own-le, weight, weight-again-no-more, weight-sent, weight-sent-no-more, lead-asked, lead-checked-is, leads-map, leads-less, leads-filter, is_early, sent_by}
 use Rattle.is_theorems.proofs.EarlierChecks.ChangedPairs.{Fixed}
 use Rattle.is_theorems.proofs.EarlierChecks.BetweenTimeouts.{nominates-onward}
 use Rattle.is_theorems.proofs.RuleEffects.ChangedPairs.{Has-map}
 use Rattle.is_theorems.proofs.BasicLemmas.PairsInTurn.{next-has, none-is-due, next-in-turn, pairs-sent, sent_at}
-use Rattle.is_theorems.proofs.DuePairs.FirstDuePair.{fixed-is, same-path, NoneAtCheck, NoneAtOnce, next-check}
+use Rattle.is_theorems.proofs.DuePairs.FirstDuePair.{fixed-is, same-path, NoneAtCheck, next-check}
 use Rattle.is_theorems.proofs.DuePairs.ChecksAhead.{Falls, falls-from, is-turn}
 use Rattle.is_rules.proofs.PairLists.ChosenPair.{chosen-able, none_pass}
 use Rattle.is_theorems.proofs.RuleEffects.NominatedPairs.{SelectsPath, selects_path}
@@ -88,6 +89,19 @@ module _ (now by : ℕ) (late : by < now) (early : now < MAX) where
       at : (b : Bool) → own n by (if b then checked now t c id y else y) ≤ own n by y
       at true = checked-no-more y
       at false = omega arith
+
+    -- whether its nomination begins again or not
+    sent-no-more : (begins : Bool) (m : ℕ) (y : PairRecord) → own n by (change_at m (sent_at begins now t c id) y) ≤ own n by y
+    sent-no-more true m y = at (is_numbered m y) where
+      again : own n by (checked now t c id (renominated y)) ≤ own n by y
+      again =
+          own-le n by y (checked now t c id (renominated y)) refl
+          (subst (λ k. k ≤ lead by y) (sym (lead-checked-is by now t c id (renominated y) late some)) (weight-again-no-more y.nomination (is_early by y.due y.checks)))
+
+      at : (b : Bool) → own n by (if b then checked now t c id (renominated y) else y) ≤ own n by y
+      at true = again
+      at false = omega arith
+    sent-no-more false m y = change-no-more m y
 
     -- the one that is checked
     change-less : (d : ℕ) (q : PairRecord) → q.due ≡ Some d → d ≤ by → (q.number == n) ≡ false → own n by (change_at q.number (checked now t c id) q) + 1 ≤ own n by q
@@ -159,10 +173,10 @@ module _ (now by : ℕ) (late : by < now) (early : now < MAX) where
 
     -- ---- the check
 
-    -- its due time is fixed, and one check fewer goes before it, or a check went ahead, if the check is in turn
+    -- its due time is fixed, and no more checks go before it; one check fewer does, or a check went ahead, if the check is in turn
     abbrev pub WaitsOn : Type 0 → AgentRecord H P → AgentRecord H P → PairRecord → Type 0
     WaitsOn InTurn old new p =
-        (d : ℕ) × (d ≤ by) × Fixed p.number d (kept_of p) new.pairs
+        (d : ℕ) × (d ≤ by) × Fixed p.number d (kept_of p) new.pairs × (leads p.number by new.pairs ≤ leads p.number by old.pairs)
         × (InTurn → Falls (goes_ahead old.rules) old.ahead_turn new.ahead_turn (leads p.number by old.pairs) (leads p.number by new.pairs))
 
     -- the check goes ahead, or the pair is due by the time
@@ -196,6 +210,7 @@ module _ (now by : ℕ) (late : by < now) (early : now < MAX) where
                   due_time_of now old.timing p,
                   due,
                   subst (λ ps. Fixed p.number (due_time_of now old.timing p) (kept_of p) ps) (sym sent) (asked now old.timing p, stays, refl, refl, refl),
+                  no-more,
                   λ turn. falls (plain turn) (chosen turn),
                 ) where
                   change : PairRecord → PairRecord
@@ -226,14 +241,13 @@ module _ (now by : ℕ) (late : by < now) (early : now < MAX) where
                   asked-less : leads p.number by (map (asked now old.timing) old.pairs) ≤ leads p.number by old.pairs
                   asked-less = leads-map p.number by (asked now old.timing) old.pairs (λ y. own-le p.number by y (asked now old.timing y) refl (lead-asked by now old.timing y late early))
 
-                  no-more : new.pairs ≡ change_pair q.number (checked now old.timing old.controlling id) (map (asked now old.timing) old.pairs) → leads p.number by new.pairs ≤ leads p.number by old.pairs
-                  no-more made =
-                      let a : leads p.number by (change_pair q.number (checked now old.timing old.controlling id) (map (asked now old.timing) old.pairs))
-                      ≤ leads p.number by (map (asked now old.timing) old.pairs) =
-                      leads-map p.number by (change_at q.number (checked now old.timing old.controlling id)) (map (asked now old.timing) old.pairs)
-                      (change-no-more old.timing old.controlling id some p.number q.number) in
+                  no-more : leads p.number by new.pairs ≤ leads p.number by old.pairs
+                  no-more =
+                      let a : leads p.number by (change_pair q.number change (map (asked now old.timing) old.pairs)) ≤ leads p.number by (map (asked now old.timing) old.pairs) =
+                      leads-map p.number by (change_at q.number change) (map (asked now old.timing) old.pairs)
+                      (sent-no-more old.timing old.controlling id some p.number begins q.number) in
                       let b = asked-less in
-                      subst (λ ps. leads p.number by ps ≤ leads p.number by old.pairs) (sym made) (omega (arith, a, b))
+                      subst (λ ps. leads p.number by ps ≤ leads p.number by old.pairs) (sym sent) (omega (arith, a, b))
 
                   one-fewer : new.pairs ≡ change_pair q.number (checked now old.timing old.controlling id) (map (asked now old.timing) old.pairs) → due_time_of now old.timing q ≤ by
                       → leads p.number by new.pairs < leads p.number by old.pairs
@@ -251,7 +265,7 @@ module _ (now by : ℕ) (late : by < now) (early : now < MAX) where
                   falls made which = elim which [
                     | inl on ↦
                         (let turn = is-turn (goes_ahead old.rules) old.ahead_turn (are_kinds_in_turn (all_asked now old) || has_first now (all_asked now old)) on in
-                        inr (no-more made, turn.0, turn.1, turned ∙ ap not on))
+                        inr (no-more, turn.0, turn.1, turned ∙ ap not on))
                     | inr q_due ↦ inl (one-fewer made q_due)
                   ]
 
@@ -276,7 +290,7 @@ module _ (now by : ℕ) (late : by < now) (early : now < MAX) where
       pub timeout-goes : (old new : AgentRecord H P) (s u : Stream) (emitted : Emitted) → is_some old.remote_creds ≡ true → old.lite ≡ false
           → Distinct old.pairs → 0 < old.timing.max_retransmits → (p : PairRecord) → Has old.pairs p
           → stays_answered old.timing.consent now p ≡ true → nat_lt (unanswered_count p.checks) old.timing.max_retransmits ≡ true → Ready old.timing p
-          → MaintainsPairs mac now old s emitted new u → ChecksOn old emitted p ⊎ WaitsOn (NoneAtOnce now old) old new p
+          → (h : MaintainsPairs mac now old s emitted new u) → ChecksOn old emitted p ⊎ WaitsOn (NoneAtCheck now h.4) old new p
       timeout-goes old new s u emitted known full distinct some p has answered young ready (first, second, issued, named, kept, nominating, giving, checking, is) =
           let a = nominates-thins 0 (at_timeout now old) named first nominating in
           let b = gives-up-thins 0 now named kept second giving in
@@ -302,14 +316,16 @@ module _ (now by : ℕ) (late : by < now) (early : now < MAX) where
                       (same-path old kept p y.0 (ap (λ (z : Base). z.local) base) (ap (λ (z : Base). z.remote) base)
                       (record { number = alike.number; local = alike.local; remote = alike.remote; valid = alike.valid }))),
                 )
-            | inr (d, due, fixed, falls) ↦
-                (let falls_for : NoneAtOnce now old → Falls (goes_ahead kept.rules) kept.ahead_turn new.ahead_turn (leads p.number by kept.pairs) (leads p.number by new.pairs) =
+            | inr (d, due, fixed, fewer, falls) ↦
+                (let falls_for : NoneAtCheck now kept → Falls (goes_ahead kept.rules) kept.ahead_turn new.ahead_turn (leads p.number by kept.pairs) (leads p.number by new.pairs) =
                 λ turn. subst (λ k. Falls (goes_ahead kept.rules) kept.ahead_turn new.ahead_turn (leads k by kept.pairs) (leads k by new.pairs)) alike.number
-                (falls (turn first second named kept nominating giving)) in
+                (falls turn) in
+                let fewer_for : leads p.number by new.pairs ≤ leads p.number by kept.pairs = subst (λ k. leads k by new.pairs ≤ leads k by kept.pairs) alike.number fewer in
                 inr (
                   d,
                   due,
                   subst (λ k. Fixed p.number d k new.pairs) (alike-kept p y.0 alike) (subst (λ k. Fixed k d (kept_of y.0) new.pairs) alike.number fixed),
+                  omega (arith, fewer_for, lessened),
                   λ turn. falls-from (goes_ahead kept.rules) (goes_ahead old.rules) kept.ahead_turn old.ahead_turn new.ahead_turn
                       (leads p.number by kept.pairs) (leads p.number by old.pairs) (leads p.number by new.pairs)
                       (ap (λ (z : Base). goes_ahead z.rules) (sym base)) (ap (λ (z : Base). z.ahead_turn) (sym base)) lessened (falls_for turn),

@@ -1,6 +1,6 @@
 -- In rounds in which candidates may be added a pair is checked, or its path answered. Until a success response is accepted no pair is
 -- valid, so the first one selects a path.
-use Rattle.std.proofs.Common.{◌≡◌, ℕ, Bool, true, false, List, [], ◌∷◌, ◌++◌, length, inl, inr, ◌⊎◌, refl, ap, sym, ◌∙◌, subst, arith, append_assoc}
+use Rattle.std.proofs.Common.{◌≡◌, ℕ, ◌+◌, ◌*◌, ◌≤◌, Bool, true, false, List, [], ◌∷◌, ◌++◌, length, inl, inr, ◌⊎◌, refl, ap, sym, ◌∙◌, subst, arith, append_assoc}
 use Rattle.rand_core.specs.Stream.{Stream}
 use Rattle.is_proto.specs.Lists.{Has}
 use Rattle.is_candidate.specs.Candidates.{CandidateRecord}
@@ -10,7 +10,7 @@ use Rattle.is_rules.specs.Agent.{AgentRecord}
 use Rattle.is_theorems.specs.Asked.{IsAnsweredIn}
 use Rattle.is_rules.specs.Effects.{PathEffect, lite_set_by}
 use Rattle.is_theorems.specs.Logs.{Logged}
-use Rattle.is_theorems.specs.Progress.{Awaits, IsUnanswered}
+use Rattle.is_theorems.specs.Progress.{Awaits, IsUnanswered, checks_for}
 use Rattle.is_theorems.specs.Reached.{IsLasting}
 use Rattle.is_theorems.specs.Rounds.{LoggedRound, entries_of, BringsSuccess, RunsOn, IsControllingIn, SegmentSelects, AnsweredRoundsSelect}
 use Rattle.is_theorems.specs.Runs.{IsFresh, Run, Point}
@@ -28,7 +28,7 @@ use Rattle.is_theorems.proofs.ExecutionLogs.LogSegments.{run-on, starts-controll
 use Rattle.is_theorems.proofs.DuePairs.NoNominationDue.{Quiet, due-none, lite_stays}
 use Rattle.is_theorems.proofs.PollingRounds.DuePairsInLogs.{reached-unless}
 use Rattle.is_theorems.proofs.PollingRounds.FirstRound.{due-unless}
-use Rattle.is_theorems.proofs.PollingRounds.InTurnAlong.{Accepts, IsOfRound, IsQuiet, lined-unanswered, of_rounds, quiet-in-turn}
+use Rattle.is_theorems.proofs.PollingRounds.InTurnAlong.{Accepts, IsOfRound, IsQuiet, lined-unanswered, no_agent, no_call, of_rounds, paid-none, quiet-in-turn}
 
 module _ {P : Type 0} where
   lite_kept : (x : Logged P) (l : Bool) → IsOfRound x → lite_set_by x.call l ≡ l
@@ -58,6 +58,9 @@ some-or-none (p ∷ ps) = by (is_valid p) refl (some-or-none ps) where
   by true is rest = inl (p, inl refl, is)
   by false is (inl (q, has, valid)) = inl (q, inr has, valid)
   by false is (inr none) = inr (λ q has. elim has [ inl same ↦ ap (λ (x : PairRecord). is_valid x) (sym same) ∙ is | inr there ↦ none q there ])
+
+none-more : (n : ℕ) → n ≡ n + 0
+none-more n = omega arith
 
 module _ {H P : Type 0} (mac : H → List ℕ → List ℕ → List ℕ) (answers : P → CandidateRecord → ℕ → ℕ → Type 0) where
   -- no pair is valid, and no success response was accepted in the segment
@@ -127,14 +130,14 @@ module _ {H P : Type 0} (mac : H → List ℕ → List ℕ → List ℕ) (answer
               met = λ id out. search (answered r has id out);
             }))
             role (omega (arith, few)))
-        | inr many ↦ elim (reached-unless mac answers (IsQuiet mac answers) (Accepts mac answers) (quiet-in-turn mac answers) first s log fresh before start last rounds p by part (record {
+        | inr many ↦ elim (reached-unless mac answers (IsQuiet mac answers) (Accepts mac answers) (no_agent mac answers) (no_call mac answers) (quiet-in-turn mac answers) first s log fresh before start last rounds p by 0 part (record {
           at = at;
           began = began;
           line = lined-unanswered at by start p waits unanswered;
           passing = passing;
           lasting = λ r has. lasts r.now;
-          enough = omega (arith, many);
-        }) (quiet-at first s part.at before start p at by fresh part.led (starts-controlling mac answers before start last part.at part.following (entries_of rounds) part.run role) waits unanswered)) [
+          enough = subst (λ n. checks_for start.rules n ≤ length rounds + 1 + checks_for start.rules start.next_number) (none-more (2 * length start.pairs + last.next_number)) (omega (arith, many));
+        }) (paid-none mac answers (entries_of rounds)) (quiet-at first s part.at before start p at by fresh part.led (starts-controlling mac answers before start last part.at part.following (entries_of rounds) part.run role) waits unanswered)) [
           | inl (x, has, success) ↦ inl (selects (x, has, success))
           | inr (inl (r, id, has, out)) ↦ inl (let x = answered r has id out in selects (x.0, in_entries rounds r x.0 has x.1, x.2))
           | inr (inr (inl is)) ↦ inl (selects (success-is (entries_of rounds) (path_of start p) is))
@@ -156,10 +159,11 @@ module _ {H P : Type 0} (mac : H → List ℕ → List ℕ → List ℕ) (answer
 
   pub due-rounds-announce : AnsweredDueRoundsSelect mac answers
   due-rounds-announce first s log fresh before start second last r later p by one others waits unanswered from comes done between passing answered role role_later enough =
-      elim (due-unless mac answers (IsQuiet mac answers) (Accepts mac answers) (quiet-in-turn mac answers) first s log fresh before start second last r later p by one others
+      elim (due-unless mac answers (Accepts mac answers) (IsQuiet mac answers) (no_agent mac answers) (no_call mac answers) (quiet-in-turn mac answers)
+      (IsQuiet mac answers) (no_agent mac answers) (no_call mac answers) (quiet-in-turn mac answers) first s log fresh before start second last r later p by 0 one others
       (lined-unanswered r.now by start p waits unanswered)
-      (quiet-at first s one.at before start p r.now by fresh one.led (starts-controlling mac answers before start second one.at one.following (entries_of (r ∷ [])) one.run role) waits unanswered)
-      (omega (arith, from)) comes done (λ x has. between x has) (λ x has. passing x has) (λ x has. lasts x.now) (of_enough enough)) [
+      (quiet-at first s one.at before start p r.now by fresh one.led (starts-controlling mac answers before start second one.at one.following (entries_of (r ∷ [])) one.run role) waits unanswered) (λ still. still)
+      (omega (arith, from)) comes done (λ x has. between x has) (λ x has. passing x has) (λ x has. lasts x.now) (of_enough enough) (paid-none mac answers (entries_of later))) [
         | inl (inl (x, has, success)) ↦ inl (in-first (x, has, success))
         | inl (inr (x, has, success)) ↦ inl (in-later (x, has, success))
         | inr (inl (inl (x, id, inl is, out))) ↦ inl (in-first (in-round (r ∷ []) r (inl refl) (search (answered r (inl refl) id (ap (λ (z : LoggedRound P). z.timeout.entry.emitted.issued) is ∙ out)))))
@@ -176,7 +180,7 @@ module _ {H P : Type 0} (mac : H → List ℕ → List ℕ → List ℕ) (answer
         all : List (Logged P)
         all = entries_of later ++ entries_of (r ∷ [])
 
-        of_enough : SufficesFromDue start second last (length later) → SufficesFromDue start second last (length later)
+        of_enough : SufficesFromDue start second last (length later) 0 → SufficesFromDue start second last (length later) 0
         of_enough (inl few) = inl (omega (arith, few))
         of_enough (inr many) = inr (omega (arith, many))
 

@@ -5,6 +5,7 @@ use Rattle.is_proto.specs.Lists.{Has}
 use Rattle.is_candidate.specs.Candidates.{CandidateRecord}
 use Rattle.is_rules.specs.declared.emitted.Path.{Path}
 use Rattle.is_rules.specs.Agent.{AgentRecord}
+use Rattle.is_rules.specs.Nominating.{numbers}
 use Rattle.is_theorems.specs.Asked.{IsAnsweredOn, IsAnsweredIn}
 use Rattle.is_theorems.specs.AskedCourses.{Ends, EndsAlong}
 use Rattle.is_proto.specs.Times.{MAX}
@@ -13,8 +14,8 @@ use Rattle.is_theorems.specs.Courses.{AcceptsSuccess, CourseRound}
 use Rattle.is_theorems.specs.Exchange.{Course}
 use Rattle.is_theorems.specs.Logs.{Logged}
 use Rattle.is_theorems.specs.Progress.{Awaits, IsUnanswered, checks_for}
-use Rattle.is_theorems.specs.Reached.{IsLasting, IsPassing, ChecksIn, IsEndedIn}
-use Rattle.is_theorems.specs.ReachedCourses.{ChecksAmong, IsAnsweredAmong, PassRounds}
+use Rattle.is_theorems.specs.Reached.{IsLasting, IsPassing, ChecksIn, IsEndedIn, nominations_ahead}
+use Rattle.is_theorems.specs.ReachedCourses.{ChecksAmong, IsAnsweredAmong, PassRounds, selections_among}
 use Rattle.is_theorems.specs.Rounds.{LoggedRound, Part, entries_of, RunsOn}
 use Rattle.is_theorems.specs.Runs.{IsFresh, Run}
 use Rattle.is_rules.specs.Sending.{path_of}
@@ -22,12 +23,14 @@ use Rattle.is_rules.specs.Sound.{IsSound, GivesBased}
 use Rattle.is_rules.specs.Steps.{Call, Done, HandleTimeout, Entry, Step}
 use Rattle.is_theorems.proofs.ExecutionLogs.PerAgentExecutions.{entry_of, part_of, pushed, part_is, round_of, rounds_of, begun, as_many, either_has, recomputed, leads_on}
 use Rattle.is_theorems.proofs.ExecutionLogs.LogSegments.{no-case, run-on}
-use Rattle.is_theorems.specs.FirstTimeouts.{AreInRound, IsOpenRound, EndsAmong, IsReached, IsReachedIn, SufficesFromDue, Suffices, OpenCoursesReach, CoursesReachFromDue, CoursesReachUnanswered}
+use Rattle.is_theorems.specs.FirstTimeouts.{AreInRound, IsOpenRound, EndsAmong, IsReached, IsReachedIn, SufficesFromDue, RoundsSuffice, Suffices, OpenCoursesReach, CoursesReachFromDue, CoursesReachUnanswered}
 use Rattle.is_theorems.proofs.CallEffects.FailedCallsAndNewAgents.{fresh_sound}
 use Rattle.is_theorems.proofs.DuePairs.NoNominationDue.{due-none}
+use Rattle.is_theorems.proofs.DuePairs.NominationsAhead.{to_select, to_send}
+use Rattle.is_theorems.proofs.PollingRounds.CountedSelections.{among-nothing, among-within, paid, paid_among, paid-rounds}
 use Rattle.is_theorems.proofs.PollingRounds.DuePairsInLogs.{reached-unless}
 use Rattle.is_theorems.proofs.PollingRounds.FirstRound.{due-unless}
-use Rattle.is_theorems.proofs.PollingRounds.InTurnAlong.{Accepts, InTurn, IsPlain, IsQuiet, Lined, Never, OffIn, lined, lined-unanswered, plain-in-turn, quiet-in-turn}
+use Rattle.is_theorems.proofs.PollingRounds.InTurnAlong.{Accepts, InTurn, IsNumbered, IsQuiet, Lined, Never, OffIn, lined, lined-unanswered, no_agent, no_call, numbered-in-turn, quiet-in-turn}
 use Rattle.is_theorems.proofs.StoredPairs.TransactionsOverPackets.{sound-course}
 
 module _ {P : Type 0} where
@@ -184,13 +187,13 @@ module _ {H P : Type 0} (mac : H → List ℕ → List ℕ → List ℕ) (answer
 
   -- ---- unless a call turns it off
 
-  module _ (Stays : AgentRecord H P → Type 0) (Off : Call P → Entry → Type 0) (turns : InTurn mac answers Stays Off) where
-    open-unless : (first start last : AgentRecord H P) (xs : List (Call P × Entry)) (r : CourseRound P) (rounds : List (CourseRound P)) (p : PairRecord) (by : ℕ)
+  module _ (Off : Call P → Entry → Type 0) (Stays : AgentRecord H P → Type 0) (owes : AgentRecord H P → ℕ) (pays : Entry → ℕ) (turns : InTurn mac answers Stays Off owes pays) where
+    open-unless : (first start last : AgentRecord H P) (xs : List (Call P × Entry)) (r : CourseRound P) (rounds : List (CourseRound P)) (p : PairRecord) (by most : ℕ)
         → IsFresh first → Course mac answers xs first start → Lined r.now by start p → Stays start → (run : PassRounds mac answers (r ∷ rounds) start last)
         → ((x : CourseRound P) → Has (r ∷ rounds) x → IsOpenRound by x) → ((x : CourseRound P) → Has (r ∷ rounds) x → IsLasting x.now start p)
-        → checks_for start.rules (2 * length start.pairs + last.next_number) ≤ length (r ∷ rounds) + 1 + checks_for start.rules start.next_number
-        → OffAmong Off (r ∷ rounds) ⊎ IsReached mac answers (r ∷ rounds) start last run (path_of start p)
-    open-unless first start last xs r rounds p by fresh course line stays chain are lasting enough =
+        → checks_for start.rules (2 * length start.pairs + last.next_number + most) ≤ length (r ∷ rounds) + 1 + checks_for start.rules start.next_number
+        → owes start + paid_among pays (r ∷ rounds) ≤ most → OffAmong Off (r ∷ rounds) ⊎ IsReached mac answers (r ∷ rounds) start last run (path_of start p)
+    open-unless first start last xs r rounds p by most fresh course line stays chain are lasting enough within =
         let before : List (Logged P) = pushed [] xs in
         let path : Path = path_of start p in
         let Gone : Type 0 = EndsAmong mac answers (r ∷ rounds) start last chain path in
@@ -198,7 +201,8 @@ module _ {H P : Type 0} (mac : H → List ℕ → List ℕ → List ℕ) (answer
         let held = holds_rounds Gone path (r ∷ rounds) before [] start start last (λ t. (t, ((refl, refl), λ none. absurd none))) chain (λ e. e) any in
         let led = leads_on mac answers first xs [] first start (λ t. (t, (refl, refl))) course held.0 in
         let many = as_many before [] (r ∷ rounds) in
-        elim (reached-unless mac answers Stays Off turns first led.0 (entries_of all ++ before) fresh before start last all p by
+        let counts : paid pays (entries_of all) ≡ 0 + paid_among pays (r ∷ rounds) = paid-rounds pays before [] (r ∷ rounds) in
+        elim (reached-unless mac answers Stays Off owes pays turns first led.0 (entries_of all ++ before) fresh before start last all p by most
         (record { rest = []; split = refl; at = held.0; led = led.1; following = any; run = held.1.0 })
         (record {
           at = r.now;
@@ -207,18 +211,19 @@ module _ {H P : Type 0} (mac : H → List ℕ → List ℕ → List ℕ) (answer
           passing = are_passing by before [] (r ∷ rounds) (λ x none. absurd none) are;
           lasting = are_at (λ m. IsLasting m start p) before [] (r ∷ rounds) (λ x none. absurd none) lasting;
           enough = omega (arith, many, enough);
-        }) stays) [
+        }) (omega (arith, counts, within)) stays) [
           | inl off ↦ elim (off_among Off turns.apart before [] (r ∷ rounds) off) [ inl k ↦ inl k | inr (x, none, is) ↦ absurd none ]
           | inr reached ↦ inr (reached-back Gone path before (r ∷ rounds) (IsEndedIn mac answers before start held.0 (entries_of all) last any held.1.0 path) held.1.1 reached)
         ]
 
-    pub due-courses-unless : (first start last : AgentRecord H P) (xs : List (Call P × Entry)) (r : CourseRound P) (later : List (CourseRound P)) (p : PairRecord) (by : ℕ)
+    pub due-courses-unless : (Then : AgentRecord H P → Type 0) (then_owes : AgentRecord H P → ℕ) (then_pays : Entry → ℕ) → InTurn mac answers Then Off then_owes then_pays
+        → (first start last : AgentRecord H P) (xs : List (Call P × Entry)) (r : CourseRound P) (later : List (CourseRound P)) (p : PairRecord) (by all_most most : ℕ)
         → IsFresh first → Course mac answers xs first start → Lined r.now by start p → Stays start
         → by ≤ r.now → r.timeout.answer ≡ Done → r.now < MAX → AreInRound r.following
-        → (run : PassRounds mac answers (r ∷ later) start last) → ((x : CourseRound P) → Has later x → IsOpenRound by x)
-        → ((x : CourseRound P) → Has later x → IsLasting x.now start p) → Suffices by r.now start run.1 last (length later)
-        → OffAmong Off (r ∷ later) ⊎ IsReached mac answers (r ∷ later) start last run (path_of start p)
-    due-courses-unless first start last xs r later p by fresh course line stays from done early between run passing lasting enough = by-enough enough where
+        → (run : PassRounds mac answers (r ∷ later) start last) → (Stays run.1 → Then run.1) → ((x : CourseRound P) → Has later x → IsOpenRound by x)
+        → ((x : CourseRound P) → Has later x → IsLasting x.now start p) → Suffices by r.now start run.1 last (length later) all_most most
+        → owes start + paid_among pays (r ∷ later) ≤ all_most → then_owes run.1 + paid_among then_pays later ≤ most → OffAmong Off (r ∷ later) ⊎ IsReached mac answers (r ∷ later) start last run (path_of start p)
+    due-courses-unless Then then_owes then_pays then_turns first start last xs r later p by all_most most fresh course line stays from done early between run then passing lasting enough within then_within = by-enough enough where
       path : Path
       path = path_of start p
 
@@ -268,16 +273,17 @@ module _ {H P : Type 0} (mac : H → List ℕ → List ℕ → List ℕ) (answer
         run = held-later.1.0;
       }
 
-      from-first : SufficesFromDue start run.1 last (length later) → OffAmong Off (r ∷ later) ⊎ IsReached mac answers (r ∷ later) start last run path
+      from-first : SufficesFromDue start run.1 last (length later) most → OffAmong Off (r ∷ later) ⊎ IsReached mac answers (r ∷ later) start last run path
       from-first enough =
           let many = as_many following [] later in
-          elim (due-unless mac answers Stays Off turns first led.0 (entries_of others ++ following) fresh before start run.1 last first_round others p by
+          let counts : paid then_pays (entries_of others) ≡ 0 + paid_among then_pays later = paid-rounds then_pays following [] later in
+          elim (due-unless mac answers Off Stays owes pays turns Then then_owes then_pays then_turns first led.0 (entries_of others ++ following) fresh before start run.1 last first_round others p by most
           found_first found_later
-          line stays (omega (arith, from)) refl done
+          line stays then (omega (arith, from)) refl done
           (λ x has. between (x.call, x.entry) (part_is (entry_of before (HandleTimeout r.now) r.timeout ∷ before) r.following x has))
           (are_passing by following [] later (λ x none. absurd none) passing)
           (are_at (λ m. IsLasting m start p) following [] later (λ x none. absurd none) lasting)
-          (subst (λ n. SufficesFromDue start run.1 last n) (sym (omega (arith, many))) enough)) [
+          (subst (λ n. SufficesFromDue start run.1 last n most) (sym (omega (arith, many))) enough) (omega (arith, counts, then_within))) [
             | inl (inl off) ↦ elim (off_among Off turns.apart before [] (r ∷ []) off) [
               | inl (x, inl is, k) ↦ inl (x, inl is, k)
               | inl (x, inr none, k) ↦ absurd none
@@ -305,39 +311,50 @@ module _ {H P : Type 0} (mac : H → List ℕ → List ℕ → List ℕ) (answer
                   | inr (inr ends) ↦ inr (inr ends)
                 ]
 
-      by-enough : Suffices by r.now start run.1 last (length later) → OffAmong Off (r ∷ later) ⊎ IsReached mac answers (r ∷ later) start last run path
+      by-enough : Suffices by r.now start run.1 last (length later) all_most most → OffAmong Off (r ∷ later) ⊎ IsReached mac answers (r ∷ later) start last run path
       by-enough (inl (late, enough)) =
-          open-unless first start last xs r later p by fresh course line stays run (λ x has. open-from (omega (arith, late)) x has) lasts (omega (arith, enough))
+          open-unless first start last xs r later p by all_most fresh course line stays run (λ x has. open-from (omega (arith, late)) x has) lasts (omega (arith, enough)) (omega (arith, within))
       by-enough (inr enough) = from-first enough
 
-  -- ---- nominations have no numbers
+  -- ---- nominations may have numbers
 
   pub open-courses-reach : OpenCoursesReach {H = H} {P = P} mac answers
   open-courses-reach first start last xs r rounds p by fresh course line chain are lasting enough =
-      elim (open-unless (IsPlain mac answers) (Never mac answers) (plain-in-turn mac answers) first start last xs r rounds p by fresh course (lined r.now by start p line) line.unnumbered chain
-      (λ x has. are x has) (λ x has. lasting x has) enough) [
+      elim (open-unless (Never mac answers) (IsNumbered mac answers (numbers start)) (to_send (numbers start)) (to_select (numbers start)) (numbered-in-turn mac answers (numbers start))
+      first start last xs r rounds p by (nominations_ahead start (selections_among (r ∷ rounds))) fresh course (lined r.now by start p line) (λ off. off) chain
+      (λ x has. are x has) (λ x has. lasting x has) (omega (arith, enough)) (among-within start (r ∷ rounds))) [
         | inl (x, has, (y, there, never)) ↦ absurd never
         | inr reached ↦ reached
       ]
 
   pub courses-reach-from-due : CoursesReachFromDue {H = H} {P = P} mac answers
   courses-reach-from-due first start last xs r later p by fresh course line from done early between run passing lasting enough =
-      elim (due-courses-unless (IsPlain mac answers) (Never mac answers) (plain-in-turn mac answers) first start last xs r later p by fresh course (lined r.now by start p line) line.unnumbered
-      (omega (arith, from)) done (omega (arith, early)) (λ x has. between x has) run (λ x has. passing x has) (λ x has. lasting x has) enough) [
+      elim (due-courses-unless (Never mac answers) (IsNumbered mac answers (numbers start)) (to_send (numbers start)) (to_select (numbers start)) (numbered-in-turn mac answers (numbers start))
+      (IsNumbered mac answers (numbers run.1)) (to_send (numbers run.1)) (to_select (numbers run.1)) (numbered-in-turn mac answers (numbers run.1))
+      first start last xs r later p by (nominations_ahead start (selections_among (r ∷ later))) (nominations_ahead run.1 (selections_among later)) fresh course (lined r.now by start p line) (λ off. off)
+      (omega (arith, from)) done (omega (arith, early)) (λ x has. between x has) run (λ _ off. off) (λ x has. passing x has) (λ x has. lasting x has) (of_enough enough)
+      (among-within start (r ∷ later)) (among-within run.1 later)) [
         | inl (x, has, (y, there, never)) ↦ absurd never
         | inr reached ↦ reached
-      ]
+      ] where
+        of_enough : RoundsSuffice by start run.1 last r later (length later)
+            → Suffices by r.now start run.1 last (length later) (nominations_ahead start (selections_among (r ∷ later))) (nominations_ahead run.1 (selections_among later))
+        of_enough (inl (late, many)) = inl (omega (arith, late), omega (arith, many))
+        of_enough (inr (inl few)) = inr (inl (omega (arith, few)))
+        of_enough (inr (inr many)) = inr (inr (omega (arith, many)))
 
   -- ---- no pair is valid
 
   -- The same of a pair of a controlling agent that has no valid one: it is reached, unless a success response is accepted in the rounds.
   pub courses-reach-unanswered : CoursesReachUnanswered {H = H} {P = P} mac answers
   courses-reach-unanswered first start last xs r later p by fresh course role waits unanswered from done early between run passing enough =
-      due-courses-unless (IsQuiet mac answers) (Accepts mac answers) (quiet-in-turn mac answers) first start last xs r later p by fresh course (lined-unanswered r.now by start p waits unanswered)
+      due-courses-unless (Accepts mac answers) (IsQuiet mac answers) (no_agent mac answers) (no_call mac answers) (quiet-in-turn mac answers)
+      (IsQuiet mac answers) (no_agent mac answers) (no_call mac answers) (quiet-in-turn mac answers) first start last xs r later p by 0 0 fresh course (lined-unanswered r.now by start p waits unanswered)
       (record {
         full = waits.checking.full;
         invalid = λ q has. (let none = unanswered.invalid in none q has);
         quiet = due-none start (sound-course mac answers xs first start (subst (λ (a : AgentRecord H P). IsSound a) (sym fresh.2) (fresh_sound H P first.provider fresh.0 fresh.1)) course) role waits.checking.full unanswered.calm;
       })
-      (omega (arith, from)) done (omega (arith, early)) (λ x has. between x has) run (λ x has. passing x has)
+      (omega (arith, from)) done (omega (arith, early)) (λ x has. between x has) run (λ still. still) (λ x has. passing x has)
       (λ x has valid. (let no : true ≡ false = sym valid ∙ (let none = unanswered.invalid in none p waits.there) in absurd (cc))) enough
+      (let k : paid_among (λ e. 0) (r ∷ later) ≡ 0 = among-nothing (r ∷ later) in omega (arith, k)) (let k : paid_among (λ e. 0) later ≡ 0 = among-nothing later in omega (arith, k))

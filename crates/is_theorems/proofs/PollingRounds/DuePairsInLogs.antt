@@ -13,7 +13,8 @@ use Rattle.is_pair.specs.Pairs.{PairRecord}
 use Rattle.is_stun.specs.declared.header.Class.TheVariants as class
 use Rattle.is_stun.specs.declared.timing.StunTiming.{StunTiming}
 use Rattle.is_rules.specs.Agent.{AgentRecord}
-use Rattle.is_rules.specs.Checking.{goes_ahead}
+use Rattle.is_rules.specs.Checking.{all_asked, goes_ahead}
+use Rattle.is_rules.specs.Nominating.{nominates_at_once, numbers}
 use Rattle.is_theorems.specs.Asked.{IsAnsweredOn, IsAnsweredIn, MayEndIn}
 use Rattle.is_theorems.specs.AskedCourses.{Ends}
 use Rattle.is_rules.specs.Brought.{Brings}
@@ -21,14 +22,14 @@ use Rattle.is_rules.specs.declared.emitted.Path.{Path}
 use Rattle.is_theorems.specs.Logs.{Logged}
 use Rattle.is_rules.specs.Polls.{PollsTimeout, NextTimeoutFrom, NextTimeouts, is_waiting, is_idle}
 use Rattle.is_theorems.specs.Progress.{IsChecking}
-use Rattle.is_theorems.specs.Reached.{IsLasting, IsPassing, ChecksIn, is_in_round, IsEndedIn, PairsAreReached, AskedRoundsSelect}
+use Rattle.is_theorems.specs.Reached.{IsLasting, IsPassing, ChecksIn, is_in_round, IsEndedIn, PairsAreReached, AskedRoundsSelect, nominations_ahead, selection_count}
 use Rattle.is_theorems.specs.Rounds.{LoggedRound, entries_of, began_at, Part, RunsOn}
 use Rattle.is_theorems.specs.Runs.{IsFresh, Run, IsTopPath}
 use Rattle.is_rules.specs.Sending.{path_of}
 use Rattle.is_rules.specs.Sound.{IsSound}
 use Rattle.is_theorems.specs.Staying.{MayEnd, Stays}
 use Rattle.is_rules.specs.Steps.{Call, SetMtu, SetControlTieBreaker, SetMaxCandidatePairs, SetMaxDiscovered, SetRenomination, SetTimingAdvance, SetLocalPreference, SetControlling, SetLocalCredentials, AddLocalCandidate, AddRemoteCandidate, Entry, ReceivePacket, HandleTimeout, PollTransmit, PollTimeout, PollEvent, Done, Step}
-use Rattle.is_rules.specs.Timeouts.{timeout_begun}
+use Rattle.is_rules.specs.Timeouts.{timeout_begun, MaintainsPairs}
 use Rattle.is_rules.specs.Emitted.{issued_as}
 use Rattle.is_theorems.proofs.PathSelection.NominatedByPeer.{asked-are-selected_paths}
 use Rattle.is_theorems.proofs.CallEffects.PathAndTradeEffects.{path_theorem}
@@ -39,7 +40,7 @@ use Rattle.is_theorems.proofs.ExecutionLogs.LogSegments.{no-case, run-on, passed
 use Rattle.is_theorems.proofs.EarlierChecks.ChangedPairs.{onward-same}
 use Rattle.is_theorems.proofs.EarlierChecks.BetweenTimeouts.{Ground, Goes, goes-to, goes-same, receives-goes}
 use Rattle.is_theorems.proofs.DuePairs.FirstDuePair.{due-at, timeout-follows}
-use Rattle.is_theorems.proofs.DuePairs.ChecksAhead.{times, calls_left, Falls, calls-fall, calls-added, calls-over}
+use Rattle.is_theorems.proofs.DuePairs.ChecksAhead.{times, calls_left, Falls, calls-added, calls-at-once, calls-in-turn, calls-over}
 use Rattle.is_theorems.proofs.EarlierChecks.OneCheckFewer.{Ready, timeout-goes}
 use Rattle.is_rules.proofs.PairLists.RisingNumbers.{rising-each}
 use Rattle.is_theorems.proofs.CallEffects.ServedRequests.{Has-mapped}
@@ -51,8 +52,9 @@ use Rattle.is_theorems.proofs.DuePairs.AfterNominationAndRemoval.{Base, Kept, an
 use Rattle.is_theorems.proofs.EarlierChecks.AddedCandidates.{local-goes, remote-goes}
 use Rattle.is_rules.specs.Sound.{GivesBased}
 use Rattle.is_theorems.specs.FirstTimeouts.{IsReachedIn}
-use Rattle.is_theorems.proofs.DuePairs.FirstDuePair.{NoneAtOnce}
-use Rattle.is_theorems.proofs.PollingRounds.InTurnAlong.{InTurn, IsPlain, Never, OffIn, Sufficing, of_rounds, plain-in-turn, sufficing, turn-along}
+use Rattle.is_theorems.proofs.DuePairs.NominationsAhead.{to_select, to_send}
+use Rattle.is_theorems.proofs.PollingRounds.InTurnAlong.{InTurn, IsNumbered, Never, OffIn, Sufficing, numbered-in-turn, of_rounds, sufficing, turn-along}
+use Rattle.is_theorems.proofs.PollingRounds.CountedSelections.{paid, paid-join, paid-within}
 
 lt-is : (n m : ℕ) → n < m → nat_lt n m ≡ true
 lt-is n m h = grind (arith, nat_tests, h)
@@ -114,7 +116,7 @@ module _ {H P : Type 0} where
   -- ---- a pair that waits for its check
 
   -- before a `handle_timeout` call
-  record Persists (by n : ℕ) (path : Path) (keeps : ℕ → Bool) (ahead : Bool) (total base now k : ℕ) (a : AgentRecord H P) : Type 0 where
+  record Persists (by n : ℕ) (path : Path) (keeps : ℕ → Bool) (ahead : Bool) (owes : AgentRecord H P → ℕ) (total base now k spent : ℕ) (a : AgentRecord H P) : Type 0 where
     checking : IsChecking a
     queue : a.queue ≡ []
     pair : PairRecord
@@ -127,10 +129,10 @@ module _ {H P : Type 0} where
     early : now < MAX
     ready : Ready now by late early a.timing pair
     rules : goes_ahead a.rules ≡ ahead
-    count : calls_left ahead a.ahead_turn (leads n by a.pairs) + k + times ahead base ≤ total + times ahead a.next_number
+    count : calls_left ahead a.ahead_turn (leads n by a.pairs) + k + times ahead (base + owes a) ≤ total + times ahead (a.next_number + spent)
 
   -- after it
-  record Waits (by n : ℕ) (path : Path) (keeps : ℕ → Bool) (ahead : Bool) (total base at k : ℕ) (a : AgentRecord H P) : Type 0 where
+  record Waits (by n : ℕ) (path : Path) (keeps : ℕ → Bool) (ahead : Bool) (owes : AgentRecord H P → ℕ) (total base at k spent : ℕ) (a : AgentRecord H P) : Type 0 where
     checking : IsChecking a
     queue : a.queue ≡ []
     last : a.last_time ≡ Some at
@@ -144,10 +146,11 @@ module _ {H P : Type 0} where
     before : timeout ≤ by
     due : pair.due ≡ Some timeout
     rules : goes_ahead a.rules ≡ ahead
-    count : calls_left ahead a.ahead_turn (leads n by a.pairs) + k + times ahead base ≤ total + times ahead a.next_number
+    count : calls_left ahead a.ahead_turn (leads n by a.pairs) + k + times ahead (base + owes a) ≤ total + times ahead (a.next_number + spent)
 
-  persists : (by n : ℕ) (path : Path) (keeps : ℕ → Bool) (ahead : Bool) (total base at k now : ℕ) (a : AgentRecord H P) → by < now → now < MAX → Waits by n path keeps ahead total base at k a → Persists by n path keeps ahead total base now k a
-  persists by n path keeps ahead total base at k now a late early w = record {
+  persists : (by n : ℕ) (path : Path) (keeps : ℕ → Bool) (ahead : Bool) (owes : AgentRecord H P → ℕ) (total base at k spent now : ℕ) (a : AgentRecord H P) → by < now → now < MAX → Waits by n path keeps ahead owes total base at k spent a
+      → Persists by n path keeps ahead owes total base now k spent a
+  persists by n path keeps ahead owes total base at k spent now a late early w = record {
     checking = w.checking;
     queue = w.queue;
     pair = w.pair;
@@ -163,11 +166,13 @@ module _ {H P : Type 0} where
     count = w.count;
   }
 
-  module _ (mac : H → List ℕ → List ℕ → List ℕ) (answers : P → CandidateRecord → ℕ → ℕ → Type 0) (by n : ℕ) (path : Path) (keeps : ℕ → Bool) (ahead : Bool) (total base : ℕ) where
+  module _ (mac : H → List ℕ → List ℕ → List ℕ) (answers : P → CandidateRecord → ℕ → ℕ → Type 0) (by n : ℕ) (path : Path) (keeps : ℕ → Bool) (ahead : Bool)
+      (owes : AgentRecord H P → ℕ) (pays : Entry → ℕ) (total base : ℕ) where
     -- ---- between two `handle_timeout` calls
 
-    waits-on : (at k : ℕ) → by < at → (old new : AgentRecord H P) (w : Waits by n path keeps ahead total base at k old) → IsSound new → Goes n by old new → Stays old w.pair new → Waits by n path keeps ahead total base at k new
-    waits-on at k following old new w sound (ground, goes) stays =
+    waits-on : (at k spent : ℕ) (e : Entry) → by < at → (old new : AgentRecord H P) (w : Waits by n path keeps ahead owes total base at k spent old) → IsSound new → Goes n by old new → owes new ≤ owes old + pays e → Stays old w.pair new
+        → Waits by n path keeps ahead owes total base at k (pays e + spent) new
+    waits-on at k spent e following old new w sound (ground, goes) owing stays =
         let at_last : last_time_of old ≡ at = ap (λ o. unwrap_or o 0) w.last in
         let f = goes.fixed w.timeout (kept_of w.pair) (let before = w.before in omega (arith, at_last, before, following)) (w.pair, w.there, w.number, w.due, refl) in
         let one : stays.pair ≡ f.0 = one_pair new.pairs stays.pair f.0 (rising-each new.pairs sound.rising) stays.there f.1 (stays.number ∙ (w.number ∙ sym f.2)) in
@@ -189,10 +194,17 @@ module _ {H P : Type 0} where
           before = w.before;
           due = f.3;
           rules = ap (λ (g : Ground). goes_ahead g.rules) ground ∙ w.rules;
-          count = subst (λ b. calls_left ahead b (leads n by new.pairs) + k + times ahead base ≤ total + times ahead new.next_number)
+          count = subst (λ b. calls_left ahead b (leads n by new.pairs) + k + times ahead (base + owes new) ≤ total + times ahead (new.next_number + (pays e + spent)))
               (sym (ap (λ (g : Ground). g.ahead_turn) ground))
-              (calls-added ahead old.ahead_turn (leads n by old.pairs) (leads n by new.pairs) old.next_number new.next_number k base total (goes.less (omega (arith, at_last, following))) w.count);
+              (calls-added ahead old.ahead_turn (leads n by old.pairs) (leads n by new.pairs) (old.next_number + spent) (new.next_number + (pays e + spent)) k (base + owes old) (base + owes new) total
+              (let less = goes.less (omega (arith, at_last, following)) in omega (arith, less, owing)) w.count);
         }
+
+    none-more : (a : ℕ) → a ≡ 0 + a
+    none-more a = omega arith
+
+    sum-is : (a b c : ℕ) → a + (b + c) ≡ a + b + c
+    sum-is a b c = omega arith
 
     between-goes : (at : ℕ) → by < at → at < MAX → (x : Logged P) (call : Call P) → x.call ≡ call → (old new : AgentRecord H P) (s t : Stream) → is_some old.remote_creds ≡ true → old.last_time ≡ Some at
         → (p : PairRecord) → IsSound old → Has old.pairs p → p.number ≡ n → path_of old p ≡ path → is_in_round call ≡ true → Step mac answers old s call x.entry new t
@@ -233,16 +245,18 @@ module _ {H P : Type 0} where
     between-goes at following early x (SetControlling controlling) called old new s t known last p sound has number on is (Err error, reported, h, drawn) = inr (inr (goes-same n by old new (controlling_kept old new controlling error h)))
     between-goes at following early x _ called old new s t known last p sound has number on is step = no-case is
 
-    module _ (first : AgentRecord H P) (s : Stream) (fresh : IsFresh first) where
+    module _ (owing : (call : Call P) (e : Entry) (old new : AgentRecord H P) (s t : Stream) → is_in_round call ≡ true → Step mac answers old s call e new t → owes new ≤ owes old + pays e)
+        (first : AgentRecord H P) (s : Stream) (fresh : IsFresh first) where
       sound-at : (log : List (Logged P)) (a : AgentRecord H P) (t : Stream) → Run mac answers first s log a t → IsSound a
       sound-at log a t run = runs_sound mac answers (path_theorem mac answers) first a s t log fresh run
 
-      walk : (at k : ℕ) → by < at → at < MAX → (before : List (Logged P)) (start last : AgentRecord H P) (u t : Stream) (xs : List (Logged P)) → ((x : Logged P) → Has xs x → is_in_round x.call ≡ true)
-          → Run mac answers first s before start u → (run : RunsOn mac answers before start u xs last t) → Waits by n path keeps ahead total base at k start
-          → IsAnsweredIn xs path ⊎ (IsEndedIn mac answers before start u xs last t run path ⊎ Waits by n path keeps ahead total base at k last)
-      walk at k following early before start last u t [] fits led (is, same) w = inr (inr (subst (λ (a : AgentRecord H P). Waits by n path keeps ahead total base at k a) (sym is) w))
-      walk at k following early before start last u t (x ∷ xs) fits led (mid, v, run, number, given, step) w =
-          elim (walk at k following early before start mid u v xs (λ y has. fits y (inr has)) led run w) [
+      walk : (at k spent : ℕ) → by < at → at < MAX → (before : List (Logged P)) (start last : AgentRecord H P) (u t : Stream) (xs : List (Logged P)) → ((x : Logged P) → Has xs x → is_in_round x.call ≡ true)
+          → Run mac answers first s before start u → (run : RunsOn mac answers before start u xs last t) → Waits by n path keeps ahead owes total base at k spent start
+          → IsAnsweredIn xs path ⊎ (IsEndedIn mac answers before start u xs last t run path ⊎ Waits by n path keeps ahead owes total base at k (paid pays xs + spent) last)
+      walk at k spent following early before start last u t [] fits led (is, same) w = inr (inr (subst (λ (a : AgentRecord H P). Waits by n path keeps ahead owes total base at k (0 + spent) a) (sym is)
+          (subst (λ n_spent. Waits by n path keeps ahead owes total base at k n_spent start) (none-more spent) w)))
+      walk at k spent following early before start last u t (x ∷ xs) fits led (mid, v, run, number, given, step) w =
+          elim (walk at k spent following early before start mid u v xs (λ y has. fits y (inr has)) led run w) [
             | inl answered ↦ inl (answered-later path x xs answered)
             | inr (inl ended) ↦ inr (inl (inr ended))
             | inr (inr m) ↦
@@ -254,7 +268,8 @@ module _ {H P : Type 0} where
                   | inl answered ↦ inl (x, inl refl, answered)
                   | inr (inl ends) ↦ inr (inl (inl (fits x (inl refl), ends-here ends)))
                   | inr (inr goes) ↦ elim (pairs-stay mac answers mid last v t x.call x.entry m.pair sound given step m.there) [
-                    | inl stays ↦ inr (inr (waits-on at k following mid last m sound_last goes stays))
+                    | inl stays ↦ inr (inr (subst (λ n_spent. Waits by n path keeps ahead owes total base at k n_spent last) (sum-is (pays x.entry) (paid pays xs) spent)
+                        (waits-on at k (paid pays xs + spent) x.entry following mid last m sound_last goes (owing x.call x.entry mid last v t (fits x (inl refl)) step) stays)))
                     | inr ends ↦ inr (inl (inl (fits x (inl refl), ends-here ends)))
                   ]
                 ])
@@ -262,16 +277,17 @@ module _ {H P : Type 0} where
 
     -- ---- a `handle_timeout` call
 
-    timeout-on : (now k : ℕ) (e : Entry) (old new : AgentRecord H P) (s t : Stream) → e.answer ≡ Done → Step mac answers old s (HandleTimeout now) e new t → IsSound old → IsSound new
-        → Persists by n path keeps ahead total base now k old → NoneAtOnce now (timeout_begun now old) → keeps now ≡ true
-        → ((id : List ℕ) × (e.emitted.issued ≡ Some (issued_as path class.Request id))) ⊎ Waits by n path keeps ahead total base now (suc k) new
-    timeout-on now k e old new s t done step sound sound_new st once lasting =
+    timeout-on : (now k spent : ℕ) (e : Entry) (old new : AgentRecord H P) (s t : Stream) → e.answer ≡ Done → Step mac answers old s (HandleTimeout now) e new t → IsSound old → IsSound new
+        → Persists by n path keeps ahead owes total base now k spent old → owes new ≤ owes old + pays e
+        → ((h : MaintainsPairs mac now (timeout_begun now old) s e.emitted new t) → nominates_at_once (all_asked now h.4) ≡ true → owes new + 1 ≤ owes old + pays e) → keeps now ≡ true
+        → ((id : List ℕ) × (e.emitted.issued ≡ Some (issued_as path class.Request id))) ⊎ Waits by n path keeps ahead owes total base now (suc k) (pays e + spent) new
+    timeout-on now k spent e old new s t done step sound sound_new st owing at_once lasting =
         let h = passed-at mac answers old new s t now e done step in
         let p = maintains_pairs-from mac now old s t e.emitted new st.queue h in
         let m = timeout-follows mac now (timeout_begun now old) new s t e.emitted st.checking.peer st.checking.full p in
         elim (timeout-goes now by st.late st.early mac (timeout_begun now old) new s t e.emitted st.checking.peer st.checking.full (distinct-sound mac old sound) sound.checks st.pair st.there (st.lasts now lasting) st.young st.ready p) [
           | inl (id, out) ↦ inl (id, out ∙ ap (λ w. Some (issued_as w class.Request id)) st.on)
-          | inr (d, before, (q, has, is, due, checks), falls) ↦
+          | inr (d, before, (q, has, is, due, checks), fewer, falls) ↦
               (let stays : Stays old st.pair new = elim (pairs-stay mac answers old new s t (HandleTimeout now) e st.pair sound tt step st.there) [
                 | inl x ↦ x
                 | inr (was_done, none, gone) ↦ (let no : false ≡ true = ap not (sym gone) ∙ stays-young old.lite now old.timing st.pair st.checking.full (st.lasts now lasting) st.young in absurd (cc))
@@ -279,9 +295,10 @@ module _ {H P : Type 0} where
               let one : stays.pair ≡ q = one_pair new.pairs stays.pair q (rising-each new.pairs sound_new.rising) stays.there has (stays.number ∙ sym is) in
               let next : new.next_number ≡ old.next_number = ap (λ (b : Base). b.next_number) m.0 in
               let timing : new.timing ≡ old.timing = ap (λ (b : Base). b.timing) m.0 in
-              let falls_for : Falls ahead old.ahead_turn new.ahead_turn (leads n by old.pairs) (leads n by new.pairs) =
-              subst (λ b. Falls b old.ahead_turn new.ahead_turn (leads n by old.pairs) (leads n by new.pairs)) st.rules
-              (subst (λ i. Falls (goes_ahead old.rules) old.ahead_turn new.ahead_turn (leads i by old.pairs) (leads i by new.pairs)) st.number (falls once)) in
+              let fewer_for : leads n by new.pairs ≤ leads n by old.pairs = subst (λ i. leads i by new.pairs ≤ leads i by old.pairs) st.number fewer in
+              let falls_for : nominates_at_once (all_asked now p.4) ≡ false → Falls ahead old.ahead_turn new.ahead_turn (leads n by old.pairs) (leads n by new.pairs) =
+              λ in_turn. subst (λ b. Falls b old.ahead_turn new.ahead_turn (leads n by old.pairs) (leads n by new.pairs)) st.rules
+              (subst (λ i. Falls (goes_ahead old.rules) old.ahead_turn new.ahead_turn (leads i by old.pairs) (leads i by new.pairs)) st.number (falls in_turn)) in
               inr (record {
                 checking = record {
                   full = ap (λ (b : Base). b.lite) m.0 ∙ st.checking.full;
@@ -299,13 +316,20 @@ module _ {H P : Type 0} where
                 before = before;
                 due = due;
                 rules = ap (λ (b : Base). goes_ahead b.rules) m.0 ∙ st.rules;
-                count = subst (λ j. calls_left ahead new.ahead_turn (leads n by new.pairs) + suc k + times ahead base ≤ total + times ahead j) (sym next)
-                    (counted-on (calls_left ahead old.ahead_turn (leads n by old.pairs)) (calls_left ahead new.ahead_turn (leads n by new.pairs)) (times ahead base) (total + times ahead old.next_number)
-                    (calls-fall ahead old.ahead_turn new.ahead_turn (leads n by old.pairs) (leads n by new.pairs) falls_for) st.count);
+                count = counted-on next fewer_for (nominates_at_once (all_asked now p.4)) falls_for (λ due. at_once p due);
               }))
         ] where
-          counted-on : (x y i z : ℕ) → y + 1 ≤ x → x + k + i ≤ z → y + suc k + i ≤ z
-          counted-on x y i z l h = omega (arith, h, l)
+          -- the check is in turn, or sends a nomination at once
+          counted-on : new.next_number ≡ old.next_number → leads n by new.pairs ≤ leads n by old.pairs → (b : Bool)
+              → (b ≡ false → Falls ahead old.ahead_turn new.ahead_turn (leads n by old.pairs) (leads n by new.pairs)) → (b ≡ true → owes new + 1 ≤ owes old + pays e)
+              → calls_left ahead new.ahead_turn (leads n by new.pairs) + suc k + times ahead (base + owes new) ≤ total + times ahead (new.next_number + (pays e + spent))
+          counted-on next fewer false falls less =
+              calls-in-turn ahead old.ahead_turn new.ahead_turn (leads n by old.pairs) (leads n by new.pairs) (old.next_number + spent) (new.next_number + (pays e + spent)) k (base + owes old) (base + owes new) total
+              (falls refl) (omega (arith, next, owing)) st.count
+          counted-on next fewer true falls less =
+              let k_less = less refl in
+              calls-at-once ahead old.ahead_turn new.ahead_turn (leads n by old.pairs) (leads n by new.pairs) (old.next_number + spent) (new.next_number + (pays e + spent)) k (base + owes old) (base + owes new) total
+              fewer (omega (arith, next, k_less)) st.count
 
     -- ---- rounds
 
@@ -334,25 +358,25 @@ module _ {H P : Type 0} where
     reached-later r older (inl (x, id, has, out)) = inl (x, id, inr has, out)
     reached-later r older (inr answered) = inr (has-following path r.following (r.timeout ∷ entries_of older) (answered-later path r.timeout (entries_of older) answered))
 
-    module _ (Keeps : AgentRecord H P → Type 0) (Off : Call P → Entry → Type 0) (turns : InTurn mac answers Keeps Off)
+    module _ (Keeps : AgentRecord H P → Type 0) (Off : Call P → Entry → Type 0) (turns : InTurn mac answers Keeps Off owes pays)
         (first : AgentRecord H P) (s : Stream) (fresh : IsFresh first) (before : List (Logged P)) (start : AgentRecord H P) (u : Stream) (led : Run mac answers first s before start u) (at : ℕ)
-        (start-keeps : Keeps start) (begin : (late : by < at) (early : at < MAX) → Persists by n path keeps ahead total base at 0 start) where
+        (start-keeps : Keeps start) (begin : (late : by < at) (early : at < MAX) → Persists by n path keeps ahead owes total base at 0 0 start) where
       abbrev WaitsAfter : List (LoggedRound P) → AgentRecord H P → Type 0
       WaitsAfter [] a = a ≡ start
-      WaitsAfter (r ∷ older) a = Waits by n path keeps ahead total base r.now (length (r ∷ older)) a
+      WaitsAfter (r ∷ older) a = Waits by n path keeps ahead owes total base r.now (length (r ∷ older)) (paid pays (entries_of (r ∷ older))) a
 
       some-is : (x y : ℕ) → Some x ≡ Some y → x ≡ y
       some-is x y e = cc
 
       persists-at : (r : LoggedRound P) (older : List (LoggedRound P)) (old : AgentRecord H P) → began_at (r ∷ older) ≡ Some at → IsPassing by r → WaitsAfter older old
-          → Persists by n path keeps ahead total base r.now (length older) old
+          → Persists by n path keeps ahead owes total base r.now (length older) (paid pays (entries_of older)) old
       persists-at r [] old began passing same =
           let now : r.now ≡ at = some-is r.now at began in
           let late : by < r.now = falls-late by r passing in
           let early : r.now < MAX = falls-early by r passing in
-          subst (λ (a : AgentRecord H P). Persists by n path keeps ahead total base r.now 0 a) (sym same)
-          (subst (λ m. Persists by n path keeps ahead total base m 0 start) (sym now) (begin (omega (arith, late, now)) (omega (arith, early, now))))
-      persists-at r (x ∷ older) old began passing w = persists by n path keeps ahead total base x.now (length (x ∷ older)) r.now old (falls-late by r passing) (falls-early by r passing) w
+          subst (λ (a : AgentRecord H P). Persists by n path keeps ahead owes total base r.now 0 0 a) (sym same)
+          (subst (λ m. Persists by n path keeps ahead owes total base m 0 0 start) (sym now) (begin (omega (arith, late, now)) (omega (arith, early, now))))
+      persists-at r (x ∷ older) old began passing w = persists by n path keeps ahead owes total base x.now (length (x ∷ older)) (paid pays (entries_of (x ∷ older))) r.now old (falls-late by r passing) (falls-early by r passing) w
 
       older-began : (r : LoggedRound P) (rs : List (LoggedRound P)) → began_at (r ∷ rs) ≡ Some at → (rs ≡ [] ⊎ began_at rs ≡ Some at)
       older-began r [] is = inl refl
@@ -380,20 +404,22 @@ module _ {H P : Type 0} where
                 → Reached (r ∷ older)
                 ⊎ ((IsEndedIn mac answers ((r.timeout ∷ entries_of older) ++ before) mid v r.following last t back path
                 ⊎ IsEndedIn mac answers before start u (r.timeout ∷ entries_of older) mid v (old, z, run_older, number, given, step) path)
-                ⊎ Waits by n path keeps ahead total base r.now (length (r ∷ older)) last)
+                ⊎ Waits by n path keeps ahead owes total base r.now (length (r ∷ older)) (paid pays (entries_of (r ∷ older))) last)
             in-turn began mid v old z run_older number given step back w still =
                 let passing = are r (inl refl) in
                 let led_old = run-on mac answers first start old s u z before (entries_of older) led run_older in
                 let led_mid = run-on mac answers first start mid s u v before (r.timeout ∷ entries_of older) led (old, z, run_older, number, given, step) in
-                elim (timeout-on r.now (length older) r.timeout.entry old mid z v passing.done (subst (λ (c : Call P). Step mac answers old z c r.timeout.entry mid v) passing.comes step)
-                (sound-at first s fresh (entries_of older ++ before) old z led_old) (sound-at first s fresh ((r.timeout ∷ entries_of older) ++ before) mid v led_mid)
-                (persists-at r older old began passing w) (turns.none r.now old still) (lasting r (inl refl))) [
+                let called : Step mac answers old z (HandleTimeout r.now) r.timeout.entry mid v = subst (λ (c : Call P). Step mac answers old z c r.timeout.entry mid v) passing.comes step in
+                let st = persists-at r older old began passing w in
+                elim (timeout-on r.now (length older) (paid pays (entries_of older)) r.timeout.entry old mid z v passing.done called
+                (sound-at turns.owing first s fresh (entries_of older ++ before) old z led_old) (sound-at turns.owing first s fresh ((r.timeout ∷ entries_of older) ++ before) mid v led_mid)
+                st (turns.owing_timeout r.now r.timeout.entry old mid z v called) (λ h due. turns.at_once r.now r.timeout.entry old mid z v st.checking.peer st.checking.full still h due) (lasting r (inl refl))) [
                   | inl (id, out) ↦ inl (inl (r, id, inl refl, out))
                   | inr still_waits ↦
-                      elim (walk first s fresh r.now (length (r ∷ older)) (falls-late by r passing) (falls-early by r passing) ((r.timeout ∷ entries_of older) ++ before) mid last v t r.following passing.between led_mid back still_waits) [
+                      elim (walk turns.owing first s fresh r.now (length (r ∷ older)) (paid pays (r.timeout ∷ entries_of older)) (falls-late by r passing) (falls-early by r passing) ((r.timeout ∷ entries_of older) ++ before) mid last v t r.following passing.between led_mid back still_waits) [
                         | inl answered ↦ inl (inr (has-front path r.following (r.timeout ∷ entries_of older) answered))
                         | inr (inl ended) ↦ inr (inl (inl ended))
-                        | inr (inr waits) ↦ inr (inr waits)
+                        | inr (inr waits) ↦ inr (inr (subst (λ k. Waits by n path keeps ahead owes total base r.now (length (r ∷ older)) k last) (sym (paid-join pays r.following (r.timeout ∷ entries_of older))) waits))
                       ]
                 ]
 
@@ -403,14 +429,14 @@ module _ {H P : Type 0} where
                 → OffIn Off (entries_of older) ⊎ (Reached older ⊎ (IsEndedIn mac answers before start u (entries_of older) h.2.0 h.2.1 h.2.2 path ⊎ WaitsAfter older h.2.0))
                 → OffIn Off (entries_of (r ∷ older)) ⊎ (Reached (r ∷ older)
                 ⊎ ((IsEndedIn mac answers ((r.timeout ∷ entries_of older) ++ before) h.0 h.1 r.following last t h.3 path ⊎ IsEndedIn mac answers before start u (r.timeout ∷ entries_of older) h.0 h.1 h.2 path)
-                ⊎ Waits by n path keeps ahead total base r.now (length (r ∷ older)) last))
+                ⊎ Waits by n path keeps ahead owes total base r.now (length (r ∷ older)) (paid pays (entries_of (r ∷ older))) last))
             on-halves began (mid, v, (old, z, run_older, number, given, step), back) so_far =
                 elim so_far [
                   | inl off ↦ inl (off-older off)
                   | inr (inl reached) ↦ inr (inl (reached-later r older reached))
                   | inr (inr (inl ended)) ↦ inr (inr (inl (inr (inr ended))))
                   | inr (inr (inr w)) ↦
-                      elim (turn-along mac answers Keeps Off turns first s fresh before start old u z (entries_of older) (of_rounds by older (λ x has. are x (inr has))) led run_older start-keeps) [
+                      elim (turn-along mac answers Keeps Off owes pays turns first s fresh before start old u z (entries_of older) (of_rounds by older (λ x has. are x (inr has))) led run_older start-keeps) [
                         | inl off ↦ inl (off-older off)
                         | inr still ↦ inr (in-turn began mid v old z run_older number given step back w still)
                       ]
@@ -426,16 +452,16 @@ module _ {H P : Type 0} where
         answered-if start p m (runs_sound mac answers (path_theorem mac answers) first start s found.at before fresh found.led) there lasting
 
     -- a pair is reached in the rounds, unless a call turns it off
-    pub reached-unless : (Keeps : AgentRecord H P → Type 0) (Off : Call P → Entry → Type 0) → InTurn mac answers Keeps Off → (first : AgentRecord H P) (s : Stream) (log : List (Logged P)) → IsFresh first
-        → (before : List (Logged P)) (start last : AgentRecord H P) (rounds : List (LoggedRound P)) (p : PairRecord) (by : ℕ) → (found : Part mac answers first s log before start (entries_of rounds) last)
-        → Sufficing by start rounds last p → Keeps start → OffIn Off (entries_of rounds) ⊎ IsReachedIn mac answers rounds found (path_of start p)
-    reached-unless Keeps Off turns first s log fresh before start last rounds p by found f start-keeps =
-        by-rounds (IsEndedIn mac answers before start found.at (entries_of rounds) last found.following found.run (path_of start p)) rounds f.began (let enough = f.enough in omega (arith, enough))
-        (rounds-go mac answers by p.number (path_of start p) (answered_at start p) (goes_ahead start.rules) total start.next_number Keeps Off turns first s fresh before start found.at found.led f.at start-keeps begin rounds last found.following (inr f.began) f.passing (λ r has. lasts-at first s log fresh before start last (entries_of rounds) p found f.line.there r.now (search (f.lasting r has))) found.run) where
+    pub reached-unless : (Keeps : AgentRecord H P → Type 0) (Off : Call P → Entry → Type 0) (owes : AgentRecord H P → ℕ) (pays : Entry → ℕ) → InTurn mac answers Keeps Off owes pays → (first : AgentRecord H P) (s : Stream) (log : List (Logged P)) → IsFresh first
+        → (before : List (Logged P)) (start last : AgentRecord H P) (rounds : List (LoggedRound P)) (p : PairRecord) (by most : ℕ) → (found : Part mac answers first s log before start (entries_of rounds) last)
+        → Sufficing by most start rounds last p → owes start + paid pays (entries_of rounds) ≤ most → Keeps start → OffIn Off (entries_of rounds) ⊎ IsReachedIn mac answers rounds found (path_of start p)
+    reached-unless Keeps Off owes pays turns first s log fresh before start last rounds p by most found f within start-keeps =
+        by-rounds (IsEndedIn mac answers before start found.at (entries_of rounds) last found.following found.run (path_of start p)) rounds f.began (omega (arith, within)) (let enough = f.enough in omega (arith, enough))
+        (rounds-go mac answers by p.number (path_of start p) (answered_at start p) (goes_ahead start.rules) owes pays total start.next_number Keeps Off turns first s fresh before start found.at found.led f.at start-keeps begin rounds last found.following (inr f.began) f.passing (λ r has. lasts-at first s log fresh before start last (entries_of rounds) p found f.line.there r.now (search (f.lasting r has))) found.run) where
           total : ℕ
-          total = calls_left (goes_ahead start.rules) start.ahead_turn (leads p.number by start.pairs)
+          total = calls_left (goes_ahead start.rules) start.ahead_turn (leads p.number by start.pairs) + times (goes_ahead start.rules) (owes start)
 
-          begin : (late : by < f.at) (early : f.at < MAX) → Persists by p.number (path_of start p) (answered_at start p) (goes_ahead start.rules) total start.next_number f.at 0 start
+          begin : (late : by < f.at) (early : f.at < MAX) → Persists by p.number (path_of start p) (answered_at start p) (goes_ahead start.rules) owes total start.next_number f.at 0 0 start
           begin late early = record {
             checking = f.line.checking;
             queue = f.line.queue;
@@ -449,28 +475,30 @@ module _ {H P : Type 0} where
             early = early;
             ready = (let due = f.line.due in omega (arith, due), f.line.settled);
             rules = refl;
-            count = at-first total (times (goes_ahead start.rules) start.next_number);
+            count = at-first (goes_ahead start.rules) (calls_left (goes_ahead start.rules) start.ahead_turn (leads p.number by start.pairs)) start.next_number (owes start);
           } where
-            at-first : (x i : ℕ) → x + 0 + i ≤ x + i
-            at-first x i = omega arith
+            at-first : (ahead : Bool) (x i j : ℕ) → x + 0 + times ahead (i + j) ≤ x + times ahead j + times ahead (i + 0)
+            at-first true x i j = omega arith
+            at-first false x i j = omega arith
 
           by-rounds : (Gone : Type 0) (rs : List (LoggedRound P)) → began_at rs ≡ Some f.at
-              → times (goes_ahead start.rules) (2 * length start.pairs + last.next_number) ≤ length rs + 1 + times (goes_ahead start.rules) start.next_number
-              → OffIn Off (entries_of rs) ⊎ (Reached mac answers by p.number (path_of start p) (answered_at start p) (goes_ahead start.rules) total start.next_number rs
-              ⊎ (Gone ⊎ WaitsAfter mac answers by p.number (path_of start p) (answered_at start p) (goes_ahead start.rules) total start.next_number Keeps Off turns first s fresh before start found.at found.led f.at start-keeps begin rs last))
+              → owes start + paid pays (entries_of rs) ≤ most → times (goes_ahead start.rules) (2 * length start.pairs + last.next_number + most) ≤ length rs + 1 + times (goes_ahead start.rules) start.next_number
+              → OffIn Off (entries_of rs) ⊎ (Reached mac answers by p.number (path_of start p) (answered_at start p) (goes_ahead start.rules) owes pays total start.next_number rs
+              ⊎ (Gone ⊎ WaitsAfter mac answers by p.number (path_of start p) (answered_at start p) (goes_ahead start.rules) owes pays total start.next_number Keeps Off turns first s fresh before start found.at found.led f.at start-keeps begin rs last))
               → OffIn Off (entries_of rs) ⊎ (ChecksIn rs (path_of start p) ⊎ (IsAnsweredIn (entries_of rs) (path_of start p) ⊎ Gone))
-          by-rounds Gone rs none enough (inl off) = inl off
-          by-rounds Gone rs none enough (inr (inl (inl checks))) = inr (inl checks)
-          by-rounds Gone rs none enough (inr (inl (inr answered))) = inr (inr (inl answered))
-          by-rounds Gone rs none enough (inr (inr (inl gone))) = inr (inr (inr gone))
-          by-rounds Gone [] none enough (inr (inr (inr w))) = absurd (cc)
-          by-rounds Gone (r ∷ older) began enough (inr (inr (inr w))) =
+          by-rounds Gone rs none within enough (inl off) = inl off
+          by-rounds Gone rs none within enough (inr (inl (inl checks))) = inr (inl checks)
+          by-rounds Gone rs none within enough (inr (inl (inr answered))) = inr (inr (inl answered))
+          by-rounds Gone rs none within enough (inr (inr (inl gone))) = inr (inr (inr gone))
+          by-rounds Gone [] none within enough (inr (inr (inr w))) = absurd (cc)
+          by-rounds Gone (r ∷ older) began within enough (inr (inr (inr w))) =
               absurd (calls-over (goes_ahead start.rules) start.ahead_turn last.ahead_turn (leads p.number by start.pairs) (leads p.number by last.pairs) (length start.pairs) start.next_number last.next_number
-              (length (r ∷ older)) w.count (leads-others by start.pairs p f.line.there) enough)
+              (length (r ∷ older)) (owes start) (paid pays (entries_of (r ∷ older))) (owes last) most w.count within (leads-others by start.pairs p f.line.there) enough)
 
     pub pairs-are-reached : PairsAreReached {H = H} {P = P} mac answers
     pairs-are-reached first s log fresh before start last rounds p by found f =
-        elim (reached-unless (IsPlain mac answers) (Never mac answers) (plain-in-turn mac answers) first s log fresh before start last rounds p by found (sufficing by start rounds last p f) f.line.unnumbered) [
+        elim (reached-unless (IsNumbered mac answers (numbers start)) (Never mac answers) (to_send (numbers start)) (to_select (numbers start)) (numbered-in-turn mac answers (numbers start)) first s log fresh before start last rounds p by
+        (nominations_ahead start (selection_count (entries_of rounds))) found (sufficing by start rounds last p f) (paid-within start (entries_of rounds)) (λ off. off)) [
           | inl (x, has, never) ↦ absurd never
           | inr reached ↦ reached
         ]

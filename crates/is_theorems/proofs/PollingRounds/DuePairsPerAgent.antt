@@ -1,6 +1,6 @@
 -- A pair that waits in a per-agent execution is checked, or answered, as soon as one that waits in a log. If a controlling agent has
 -- no valid pair, a check is sent on the path, or a path is selected: else each check on the path is answered, as there is none.
-use Rattle.std.proofs.Common.{◌≡◌, ℕ, ◌&&◌, Bool, true, false, List, [], ◌∷◌, ◌++◌, length, Option, Some, None, inl, inr, ◌⊎◌, refl, ap, sym, ◌∙◌, subst, arith, append_assoc}
+use Rattle.std.proofs.Common.{◌≡◌, ℕ, ◌+◌, ◌*◌, ◌≤◌, ◌&&◌, Bool, true, false, List, [], ◌∷◌, ◌++◌, length, Option, Some, None, inl, inr, ◌⊎◌, refl, ap, sym, ◌∙◌, subst, arith, append_assoc}
 use Rattle.rand_core.specs.Stream.{Stream}
 use Rattle.is_proto.specs.Lists.{Has}
 use Rattle.is_candidate.specs.Addresses.{same_address, same_protocol}
@@ -17,7 +17,8 @@ use Rattle.is_rules.specs.Emitted.{issued_as}
 use Rattle.is_theorems.specs.Exchange.{Course}
 use Rattle.is_theorems.specs.Logs.{Logged}
 use Rattle.is_theorems.specs.Pending.{is_request, is_same_path, is_check_on}
-use Rattle.is_theorems.specs.Reached.{IsLasting, is_in_round, IsPassing, ChecksIn, IsEndedIn}
+use Rattle.is_theorems.specs.Progress.{checks_for}
+use Rattle.is_theorems.specs.Reached.{IsLasting, is_in_round, IsPassing, ChecksIn, IsEndedIn, nominations_ahead}
 use Rattle.is_theorems.specs.ReachedCourses.{IsPassed, ChecksAmong, IsAnsweredAmong, PassRounds, CoursesReach, CoursesCheck}
 use Rattle.is_theorems.specs.Rounds.{LoggedRound, entries_of, is_between, RunsOn}
 use Rattle.is_rules.specs.Sending.{path_of}
@@ -27,6 +28,7 @@ use Rattle.is_theorems.proofs.BasicLemmas.EqualAddresses.{both, same_address-sou
 use Rattle.is_theorems.proofs.ExecutionLogs.PerAgentExecutions.{entry_of, part_of, pushed, part_is, round_of, rounds_of, begun, as_many, either_has, recomputed, leads_on, courses-announce}
 use Rattle.is_theorems.proofs.ExecutionLogs.LogSegments.{no-case}
 use Rattle.is_theorems.proofs.StoredPairs.TransactionsThatStay.{is-on}
+use Rattle.is_theorems.proofs.PollingRounds.CountedSelections.{selections-same}
 use Rattle.is_theorems.proofs.PollingRounds.DuePairsInLogs.{pairs-are-reached}
 
 -- ---- a check that is reported was sent on the path
@@ -209,7 +211,8 @@ module _ {H P : Type 0} (mac : H → List ℕ → List ℕ → List ℕ) (answer
         line = line;
         passing = are_all (λ x. IsPassing by x) before [] (r ∷ rounds) (λ x none. absurd none) (λ front x has. is_passing by front x (are x has));
         lasting = are_all (λ x. IsLasting x.now start p) before [] (r ∷ rounds) (λ x none. absurd none) (λ front x has. lasting x has);
-        enough = omega (arith, many, enough);
+        enough = subst (λ k. checks_for start.rules (2 * length start.pairs + last.next_number + nominations_ahead start k) ≤ length all + 1 + checks_for start.rules start.next_number)
+            (sym (selections-same before (r ∷ rounds))) (omega (arith, many, enough));
       })) [
         | inl checks ↦ elim (checks_among before [] (r ∷ rounds) (path_of start p) checks) [
           | inl k ↦ inl k

@@ -14,6 +14,7 @@ use Rattle.is_stun.specs.declared.header.Class.TheVariants as class
 use Rattle.is_stun.specs.declared.timing.StunTiming.{StunTiming}
 use Rattle.is_rules.specs.Agent.{AgentRecord}
 use Rattle.is_rules.specs.Checking.{goes_ahead}
+use Rattle.is_rules.specs.Nominating.{numbers}
 use Rattle.is_theorems.specs.Asked.{IsAnsweredIn}
 use Rattle.is_theorems.specs.AskedCourses.{AcceptsSuccessOn, Ends}
 use Rattle.is_rules.specs.declared.emitted.Path.{Path}
@@ -21,7 +22,7 @@ use Rattle.is_rules.specs.Emitted.{issued_as}
 use Rattle.is_theorems.specs.Logs.{Logged}
 use Rattle.is_rules.specs.Polls.{PollsTimeout, NextTimeoutFrom, NextTimeouts, is_waiting, is_idle}
 use Rattle.is_theorems.specs.Progress.{IsChecking}
-use Rattle.is_theorems.specs.Reached.{IsLasting, IsPassing, IsEndedIn, is_in_round}
+use Rattle.is_theorems.specs.Reached.{IsLasting, IsPassing, IsEndedIn, is_in_round, nominations_ahead, selection_count}
 use Rattle.is_theorems.specs.Rounds.{LoggedRound, Part, RunsOn, began_at, entries_of}
 use Rattle.is_theorems.specs.Runs.{IsFresh, Run}
 use Rattle.is_rules.specs.Sending.{path_of}
@@ -37,6 +38,7 @@ use Rattle.is_theorems.proofs.EarlierChecks.BetweenTimeouts.{Ground, Goes, groun
 use Rattle.is_theorems.proofs.EarlierChecks.ChangedPairs.{Fixed}
 use Rattle.is_theorems.proofs.DuePairs.FirstDuePair.{due-at, timeout-follows}
 use Rattle.is_theorems.proofs.DuePairs.ChecksAhead.{times, none-suffices}
+use Rattle.is_theorems.proofs.DuePairs.NominationsAhead.{to_select, to_send}
 use Rattle.is_theorems.proofs.CallEffects.FailedCallsAndNewAgents.{mtu_kept, controlling_kept, local_kept, enrolment_kept, storing_kept}
 use Rattle.is_rules.proofs.PairLists.RisingNumbers.{rising-each}
 use Rattle.is_theorems.proofs.CallEffects.ServedRequests.{Has-mapped}
@@ -49,7 +51,8 @@ use Rattle.is_theorems.specs.FirstTimeouts.{IsReachedIn, PairsAreReachedFromDue,
 use Rattle.is_theorems.proofs.EarlierChecks.FirstTimeout.{Other, timeout-goes}
 use Rattle.is_theorems.proofs.ExecutionLogs.PerAgentExecutions.{either_has}
 use Rattle.is_theorems.proofs.PollingRounds.DuePairsInLogs.{reached-unless}
-use Rattle.is_theorems.proofs.PollingRounds.InTurnAlong.{InTurn, IsOfRound, IsPlain, Lined, Never, OffIn, lined, plain-in-turn, turn-along}
+use Rattle.is_theorems.proofs.PollingRounds.InTurnAlong.{InTurn, IsNumbered, IsOfRound, Lined, Never, OffIn, lined, numbered-in-turn, turn-along}
+use Rattle.is_theorems.proofs.PollingRounds.CountedSelections.{paid, paid-within}
 
 lt-is : (n m : ℕ) → n < m → nat_lt n m ≡ true
 lt-is n m h = grind (arith, nat_tests, h)
@@ -279,18 +282,21 @@ module _ {H P : Type 0} where
     oldest x [] = (x.now, refl)
     oldest x (y ∷ older) = oldest y older
 
-    module _ (Stays : AgentRecord H P → Type 0) (Off : Call P → Entry → Type 0) (turns : InTurn mac answers Stays Off) where
+    -- what stays in the first round, and what stays then in the others
+    module _ (Off : Call P → Entry → Type 0) (Stays : AgentRecord H P → Type 0) (owes : AgentRecord H P → ℕ) (pays : Entry → ℕ) (turns : InTurn mac answers Stays Off owes pays)
+        (Then : AgentRecord H P → Type 0) (then_owes : AgentRecord H P → ℕ) (then_pays : Entry → ℕ) (then_turns : InTurn mac answers Then Off then_owes then_pays) where
       -- a pair is reached in the first round, or in later ones, unless a call turns it off
       pub due-unless : (first : AgentRecord H P) (s : Stream) (log : List (Logged P)) → IsFresh first
-          → (before : List (Logged P)) (start second last : AgentRecord H P) (r : LoggedRound P) (later : List (LoggedRound P)) (p : PairRecord) (by : ℕ)
+          → (before : List (Logged P)) (start second last : AgentRecord H P) (r : LoggedRound P) (later : List (LoggedRound P)) (p : PairRecord) (by most : ℕ)
           → (one : Part mac answers first s log before start (entries_of (r ∷ [])) second)
           → (others : Part mac answers first s log (entries_of (r ∷ []) ++ before) second (entries_of later) last)
-          → Lined r.now by start p → Stays start → by ≤ r.now → r.timeout.call ≡ HandleTimeout r.now → r.timeout.entry.answer ≡ Done
+          → Lined r.now by start p → Stays start → (Stays second → Then second) → by ≤ r.now → r.timeout.call ≡ HandleTimeout r.now → r.timeout.entry.answer ≡ Done
           → ((x : Logged P) → Has r.following x → is_in_round x.call ≡ true) → ((x : LoggedRound P) → Has later x → IsPassing by x)
-          → ((x : LoggedRound P) → Has later x → IsLasting x.now start p) → SufficesFromDue start second last (length later)
+          → ((x : LoggedRound P) → Has later x → IsLasting x.now start p) → SufficesFromDue start second last (length later) most
+          → then_owes second + paid then_pays (entries_of later) ≤ most
           → (OffIn Off (entries_of (r ∷ [])) ⊎ OffIn Off (entries_of later))
           ⊎ (IsReachedIn mac answers (r ∷ []) one (path_of start p) ⊎ IsReachedIn mac answers later others (path_of start p))
-      due-unless first s log fresh before start second last r later p by one others line stays from comes done between passing lasting enough =
+      due-unless first s log fresh before start second last r later p by most one others line stays then from comes done between passing lasting enough within =
           elim (walk mac answers by p.number (path_of start p) (answered_at start p) r.now first s fresh (omega (arith, from)) before start second one.at one.following r.following r.timeout p
           (λ x has. between x has) comes done one.led one.run line (λ m is. is) refl refl) [
             | inl (id, out) ↦ inr (inl (inl (r, id, inl refl, out)))
@@ -298,9 +304,9 @@ module _ {H P : Type 0} where
             | inr (inr (inl ended)) ↦ inr (inl (inr (inr ended)))
             | inr (inr (inr (other, w))) ↦ elim enough [
               | inl few ↦ absurd (apart other (omega (arith, few)))
-              | inr many ↦ elim (turn-along mac answers Stays Off turns first s fresh before start second one.at one.following (entries_of (r ∷ [])) of_first one.led one.run stays) [
+              | inr many ↦ elim (turn-along mac answers Stays Off owes pays turns first s fresh before start second one.at one.following (entries_of (r ∷ [])) of_first one.led one.run stays) [
                 | inl off ↦ inl (inl off)
-                | inr still ↦ elim (from-second later others w still passing (λ x has. answered-if start p x.now sound line.there (lasting x has)) (omega (arith, many))) [
+                | inr still ↦ elim (from-second later others w (then still) passing (λ x has. answered-if start p x.now sound line.there (lasting x has)) (omega (arith, within)) (omega (arith, many))) [
                   | inl off ↦ inl (inr off)
                   | inr reached ↦ inr (inr reached)
                 ]
@@ -330,18 +336,19 @@ module _ {H P : Type 0} where
             began-lasts x (y ∷ older) m began all = began-lasts y older m began (λ z has. all z (inr has))
 
             from-second : (rounds : List (LoggedRound P)) → (found : Part mac answers first s log (entries_of (r ∷ []) ++ before) second (entries_of rounds) last)
-                → Waits by p.number (path_of start p) (answered_at start p) r.now second → Stays second → ((x : LoggedRound P) → Has rounds x → IsPassing by x)
-                → ((x : LoggedRound P) → Has rounds x → answered_at start p x.now ≡ true) → times (goes_ahead second.rules) (2 * length second.pairs + last.next_number) ≤ length rounds + 1 + times (goes_ahead second.rules) second.next_number
+                → Waits by p.number (path_of start p) (answered_at start p) r.now second → Then second → ((x : LoggedRound P) → Has rounds x → IsPassing by x)
+                → ((x : LoggedRound P) → Has rounds x → answered_at start p x.now ≡ true)
+                → then_owes second + paid then_pays (entries_of rounds) ≤ most → times (goes_ahead second.rules) (2 * length second.pairs + last.next_number + most) ≤ length rounds + 1 + times (goes_ahead second.rules) second.next_number
                 → OffIn Off (entries_of rounds) ⊎ IsReachedIn mac answers rounds found (path_of start p)
-            from-second [] found v still passing lasting enough =
+            from-second [] found v still passing lasting within enough =
                 let some = some-there second.pairs v.pair v.there in
                 let same : last.next_number ≡ second.next_number = ap (λ (a : AgentRecord H P). a.next_number) found.run.0 in
-                absurd (none-suffices (goes_ahead second.rules) (length second.pairs) second.next_number last.next_number some same enough)
-            from-second (x ∷ older) found v still passing lasting enough =
+                absurd (none-suffices (goes_ahead second.rules) (length second.pairs) second.next_number last.next_number most some same enough)
+            from-second (x ∷ older) found v still passing lasting within enough =
                 let began = oldest x older in
                 let due : due_time_of began.0 second.timing v.pair ≡ v.timeout = due-at began.0 v.timeout second.timing v.pair v.due in
                 subst (λ w. OffIn Off (entries_of (x ∷ older)) ⊎ IsReachedIn mac answers (x ∷ older) found w) v.on
-                (reached-unless mac answers Stays Off turns first s log fresh (entries_of (r ∷ []) ++ before) second last (x ∷ older) v.pair by found (record {
+                (reached-unless mac answers Then Off then_owes then_pays then_turns first s log fresh (entries_of (r ∷ []) ++ before) second last (x ∷ older) v.pair by most found (record {
                   at = began.0;
                   began = began.1;
                   line = record {
@@ -356,13 +363,22 @@ module _ {H P : Type 0} where
                   passing = passing;
                   lasting = λ y has valid. v.lasts y.now (lasting y has);
                   enough = omega (arith, enough);
-                }) still)
+                }) (omega (arith, within)) still)
 
     pub reached-from-due : PairsAreReachedFromDue {H = H} {P = P} mac answers
     reached-from-due first s log fresh before start second last r later p by one others line from comes done between passing lasting enough =
-        elim (due-unless (IsPlain mac answers) (Never mac answers) (plain-in-turn mac answers) first s log fresh before start second last r later p by one others (lined r.now by start p line) line.unnumbered
-        (omega (arith, from)) comes done (λ x has. between x has) (λ x has. passing x has) (λ x has. lasting x has) enough) [
+        elim (due-unless (Never mac answers)
+        (IsNumbered mac answers (numbers start)) (to_send (numbers start)) (to_select (numbers start)) (numbered-in-turn mac answers (numbers start))
+        (IsNumbered mac answers (numbers second)) (to_send (numbers second)) (to_select (numbers second)) (numbered-in-turn mac answers (numbers second))
+        first s log fresh before start second last r later p by (nominations_ahead second (selection_count (entries_of later))) one others (lined r.now by start p line) (λ off. off) (λ _ off. off)
+        (omega (arith, from)) comes done (λ x has. between x has) (λ x has. passing x has) (λ x has. lasting x has) (of_enough enough) (paid-within second (entries_of later))) [
           | inl (inl (x, has, never)) ↦ absurd never
           | inl (inr (x, has, never)) ↦ absurd never
           | inr reached ↦ reached
-        ]
+        ] where
+          ahead : ℕ
+          ahead = nominations_ahead second (selection_count (entries_of later))
+
+          of_enough : SufficesFromDue start second last (length later) ahead → SufficesFromDue start second last (length later) ahead
+          of_enough (inl few) = inl (omega (arith, few))
+          of_enough (inr many) = inr (omega (arith, many))

@@ -1,6 +1,6 @@
--- Along a segment no nomination is to be sent at once, so checks are in turn: while nominations have no numbers, or while no pair is
--- valid, until a success response is accepted.
-use Rattle.std.proofs.Common.{◌≡◌, ℕ, ◌+◌, ◌*◌, ◌<◌, ◌≤◌, true, false, List, [], ◌∷◌, ◌++◌, length, Some, is_some, Ok, Err, inl, inr, ◌⊎◌, refl, ap, sym, ◌∙◌, subst, arith}
+-- Along a segment each check is in turn, or sends a nomination at once, which is counted. While no pair is valid, until a success response
+-- is accepted, and without numbers, none is sent at once.
+use Rattle.std.proofs.Common.{◌≡◌, ℕ, ◌+◌, ◌*◌, ◌<◌, ◌≤◌, Bool, true, false, List, [], ◌∷◌, ◌++◌, length, Some, is_some, inl, inr, ◌⊎◌, refl, ap, sym, ◌∙◌, subst, arith}
 use Rattle.rand_core.specs.Stream.{Stream}
 use Rattle.is_proto.specs.Lists.{Has}
 use Rattle.is_candidate.specs.Candidates.{CandidateRecord}
@@ -8,28 +8,24 @@ use Rattle.is_pair.specs.Checks.{unanswered_count}
 use Rattle.is_pair.specs.Due.{due_time_of}
 use Rattle.is_pair.specs.Pairs.{PairRecord, is_valid}
 use Rattle.is_rules.specs.Agent.{AgentRecord}
-use Rattle.is_rules.specs.Forming.{Combination, FormsAll}
-use Rattle.is_rules.specs.Nominating.{numbers}
-use Rattle.is_rules.specs.Queue.{request_at}
+use Rattle.is_rules.specs.Checking.{all_asked}
+use Rattle.is_rules.specs.Nominating.{nominates_at_once, numbers}
 use Rattle.is_rules.specs.Sound.{IsSound, GivesBased}
-use Rattle.is_rules.specs.Steps.{Call, SetMtu, SetControlTieBreaker, SetMaxCandidatePairs, SetMaxDiscovered, SetRenomination, SetTimingAdvance, SetLocalPreference, SetControlling, SetLocalCredentials, AddLocalCandidate, AddRemoteCandidate, ReceivePacket, HandleTimeout, PollTransmit, PollTimeout, PollEvent, Entry, Step}
-use Rattle.is_rules.specs.Timeouts.{timeout_begun}
+use Rattle.is_rules.specs.Steps.{Call, HandleTimeout, Entry, Step}
+use Rattle.is_rules.specs.Timeouts.{timeout_begun, MaintainsPairs}
 use Rattle.is_theorems.specs.Courses.{AcceptsSuccess}
 use Rattle.is_theorems.specs.Logs.{Logged}
 use Rattle.is_theorems.specs.Progress.{Awaits, IsChecking, IsUnanswered, checks_for}
-use Rattle.is_theorems.specs.Reached.{IsInLine, IsLasting, IsPassing, Suffice, is_in_round}
+use Rattle.is_theorems.specs.Reached.{IsInLine, IsLasting, IsPassing, Suffice, is_in_round, nominations_ahead, selection_count, selects}
 use Rattle.is_theorems.specs.Rounds.{LoggedRound, RunsOn, began_at, entries_of}
 use Rattle.is_theorems.specs.Runs.{IsFresh, Run}
-use Rattle.is_theorems.proofs.BasicLemmas.PairsInTurn.{checks-in-turn}
-use Rattle.is_theorems.proofs.CallEffects.AddedCandidates.{by_adding_local, by_adding_remote, by_waking}
-use Rattle.is_theorems.proofs.CallEffects.FailedCallsAndNewAgents.{mtu_kept, controlling_kept, local_kept, enrolment_kept, storing_kept}
 use Rattle.is_theorems.proofs.CallEffects.PathAndTradeEffects.{path_theorem}
-use Rattle.is_theorems.proofs.DuePairs.FirstDuePair.{NoneAtOnce, none-in-turn}
+use Rattle.is_theorems.proofs.DuePairs.NominationsAhead.{at-once-ends, calls-due, sends-less, sends-more, timeouts-due, to_select, to_send}
 use Rattle.is_theorems.proofs.DuePairs.NoNominationDue.{Quiet, none-at-check, quiet-call, quiet-timeout}
 use Rattle.is_theorems.proofs.ExecutionLogs.LogSegments.{no-case, run-on}
 use Rattle.is_theorems.proofs.ExecutionLogs.LogTheorems.{runs_sound}
 use Rattle.is_theorems.proofs.ExecutionLogs.PerAgentExecutions.{either_has}
-use Rattle.is_theorems.proofs.PunctualTimeouts.UnchangedPacing.{Pace, receives, times-out-numbered}
+use Rattle.is_theorems.proofs.PollingRounds.CountedSelections.{paid, paid-nothing}
 
 module _ {P : Type 0} where
   -- a call of the segment turns it off
@@ -82,16 +78,17 @@ module _ {H P : Type 0} where
     lasting = λ valid. (let no : true ≡ false = sym valid ∙ (let none = unanswered.invalid in none p waits.there) in absurd (cc));
   }
 
-  -- the rounds suffice for it (`Suffice`)
-  pub record Sufficing (by : ℕ) (start : AgentRecord H P) (rounds : List (LoggedRound P)) (last : AgentRecord H P) (p : PairRecord) : Type 0 where
+  -- the rounds suffice for it (`Suffice`), if so many nominations may be sent at once in them
+  pub record Sufficing (by ahead : ℕ) (start : AgentRecord H P) (rounds : List (LoggedRound P)) (last : AgentRecord H P) (p : PairRecord) : Type 0 where
     pub at : ℕ
     pub began : began_at rounds ≡ Some at
     pub line : Lined at by start p
     pub passing : (r : LoggedRound P) → Has rounds r → IsPassing by r
     pub lasting : (r : LoggedRound P) → Has rounds r → IsLasting r.now start p
-    pub enough : checks_for start.rules (2 * length start.pairs + last.next_number) ≤ length rounds + 1 + checks_for start.rules start.next_number
+    pub enough : checks_for start.rules (2 * length start.pairs + last.next_number + ahead) ≤ length rounds + 1 + checks_for start.rules start.next_number
 
-  pub sufficing : (by : ℕ) (start : AgentRecord H P) (rounds : List (LoggedRound P)) (last : AgentRecord H P) (p : PairRecord) → Suffice by start rounds last p → Sufficing by start rounds last p
+  pub sufficing : (by : ℕ) (start : AgentRecord H P) (rounds : List (LoggedRound P)) (last : AgentRecord H P) (p : PairRecord) → Suffice by start rounds last p
+      → Sufficing by (nominations_ahead start (selection_count (entries_of rounds))) start rounds last p
   sufficing by start rounds last p f = record {
     at = f.at;
     began = f.began;
@@ -102,17 +99,21 @@ module _ {H P : Type 0} where
   }
 
 module _ {H P : Type 0} (mac : H → List ℕ → List ℕ → List ℕ) (answers : P → CandidateRecord → ℕ → ℕ → Type 0) where
-  -- ---- what stays in turn, until a call turns it off
+  -- ---- what stays, until a call turns it off
 
-  pub record InTurn (Stays : AgentRecord H P → Type 0) (Off : Call P → Entry → Type 0) : Type 0 where
+  -- A check is sent at once only if one more nomination is to be sent before the call, or counted in it, than after it.
+  pub record InTurn (Stays : AgentRecord H P → Type 0) (Off : Call P → Entry → Type 0) (owes : AgentRecord H P → ℕ) (pays : Entry → ℕ) : Type 0 where
     pub call : (call : Call P) (e : Entry) (old new : AgentRecord H P) (s t : Stream) → is_in_round call ≡ true → IsSound old → GivesBased call → Stays old → Step mac answers old s call e new t
         → Off call e ⊎ Stays new
     pub timeout : (now : ℕ) (e : Entry) (old new : AgentRecord H P) (s t : Stream) → IsSound old → Stays old → Step mac answers old s (HandleTimeout now) e new t → Stays new
-    pub none : (now : ℕ) (old : AgentRecord H P) → Stays old → NoneAtOnce now (timeout_begun now old)
+    pub owing : (call : Call P) (e : Entry) (old new : AgentRecord H P) (s t : Stream) → is_in_round call ≡ true → Step mac answers old s call e new t → owes new ≤ owes old + pays e
+    pub owing_timeout : (now : ℕ) (e : Entry) (old new : AgentRecord H P) (s t : Stream) → Step mac answers old s (HandleTimeout now) e new t → owes new ≤ owes old + pays e
+    pub at_once : (now : ℕ) (e : Entry) (old new : AgentRecord H P) (s t : Stream) → is_some old.remote_creds ≡ true → old.lite ≡ false → Stays old
+        → (h : MaintainsPairs mac now (timeout_begun now old) s e.emitted new t) → nominates_at_once (all_asked now h.4) ≡ true → owes new + 1 ≤ owes old + pays e
     -- no `handle_timeout` call turns it off
     pub apart : (now : ℕ) (e : Entry) → Off (HandleTimeout now) e → ⊥
 
-  module _ (Stays : AgentRecord H P → Type 0) (Off : Call P → Entry → Type 0) (turns : InTurn Stays Off) (first : AgentRecord H P) (s : Stream) (fresh : IsFresh first) where
+  module _ (Stays : AgentRecord H P → Type 0) (Off : Call P → Entry → Type 0) (owes : AgentRecord H P → ℕ) (pays : Entry → ℕ) (turns : InTurn Stays Off owes pays) (first : AgentRecord H P) (s : Stream) (fresh : IsFresh first) where
     pub turn-along : (before : List (Logged P)) (start last : AgentRecord H P) (u t : Stream) (xs : List (Logged P)) → ((x : Logged P) → Has xs x → IsOfRound x)
         → Run mac answers first s before start u → RunsOn mac answers before start u xs last t → Stays start → OffIn Off xs ⊎ Stays last
     turn-along before start last u t [] fits led (is, same) stays = inr (subst (λ (a : AgentRecord H P). Stays a) (sym is) stays)
@@ -130,55 +131,31 @@ module _ {H P : Type 0} (mac : H → List ℕ → List ℕ → List ℕ) (answer
               ])
         ]
 
-  -- ---- nominations have no numbers
+  -- ---- nominations may have numbers: if they do at first, those that are sent at once are counted
 
-  plain-made : (old new : AgentRecord H P) → numbers old ≡ false → new ≡ old → numbers new ≡ false
-  plain-made old new plain made = ap (λ (a : AgentRecord H P). numbers a) made ∙ plain
-
-  plain-forms : (mid new : AgentRecord H P) (all : List Combination) → FormsAll mid all new → numbers new ≡ numbers mid
-  plain-forms mid new all (f, each, made) = ap (λ (a : AgentRecord H P). numbers a) made
-
-  plain-call : (call : Call P) (e : Entry) (old new : AgentRecord H P) (s t : Stream) → is_in_round call ≡ true → numbers old ≡ false → Step mac answers old s call e new t → numbers new ≡ false
-  plain-call (ReceivePacket at via bytes) e old new s t is plain (h, drawn) = ap (λ (p : Pace). p.numbered) (receives mac answers at old new via bytes e h) ∙ plain
-  plain-call PollTransmit e old new s t is plain (given, reported, (polled, made), drawn) = plain-made _ new plain made
-  plain-call PollTimeout e old new s t is plain (deadline, reported, h, drawn) = by_waking old new deadline h (λ made. plain-made old new plain made) (λ at made. plain-made _ new plain made)
-  plain-call PollEvent e old new s t is plain (given, reported, (polled, made), drawn) = plain-made _ new plain made
-  plain-call (AddLocalCandidate c) e old new s t is plain (Ok place, reported, h, drawn) = by_adding_local old new answers c place h
-      (λ made. plain-made old new plain made) (λ x _ f. plain-forms _ new _ f ∙ plain) (λ k _ f. plain-forms _ new _ f ∙ plain) (λ x _ k f. plain-forms _ new _ f ∙ plain)
-  plain-call (AddLocalCandidate c) e old new s t is plain (Err error, reported, h, drawn) = plain-made old new plain (enrolment_kept answers old new c error h)
-  plain-call (AddRemoteCandidate c) e old new s t is plain (Ok _, reported, h, drawn) = by_adding_remote old new c h
-      (λ made. plain-made old new plain made) (λ f. plain-forms _ new _ f ∙ plain) (λ k _ addr f. plain-forms _ new _ f ∙ plain)
-  plain-call (AddRemoteCandidate c) e old new s t is plain (Err error, reported, h, drawn) = plain-made old new plain (storing_kept old new c error h)
-  plain-call (SetMtu target warn) e old new s t is plain (Ok _, reported, h, drawn) = plain-made _ new plain h.1
-  plain-call (SetMtu target warn) e old new s t is plain (Err error, reported, h, drawn) = plain-made old new plain (mtu_kept old new target warn error h)
-  plain-call (SetLocalCredentials creds) e old new s t is plain (Ok _, reported, h, drawn) = plain-made _ new plain h.1
-  plain-call (SetLocalCredentials creds) e old new s t is plain (Err error, reported, h, drawn) = plain-made old new plain (local_kept old new creds error h)
-  plain-call (SetControlTieBreaker tie) e old new s t is plain h = plain-made _ new plain h.1
-  plain-call (SetMaxCandidatePairs k) e old new s t is plain h = plain-made _ new plain h.1
-  plain-call (SetMaxDiscovered limit) e old new s t is plain h = plain-made _ new plain h.1
-  plain-call (SetRenomination true) e old new s t is plain h = no-case is
-  plain-call (SetRenomination false) e old new s t is plain h = plain-made _ new refl h.1
-  plain-call (SetTimingAdvance by) e old new s t is plain h = plain-made _ new plain h.1
-  plain-call (SetLocalPreference object) e old new s t is plain h = plain-made _ new plain h.1
-  plain-call (SetControlling controlling) e old new s t is plain (Ok _, reported, h, drawn) = plain-made _ new plain h.1
-  plain-call (SetControlling controlling) e old new s t is plain (Err error, reported, h, drawn) = plain-made old new plain (controlling_kept old new controlling error h)
-  plain-call _ e old new s t is plain step = no-case is
-
-  plain-timeout : (now : ℕ) (e : Entry) (old new : AgentRecord H P) (s t : Stream) → numbers old ≡ false → Step mac answers old s (HandleTimeout now) e new t → numbers new ≡ false
-  plain-timeout now e old new s t plain (Ok _, emitted, reported, h) = times-out-numbered mac now (request_at now old) (timeout_begun now old) new s t emitted h ∙ plain
-  plain-timeout now e old new s t plain (Err error, emitted, reported, (may, nothing, made, drawn)) = plain-made old new plain made
-
-  abbrev pub IsPlain : AgentRecord H P → Type 0
-  IsPlain a = numbers a ≡ false
+  abbrev pub IsNumbered : Bool → AgentRecord H P → Type 0
+  IsNumbered c a = c ≡ false → numbers a ≡ false
 
   abbrev pub Never : Call P → Entry → Type 0
   Never call e = ⊥
 
-  pub plain-in-turn : InTurn IsPlain Never
-  plain-in-turn = record {
-    call = λ call e old new s t is sound given plain step. inr (plain-call call e old new s t is plain step);
-    timeout = λ now e old new s t sound plain step. plain-timeout now e old new s t plain step;
-    none = λ now old plain. none-in-turn now (timeout_begun now old) (checks-in-turn (timeout_begun now old) plain);
+  numbered-at-once : (c : Bool) (now : ℕ) (e : Entry) (old new : AgentRecord H P) (s t : Stream) → is_some old.remote_creds ≡ true → old.lite ≡ false → IsNumbered c old
+      → (h : MaintainsPairs mac now (timeout_begun now old) s e.emitted new t) → nominates_at_once (all_asked now h.4) ≡ true → to_send c new + 1 ≤ to_send c old + to_select c e
+  numbered-at-once c now e old new s t known full stays h due = by-count c refl where
+    k : (new.nomination_due ≡ false) × (numbers old ≡ true) × ((old.nomination_due ≡ true) ⊎ (selects e ≡ true))
+    k = (let l = at-once-ends mac now (timeout_begun now old) new s t e.emitted known full h due in (l.0, l.1, l.2))
+
+    by-count : (b : Bool) → c ≡ b → to_send c new + 1 ≤ to_send c old + to_select c e
+    by-count true is = sends-less c e old new is k.1 k.0 k.2
+    by-count false is = no-case (sym (stays is) ∙ k.1)
+
+  pub numbered-in-turn : (c : Bool) → InTurn (IsNumbered c) Never (to_send c) (to_select c)
+  numbered-in-turn c = record {
+    call = λ call e old new s t is sound given stays step. inr (λ off. (let d = calls-due mac answers call e old new s t is step in d.0 (stays off)));
+    timeout = λ now e old new s t sound stays step. λ off. (let d = timeouts-due mac answers now e old new s t step in d.0 (stays off));
+    owing = λ call e old new s t is step. sends-more c e old new (calls-due mac answers call e old new s t is step);
+    owing_timeout = λ now e old new s t step. sends-more c e old new (timeouts-due mac answers now e old new s t step);
+    at_once = λ now e old new s t known full stays h due. numbered-at-once c now e old new s t known full stays h due;
     apart = λ now e never. never;
   }
 
@@ -190,10 +167,22 @@ module _ {H P : Type 0} (mac : H → List ℕ → List ℕ → List ℕ) (answer
   abbrev pub Accepts : Call P → Entry → Type 0
   Accepts call e = AcceptsSuccess call e
 
-  pub quiet-in-turn : InTurn IsQuiet Accepts
+  -- nothing is counted
+  abbrev pub no_agent : AgentRecord H P → ℕ
+  no_agent a = 0
+
+  abbrev pub no_call : Entry → ℕ
+  no_call e = 0
+
+  pub paid-none : (xs : List (Logged P)) → 0 + paid no_call xs ≤ 0
+  paid-none xs = let k : paid (λ e. 0) xs ≡ 0 = paid-nothing xs in omega (arith, k)
+
+  pub quiet-in-turn : InTurn IsQuiet Accepts no_agent no_call
   quiet-in-turn = record {
     call = λ call e old new s t is sound given q step. quiet-call mac answers call e old new s t is sound given q step;
     timeout = λ now e old new s t sound q step. quiet-timeout mac answers now e old new s t sound q step;
-    none = λ now old q. none-at-check mac now (timeout_begun now old) q.invalid q.quiet;
+    owing = λ call e old new s t is step. omega arith;
+    owing_timeout = λ now e old new s t step. omega arith;
+    at_once = λ now e old new s t known full q h due. no-case (sym (none-at-check mac now (timeout_begun now old) q.invalid q.quiet h.0 h.1 h.3 h.4 h.5 h.6) ∙ due);
     apart = λ now e off. off.3;
   }

@@ -4,7 +4,7 @@ use Rattle.is_candidate.specs.Candidates.{CandidateRecord}
 use Rattle.is_rules.specs.Checking.{goes_ahead}
 use Rattle.is_theorems.specs.BoundedRounds.{LimitsReach}
 use Rattle.is_theorems.specs.Bounds.{gathered_count, pair_bound, signal_count}
-use Rattle.is_theorems.specs.Reached.{PairsAreReached}
+use Rattle.is_theorems.specs.Reached.{PairsAreReached, nominations_ahead, selection_count}
 use Rattle.is_theorems.specs.Rounds.{entries_of}
 use Rattle.is_theorems.proofs.DuePairs.ChecksAhead.{times, times-kept}
 use Rattle.is_theorems.proofs.StorageBounds.NumberOfPairs.{pairs_within}
@@ -25,9 +25,10 @@ module _ {H P : Type 0} (mac : H → List ℕ → List ℕ → List ℕ) (answer
         passing = enough.passing;
         lasting = enough.lasting;
         enough = (let all = enough.enough in
-            let needed : times (goes_ahead start.rules) (2 * pair_bound limit most (gathered_count before) (signal_count before) + last.next_number)
+            let ahead : ℕ = nominations_ahead start (selection_count (entries_of rounds)) in
+            let needed : times (goes_ahead start.rules) (2 * pair_bound limit most (gathered_count before) (signal_count before) + last.next_number + ahead)
             ≤ length rounds + 1 + times (goes_ahead start.rules) start.next_number = omega (arith, all) in
-            let fewer = times-kept (goes_ahead start.rules) (2 * pair_bound limit most (gathered_count before) (signal_count before) + last.next_number)
-            (2 * length start.pairs + last.next_number) (length rounds + 1 + times (goes_ahead start.rules) start.next_number) (omega (arith, pairs)) needed in
+            let fewer = times-kept (goes_ahead start.rules) (2 * pair_bound limit most (gathered_count before) (signal_count before) + last.next_number + ahead)
+            (2 * length start.pairs + last.next_number + ahead) (length rounds + 1 + times (goes_ahead start.rules) start.next_number) (omega (arith, pairs)) needed in
             omega (arith, fewer));
       })

@@ -10,7 +10,7 @@ use Rattle.is_rules.specs.Agent.{AgentRecord}
 use Rattle.is_rules.specs.Checking.{goes_ahead}
 use Rattle.is_theorems.specs.Bounds.{gathered_count, is_gathered, is_signal, pair_bound, signal_count}
 use Rattle.is_theorems.specs.Logs.{Logged}
-use Rattle.is_theorems.specs.Reached.{IsEndedIn, IsPassing, PairsAreReached, is_in_round}
+use Rattle.is_theorems.specs.Reached.{IsEndedIn, IsPassing, PairsAreReached, is_in_round, nominations_ahead, selection_count}
 use Rattle.is_theorems.specs.Rounds.{LoggedRound, RunsOn, entries_of}
 use Rattle.is_theorems.specs.Runs.{Run}
 use Rattle.is_rules.specs.Sending.{path_of}
@@ -31,42 +31,48 @@ use Rattle.is_theorems.proofs.BasicLemmas.EqualAddresses.{both}
 
 -- ---- numbers
 
-enough-rounds : (was now next_was next rounds bound m : ℕ) → was ≤ bound → now ≤ bound → 0 < m → next * m ≤ (next_was + now) * m + rounds
-    → 3 * bound * m + rounds ≤ (rounds + 1) * m → 2 * was + next ≤ rounds + 1 + next_was
-enough-rounds was now next_was next rounds bound m was_few now_few some added enough =
+enough-rounds : (was now next_was next rounds bound ahead m : ℕ) → was ≤ bound → now ≤ bound → 0 < m → next * m ≤ (next_was + now) * m + rounds
+    → (3 * bound + ahead) * m + rounds ≤ (rounds + 1) * m → 2 * was + next + ahead ≤ rounds + 1 + next_was
+enough-rounds was now next_was next rounds bound ahead m was_few now_few some added enough =
     let all : (2 * was + now) * m ≤ 3 * bound * m = mul-le-mul_right m (omega (arith, was_few, now_few)) in
     let all_sum : (2 * was + now) * m ≡ 2 * was * m + now * m = add-mul (2 * was) now m in
-    let left : (2 * was + next) * m ≡ 2 * was * m + next * m = add-mul (2 * was) next m in
+    let most : (3 * bound + ahead) * m ≡ 3 * bound * m + ahead * m = add-mul (3 * bound) ahead m in
+    let left : (2 * was + next + ahead) * m ≡ (2 * was + next) * m + ahead * m = add-mul (2 * was + next) ahead m in
+    let left_sum : (2 * was + next) * m ≡ 2 * was * m + next * m = add-mul (2 * was) next m in
     let added_sum : (next_was + now) * m ≡ next_was * m + now * m = add-mul next_was now m in
     let right : (rounds + 1 + next_was) * m ≡ (rounds + 1) * m + next_was * m = add-mul (rounds + 1) next_was m in
-    le_of_mul-le-mul_right (joined (2 * was * m) (now * m) (next * m) (next_was * m) (3 * bound * m) ((rounds + 1) * m) _ _ _ _ left right added_sum all all_sum added enough) some where
-      joined : (a b c d e f left right added both : ℕ) → left ≡ a + c → right ≡ f + d → added ≡ d + b → both ≤ e → both ≡ a + b → c ≤ added + rounds → e + rounds ≤ f → left ≤ right
-      joined a b c d e f left right added both h1 h2 h3 h4 h5 h6 h7 = omega (arith, h1, h2, h3, h4, h5, h6, h7)
+    le_of_mul-le-mul_right (joined (2 * was * m) (now * m) (next * m) (next_was * m) (3 * bound * m) (ahead * m) ((rounds + 1) * m) _ _ _ _ _ _
+    left left_sum right added_sum most all all_sum added enough) some where
+      joined : (a b c d e g f left sum right added most both : ℕ) → left ≡ sum + g → sum ≡ a + c → right ≡ f + d → added ≡ d + b → most ≡ e + g → both ≤ e → both ≡ a + b
+          → c ≤ added + rounds → most + rounds ≤ f → left ≤ right
+      joined a b c d e g f left sum right added most both h1 h2 h3 h4 h5 h6 h7 h8 h9 = omega (arith, h1, h2, h3, h4, h5, h6, h7, h8, h9)
 
 none-of : (b : Bool) → b ≡ false → cond b 1 0 ≤ 0
 none-of true is = no-case (sym is)
 none-of false is = omega arith
 
-enough-rounds-in-turn : (ahead : Bool) (was now next_was next rounds bound m : ℕ) → was ≤ bound → now ≤ bound → 0 < m → next * m ≤ (next_was + now) * m + rounds
-    → times ahead (3 * bound) * m + times ahead rounds ≤ (rounds + 1) * m → times ahead (2 * was + next) ≤ rounds + 1 + times ahead next_was
-enough-rounds-in-turn false was now next_was next rounds bound m was_few now_few some added enough = enough-rounds was now next_was next rounds bound m was_few now_few some added enough
-enough-rounds-in-turn true was now next_was next rounds bound m was_few now_few some added enough =
+enough-rounds-in-turn : (ahead : Bool) (was now next_was next rounds bound sent m : ℕ) → was ≤ bound → now ≤ bound → 0 < m → next * m ≤ (next_was + now) * m + rounds
+    → times ahead (3 * bound + sent) * m + times ahead rounds ≤ (rounds + 1) * m → times ahead (2 * was + next + sent) ≤ rounds + 1 + times ahead next_was
+enough-rounds-in-turn false was now next_was next rounds bound sent m was_few now_few some added enough = enough-rounds was now next_was next rounds bound sent m was_few now_few some added enough
+enough-rounds-in-turn true was now next_was next rounds bound sent m was_few now_few some added enough =
     let all : (2 * was + now) * m ≤ 3 * bound * m = mul-le-mul_right m (omega (arith, was_few, now_few)) in
     let all_sum : (2 * was + now) * m ≡ 2 * was * m + now * m = add-mul (2 * was) now m in
-    let left : (2 * (2 * was + next)) * m ≡ (2 * was + next) * m + (2 * was + next) * m = doubled (2 * was + next) in
-    let left_sum : (2 * was + next) * m ≡ 2 * was * m + next * m = add-mul (2 * was) next m in
+    let left : (2 * (2 * was + next + sent)) * m ≡ (2 * was + next + sent) * m + (2 * was + next + sent) * m = doubled (2 * was + next + sent) in
+    let left_sum : (2 * was + next + sent) * m ≡ (2 * was + next) * m + sent * m = add-mul (2 * was + next) sent m in
+    let one_sum : (2 * was + next) * m ≡ 2 * was * m + next * m = add-mul (2 * was) next m in
     let added_sum : (next_was + now) * m ≡ next_was * m + now * m = add-mul next_was now m in
     let right : (rounds + 1 + 2 * next_was) * m ≡ (rounds + 1) * m + (2 * next_was) * m = add-mul (rounds + 1) (2 * next_was) m in
     let right_sum : (2 * next_was) * m ≡ next_was * m + next_was * m = doubled next_was in
-    let bounds : (2 * (3 * bound)) * m ≡ 3 * bound * m + 3 * bound * m = doubled (3 * bound) in
-    le_of_mul-le-mul_right (joined (2 * was * m) (now * m) (next * m) (next_was * m) (3 * bound * m) ((rounds + 1) * m) _ _ _ _ _ _ _
-    left left_sum right right_sum added_sum bounds all all_sum added enough) some where
+    let bounds : (2 * (3 * bound + sent)) * m ≡ (3 * bound + sent) * m + (3 * bound + sent) * m = doubled (3 * bound + sent) in
+    let bounds_sum : (3 * bound + sent) * m ≡ 3 * bound * m + sent * m = add-mul (3 * bound) sent m in
+    le_of_mul-le-mul_right (joined (2 * was * m) (now * m) (next * m) (next_was * m) (3 * bound * m) (sent * m) ((rounds + 1) * m) _ _ _ _ _ _ _ _ _
+    left left_sum one_sum right right_sum added_sum bounds bounds_sum all all_sum added enough) some where
       doubled : (x : ℕ) → (2 * x) * m ≡ x * m + x * m
       doubled x = let same : 2 * x ≡ x + x = omega arith in ap (λ y. y * m) same ∙ add-mul x x m
 
-      joined : (a b c d e f left one right twice added bounds both : ℕ) → left ≡ one + one → one ≡ a + c → right ≡ f + twice → twice ≡ d + d → added ≡ d + b → bounds ≡ e + e
-          → both ≤ e → both ≡ a + b → c ≤ added + rounds → bounds + 2 * rounds ≤ f → left ≤ right
-      joined a b c d e f left one right twice added bounds both h1 h2 h3 h4 h5 h6 h7 h8 h9 h10 = omega (arith, h1, h2, h3, h4, h5, h6, h7, h8, h9, h10)
+      joined : (a b c d e g f left sum one right twice added bounds most both : ℕ) → left ≡ sum + sum → sum ≡ one + g → one ≡ a + c → right ≡ f + twice → twice ≡ d + d → added ≡ d + b
+          → bounds ≡ most + most → most ≡ e + g → both ≤ e → both ≡ a + b → c ≤ added + rounds → bounds + 2 * rounds ≤ f → left ≤ right
+      joined a b c d e g f left sum one right twice added bounds most both h1 h2 h3 h4 h5 h6 h7 h8 h9 h10 h11 h12 = omega (arith, h1, h2, h3, h4, h5, h6, h7, h8, h9, h10, h11, h12)
 
 -- ---- calls of a segment in which no candidate is added
 
@@ -161,12 +167,12 @@ module _ {H P : Type 0} (mac : H → List ℕ → List ℕ → List ℕ) (answer
             (λ b m a y k. limited b m a y (deeper mac answers first s log (entries_of rounds ++ before) part.rest b m y a part.split k))
             (λ b m a y k. few b m a y (deeper mac answers first s log (entries_of rounds ++ before) part.rest b m y a part.split k)) led))
 
-        enough : times (goes_ahead start.rules) (2 * length start.pairs + last.next_number) ≤ length rounds + 1 + times (goes_ahead start.rules) start.next_number
+        enough : times (goes_ahead start.rules) (2 * length start.pairs + last.next_number + nominations_ahead start (selection_count (entries_of rounds))) ≤ length rounds + 1 + times (goes_ahead start.rules) start.next_number
         enough =
             let added = requests-add-few mac answers first s log fresh before (entries_of rounds) start last part f.line.checking.full f.steady consents in
             let timeouts = few-timeouts by rounds f.passing in
             let sound : IsSound start = runs_sound mac answers (path_theorem mac answers) first start s part.at before fresh part.led in
             let all = f.enough in
             enough-rounds-in-turn (goes_ahead start.rules) (length start.pairs) (length last.pairs) start.next_number last.next_number (length rounds)
-            (pair_bound limit most (gathered_count before) (signal_count before)) start.timing.max_retransmits was now sound.checks
+            (pair_bound limit most (gathered_count before) (signal_count before)) (nominations_ahead start (selection_count (entries_of rounds))) start.timing.max_retransmits was now sound.checks
             (omega (arith, added, timeouts)) (omega (arith, all))

@@ -19,8 +19,8 @@ use Rattle.is_theorems.specs.AskedCourses.{Ends, EndsAlong, IsAnsweredAlong, Suc
 use Rattle.is_theorems.specs.Courses.{SelectsAmong, ControlsAlong, CourseRound, CourseRounds}
 use Rattle.is_theorems.specs.Exchange.{AreBetween, Course}
 use Rattle.is_rules.specs.Polls.{PollsTimeout, soon}
-use Rattle.is_theorems.specs.Reached.{IsInLine, IsLasting}
-use Rattle.is_theorems.specs.ReachedCourses.{IsPassed, PassRounds}
+use Rattle.is_theorems.specs.Reached.{IsInLine, IsLasting, nominations_ahead}
+use Rattle.is_theorems.specs.ReachedCourses.{IsPassed, PassRounds, selections_among}
 use Rattle.is_theorems.specs.Runs.{IsFresh}
 use Rattle.is_rules.specs.Sending.{path_of}
 use Rattle.is_rules.specs.Sound.{IsSound}
@@ -40,9 +40,10 @@ use Rattle.is_theorems.proofs.StoredPairs.PairsThatStay.{pairs-stay}
 use Rattle.is_theorems.proofs.StoredPairs.TransactionsOverPackets.{sound-course}
 use Rattle.is_rules.proofs.PollsAndResponses.NextTimeout.{timeouts-in-time}
 use Rattle.is_theorems.specs.FirstChecks.{CoursesCheckFromDue}
-use Rattle.is_theorems.specs.FirstTimeouts.{AreInRound, IsOpenRound, EndsAmong, Suffices, CoursesReachFromDue}
+use Rattle.is_theorems.specs.FirstTimeouts.{AreInRound, IsOpenRound, EndsAmong, RoundsSuffice, Suffices, CoursesReachFromDue}
 use Rattle.is_theorems.specs.InTime.{ChecksBy, ComeBy, CoursesCheckInTime, CoursesReachInTime, IsPrompt, IsPunctual, IsReachedBy, IsTimed, KeepsPace, NextComesInTime, RoundsComeInTime}
 use Rattle.is_theorems.specs.Pacing.{advance_after}
+use Rattle.is_theorems.proofs.PollingRounds.CountedSelections.{ahead-fewer}
 use Rattle.is_theorems.proofs.PollingRounds.FirstRoundWithoutValidPair.{Calm, Selects, on-call}
 use Rattle.is_theorems.proofs.DuePairs.NoNominationDue.{NoneIsDue, Quiet, due-none, quiet-timeout}
 use Rattle.is_theorems.proofs.PollingRounds.InTurnAlong.{Lined, lined, lined-unanswered}
@@ -255,6 +256,7 @@ module _ {H P : Type 0} where
       count : length front ≡ many
       within : (x : CourseRound P) → Has front x → Has later x
       fewer : end.next_number ≤ last.next_number
+      selections : selections_among front ≤ selections_among later
       punctual : IsPunctual delay r front
       ends : (path : Path) → EndsAmong mac answers front run.1 end more path → EndsAmong mac answers later run.1 last run.6 path
 
@@ -267,6 +269,7 @@ module _ {H P : Type 0} where
       count = refl;
       within = λ x none. absurd none;
       fewer = grows later run.1 last (sound-round r later old last sound run).0 run.6;
+      selections = omega arith;
       punctual = tt;
       ends = λ path none. absurd none;
     }
@@ -279,33 +282,32 @@ module _ {H P : Type 0} where
           count = ap suc c.count;
           within = λ y has. elim has [ inl is ↦ inl is | inr there ↦ inr (c.within y there) ];
           fewer = (let fewer = c.fewer in omega (arith, fewer));
+          selections = (let selections = c.selections in omega (arith, selections));
           punctual = (prompt, c.punctual);
           ends = λ path ended. elim ended [ inl here ↦ inl here | inr others ↦ inr (c.ends path others) ];
         }
 
-    suffices-earlier : (by now many : ℕ) (first second end last : AgentRecord H P) → end.next_number ≤ last.next_number → Suffices by now first second last many → Suffices by now first second end many
-    suffices-earlier by now many first second end last fewer (inl (late, enough)) =
-        inl (
-          omega (arith, late),
-          (let needed : times (goes_ahead first.rules) (2 * length first.pairs + last.next_number) ≤ many + 2 + times (goes_ahead first.rules) first.next_number = omega (arith, enough) in
-              let kept = times-kept (goes_ahead first.rules) (2 * length first.pairs + last.next_number) (2 * length first.pairs + end.next_number)
-              (many + 2 + times (goes_ahead first.rules) first.next_number) (omega (arith, fewer)) needed in
-              omega (arith, kept)),
-        )
-    suffices-earlier by now many first second end last fewer (inr (inl few)) = inr (inl (omega (arith, few)))
-    suffices-earlier by now many first second end last fewer (inr (inr enough)) =
-        inr (inr
-        (let needed : times (goes_ahead second.rules) (2 * length second.pairs + last.next_number) ≤ many + 1 + times (goes_ahead second.rules) second.next_number = omega (arith, enough) in
-        let kept = times-kept (goes_ahead second.rules) (2 * length second.pairs + last.next_number) (2 * length second.pairs + end.next_number)
-        (many + 1 + times (goes_ahead second.rules) second.next_number) (omega (arith, fewer)) needed in
-        omega (arith, kept)))
+    -- what suffices if more pairs are added, and more nominations may be sent at once
+    suffices-for : (ahead : Bool) (size i j begun most more k : ℕ) → i ≤ j → most ≤ more → times ahead (2 * size + j + more) ≤ k + times ahead begun → times ahead (2 * size + i + most) ≤ k + times ahead begun
+    suffices-for ahead size i j begun most more k fewer le enough =
+        times-kept ahead (2 * size + j + more) (2 * size + i + most) (k + times ahead begun) (omega (arith, fewer, le)) enough
+
+    suffices-earlier : (by now many : ℕ) (first second end last : AgentRecord H P) (all_most all_more most more : ℕ) → end.next_number ≤ last.next_number → all_most ≤ all_more → most ≤ more
+        → Suffices by now first second last many all_more more → Suffices by now first second end many all_most most
+    suffices-earlier by now many first second end last all_most all_more most more fewer all_le le (inl (late, enough)) =
+        let k = suffices-for (goes_ahead first.rules) (length first.pairs) end.next_number last.next_number first.next_number all_most all_more (many + 2) (omega (arith, fewer)) (omega (arith, all_le)) (omega (arith, enough)) in
+        inl (omega (arith, late), omega (arith, k))
+    suffices-earlier by now many first second end last all_most all_more most more fewer all_le le (inr (inl few)) = inr (inl (omega (arith, few)))
+    suffices-earlier by now many first second end last all_most all_more most more fewer all_le le (inr (inr enough)) =
+        let k = suffices-for (goes_ahead second.rules) (length second.pairs) end.next_number last.next_number second.next_number most more (many + 1) (omega (arith, fewer)) (omega (arith, le)) (omega (arith, enough)) in
+        inr (inr (omega (arith, k)))
 
     -- all of them
     reach-all : CoursesReachFromDue {H = H} {P = P} mac answers
         → (first start last : AgentRecord H P) (xs : List (Call P × Entry)) (r : CourseRound P) (later : List (CourseRound P)) (p : PairRecord) (by pace delay : ℕ)
         → IsFresh first → Course mac answers xs first start → IsInLine r.now by start p → by ≤ r.now → r.timeout.answer ≡ Done → r.now < MAX → AreInRound r.following
         → (run : PassRounds mac answers (r ∷ later) start last) → ((x : CourseRound P) → Has later x → IsOpenRound by x)
-        → ((x : CourseRound P) → Has later x → IsLasting x.now start p) → Suffices by r.now start run.1 last (length later)
+        → ((x : CourseRound P) → Has later x → IsLasting x.now start p) → RoundsSuffice by start run.1 last r later (length later)
         → IsTimed pace delay start r later → IsReachedBy mac answers (r.now + length later * (pace + delay)) (r ∷ later) start last run (path_of start p)
     reach-all reach first start last xs r later p by pace delay fresh course line from done early between run opens lasting enough timed =
         elim (rounds-come-in-time first start last xs r later p by pace delay fresh course line (omega (arith, from)) done (omega (arith, early)) (λ y has. between y has) run opens (λ x has. lasting x has) timed) [
@@ -323,7 +325,10 @@ module _ {H P : Type 0} where
         let count : length c.front ≡ many = c.count in
         elim (reach-all reach first start c.end xs r c.front p by pace delay fresh course line (omega (arith, from)) done (omega (arith, early)) (λ y has. between y has)
         (run.0, run.1, run.2, run.3, run.4, run.5, c.more) (λ y has. opens y (c.within y has)) (λ y has. lasting y (c.within y has))
-        (subst (λ k. Suffices by r.now start run.1 c.end k) (sym count) (suffices-earlier by r.now many start run.1 c.end last (omega (arith, fewer)) enough))
+        (subst (λ k. RoundsSuffice by start run.1 c.end r c.front k) (sym count) (suffices-earlier by r.now many start run.1 c.end last
+        (nominations_ahead start (selections_among (r ∷ c.front))) (nominations_ahead start (selections_among (r ∷ later))) (nominations_ahead run.1 (selections_among c.front)) (nominations_ahead run.1 (selections_among later))
+        (omega (arith, fewer)) (ahead-fewer start (selections_among (r ∷ c.front)) (selections_among (r ∷ later)) (let le = c.selections in omega (arith, le)))
+        (ahead-fewer run.1 (selections_among c.front) (selections_among later) (let le = c.selections in omega (arith, le))) enough))
         (record { begins = (let begins = timed.begins in omega (arith, begins)); keeps = λ y has. timed.keeps y (elim has [ inl is ↦ inl is | inr there ↦ inr (c.within y there) ]); punctual = c.punctual })) [
           | inl (y, inl is, out, by_then) ↦ inl (y, inl is, out, subst (λ k. y.now ≤ r.now + k * (pace + delay)) count by_then)
           | inl (y, inr has, out, by_then) ↦ inl (y, inr (c.within y has), out, subst (λ k. y.now ≤ r.now + k * (pace + delay)) count by_then)

@@ -25,7 +25,7 @@ use Rattle.is_rules.specs.declared.emitted.Issued.{Issued}
 use Rattle.is_rules.specs.declared.emitted.Path.{Path}
 use Rattle.is_rules.specs.Discarding.{place_to_discard, InvalidatesAt}
 use Rattle.is_rules.specs.Forming.{formed, with_pair, Combination, FormsAll}
-use Rattle.is_rules.specs.Nominating.{followed, numbers, remains, selection_of, Nominates}
+use Rattle.is_rules.specs.Nominating.{followed, remains, selection_of, Nominates}
 use Rattle.is_rules.specs.Places.{local_place}
 use Rattle.is_rules.specs.Request.{RequestRecord, request_in}
 use Rattle.is_rules.specs.Roles.{conflict_of, switched, keeps_role}
@@ -48,8 +48,6 @@ pub record Clock : Type 0 where
 
 pub record Pace : Type 0 where
   pub timing_advance : ℕ
-  -- nominations have numbers
-  pub numbered : Bool
   pub clock : Clock
 
 module _ {H P : Type 0} where
@@ -57,7 +55,7 @@ module _ {H P : Type 0} where
   clock_of a = record { lite = a.lite; timing = a.timing; last_time = a.last_time }
 
   abbrev pub pace_of : AgentRecord H P → Pace
-  pace_of a = record { timing_advance = a.timing_advance; numbered = numbers a; clock = clock_of a }
+  pace_of a = record { timing_advance = a.timing_advance; clock = clock_of a }
 
   abbrev Same : AgentRecord H P → AgentRecord H P → Type 0
   Same old new = pace_of new ≡ pace_of old
@@ -177,11 +175,6 @@ module _ {H P : Type 0} where
         → MatchOption request (MaintainsPairs mac now old s emitted new t) (λ q. ServesQueued mac q (at_request now old) s emitted new t) → new.timing_advance ≡ old.timing_advance
     times-out now None old new s t emitted h = ap (λ (p : Pace). p.timing_advance) (maintains now old new s t emitted h)
     times-out now (Some q) old new s t emitted h = ap (λ (p : Pace). p.timing_advance) (serves q _ new emitted h.0)
-
-    pub times-out-numbered : (now : ℕ) (request : Option RequestRecord) (old new : AgentRecord H P) (s t : Stream) (emitted : Emitted)
-        → MatchOption request (MaintainsPairs mac now old s emitted new t) (λ q. ServesQueued mac q (at_request now old) s emitted new t) → numbers new ≡ numbers old
-    times-out-numbered now None old new s t emitted h = ap (λ (p : Pace). p.numbered) (maintains now old new s t emitted h)
-    times-out-numbered now (Some q) old new s t emitted h = ap (λ (p : Pace). p.numbered) (serves q _ new emitted h.0)
 
   -- ---- the other calls
 
