@@ -7,7 +7,7 @@ from random import Random
 from typing import TypeVar
 
 from is_ice import Transmit
-from lab.clauses import both, connect, due_rounds, in_time, meet, nomination_accepted, rounds, single, world_rounds
+from lab.clauses import both, connect, due_rounds, in_time, meet, nomination_accepted, rounds, run_in_time, single, world_rounds
 from lab.clauses.execution import Execution, Lacks
 from lab.clauses.accepted_nominations import Network
 from lab.clauses.verdict import Verdict
@@ -127,14 +127,18 @@ class Searches(unittest.TestCase):
         self.compare("rounds", world_rounds.find, found)
 
     def test_checks_in_time(self) -> None:
+        self.compare_checks_in_time(in_time.find, in_time.lacking)
+        self.compare_checks_in_time(run_in_time.find, run_in_time.lacking)
+
+    def compare_checks_in_time(self, find: Callable[[Execution], Verdict], lacking: Callable[[Execution, in_time.Choice], Lacks]) -> None:
         held = 0
         for seed in self.SEEDS:
             n = random_story(seed).network()
             every = (in_time.Choice(side, path, first, last + 1) for side in SIDES for path in paths_of(n, side)
                      for place, first in enumerate(n.x.timeouts[side]) for last in n.x.timeouts[side][place:])
-            good = [c for c in every if not in_time.lacking(n.x, c)]
+            good = [c for c in every if not lacking(n.x, c)]
             self.assertEqual([c for c in good if in_time.verdict_of(n.x, c).is_broken], [], f"seed {seed}")
-            own = in_time.find(n.x)
+            own = find(n.x)
             self.assertEqual((own.held, own.is_broken), (bool(good), False), f"seed {seed}: {own.failed}")
             held += own.held
         self.assertGreater(held, 2)

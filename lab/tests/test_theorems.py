@@ -1,4 +1,4 @@
-"""Tests the checkers of the theorems on one agent, and of the clause `in_time`: for each precondition, a log that lacks exactly it; and a
+"""Tests the checkers of the theorems on one agent, and of the clauses `in_time`: for each precondition, a log that lacks exactly it; and a
 log in which the conclusion does not come true."""
 
 import unittest
@@ -9,7 +9,7 @@ from typing import Any
 from is_ice import NominatedSend
 from lab.clauses import (
     completed_nominations_are_selected, connected_are_answered, connected_have_consent, consent_ends_in_time, consent_holds, in_time,
-    valid_have_consented)
+    run_in_time, valid_have_consented)
 from lab.clauses.execution import Execution, Lacks
 from lab.clauses.progress import has_selected
 from lab.clauses.verdict import Verdict
@@ -282,6 +282,11 @@ class Completed(unittest.TestCase):
 
 
 class InTime(unittest.TestCase):
+    """`World::run`."""
+
+    of: Any = in_time
+    new, answered, ended = "IsNewAgent", "Succeeds", "MayEndInRounds"
+
     def two_pairs(self) -> Story:
         """A has two pairs, and four timeouts. Both pairs are due at the first one."""
         story = Story(hosts=(2, 1))
@@ -291,12 +296,13 @@ class InTime(unittest.TestCase):
     def lacking(self, x: Execution, rounds: int, first: int = 0) -> Lacks:
         row = x.timeouts["a"]
         path = x.state(row[first], "a").path(x.state(row[first], "a").pairs[-1])
-        return in_time.lacking(x, in_time.Choice("a", path, row[first], row[first + rounds - 1] + 1))
+        missing: Lacks = self.of.lacking(x, in_time.Choice("a", path, row[first], row[first + rounds - 1] + 1))
+        return missing
 
     def test_the_only_pair(self) -> None:
         story = Story()
         story.timeout("a", 0)
-        self.assertEqual(in_time.find(story.network().x), Verdict("", at(0), at(0), at(0), 1))
+        self.assertEqual(self.of.find(story.network().x), Verdict("", at(0), at(0), at(0), 1))
 
     def test_two_pairs(self) -> None:
         x = self.two_pairs().network().x
@@ -305,12 +311,12 @@ class InTime(unittest.TestCase):
         agent = x.state(row[0], "a")
         choice = in_time.Choice("a", agent.path(agent.pairs[-1]), row[0], row[3] + 1)
         self.assertEqual((in_time.pace(x, choice), in_time.delay(x, "a", choice.rounds(x))), (50 * MILLISECOND, 2 * MILLISECOND))
-        self.assertEqual(in_time.find(x), Verdict("", at(0), at(3 * 52), at(0), 4))
+        self.assertEqual(self.of.find(x), Verdict("", at(0), at(3 * 52), at(0), 4))
 
     def test_the_preconditions(self) -> None:
         story = self.two_pairs()
         first = story.moments["a"][0]
-        self.assertEqual(self.lacking(altered(story, 0, "b", next_number=1), 4), ["IsNewAgent"])
+        self.assertEqual(self.lacking(altered(story, 0, "a", next_number=1), 4), [self.new])
         self.assertEqual(self.lacking(altered(story, first, "a", queue=(REQUEST,)), 4), ["has.line.queue"])
         self.assertEqual(self.lacking(altered(story, first, "a", peer=None), 4), ["has.line.checking.peer"])
         story.log.entries = [e for e in story.log.entries if e.call != "poll_timeout"]
@@ -331,18 +337,31 @@ class InTime(unittest.TestCase):
     def test_what_excuses_a_missing_check(self) -> None:
         story = Story()
         story.exchange("a", 0)
-        self.assertEqual(in_time.lacking(*self.unchecked(story)), ["Succeeds"])
+        self.assertEqual(self.of.lacking(*self.unchecked(story)), [self.answered])
         story = Story()
         story.timeout("a", 0)
         story.evict("a", 10)
-        self.assertEqual(in_time.lacking(*self.unchecked(story)), ["MayEndInRounds"])
+        self.assertEqual(self.of.lacking(*self.unchecked(story)), [self.ended])
 
     def test_no_check_in_time(self) -> None:
         story = Story()
         story.timeout("a", 0)
         x, choice = self.unchecked(story)
-        self.assertEqual(in_time.lacking(x, choice), [])
-        self.assertTrue(in_time.find(x).is_broken)
+        self.assertEqual(self.of.lacking(x, choice), [])
+        self.assertTrue(self.of.find(x).is_broken)
+
+    def test_the_other_agent(self) -> None:
+        self.assertEqual(self.lacking(altered(self.two_pairs(), 0, "b", next_number=1), 4), [self.new])
+
+
+class InTimeOfRun(InTime):
+    """`run`: the other agent may be any."""
+
+    of = run_in_time
+    new, answered, ended = "IsFresh", "IsAnsweredIn", "IsEndedIn"
+
+    def test_the_other_agent(self) -> None:
+        self.assertEqual(self.lacking(altered(self.two_pairs(), 0, "b", next_number=1), 4), [])
 
 
 if __name__ == "__main__":

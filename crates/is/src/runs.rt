@@ -7,6 +7,7 @@ ghost use Rattle.is_theorems.specs.Runs.{IsFresh, PathsAreAnswered, PathsAreNomi
 ghost use Rattle.is_theorems.specs.Progress.{SuccessesSelectPaths, NominationsSelect};
 ghost use Rattle.is_theorems.specs.Rounds.{LoggedTimeoutsAreOfUse, PartsPersist};
 ghost use Rattle.is_theorems.specs.DueRounds.{DueRoundsSelect};
+ghost use Rattle.is_theorems.specs.TimedRounds.{RoundsReachInTime};
 ghost use Rattle.is_theorems.specs.OpenRounds.{OpenRoundsSelect};
 ghost use Rattle.is.specs.Log.{IsRunLog, log_of, EntriesPersist};
 ghost use Rattle.is.specs.Accepted.{PacketsAreSettled};
@@ -26,6 +27,7 @@ use is_theorems::selecting::{
     selected_are_nominated_by_peer, takers_are_valid, timeouts_select,
 };
 use is_theorems::starving::turns_are_of_use;
+use is_theorems::timing::reached_in_time;
 use rand_core::Rng;
 
 /// The results of the calls of an execution.
@@ -128,6 +130,14 @@ pub fn run<H: Sha1HmacProvider + Drop, P: LocalPreference, R: Rng>(
     ensures due_rounds { IsFresh (record_of agent.old)
         → DueRoundsSelect H.mac P.answers (record_of agent.old) (R.stream rng.old) (log_of calls.items result) }
 
+    // In time: the caller makes each `handle_timeout` call after the first at most δ after a time that `poll_timeout` returned since the
+    // one before. If k rounds after the first suffice for a pair that is due by it, a check is sent on the pair's path at most k pacing
+    // intervals and k times δ after the first, unless a success response is received on the path in the rounds, or a candidate that
+    // is added in them may remove a pair of the path. k is as in `due_rounds`, and one or two more for each nomination that may be
+    // sent at once. This holds in either role, whatever else is received.
+    ensures in_time { IsFresh (record_of agent.old)
+        → RoundsReachInTime H.mac P.answers (record_of agent.old) (R.stream rng.old) (log_of calls.items result) }
+
     // After an accepted success response a pair with its pending transaction, on its path, is valid.
     ensures takers { IsFresh (record_of agent.old)
         → SuccessesMakeValid H.mac P.answers (record_of agent.old) (R.stream rng.old) (log_of calls.items result) }
@@ -189,6 +199,7 @@ pub fn run<H: Sha1HmacProvider + Drop, P: LocalPreference, R: Rng>(
     turns_are_of_use::<H, P>();
     open_rounds_select::<H, P>();
     due_rounds_select::<H, P>();
+    reached_in_time::<H, P>();
     takers_are_valid::<H, P>();
     asked_are_nominated::<H, P>();
     replies_are_among::<H, P>();

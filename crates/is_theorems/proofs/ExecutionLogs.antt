@@ -1,6 +1,7 @@
 -- Executions, their logs, segments and points.
 pub mod LogTheorems
 pub mod LogSegments
+pub mod SegmentsAsExecutions
 pub mod PointsOfSegments
 pub mod UnacceptedBytes
 pub mod PollingOrder

@@ -1,4 +1,5 @@
 -- In which time a pair is checked.
 pub mod UnchangedPacing
 pub mod ChecksInTime
+pub mod ChecksInTimeInLogs
 pub mod ConsentInTime

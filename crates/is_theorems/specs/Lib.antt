@@ -37,6 +37,7 @@ pub mod RenominatingCourses
 pub mod Numbered
 pub mod Pacing
 pub mod InTime
+pub mod TimedRounds
 pub mod Consent
 pub mod ConsentCourses
 pub mod AtOnceCourses

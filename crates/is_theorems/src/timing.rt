@@ -3,6 +3,7 @@
 
 ghost use Rattle.is_theorems.specs.InTime.{CoursesCheckInTime, CoursesReachInTime, NextComesInTime, RoundsComeInTime};
 ghost use Rattle.is_theorems.specs.Pacing.{PacingIsSet};
+ghost use Rattle.is_theorems.specs.TimedRounds.{PairsAreReachedInTime};
 
 use crate::reaching::{courses_check_from_due, courses_reach_from_due};
 use crate::selecting::successes_select;
@@ -36,7 +37,14 @@ pub fn courses_reach_in_time<H: Sha1HmacProvider, P: LocalPreference>()
     courses_reach_from_due::<H, P>();
 }
 
-/// The same of a controlling agent without a valid pair, for the k rounds after the first of `courses_check_from_due`: for n due pairs
+/// The same of the rounds of a log.
+pub fn reached_in_time<H: Sha1HmacProvider, P: LocalPreference>()
+    ensures { PairsAreReachedInTime H.mac P.answers }
+{
+    courses_reach_in_time::<H, P>();
+}
+
+/// Likewise for a controlling agent without a valid pair, for the k rounds after the first of `courses_check_from_due`: for n due pairs
 /// n - 1, or n if the pair is due at the first call and not before it.
 pub fn courses_check_in_time<H: Sha1HmacProvider, P: LocalPreference>()
     ensures { CoursesCheckInTime H.mac P.answers }

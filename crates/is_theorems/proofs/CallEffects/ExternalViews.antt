@@ -47,12 +47,12 @@ Has-cut [] ys x h = inr h
 Has-cut (y ∷ xs) ys x (inl e) = inl (inl e)
 Has-cut (y ∷ xs) ys x (inr h) = elim (Has-cut xs ys x h) [ inl k ↦ inl (inr k) | inr k ↦ inr k ]
 
-Has-front : {X : Type 0} (xs ys : List X) (x : X) → Has xs x → Has (xs ++ ys) x
+pub Has-front : {X : Type 0} (xs ys : List X) (x : X) → Has xs x → Has (xs ++ ys) x
 Has-front [] ys x h = absurd h
 Has-front (y ∷ xs) ys x (inl e) = inl e
 Has-front (y ∷ xs) ys x (inr h) = inr (Has-front xs ys x h)
 
-Has-rear : {X : Type 0} (xs ys : List X) (x : X) → Has ys x → Has (xs ++ ys) x
+pub Has-rear : {X : Type 0} (xs ys : List X) (x : X) → Has ys x → Has (xs ++ ys) x
 Has-rear [] ys x h = h
 Has-rear (y ∷ xs) ys x h = inr (Has-rear xs ys x h)
 

@@ -36,7 +36,7 @@ module _ {P : Type 0} where
   lite_kept x l (inr (now, is)) = ap (λ (c : Call P). lite_set_by c l) is
 
   -- what is received in a round is received in the segment
-  in_entries : (rounds : List (LoggedRound P)) (r : LoggedRound P) (x : Logged P) → Has rounds r → Has r.following x → Has (entries_of rounds) x
+  pub in_entries : (rounds : List (LoggedRound P)) (r : LoggedRound P) (x : Logged P) → Has rounds r → Has r.following x → Has (entries_of rounds) x
   in_entries [] r x has there = absurd has
   in_entries (z ∷ older) r x (inl is) there = front z.following (z.timeout ∷ entries_of older) x (subst (λ (y : LoggedRound P). Has y.following x) (sym is) there) where
     front : (xs ys : List (Logged P)) (x : Logged P) → Has xs x → Has (xs ++ ys) x

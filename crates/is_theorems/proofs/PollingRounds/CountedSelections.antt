@@ -11,7 +11,9 @@ use Rattle.is_theorems.specs.Reached.{nominations_ahead, selection_count, select
 use Rattle.is_theorems.specs.ReachedCourses.{selections_among}
 use Rattle.is_theorems.specs.Rounds.{LoggedRound, entries_of}
 use Rattle.is_theorems.proofs.DuePairs.NominationsAhead.{to_select, to_send}
+use Rattle.is_theorems.specs.TimedRounds.{all_entries}
 use Rattle.is_theorems.proofs.ExecutionLogs.PerAgentExecutions.{entry_of, part_of, round_of, rounds_of}
+use Rattle.is_theorems.proofs.ExecutionLogs.SegmentsAsExecutions.{calls_onto, round_from, rounds_onto}
 
 counts-one : (b : Bool) → one_if b ≡ cond b 1 0
 counts-one true = refl
@@ -100,6 +102,39 @@ module _ {P : Type 0} where
       let log = paid-selections (entries_of (rounds_of before [] rounds)) in
       let course = among-selections rounds in
       omega (arith, all, log, course)
+
+  -- as many in the execution of a segment
+  paid-onto : (pays : Entry → ℕ) (xs : List (Logged P)) (more : List (Call P × Entry)) → paid_calls pays (calls_onto xs more) ≡ paid pays xs + paid_calls pays more
+  paid-onto pays [] more = omega arith
+  paid-onto pays (x ∷ older) more =
+      let k : paid_calls pays (calls_onto older ((x.call, x.entry) ∷ more)) ≡ paid pays older + (pays x.entry + paid_calls pays more) = paid-onto pays older ((x.call, x.entry) ∷ more) in
+      omega (arith, k)
+
+  paid-rounds-onto : (pays : Entry → ℕ) (rounds : List (LoggedRound P)) (more : List (CourseRound P)) → paid_among pays (rounds_onto rounds more) ≡ paid pays (entries_of rounds) + paid_among pays more
+  paid-rounds-onto pays [] more = omega arith
+  paid-rounds-onto pays (r ∷ older) more =
+      let k : paid_among pays (rounds_onto older (round_from r ∷ more)) ≡ paid pays (entries_of older) + (pays r.timeout.entry + (paid_calls pays (calls_onto r.following []) + paid_among pays more)) =
+      paid-rounds-onto pays older (round_from r ∷ more) in
+      let here : paid_calls pays (calls_onto r.following []) ≡ paid pays r.following + 0 = paid-onto pays r.following [] in
+      let all : paid pays (entries_of (r ∷ older)) ≡ paid pays r.following + (pays r.timeout.entry + paid pays (entries_of older)) = paid-join pays r.following (r.timeout ∷ entries_of older) in
+      omega (arith, k, here, all)
+
+  pub selections-onto : (rounds : List (LoggedRound P)) → selections_among (rounds_onto rounds []) ≡ selection_count (entries_of rounds)
+  selections-onto rounds =
+      let all : paid_among (to_select true) (rounds_onto rounds []) ≡ paid (to_select true) (entries_of rounds) + 0 = paid-rounds-onto (to_select true) rounds [] in
+      let log = paid-selections (entries_of rounds) in
+      let course = among-selections (rounds_onto rounds []) in
+      omega (arith, all, log, course)
+
+  pub selections-all : (r : LoggedRound P) (later : List (LoggedRound P)) → selections_among (round_from r ∷ rounds_onto later []) ≡ selection_count (all_entries r later)
+  selections-all r later =
+      let front : paid_among (to_select true) (rounds_onto later []) ≡ paid (to_select true) (entries_of later) + 0 = paid-rounds-onto (to_select true) later [] in
+      let first : paid_among (to_select true) (round_from r ∷ rounds_onto later []) ≡ paid (to_select true) (entries_of (r ∷ [])) + paid_among (to_select true) (rounds_onto later []) =
+      paid-rounds-onto (to_select true) (r ∷ []) (rounds_onto later []) in
+      let all = paid-join (to_select true) (entries_of later) (entries_of (r ∷ [])) in
+      let log = paid-selections (all_entries r later) in
+      let course = among-selections (round_from r ∷ rounds_onto later []) in
+      omega (arith, front, first, all, log, course)
 
 module _ {H P : Type 0} where
   -- the calls of a segment count for no more nominations than the bounds say

@@ -37,6 +37,7 @@ use Rattle.is_theorems.proofs.RuleEffects.UnchangedSettings.{either}
 use Rattle.is_theorems.proofs.EarlierChecks.ChecksOfOtherPairs.{leads, own-le, lead-asked, leads-map, leads-others}
 use Rattle.is_theorems.proofs.ExecutionLogs.LogTheorems.{runs_sound}
 use Rattle.is_theorems.proofs.ExecutionLogs.LogSegments.{no-case, run-on, passed as passed-at}
+use Rattle.is_theorems.proofs.ExecutionLogs.SegmentsAsExecutions.{split-ended, split-run}
 use Rattle.is_theorems.proofs.EarlierChecks.ChangedPairs.{onward-same}
 use Rattle.is_theorems.proofs.EarlierChecks.BetweenTimeouts.{Ground, Goes, goes-to, goes-same, receives-goes}
 use Rattle.is_theorems.proofs.DuePairs.FirstDuePair.{due-at, timeout-follows}
@@ -333,24 +334,6 @@ module _ {H P : Type 0} where
 
     -- ---- rounds
 
-    abbrev split-run : (before : List (Logged P)) (start last : AgentRecord H P) (u t : Stream) (xs older : List (Logged P)) → RunsOn mac answers before start u (xs ++ older) last t
-        → (mid : AgentRecord H P) × (v : Stream) × RunsOn mac answers before start u older mid v × RunsOn mac answers (older ++ before) mid v xs last t
-    split-run before start last u t [] older run = (last, t, run, (refl, refl))
-    split-run before start last u t (x ∷ xs) older (m, v, run, number, given, step) =
-        let k = split-run before start m u v xs older run in
-        (k.0, k.1, k.2, (m, v, k.3, number ∙ ap length (append_assoc xs older before), given, step))
-
-    -- what ends a pair in one of two parts of a segment ends it in the segment
-    split-ended : (before : List (Logged P)) (start last : AgentRecord H P) (u t : Stream) (xs older : List (Logged P)) → (run : RunsOn mac answers before start u (xs ++ older) last t)
-        → IsEndedIn mac answers (older ++ before) (split-run before start last u t xs older run).0 (split-run before start last u t xs older run).1 xs last t (split-run before start last u t xs older run).3 path
-        ⊎ IsEndedIn mac answers before start u older (split-run before start last u t xs older run).0 (split-run before start last u t xs older run).1 (split-run before start last u t xs older run).2 path
-        → IsEndedIn mac answers before start u (xs ++ older) last t run path
-    split-ended before start last u t [] older run (inl none) = absurd none
-    split-ended before start last u t [] older run (inr ended) = ended
-    split-ended before start last u t (x ∷ xs) older (m, v, run, number, given, step) (inl (inl here)) = inl here
-    split-ended before start last u t (x ∷ xs) older (m, v, run, number, given, step) (inl (inr ended)) = inr (split-ended before start m u v xs older run (inl ended))
-    split-ended before start last u t (x ∷ xs) older (m, v, run, number, given, step) (inr ended) = inr (split-ended before start m u v xs older run (inr ended))
-
     abbrev Reached : List (LoggedRound P) → Type 0
     Reached rounds = ChecksIn rounds path ⊎ IsAnsweredIn (entries_of rounds) path
 
@@ -387,11 +370,11 @@ module _ {H P : Type 0} where
           → OffIn Off (entries_of rounds) ⊎ (Reached rounds ⊎ (IsEndedIn mac answers before start u (entries_of rounds) last t run path ⊎ WaitsAfter rounds last))
       rounds-go [] last t began are lasting (is, same) = inr (inr (inr is))
       rounds-go (r ∷ older) last t began are lasting run =
-          let h = split-run before start last u t r.following (r.timeout ∷ entries_of older) run in
+          let h = split-run mac answers before start last u t r.following (r.timeout ∷ entries_of older) run in
           elim (on-halves (here-began began) h (rounds-go older h.2.0 h.2.1 (older-began r older (here-began began)) (λ x has. are x (inr has)) (λ x has. lasting x (inr has)) h.2.2)) [
             | inl off ↦ inl off
             | inr (inl reached) ↦ inr (inl reached)
-            | inr (inr (inl ended)) ↦ inr (inr (inl (split-ended before start last u t r.following (r.timeout ∷ entries_of older) run ended)))
+            | inr (inr (inl ended)) ↦ inr (inr (inl (split-ended mac answers path before start last u t r.following (r.timeout ∷ entries_of older) run ended)))
             | inr (inr (inr waits)) ↦ inr (inr (inr waits))
           ] where
             here-began : (r ∷ older ≡ [] ⊎ began_at (r ∷ older) ≡ Some at) → began_at (r ∷ older) ≡ Some at

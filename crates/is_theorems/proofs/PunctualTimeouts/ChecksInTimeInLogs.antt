@@ -1,0 +1,151 @@
+-- A pair is checked in time in the rounds of a log. What mutants/specifications changes is read by tactics.
+use Rattle.std.proofs.Common.{◌≡◌, ℕ, ◌+◌, ◌*◌, true, List, [], ◌∷◌, ◌++◌, length, inl, inr, refl, ap, sym, ◌∙◌, subst, arith}
+use Rattle.is_proto.specs.Lists.{Has}
+use Rattle.is_candidate.specs.Candidates.{CandidateRecord}
+use Rattle.is_rules.specs.declared.emitted.Path.{Path}
+use Rattle.is_rules.specs.Agent.{AgentRecord}
+use Rattle.is_rules.specs.Sending.{path_of}
+use Rattle.is_rules.specs.Steps.{Call, Entry, HandleTimeout}
+use Rattle.is_theorems.specs.Asked.{IsAnsweredIn}
+use Rattle.is_theorems.specs.AskedCourses.{AcceptsSuccessOn, IsAnsweredAlong}
+use Rattle.is_theorems.specs.Courses.{CourseRound}
+use Rattle.is_theorems.specs.FirstTimeouts.{IsOpenRound, RoundsSuffice}
+use Rattle.is_theorems.specs.InTime.{CoursesReachInTime, IsPrompt, IsPunctual, IsTimed, SendsCheckOn}
+use Rattle.is_theorems.specs.Logs.{Logged}
+use Rattle.is_theorems.specs.Progress.{checks_for}
+use Rattle.is_theorems.specs.Reached.{IsLasting, is_in_round, IsPassing, nominations_ahead, selection_count}
+use Rattle.is_theorems.specs.ReachedCourses.{PassRounds, selections_among}
+use Rattle.is_theorems.specs.Rounds.{LoggedRound, entries_of}
+use Rattle.is_theorems.specs.TimedRounds.{all_entries, IsPromptIn, IsPunctualIn, IsTimedIn, last_round, LoggedRoundsSuffice, PairsAreReachedInTime}
+use Rattle.is_theorems.proofs.CallEffects.ExternalViews.{Has-front, Has-rear}
+use Rattle.is_theorems.proofs.ExecutionLogs.SegmentsAsExecutions.{among_onto, calls_onto, course_to, onto_has, onto_is, pass_onto, round_from, rounds_count, rounds_is, rounds_onto}
+use Rattle.is_theorems.proofs.PollingRounds.AddedCandidatesInLogs.{in_entries}
+use Rattle.is_theorems.proofs.PollingRounds.CountedSelections.{selections-all, selections-onto}
+
+module _ {P : Type 0} where
+  -- ---- the rounds of a log as those of an execution
+
+  abbrev course_of : LoggedRound P → List (LoggedRound P) → List (CourseRound P)
+  course_of r later = round_from r ∷ rounds_onto later []
+
+  round-is : (r : LoggedRound P) (later : List (LoggedRound P)) (y : CourseRound P) → Has (course_of r later) y → (x : LoggedRound P) × Has (r ∷ later) x × (round_from x ≡ y)
+  round-is r later y (inl is) = (r, inl refl, is)
+  round-is r later y (inr has) = elim (rounds_is later [] y has) [ inl (x, there, is) ↦ (x, inr there, is) | inr none ↦ absurd none ]
+
+  call-is : (x : LoggedRound P) (c : CourseRound P) → round_from x ≡ c → (y : Call P × Entry) → Has c.following y → (z : Logged P) × Has x.following z × ((z.call, z.entry) ≡ y)
+  call-is x c same y has = elim (onto_is x.following [] y (subst (λ (d : CourseRound P). Has d.following y) (sym same) has)) [ inl found ↦ found | inr none ↦ absurd none ]
+
+  entry-is : (r : LoggedRound P) (later : List (LoggedRound P)) (x : LoggedRound P) (z : Logged P) → Has (r ∷ later) x → Has x.following z → Has (all_entries r later) z
+  entry-is r later x z (inl is) there = Has-rear (entries_of later) (entries_of (r ∷ [])) z (in_entries (r ∷ []) x z (inl is) there)
+  entry-is r later x z (inr has) there = Has-front (entries_of later) (entries_of (r ∷ [])) z (in_entries later x z has there)
+
+  fits : (x : LoggedRound P) → ((z : Logged P) → Has x.following z → is_in_round z.call ≡ true) → (c : CourseRound P) → round_from x ≡ c → (y : Call P × Entry) → Has c.following y → is_in_round y.0 ≡ true
+  fits x between c same y has =
+      let z = call-is x c same y has in subst (λ (v : Call P × Entry). is_in_round v.0 ≡ true) z.2 (between z.0 z.1)
+
+  opens : (by : ℕ) (x : LoggedRound P) (c : CourseRound P) → round_from x ≡ c → IsPassing by x → IsOpenRound by c
+  opens by x c same passing = subst (λ (d : CourseRound P). IsOpenRound by d) same (record {
+    done = passing.done;
+    late = (let late = passing.late in omega (arith, late));
+    early = (let early = passing.early in omega (arith, early));
+    between = λ y has. fits x passing.between (round_from x) refl y has;
+  })
+
+  answered : (path : Path) (rounds : List (LoggedRound P)) (x : LoggedRound P) (c : CourseRound P) → Has rounds x → round_from x ≡ c → IsAnsweredAlong c.following path → IsAnsweredIn (entries_of rounds) path
+  answered path rounds x c has same (y, there, accepts) =
+      let z = call-is x c same y there in
+      (z.0, in_entries rounds x z.0 has z.1, subst (λ (v : Call P × Entry). AcceptsSuccessOn v.0 v.1 path) (sym z.2) accepts)
+
+  -- ---- what a punctual caller does
+
+  prompt : (delay next : ℕ) (xs : List (Logged P)) → IsPromptIn delay next xs → IsPrompt delay next (calls_onto xs [])
+  prompt delay next xs k =
+      ((k.poll.call, k.poll.entry), k.deadline, onto_has xs [] k.poll (inl (search k.polled)), search k.call, search k.answer, (let soon = k.soon in omega (arith, soon)))
+
+  punctual : (delay : ℕ) (r : LoggedRound P) (rounds : List (LoggedRound P)) (more : List (CourseRound P)) → IsPunctualIn delay r rounds → IsPunctual delay (round_from (last_round r rounds)) more
+      → IsPunctual delay (round_from r) (rounds_onto rounds more)
+  punctual delay r [] more k is = is
+  punctual delay r (x ∷ older) more (now, earlier) is =
+      punctual delay r older (round_from x ∷ more) earlier (prompt delay x.now (last_round r older).following (search now), is)
+
+  timed : {H : Type 0} (pace delay : ℕ) (start : AgentRecord H P) (r : LoggedRound P) (later : List (LoggedRound P)) → IsTimedIn pace delay start r later → IsTimed pace delay start (round_from r) (rounds_onto later [])
+  timed pace delay start r later k = record {
+    begins = (let begins = k.begins in omega (arith, begins));
+    keeps = λ c has y by there is. (
+        let x = round-is r later c has in
+        let z = call-is x.0 c x.2 y there in
+        let le = k.keeps z.0 by (entry-is r later x.0 z.0 x.1 z.1) (ap (λ (v : Call P × Entry). v.0) z.2 ∙ is) in
+        omega (arith, le));
+    punctual = punctual delay r later [] k.punctual tt;
+  }
+
+module _ {H P : Type 0} where
+  suffice : (by many : ℕ) (start second last : AgentRecord H P) (r : LoggedRound P) (later : List (LoggedRound P)) → LoggedRoundsSuffice by start second last r later many
+      → RoundsSuffice by start second last (round_from r) (rounds_onto later []) many
+  suffice by many start second last r later enough = by-case enough where
+    all : checks_for start.rules (2 * length start.pairs + last.next_number + nominations_ahead start (selections_among (course_of r later)))
+        ≡ checks_for start.rules (2 * length start.pairs + last.next_number + nominations_ahead start (selection_count (all_entries r later)))
+    all = ap (λ n. checks_for start.rules (2 * length start.pairs + last.next_number + nominations_ahead start n)) (selections-all r later)
+
+    rest : checks_for second.rules (2 * length second.pairs + last.next_number + nominations_ahead second (selections_among (rounds_onto later [])))
+        ≡ checks_for second.rules (2 * length second.pairs + last.next_number + nominations_ahead second (selection_count (entries_of later)))
+    rest = ap (λ n. checks_for second.rules (2 * length second.pairs + last.next_number + nominations_ahead second n)) (selections-onto later)
+
+    by-case : LoggedRoundsSuffice by start second last r later many → RoundsSuffice by start second last (round_from r) (rounds_onto later []) many
+    by-case (inl (late, enough)) = inl (omega (arith, late), omega (arith, enough, all))
+    by-case (inr (inl few)) = inr (inl (omega (arith, few)))
+    by-case (inr (inr enough)) = inr (inr (omega (arith, enough, rest)))
+
+  -- ---- the theorem
+
+  module _ (mac : H → List ℕ → List ℕ → List ℕ) (answers : P → CandidateRecord → ℕ → ℕ → Type 0) where
+    pub reached-in-time : CoursesReachInTime {H = H} {P = P} mac answers → PairsAreReachedInTime {H = H} {P = P} mac answers
+    reached-in-time reach first s log fresh before start second last r later p by pace delay many one others line from comes done early between passing lasting enough long in_time =
+        elim (reach first start last (calls_onto before []) (round_from r) (rounds_onto later []) p by pace delay many fresh
+        (course_to mac answers before first start start [] s one.at one.led refl) line (omega (arith, from)) done (omega (arith, early))
+        (λ y has. fits r between (round_from r) refl y has) run opened lasts (suffice by many start second last r later enough) (omega (arith, long, count)) (timed pace delay start r later in_time)) [
+          | inl (y, inl is, sent, soon) ↦ inl (inl (r, inl refl, subst (λ (c : CourseRound P). SendsCheckOn c.timeout path) (sym is) sent, (let same = ap (λ (c : CourseRound P). c.now) is in omega (arith, soon, same))))
+          | inl (y, inr has, sent, soon) ↦ (let x = later-is y has in
+              inr (inl (x.0, x.1, subst (λ (c : CourseRound P). SendsCheckOn c.timeout path) (sym x.2) sent, (let same = ap (λ (c : CourseRound P). c.now) x.2 in omega (arith, soon, same)))))
+          | inr (inl (y, inl is, heard)) ↦ inl (inr (inl (answered path (r ∷ []) r y (inl refl) is heard)))
+          | inr (inl (y, inr has, heard)) ↦ (let x = later-is y has in inr (inr (inl (answered path later x.0 y x.1 x.2 heard))))
+          | inr (inr ended) ↦ elim (among_onto mac answers path (r ∷ []) (rounds_onto later []) before start second last one.at one.following one-comes one-fits one.run rest ended) [
+            | inl here ↦ inl (inr (inr here))
+            | inr others-ended ↦
+                elim (among_onto mac answers path later [] (entries_of (r ∷ []) ++ before) second last last others.at others.following others-come (λ x has. (passing x has).between) others.run refl others-ended) [
+                  | inl there ↦ inr (inr (inr there))
+                  | inr none ↦ absurd none
+                ]
+          ]
+        ] where
+          path : Path
+          path = path_of start p
+
+          one-comes : (x : LoggedRound P) → Has (r ∷ []) x → x.timeout.call ≡ HandleTimeout x.now
+          one-comes x (inl is) = subst (λ (y : LoggedRound P). y.timeout.call ≡ HandleTimeout y.now) is comes
+          one-comes x (inr none) = absurd none
+
+          one-fits : (x : LoggedRound P) → Has (r ∷ []) x → (y : Logged P) → Has x.following y → is_in_round y.call ≡ true
+          one-fits x (inl is) = subst (λ (z : LoggedRound P). (y : Logged P) → Has z.following y → is_in_round y.call ≡ true) is between
+          one-fits x (inr none) = absurd none
+
+          others-come : (x : LoggedRound P) → Has later x → x.timeout.call ≡ HandleTimeout x.now
+          others-come x has = (passing x has).comes
+
+          rest : PassRounds mac answers (rounds_onto later []) second last
+          rest = pass_onto mac answers later [] (entries_of (r ∷ []) ++ before) second last last others.at others.following others-come others.run refl
+
+          run : PassRounds mac answers (course_of r later) start last
+          run = pass_onto mac answers (r ∷ []) (rounds_onto later []) before start second last one.at one.following one-comes one.run rest
+
+          count : length (rounds_onto later []) ≡ length later + 0
+          count = rounds_count later []
+
+          later-is : (y : CourseRound P) → Has (rounds_onto later []) y → (x : LoggedRound P) × Has later x × (round_from x ≡ y)
+          later-is y has = elim (rounds_is later [] y has) [ inl found ↦ found | inr none ↦ absurd none ]
+
+          opened : (y : CourseRound P) → Has (rounds_onto later []) y → IsOpenRound by y
+          opened y has = let x = later-is y has in opens by x.0 y x.2 (passing x.0 x.1)
+
+          lasts : (y : CourseRound P) → Has (rounds_onto later []) y → IsLasting y.now start p
+          lasts y has = let x = later-is y has in subst (λ (c : CourseRound P). IsLasting c.now start p) x.2 (search (lasting x.0 x.1))
