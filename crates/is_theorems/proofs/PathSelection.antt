@@ -6,6 +6,7 @@ pub mod NominationPoints
 pub mod SelectedAfterResponse
 pub mod SelectedAfterFirstResponse
 pub mod FirstResponsePerAgent
+pub mod FirstSuccessInRounds
 pub mod NominatedByPeer
 pub mod NominatedByPeerPerAgent
 pub mod SelectedAtRequests

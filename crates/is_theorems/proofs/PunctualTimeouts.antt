@@ -1,5 +1,6 @@
--- In which time a pair is checked.
+-- In which time a pair is checked, and a path is selected.
 pub mod UnchangedPacing
 pub mod ChecksInTime
 pub mod ChecksInTimeInLogs
 pub mod ConsentInTime
+pub mod SelectedInTime

@@ -41,3 +41,4 @@ pub mod TimedRounds
 pub mod Consent
 pub mod ConsentCourses
 pub mod AtOnceCourses
+pub mod SelectedInTime

@@ -1,7 +1,8 @@
-//! How soon a pair is checked in nanoseconds, if the caller is punctual. The numbers of rounds are those of `reaching`, if
-//! checks may not go ahead.
+//! How soon a pair is checked in nanoseconds, and a path selected, if the caller is punctual. The numbers of rounds are those of
+//! `reaching`, if checks may not go ahead.
 
 ghost use Rattle.is_theorems.specs.InTime.{CoursesCheckInTime, CoursesReachInTime, NextComesInTime, RoundsComeInTime};
+ghost use Rattle.is_theorems.specs.SelectedInTime.{CoursesSelectInTime};
 ghost use Rattle.is_theorems.specs.Pacing.{PacingIsSet};
 ghost use Rattle.is_theorems.specs.TimedRounds.{PairsAreReachedInTime};
 
@@ -48,6 +49,16 @@ pub fn reached_in_time<H: Sha1HmacProvider, P: LocalPreference>()
 /// n - 1, or n if the pair is due at the first call and not before it.
 pub fn courses_check_in_time<H: Sha1HmacProvider, P: LocalPreference>()
     ensures { CoursesCheckInTime H.mac P.answers }
+{
+    courses_check_from_due::<H, P>();
+    successes_select::<H, P>();
+}
+
+/// The same agent selects a path, if a success response is accepted in a round that begins at most one round trip after a check on the
+/// pair's path: in a round that begins at most k times one pacing interval and δ, and one round trip, after the first. The response may
+/// come several rounds after its check.
+pub fn courses_select_in_time<H: Sha1HmacProvider, P: LocalPreference>()
+    ensures { CoursesSelectInTime H.mac P.answers }
 {
     courses_check_from_due::<H, P>();
     successes_select::<H, P>();

@@ -52,7 +52,7 @@ last_has : {X : Type 0} (xs : List X) (x : X) → Has (xs ++ x ∷ []) x
 last_has [] x = inl refl
 last_has (y ∷ xs) x = inr (last_has xs x)
 
-front_has : {X : Type 0} (xs ys : List X) (x : X) → Has xs x → Has (xs ++ ys) x
+pub front_has : {X : Type 0} (xs ys : List X) (x : X) → Has xs x → Has (xs ++ ys) x
 front_has [] ys x has = absurd has
 front_has (y ∷ xs) ys x (inl e) = inl e
 front_has (y ∷ xs) ys x (inr h) = inr (front_has xs ys x h)

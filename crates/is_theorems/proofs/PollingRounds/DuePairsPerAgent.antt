@@ -55,7 +55,7 @@ module _ {P : Type 0} where
   -- ---- rounds of a per-agent execution, as those of a log
 
   -- a packet or a poll may come between two `handle_timeout` calls
-  between_in : (c : Call P) → is_between c ≡ true → is_in_round c ≡ true
+  pub between_in : (c : Call P) → is_between c ≡ true → is_in_round c ≡ true
   between_in (SetMtu target warn) is = refl
   between_in (SetControlTieBreaker tie_breaker) is = refl
   between_in (SetMaxCandidatePairs n) is = refl

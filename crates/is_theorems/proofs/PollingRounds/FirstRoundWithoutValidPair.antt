@@ -1,6 +1,6 @@
 -- A controlling agent without a valid pair that is due by its first `handle_timeout` call has none after the round either, or selects
 -- a path in it. So what holds of pairs that are due before the rounds holds of it from the second round on.
-use Rattle.std.proofs.Common.{◌≡◌, ℕ, ◌<◌, ◌≤◌, Bool, true, List, [], ◌∷◌, ◌++◌, length, Some, None, is_some, inl, inr, ◌⊎◌, refl, ap, sym, ◌∙◌, subst, arith}
+use Rattle.std.proofs.Common.{◌≡◌, ℕ, ◌<◌, ◌≤◌, Bool, true, List, [], ◌∷◌, ◌++◌, length, Some, inl, inr, ◌⊎◌, refl, ap, sym, ◌∙◌, subst, arith}
 use Rattle.std.proofs.lemmas.Bool.{eq-eqb}
 use Rattle.rand_core.specs.Stream.{Stream}
 use Rattle.is_proto.specs.Lists.{Has}
@@ -9,28 +9,24 @@ use Rattle.is_pair.specs.Checks.{unanswered_count}
 use Rattle.is_pair.specs.Due.{due_time_of}
 use Rattle.is_pair.specs.Pairs.{PairRecord}
 use Rattle.is_pair.specs.Turns.{IsPaced}
-use Rattle.is_stun.specs.declared.header.Class.TheVariants as class
 use Rattle.is_stun.specs.declared.timing.StunTiming.{StunTiming}
-use Rattle.is_stun.specs.Message.{Message}
-use Rattle.is_stun.specs.Reading.{Reads}
 use Rattle.is_rules.specs.Agent.{AgentRecord}
-use Rattle.is_theorems.specs.AskedCourses.{selected_along, SelectsAlong, SuccessesSelect}
-use Rattle.is_theorems.specs.Courses.{CourseRound, AcceptsSuccess, SelectsAmong, ControlsAlong, CourseRounds}
+use Rattle.is_theorems.specs.AskedCourses.{SuccessesSelect}
+use Rattle.is_theorems.specs.Courses.{CourseRound, SelectsAmong, ControlsAlong, CourseRounds}
 use Rattle.is_rules.specs.declared.emitted.Path.{Path}
-use Rattle.is_rules.specs.Effects.{last_of}
 use Rattle.is_theorems.specs.Exchange.{AreBetween, Course}
-use Rattle.is_rules.specs.Points.{HasSelected}
 use Rattle.is_theorems.specs.ReachedCourses.{IsPassed, ChecksAmong, CoursesCheck}
 use Rattle.is_theorems.specs.Rounds.{is_between}
 use Rattle.is_theorems.specs.Runs.{IsFresh}
 use Rattle.is_rules.specs.Sending.{path_of}
 use Rattle.is_rules.specs.Sound.{IsSound, GivesBased}
 use Rattle.is_theorems.specs.Staying.{MayEnd}
-use Rattle.is_rules.specs.Steps.{Call, Entry, Flag, ReceivePacket, HandleTimeout, PollTransmit, PollTimeout, PollEvent, Step}
+use Rattle.is_rules.specs.Steps.{Call, Entry, ReceivePacket, HandleTimeout, PollTransmit, PollTimeout, PollEvent, Step}
 use Rattle.is_rules.specs.Timeouts.{timeout_begun}
 use Rattle.is_theorems.proofs.DuePairs.AfterPackets.{NoneValid}
 use Rattle.is_theorems.proofs.DuePairs.NoNominationDue.{NoneIsDue, Quiet, due-none, none-is-due, quiet-call, quiet-timeout}
 use Rattle.is_theorems.proofs.PollingRounds.InTurnAlong.{Lined, lined-unanswered}
+use Rattle.is_theorems.proofs.PathSelection.FirstSuccessInRounds.{SelectsBySuccess, success-selects}
 use Rattle.is_theorems.proofs.PathSelection.NominatedByPeerPerAgent.{course_on}
 use Rattle.is_theorems.proofs.CallEffects.PathAndTradeEffects.{path_theorem}
 use Rattle.is_theorems.proofs.ExecutionLogs.LogSegments.{no-case, passed as passed-at}
@@ -88,28 +84,14 @@ module _ {H P : Type 0} where
 
     -- a success response selects a path
     module _ (select : SuccessesSelect {H = H} {P = P} mac answers) (first : AgentRecord H P) (fresh : IsFresh first) where
-      abbrev pub Selects : Call P → Entry → Type 0
-      Selects call e = AcceptsSuccess call e × (is_some (last_of e.emitted.selected_paths) ≡ true)
-
-      selects : (now : ℕ) (via : Path) (bytes : List ℕ) (e : Entry) (m : Message) (old new : AgentRecord H P) (s t : Stream) (zs : List (Call P × Entry)) → Course mac answers zs first old
-          → NoneValid old.pairs → Step mac answers old s (ReceivePacket now via bytes) e new t → new.controlling ≡ true → Reads bytes m → e.answer ≡ Flag true → m.class ≡ class.Success
-          → Selects (ReceivePacket now via bytes) e
-      selects now via bytes e m old new s t zs led none step role reads flag success = ((now, via, m, (refl, refl, reads, flag), success), of-said said.0) where
-        said : SelectsAlong {P = P} ([] ++ (ReceivePacket now via bytes, e) ∷ []) × HasSelected (selected_along None (zs ++ ([] ++ (ReceivePacket now via bytes, e) ∷ []))) new
-        said = select first old old new zs [] s t now via bytes e m fresh led none refl step (refl, refl, reads, flag) success role
-
-        of-said : SelectsAlong {P = P} ((ReceivePacket now via bytes, e) ∷ []) → is_some (last_of e.emitted.selected_paths) ≡ true
-        of-said (y, inl is, selected_paths) = ap (λ (z : Call P × Entry). is_some (last_of z.1.emitted.selected_paths)) is ∙ selected_paths
-        of-said (y, inr none, selected_paths) = absurd none
-
       pub on-call : by ≤ at → (call : Call P) (e : Entry) (old new : AgentRecord H P) (s t : Stream) (zs : List (Call P × Entry)) → Course mac answers zs first old → is_between call ≡ true → GivesBased call
-          → Calm by n path keeps at old → IsSound old → IsSound new → Step mac answers old s call e new t → new.controlling ≡ true → Selects call e ⊎ Calm by n path keeps at new
+          → Calm by n path keeps at old → IsSound old → IsSound new → Step mac answers old s call e new t → new.controlling ≡ true → SelectsBySuccess call e ⊎ Calm by n path keeps at new
       on-call from (ReceivePacket now via bytes) e old new s t zs led is given c sound sound_new step role =
           elim (quiet-call mac answers (ReceivePacket now via bytes) e old new s t refl sound tt (calm-quiet old c) step) [
-            | inl (when, by_path, m, (now_is, path_is, reads, flag), success) ↦ inl (selects now via bytes e m old new s t zs led c.invalid step role reads flag success)
+            | inl (when, by_path, m, (now_is, path_is, reads, flag), success) ↦ inl (success-selects mac answers select first fresh now via bytes e m old new s t zs led c.invalid step role reads flag success)
             | inr q ↦
                 elim (between-keeps mac answers by n path keeps at (ReceivePacket now via bytes) e old new s t c.waits.checking.peer c.waits.last c.waits.pair sound c.waits.there c.waits.number c.waits.on refl step) [
-                  | inl (when, by_path, m, (now_is, path_is, reads, flag), success, back) ↦ inl (selects now via bytes e m old new s t zs led c.invalid step role reads flag success)
+                  | inl (when, by_path, m, (now_is, path_is, reads, flag), success, back) ↦ inl (success-selects mac answers select first fresh now via bytes e m old new s t zs led c.invalid step role reads flag success)
                   | inr (inl ends) ↦ absurd ends
                   | inr (inr held) ↦ inr (still from (ReceivePacket now via bytes) e old new s t is given c sound sound_new step role q.invalid q.quiet held)
                 ]
@@ -133,7 +115,7 @@ module _ {H P : Type 0} where
 
       walk : by ≤ at → (xs : List (Call P × Entry)) (old new : AgentRecord H P) (zs : List (Call P × Entry)) → Course mac answers zs first old → AreBetween xs → IsSound old
           → (course : Course mac answers xs old new) → ControlsAlong mac answers xs old new course → Calm by n path keeps at old
-          → ((x : Call P × Entry) × Has xs x × Selects x.0 x.1) ⊎ Calm by n path keeps at new
+          → ((x : Call P × Entry) × Has xs x × SelectsBySuccess x.0 x.1) ⊎ Calm by n path keeps at new
       walk from [] old new zs led fits sound is along c = inr (subst (λ (a : AgentRecord H P). Calm by n path keeps at a) (sym is) c)
       walk from (x ∷ rest) old new zs led fits sound (mid, s, t, given, step, more) along c =
           let sound_mid : IsSound mid = (path_theorem mac answers old mid s t x.0 x.1 sound given step).1 in

@@ -16,12 +16,14 @@ use Rattle.is_rules.specs.declared.emitted.Path.{Path}
 use Rattle.is_rules.specs.Agent.{AgentRecord}
 use Rattle.is_rules.specs.Checking.{goes_ahead}
 use Rattle.is_theorems.specs.AskedCourses.{Ends, EndsAlong, IsAnsweredAlong, SuccessesSelect}
-use Rattle.is_theorems.specs.Courses.{SelectsAmong, ControlsAlong, CourseRound, CourseRounds}
+use Rattle.is_theorems.specs.Courses.{ControlsAlong, CourseRound, CourseRounds}
 use Rattle.is_theorems.specs.Exchange.{AreBetween, Course}
 use Rattle.is_rules.specs.Polls.{PollsTimeout, soon}
+use Rattle.is_theorems.specs.Progress.{Awaits, IsUnanswered}
 use Rattle.is_theorems.specs.Reached.{IsInLine, IsLasting, nominations_ahead}
 use Rattle.is_theorems.specs.ReachedCourses.{IsPassed, PassRounds, selections_among}
 use Rattle.is_theorems.specs.Runs.{IsFresh}
+use Rattle.is_theorems.specs.SelectedInTime.{SelectsBy}
 use Rattle.is_rules.specs.Sending.{path_of}
 use Rattle.is_rules.specs.Sound.{IsSound}
 use Rattle.is_theorems.specs.Staying.{MayEnd}
@@ -35,16 +37,17 @@ use Rattle.is_theorems.proofs.CallEffects.FailedCallsAndNewAgents.{fresh_sound}
 use Rattle.is_theorems.proofs.DuePairs.PollingCycles.{maintains_pairs-from}
 use Rattle.is_theorems.proofs.DuePairs.AfterNominationAndRemoval.{Base, answered-if, answered_at}
 use Rattle.is_theorems.proofs.DuePairs.AfterPackets.{NoneValid}
+use Rattle.is_theorems.proofs.PathSelection.FirstSuccessInRounds.{SelectsBySuccess}
 use Rattle.is_theorems.proofs.PathSelection.NominatedByPeerPerAgent.{course_on}
 use Rattle.is_theorems.proofs.StoredPairs.PairsThatStay.{pairs-stay}
 use Rattle.is_theorems.proofs.StoredPairs.TransactionsOverPackets.{sound-course}
 use Rattle.is_rules.proofs.PollsAndResponses.NextTimeout.{timeouts-in-time}
-use Rattle.is_theorems.specs.FirstChecks.{CoursesCheckFromDue}
+use Rattle.is_theorems.specs.FirstChecks.{CoursesCheckFromDue, SufficeForDue, times_of}
 use Rattle.is_theorems.specs.FirstTimeouts.{AreInRound, IsOpenRound, EndsAmong, RoundsSuffice, Suffices, CoursesReachFromDue}
 use Rattle.is_theorems.specs.InTime.{ChecksBy, ComeBy, CoursesCheckInTime, CoursesReachInTime, IsPrompt, IsPunctual, IsReachedBy, IsTimed, KeepsPace, NextComesInTime, RoundsComeInTime}
 use Rattle.is_theorems.specs.Pacing.{advance_after}
 use Rattle.is_theorems.proofs.PollingRounds.CountedSelections.{ahead-fewer}
-use Rattle.is_theorems.proofs.PollingRounds.FirstRoundWithoutValidPair.{Calm, Selects, on-call}
+use Rattle.is_theorems.proofs.PollingRounds.FirstRoundWithoutValidPair.{Calm, on-call}
 use Rattle.is_theorems.proofs.DuePairs.NoNominationDue.{NoneIsDue, Quiet, due-none, quiet-timeout}
 use Rattle.is_theorems.proofs.PollingRounds.InTurnAlong.{Lined, lined, lined-unanswered}
 use Rattle.is_theorems.proofs.PollingRounds.FirstRound.{Waits, between-keeps, lt-from, timeout-on, waits-on}
@@ -199,7 +202,7 @@ module _ {H P : Type 0} where
   -- ---- the theorems
 
   module _ (mac : H → List ℕ → List ℕ → List ℕ) (answers : P → CandidateRecord → ℕ → ℕ → Type 0) where
-    sound-after : (first start : AgentRecord H P) (xs : List (Call P × Entry)) → IsFresh first → Course mac answers xs first start → IsSound start
+    pub sound-after : (first start : AgentRecord H P) (xs : List (Call P × Entry)) → IsFresh first → Course mac answers xs first start → IsSound start
     sound-after first start xs fresh course =
         sound-course mac answers xs first start (subst (λ (a : AgentRecord H P). IsSound a) (sym fresh.2) (fresh_sound H P first.provider fresh.0 fresh.1)) course
 
@@ -344,7 +347,7 @@ module _ {H P : Type 0} where
       -- a success response selects a path, or the pair waits and the next call comes in time
       calm-walk : (at : ℕ) → by ≤ at → (xs : List (Call P × Entry)) (old new : AgentRecord H P) (zs : List (Call P × Entry)) → Course mac answers zs first old → AreBetween xs → IsSound old
           → (course : Course mac answers xs old new) → ControlsAlong mac answers xs old new course → Calm by n path keeps at old → old.timing_advance ≤ pace → KeepsPace pace xs
-          → ((x : Call P × Entry) × Has xs x × Selects mac answers by n path keeps at select first fresh x.0 x.1)
+          → ((x : Call P × Entry) × Has xs x × SelectsBySuccess x.0 x.1)
           ⊎ (Calm by n path keeps at new × (new.timing_advance ≤ pace) × ((next : ℕ) → IsPrompt delay next xs → next ≤ at + (pace + delay)))
       calm-walk at from [] old new zs led fits sound is along c slow keeping =
           inr (
@@ -385,7 +388,7 @@ module _ {H P : Type 0} where
           → Open r.now old p → by ≤ r.now → r.timeout.answer ≡ Done → AreBetween r.following → CourseRounds mac answers (r ∷ later) old last
           → ((x : CourseRound P) → Has later x → IsPassed by x)
           → old.timing_advance ≤ pace → ((x : CourseRound P) → Has (r ∷ later) x → KeepsPace pace x.following) → IsPunctual delay r later
-          → ComeBy r.now (pace + delay) (r ∷ later) ⊎ (ChecksBy (r.now + length later * (pace + delay)) (r ∷ later) path ⊎ SelectsAmong (r ∷ later))
+          → ComeBy r.now (pace + delay) (r ∷ later) ⊎ (ChecksBy (r.now + length later * (pace + delay)) (r ∷ later) path ⊎ SelectsBy (r.now + length later * (pace + delay)) (r ∷ later))
       calm-timely r [] old last zs p led sound unchanged_step from done between run opens slow keeping punctual = inl (omega arith, tt)
       calm-timely r (x ∷ later) old last zs p led sound unchanged_step from done between (mid, after, s, t, step, role, course, along, more) opens slow keeping (prompt, punctual) =
           let sound_mid : IsSound mid = (path_theorem mac answers old mid s t (HandleTimeout r.now) r.timeout sound tt step).1 in
@@ -408,7 +411,7 @@ module _ {H P : Type 0} where
                   quiet = still.quiet;
                   paced = subst (λ (z : StunTiming). IsPaced z) (sym (ap (λ (b : Base). b.timing) after-call.0)) unchanged_step.paced;
                 }) (omega (arith, slow, same)) (keeping r (inl refl))) [
-                  | inl (y, has, (accepts, selected_paths)) ↦ inr (inr (r, inl refl, (y, has, accepts, selected_paths)))
+                  | inl (y, has, (accepts, selected_paths)) ↦ inr (inr (r, inl refl, (y, has, accepts, selected_paths), omega arith))
                   | inr (c, slow_after, in_time) ↦
                       (let close : x.now ≤ r.now + (pace + delay) = in_time x.now prompt in
                       let round : IsPassed by x = opens x (inl refl) in
@@ -429,13 +432,20 @@ module _ {H P : Type 0} where
                       (omega (arith, slow_after)) (λ y has. keeping y (inr has)) punctual) [
                         | inl come ↦ inl (omega arith, come-later x.now (r.now + (pace + delay)) (pace + delay) (x ∷ later) (omega (arith, close)) come)
                         | inr (inl (y, has, out, by_then)) ↦ inr (inl (y, inr has, out, omega (arith, by_then, close, m)))
-                        | inr (inr (y, has, selected)) ↦ inr (inr (y, inr has, selected))
+                        | inr (inr (y, has, selected, by_then)) ↦ inr (inr (y, inr has, selected, omega (arith, by_then, close, m)))
                       ])
                 ]
           ]
 
-    pub courses-check-in-time : CoursesCheckFromDue {H = H} {P = P} mac answers → SuccessesSelect {H = H} {P = P} mac answers → CoursesCheckInTime {H = H} {P = P} mac answers
-    courses-check-in-time check select first start last xs r later p by pace delay fresh course role waits unanswered from done early between run passing enough timed =
+    -- a path is selected by this time, or the check is sent
+    pub check-or-select : CoursesCheckFromDue {H = H} {P = P} mac answers → SuccessesSelect {H = H} {P = P} mac answers
+        → (first start last : AgentRecord H P) (xs : List (Call P × Entry)) (r : CourseRound P) (later : List (CourseRound P)) (p : PairRecord) (by pace delay : ℕ)
+        → IsFresh first → Course mac answers xs first start → start.controlling ≡ true → Awaits r.now by start p → IsUnanswered start p
+        → by ≤ r.now → r.timeout.answer ≡ Done → r.now < MAX → AreBetween r.following
+        → (run : CourseRounds mac answers (r ∷ later) start last) → ((x : CourseRound P) → Has later x → IsPassed by x)
+        → SufficeForDue by r.now start run.1 (times_of later) → IsTimed pace delay start r later
+        → ChecksBy (r.now + length later * (pace + delay)) (r ∷ later) (path_of start p) ⊎ SelectsBy (r.now + length later * (pace + delay)) (r ∷ later)
+    check-or-select check select first start last xs r later p by pace delay fresh course role waits unanswered from done early between run passing enough timed =
         elim (calm-timely pace delay by p.number (path_of start p) (answered_at start p) select first fresh r later start last xs p course (sound-after first start xs fresh course)
         (record {
           line = lined-unanswered r.now by start p waits unanswered;
@@ -449,6 +459,13 @@ module _ {H P : Type 0} where
           | inr reached ↦ reached
           | inl come ↦ elim (check first start last xs r later p by fresh course role waits unanswered (omega (arith, from)) done (omega (arith, early)) (λ y has. between y has) run passing enough) [
             | inl (y, id, has, out) ↦ inl (y, has, (id, out), come-all r.now (pace + delay) r later y has come)
-            | inr selects_path ↦ inr selects_path
+            | inr (y, has, selected) ↦ inr (y, has, selected, come-all r.now (pace + delay) r later y has come)
           ]
+        ]
+
+    pub courses-check-in-time : CoursesCheckFromDue {H = H} {P = P} mac answers → SuccessesSelect {H = H} {P = P} mac answers → CoursesCheckInTime {H = H} {P = P} mac answers
+    courses-check-in-time check select first start last xs r later p by pace delay fresh course role waits unanswered from done early between run passing enough timed =
+        elim (check-or-select check select first start last xs r later p by pace delay fresh course role waits unanswered (omega (arith, from)) done (omega (arith, early)) (λ y has. between y has) run passing enough timed) [
+          | inl checks ↦ inl checks
+          | inr (y, has, selected, by_then) ↦ inr (y, has, selected)
         ]

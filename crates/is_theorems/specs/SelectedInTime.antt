@@ -1,0 +1,55 @@
+-- When a controlling agent selects its first path, in nanoseconds, if the caller is punctual and checks are answered within a round trip. The
+-- response may come several rounds after its check.
+use Rattle.std.specs.Prelude.{◌≡◌, ℕ, true, ◌+◌, ◌*◌, ◌<◌, ◌≤◌, ◌⊎◌, List, [], ◌∷◌, ◌++◌, length, is_some}
+use Rattle.is_proto.specs.Lists.{Has}
+use Rattle.is_proto.specs.Times.{MAX}
+use Rattle.is_candidate.specs.Candidates.{CandidateRecord}
+use Rattle.is_pair.specs.Pairs.{PairRecord}
+use Rattle.is_rules.specs.declared.emitted.Path.{Path}
+use Rattle.is_rules.specs.Agent.{AgentRecord}
+use Rattle.is_rules.specs.Effects.{last_of}
+use Rattle.is_theorems.specs.Courses.{AcceptsSuccess, CourseRound, CourseRounds}
+use Rattle.is_theorems.specs.Exchange.{AreBetween, Course}
+use Rattle.is_theorems.specs.FirstChecks.{SufficeForDue, times_of}
+use Rattle.is_theorems.specs.InTime.{IsTimed, SendsCheckOn}
+use Rattle.is_theorems.specs.Progress.{Awaits, IsUnanswered}
+use Rattle.is_theorems.specs.ReachedCourses.{IsPassed}
+use Rattle.is_theorems.specs.Runs.{IsFresh}
+use Rattle.is_rules.specs.Sending.{path_of}
+use Rattle.is_rules.specs.Steps.{Call, Entry, Done}
+
+-- One of these calls accepts a success response.
+abbrev pub AcceptsSuccessAlong : {P : Type 0} → List (Call P × Entry) → Type 0
+AcceptsSuccessAlong xs = (x : Call _ × Entry) × Has xs x × AcceptsSuccess x.0 x.1
+
+-- A success response is accepted in one of the rounds. This round, and each one before it, begins at this time or earlier.
+abbrev pub AcceptsBy : {P : Type 0} → ℕ → List (CourseRound P) → Type 0
+AcceptsBy limit [] = ⊥
+AcceptsBy limit (r ∷ later) = (r.now ≤ limit) × (AcceptsSuccessAlong r.following ⊎ AcceptsBy limit later)
+
+-- If a check is sent on the path in one of the rounds, a success response has been accepted in a round that begins at most `trip` later.
+abbrev pub IsAnsweredWithin : {P : Type 0} → ℕ → List (CourseRound P) → Path → Type 0
+IsAnsweredWithin trip rounds path = (r : CourseRound _) → Has rounds r → SendsCheckOn r.timeout path → AcceptsBy (r.now + trip) rounds
+
+-- In one of the rounds an accepted success response selects a path. This round begins at this time or earlier.
+abbrev pub SelectsBy : {P : Type 0} → ℕ → List (CourseRound P) → Type 0
+SelectsBy limit rounds =
+    (r : CourseRound _) × Has rounds r
+    × ((x : Call _ × Entry) × Has r.following x × AcceptsSuccess x.0 x.1 × (is_some (last_of x.1.emitted.selected_paths) ≡ true))
+    × (r.now ≤ limit)
+
+module _ {H P : Type 0} (mac : H → List ℕ → List ℕ → List ℕ) (answers : P → CandidateRecord → ℕ → ℕ → Type 0) where
+  -- An execution starts with a newly created agent. At the start of the rounds no pair is valid, and this one is due by the time of the
+  -- first one. The agent is controlling in the rounds, and only packets and polls come. Enough rounds follow the first one, in which the
+  -- caller is punctual; more may follow. If a success response is accepted within `trip` after a check on the pair's path, a path is
+  -- selected. The round of this begins after the first one by at most `pace + delay` for each of the later ones, and `trip`.
+  abbrev pub CoursesSelectInTime : Type 0
+  CoursesSelectInTime =
+      (first start last : AgentRecord H P) (xs : List (Call P × Entry)) (r : CourseRound P) (later more : List (CourseRound P)) (p : PairRecord) (by pace delay trip : ℕ)
+      → IsFresh first → Course mac answers xs first start → start.controlling ≡ true → Awaits r.now by start p → IsUnanswered start p
+      → by ≤ r.now → r.timeout.answer ≡ Done → r.now < MAX → AreBetween r.following
+      → (run : CourseRounds mac answers (r ∷ (later ++ more)) start last) → ((x : CourseRound P) → Has later x → IsPassed by x)
+      → ((x : CourseRound P) → Has more x → AreBetween x.following)
+      → SufficeForDue by r.now start run.1 (times_of later) → IsTimed pace delay start r later
+      → IsAnsweredWithin trip (r ∷ (later ++ more)) (path_of start p)
+      → SelectsBy (r.now + length later * (pace + delay) + trip) (r ∷ (later ++ more))
