@@ -4,5 +4,6 @@ pub mod StatesAfterMethods
 pub mod DeliveredPackets
 pub mod OwnExecutions
 pub mod EventsOfSegments
+pub mod ExchangedChecks
 pub mod OwnLogs
 pub mod SelectionsOfSegments

@@ -2,7 +2,6 @@
 -- other addresses.
 use Rattle.std.specs.Prelude.{◌≡◌, ℕ, ◌<◌, ◌≤◌, ◌⊎◌, true, false, not, List}
 use Rattle.std.specs.List.{list_any}
-use Rattle.rand_core.specs.Stream.{Stream}
 use Rattle.is_proto.specs.Packets.{Packet}
 use Rattle.is_candidate.specs.Candidates.{CandidateRecord}
 use Rattle.is_stun.specs.declared.header.Class.TheVariants.{Request, Success, Failure}
@@ -12,13 +11,12 @@ use Rattle.is_theorems.specs.AskedCourses.{EndsAlong}
 use Rattle.is_theorems.specs.Asking.{AreNominatedOn, AcceptsNomination}
 use Rattle.is_rules.specs.Brought.{IsRejectedBy}
 use Rattle.is_theorems.specs.Conflicts.{AreSentUnder, ServesPastTests, handing}
-use Rattle.is_theorems.specs.Delivery.{KnowEachOther, IsReachedBy, Sends, Delivered, IsTaken, Issued}
-use Rattle.is_theorems.specs.Exchange.{Course}
+use Rattle.is_theorems.specs.Delivery.{KnowEachOther, IsReachedBy, Sends, Delivered, IsTaken, Issued, SentCheck, ReceivedPacket, ServedCheck}
 use Rattle.is_rules.specs.Issuing.{via_out}
 use Rattle.is_rules.specs.Roles.{keeps_role}
-use Rattle.is_theorems.specs.Pending.{checks_on, KeepsAlong, IsValidBy}
+use Rattle.is_theorems.specs.Pending.{ReturnedWhilePending, SucceedsOrEnds}
 use Rattle.is_rules.specs.Sound.{IsSound}
-use Rattle.is_rules.specs.Steps.{Call, Entry, HandleTimeout, ReceivePacket, Step}
+use Rattle.is_rules.specs.Steps.{Entry, ReceivePacket}
 use Rattle.is_rules.specs.Emitted.{reversed}
 
 module _ {H P : Type 0} (mac : H → List ℕ → List ℕ → List ℕ) (answers : P → CandidateRecord → ℕ → ℕ → Type 0) where
@@ -39,54 +37,56 @@ module _ {H P : Type 0} (mac : H → List ℕ → List ℕ → List ℕ) (answer
       → list_any (keeps_check_on a (via_out came) id) a.pairs ≡ true → Delivered mac answers came at a e taken
       → IsTaken mac answers came at e Success
 
-  -- The exchange at any time: the check is received on any path that reaches the other agent, and its success response on the
-  -- reverse of the check's path.
+  -- The check is received at any time, with the bytes that were sent, on any path that reaches the receiver. The sender, when it
+  -- sent the check, and the receiver know each other.
+  pub record CarriedCheck (k : SentCheck mac answers) : Type 0 where
+    pub came : Packet
+    pub unaltered : came.contents ≡ k.check.contents
+    pub receipt : ReceivedPacket mac answers came
+    pub know : KnowEachOther mac k.sender receipt.receiver
+
+  -- The response is returned while the check is pending, with the bytes that were sent, on the reverse of the check's path.
+  pub record CarriedBack (k : SentCheck mac answers) (c : CarriedCheck k) (response : Packet) : Type 0 where
+    pub answer : Packet
+    pub unaltered : answer.contents ≡ response.contents
+    pub back : goes_back (via_out answer) (via_out k.check) ≡ true
+    pub receipt : ReturnedWhilePending mac answers k c.receipt.receiver answer
+
+  -- If a check is sent, and received at any time in the other role than its sender's, it is served. If its success response is
+  -- returned while the check is pending, the exchange succeeds.
   abbrev pub CarriedSucceedLater : Type 0
   CarriedSucceedLater =
-      (a sent b served : AgentRecord H P) (s t : Stream) (now at : ℕ) (check came : Packet) (id : List ℕ) (timeout handed : Entry)
-      → IsSound a → IsSound b → Step mac answers a s (HandleTimeout now) timeout sent t → Sends a timeout Request id check sent
-      → KnowEachOther mac a b → b.controlling ≡ not a.controlling
-      → came.contents ≡ check.contents → IsReachedBy b (via_out came) → Delivered mac answers came at b handed served
-      → IsTaken mac answers came at handed Request
-      × ((reply : Packet) × (via_out reply ≡ reversed (via_out came)) × Sends b handed Success id reply served
-      × ((mid taken : AgentRecord H P) (answer : Packet) (xs : List (Call P × Entry)) (back limit : ℕ) (returned : Entry) → (course : Course mac answers xs sent mid)
-      → KeepsAlong mac answers limit xs sent mid course → checks_on (via_out check) xs < limit → KnowEachOther mac mid b
-      → answer.contents ≡ reply.contents → goes_back (via_out answer) (via_out check) ≡ true → Delivered mac answers answer back mid returned taken
-      → (IsTaken mac answers answer back returned Success × IsValidBy mac answers taken (via_out answer)) ⊎ EndsAlong mac answers xs sent mid course (via_out check)))
+      (k : SentCheck mac answers) (c : CarriedCheck k) → c.receipt.receiver.controlling ≡ not k.sender.controlling
+      → (s : ServedCheck mac answers k c.came c.receipt)
+      × ((r : CarriedBack k c s.reply) → SucceedsOrEnds mac answers k c.receipt.receiver r.answer r.receipt)
 
-  -- A controlling agent sends a check on a path whose pairs are nominated afterwards. The controlled agent receives it at any
-  -- time, on any path that reaches it. Then the controlled agent accepts the nomination of the reverse of that path.
+  -- If a controlling agent sends a check on a path whose pairs are nominated afterwards, and a controlled agent receives it at any
+  -- time, the controlled agent accepts the nomination of the reverse of the path on which it received the check.
   abbrev pub CarriedAsk : Type 0
   CarriedAsk =
-      (a sent b served : AgentRecord H P) (s t : Stream) (now at : ℕ) (check came : Packet) (id : List ℕ) (timeout handed : Entry)
-      → IsSound a → IsSound b → Step mac answers a s (HandleTimeout now) timeout sent t → Sends a timeout Request id check sent
-      → a.controlling ≡ true → AreNominatedOn sent (via_out check) → KnowEachOther mac a b → b.controlling ≡ false
-      → came.contents ≡ check.contents → IsReachedBy b (via_out came) → Delivered mac answers came at b handed served
-      → AcceptsNomination b (ReceivePacket at (via_out came) came.contents) handed (reversed (via_out came))
+      (k : SentCheck mac answers) (c : CarriedCheck k) → k.sender.controlling ≡ true → c.receipt.receiver.controlling ≡ false
+      → AreNominatedOn k.sent (via_out k.check)
+      → AcceptsNomination c.receipt.receiver (ReceivePacket c.receipt.at (via_out c.came) c.came.contents) c.receipt.handed (reversed (via_out c.came))
 
   -- The check reached an agent that has its sender's role, and no smaller tie-breaker, or that keeps its role whatever the tie-breakers
-  -- are. It sends a 487 on the reverse path. The sender receives it on the reverse of the check's path, at any time while the check is
-  -- pending. Then the sender accepts it, if it does not keep its own role. Afterwards it has the other role, if all its pending
-  -- transactions with this ID were sent in its role.
-  pub record IsConflictCarried (a sent b served : AgentRecord H P) (check came : Packet) (id : List ℕ) (handed : Entry) : Type 0 where
-    pub no_smaller : keeps_role b ≡ false → a.tie_breaker ≤ b.tie_breaker
-    pub stays : served.controlling ≡ b.controlling
+  -- are. It sends a 487 on the reverse path. If this is returned while the check is pending, the sender accepts it, if it does not
+  -- keep its own role. Afterwards it has the other role, if all its pending transactions with this ID were sent in its role.
+  pub record IsConflictCarried (k : SentCheck mac answers) (c : CarriedCheck k) : Type 0 where
+    pub no_smaller : keeps_role c.receipt.receiver ≡ false → k.sender.tie_breaker ≤ c.receipt.receiver.tie_breaker
+    pub stays : c.receipt.served.controlling ≡ c.receipt.receiver.controlling
     pub rejection : Packet
-    pub via_back : via_out rejection ≡ reversed (via_out came)
-    pub sends : Sends b handed Failure id rejection served
-    pub returns : (mid taken : AgentRecord H P) (answer : Packet) (xs : List (Call P × Entry)) (back limit : ℕ) (returned : Entry) → (course : Course mac answers xs sent mid)
-        → KeepsAlong mac answers limit xs sent mid course → checks_on (via_out check) xs < limit → KnowEachOther mac mid b → keeps_role mid ≡ false
-        → answer.contents ≡ rejection.contents → goes_back (via_out answer) (via_out check) ≡ true → Delivered mac answers answer back mid returned taken
-        → (IsRejectedBy mid (handing answer back) returned taken × (AreSentUnder a.controlling mid id → taken.controlling ≡ not b.controlling))
-        ⊎ EndsAlong mac answers xs sent mid course (via_out check)
+    pub via_back : via_out rejection ≡ reversed (via_out c.came)
+    pub sends : Sends c.receipt.receiver c.receipt.handed Failure k.id rejection c.receipt.served
+    pub returns : (r : CarriedBack k c rejection) → keeps_role r.receipt.mid ≡ false
+        → (IsRejectedBy r.receipt.mid (handing r.answer r.receipt.at) r.receipt.returned r.receipt.taken
+        × (AreSentUnder k.sender.controlling r.receipt.mid k.id → r.receipt.taken.controlling ≡ not c.receipt.receiver.controlling))
+        ⊎ EndsAlong mac answers r.receipt.calls k.sent r.receipt.mid r.receipt.course (via_out k.check)
 
-  -- A role conflict at any time: the check is received on any path that reaches the other agent, and its 487 on the reverse of the
-  -- check's path.
+  -- A role conflict at any time: if a check is sent, and received, it is served. If its receiver has the role that the check was
+  -- sent in, either it has the smaller tie-breaker and takes the other role, or it keeps its role and sends a 487.
   abbrev pub CarriedSettle : Type 0
   CarriedSettle =
-      (a sent b served : AgentRecord H P) (s t : Stream) (now at : ℕ) (check came : Packet) (id : List ℕ) (timeout handed : Entry)
-      → IsSound a → IsSound b → Step mac answers a s (HandleTimeout now) timeout sent t → Sends a timeout Request id check sent
-      → KnowEachOther mac a b → came.contents ≡ check.contents → IsReachedBy b (via_out came) → Delivered mac answers came at b handed served
-      → ServesPastTests b (handing came at) handed
-      × (b.controlling ≡ a.controlling
-      → ((b.tie_breaker < a.tie_breaker) × (served.controlling ≡ not a.controlling)) ⊎ IsConflictCarried a sent b served check came id handed)
+      (k : SentCheck mac answers) (c : CarriedCheck k)
+      → ServesPastTests c.receipt.receiver (handing c.came c.receipt.at) c.receipt.handed
+      × (c.receipt.receiver.controlling ≡ k.sender.controlling
+      → ((c.receipt.receiver.tie_breaker < k.sender.tie_breaker) × (c.receipt.served.controlling ≡ not k.sender.controlling)) ⊎ IsConflictCarried k c)

@@ -1,19 +1,17 @@
 -- A role conflict, and the one check that resolves it (RFC 8445, sections 7.2.5.1 and 7.3.1.1).
 use Rattle.std.specs.Prelude.{◌≡◌, ◌⊎◌, ℕ, ◌<◌, ◌≤◌, Bool, false, not, List}
-use Rattle.rand_core.specs.Stream.{Stream}
 use Rattle.is_proto.specs.Packets.{Packet}
 use Rattle.is_candidate.specs.Candidates.{CandidateRecord}
-use Rattle.is_stun.specs.declared.header.Class.TheVariants.{Request, Failure}
+use Rattle.is_stun.specs.declared.header.Class.TheVariants.{Failure}
 use Rattle.is_rules.specs.declared.emitted.Path.{Path}
 use Rattle.is_rules.specs.Agent.{AgentRecord}
 use Rattle.is_rules.specs.Brought.{IsKept, IsServing, IsServedPastTests, IsRejectedBy}
-use Rattle.is_theorems.specs.Delivery.{KnowEachOther, IsReachedBy, Sends, Delivered}
-use Rattle.is_theorems.specs.Exchange.{AreBetween, Course}
+use Rattle.is_theorems.specs.Delivery.{Sends, SentCheck}
+use Rattle.is_theorems.specs.Exchange.{ReceivedSoon, ReturnedSoon}
 use Rattle.is_rules.specs.Issuing.{via_out}
 use Rattle.is_rules.specs.Request.{RequestRecord}
 use Rattle.is_rules.specs.Roles.{keeps_role}
-use Rattle.is_rules.specs.Sound.{IsSound}
-use Rattle.is_rules.specs.Steps.{Call, Entry, HandleTimeout, ReceivePacket, Step}
+use Rattle.is_rules.specs.Steps.{Call, Entry, ReceivePacket}
 use Rattle.is_rules.specs.Emitted.{reversed}
 
 -- The packet is received as it was sent.
@@ -31,30 +29,23 @@ module _ {H P : Type 0} where
 
   module _ (mac : H → List ℕ → List ℕ → List ℕ) (answers : P → CandidateRecord → ℕ → ℕ → Type 0) where
     -- The check reached an agent that has its sender's role, and no smaller tie-breaker, or that keeps its role whatever the tie-breakers
-    -- are. It sends a 487 on the reverse path. If the sender receives this before its next `handle_timeout` call, it accepts it, if it
-    -- does not keep its own role. Afterwards the sender has the other role, if all its pending transactions with this ID were sent in
-    -- its role.
-    pub record IsConflictSent (a near b served : AgentRecord H P) (check : Packet) (id : List ℕ) (handed : Entry) : Type 0 where
-      pub no_smaller : keeps_role b ≡ false → a.tie_breaker ≤ b.tie_breaker
-      pub stays : served.controlling ≡ b.controlling
+    -- are. It sends a 487 on the reverse path. If this is soon returned, the sender accepts it, if it does not keep its own role.
+    -- Afterwards the sender has the other role, if all its pending transactions with this ID were sent in its role.
+    pub record IsConflictSent (k : SentCheck mac answers) (c : ReceivedSoon mac answers k) : Type 0 where
+      pub no_smaller : keeps_role c.receipt.receiver ≡ false → k.sender.tie_breaker ≤ c.receipt.receiver.tie_breaker
+      pub stays : c.receipt.served.controlling ≡ c.receipt.receiver.controlling
       pub rejection : Packet
-      pub via_back : via_out rejection ≡ reversed (via_out check)
-      pub sends : Sends b handed Failure id rejection served
-      pub returns : (mid taken : AgentRecord H P) (ys : List (Call P × Entry)) (back : ℕ) (returned : Entry)
-          → AreBetween ys → Course mac answers ys near mid → keeps_role mid ≡ false → Delivered mac answers rejection back mid returned taken
-          → IsRejectedBy mid (handing rejection back) returned taken
-          × (AreSentUnder a.controlling mid id → taken.controlling ≡ not b.controlling)
+      pub via_back : via_out rejection ≡ reversed (via_out k.check)
+      pub sends : Sends c.receipt.receiver c.receipt.handed Failure k.id rejection c.receipt.served
+      pub returns : (r : ReturnedSoon mac answers c.near rejection) → keeps_role r.mid ≡ false
+          → IsRejectedBy r.mid (handing rejection r.at) r.returned r.taken
+          × (AreSentUnder k.sender.controlling r.mid k.id → r.taken.controlling ≡ not c.receipt.receiver.controlling)
 
-    -- One of two agents that know each other sends a check in a `handle_timeout` call, and it is delivered to the other agent.
-    -- Then it is served. If the other agent has the role that the check was sent in, either it has the smaller tie-breaker and
-    -- takes the other role, or it keeps its role and sends a 487.
+    -- If a check is sent, and soon received, it is served. If its receiver has the role that the check was sent in, either it has
+    -- the smaller tie-breaker and takes the other role, or it keeps its role and sends a 487.
     abbrev pub ConflictsSettle : Type 0
     ConflictsSettle =
-        (a sent near b served : AgentRecord H P) (s t : Stream) (now at : ℕ) (check : Packet) (id : List ℕ) (timeout handed : Entry) (xs : List (Call P × Entry))
-        → IsSound a → IsSound b → Step mac answers a s (HandleTimeout now) timeout sent t → Sends a timeout Request id check sent
-        → AreBetween xs → Course mac answers xs sent near
-        → KnowEachOther mac near b → IsReachedBy b (via_out check) → Delivered mac answers check at b handed served
-        → ServesPastTests b (handing check at) handed
-        × (b.controlling ≡ a.controlling
-        → ((b.tie_breaker < a.tie_breaker) × (served.controlling ≡ not a.controlling))
-        ⊎ IsConflictSent a near b served check id handed)
+        (k : SentCheck mac answers) (c : ReceivedSoon mac answers k)
+        → ServesPastTests c.receipt.receiver (handing k.check c.receipt.at) c.receipt.handed
+        × (c.receipt.receiver.controlling ≡ k.sender.controlling
+        → ((c.receipt.receiver.tie_breaker < k.sender.tie_breaker) × (c.receipt.served.controlling ≡ not k.sender.controlling)) ⊎ IsConflictSent k c)

@@ -80,6 +80,37 @@ module _ {H P : Type 0} where
       pub step : Step mac answers old before call entry new following
       pub sends : Sends old entry class id packet new
 
+    -- A check is sent: a `handle_timeout` call of an agent issues it.
+    pub record SentCheck : Type 0 where
+      pub sender : AgentRecord H P
+      pub sent : AgentRecord H P
+      pub now : ℕ
+      pub timeout : Entry
+      pub before : Stream
+      pub following : Stream
+      pub check : Packet
+      pub id : List ℕ
+      pub sound : IsSound sender
+      pub step : Step mac answers sender before (HandleTimeout now) timeout sent following
+      pub sends : Sends sender timeout Request id check sent
+
+    -- A packet is received: it is delivered to an agent, on a path that reaches this agent.
+    pub record ReceivedPacket (packet : Packet) : Type 0 where
+      pub receiver : AgentRecord H P
+      pub served : AgentRecord H P
+      pub at : ℕ
+      pub handed : Entry
+      pub sound : IsSound receiver
+      pub reached : IsReachedBy receiver (via_out packet)
+      pub delivered : Delivered packet at receiver handed served
+
+    -- A check that was received is served: it is accepted, and its success response is sent on the reverse of its path.
+    pub record ServedCheck (k : SentCheck) (came : Packet) (c : ReceivedPacket came) : Type 0 where
+      pub taken : IsTaken came c.at c.handed Request
+      pub reply : Packet
+      pub via_back : via_out reply ≡ reversed (via_out came)
+      pub sends : Sends c.receiver c.handed Success k.id reply c.served
+
     -- A check that one of two agents issued is delivered to the other while their roles differ. Then it is accepted, and its
     -- success response is sent on the reverse path.
     abbrev pub ChecksAreServed : Type 0

@@ -6,16 +6,14 @@ use Rattle.rand_core.specs.Stream.{Stream}
 use Rattle.is_proto.specs.Lists.{Has}
 use Rattle.is_proto.specs.Packets.{Packet}
 use Rattle.is_candidate.specs.Candidates.{CandidateRecord}
-use Rattle.is_stun.specs.declared.header.Class.TheVariants.{Request, Success}
+use Rattle.is_stun.specs.declared.header.Class.TheVariants.{Success}
 use Rattle.is_rules.specs.declared.emitted.Path.{Path}
 use Rattle.is_rules.specs.Agent.{AgentRecord}
 use Rattle.is_rules.specs.Answers.{keeps_check_on}
-use Rattle.is_theorems.specs.Delivery.{KnowEachOther, IsReachedBy, Sends, Delivered, IsTaken}
-use Rattle.is_rules.specs.Issuing.{via_out}
+use Rattle.is_theorems.specs.Delivery.{KnowEachOther, Delivered, IsTaken, SentCheck, ReceivedPacket, ServedCheck}
 use Rattle.is_theorems.specs.Rounds.{is_between}
 use Rattle.is_rules.specs.Sound.{IsSound, GivesBased}
-use Rattle.is_rules.specs.Steps.{Call, Entry, HandleTimeout, Step}
-use Rattle.is_rules.specs.Emitted.{reversed}
+use Rattle.is_rules.specs.Steps.{Call, Entry, Step}
 
 -- only polls, and packets that are received
 abbrev pub AreBetween : {P : Type 0} → List (Call P × Entry) → Type 0
@@ -35,16 +33,32 @@ module _ {H P : Type 0} (mac : H → List ℕ → List ℕ → List ℕ) (answer
       (old new : AgentRecord H P) (xs : List (Call P × Entry)) (path : Path) (id : List ℕ) → IsSound old → AreBetween xs → Course xs old new
       → list_any (keeps_check_on old path id) old.pairs ≡ true → list_any (keeps_check_on new path id) new.pairs ≡ true
 
-  -- One of two agents that know each other sends a check in a `handle_timeout` call. The check is delivered to the other agent
-  -- while its role differs from the role that the check was sent in. Then it is accepted. Its success response, delivered before
-  -- the first agent's next `handle_timeout` call, is accepted too.
+  -- Between the two states the agent receives packets and is polled, without a `handle_timeout` call.
+  pub record WithoutTimeout (old new : AgentRecord H P) : Type 0 where
+    pub calls : List (Call P × Entry)
+    pub between : AreBetween calls
+    pub course : Course calls old new
+
+  -- The check is received as it was sent, before its sender's next `handle_timeout` call. Then the two agents know each other.
+  pub record ReceivedSoon (k : SentCheck mac answers) : Type 0 where
+    pub near : AgentRecord H P
+    pub soon : WithoutTimeout k.sent near
+    pub receipt : ReceivedPacket mac answers k.check
+    pub know : KnowEachOther mac near receipt.receiver
+
+  -- The response is returned as it was sent, before the next `handle_timeout` call of the agent that receives it.
+  pub record ReturnedSoon (near : AgentRecord H P) (response : Packet) : Type 0 where
+    pub mid : AgentRecord H P
+    pub soon : WithoutTimeout near mid
+    pub taken : AgentRecord H P
+    pub at : ℕ
+    pub returned : Entry
+    pub delivered : Delivered mac answers response at mid returned taken
+
+  -- If a check is sent, and soon received in the other role than its sender's, it is served. If its success response is soon
+  -- returned, it is accepted.
   abbrev pub ExchangesSucceed : Type 0
   ExchangesSucceed =
-      (a sent near b served : AgentRecord H P) (s t : Stream) (now at : ℕ) (check : Packet) (id : List ℕ) (timeout handed : Entry) (xs : List (Call P × Entry))
-      → IsSound a → IsSound b → Step mac answers a s (HandleTimeout now) timeout sent t → Sends a timeout Request id check sent
-      → AreBetween xs → Course xs sent near
-      → KnowEachOther mac near b → b.controlling ≡ not a.controlling → IsReachedBy b (via_out check) → Delivered mac answers check at b handed served
-      → IsTaken mac answers check at handed Request
-      × ((reply : Packet) × (via_out reply ≡ reversed (via_out check)) × Sends b handed Success id reply served
-      × ((mid taken : AgentRecord H P) (ys : List (Call P × Entry)) (back : ℕ) (returned : Entry) → AreBetween ys → Course ys near mid
-      → Delivered mac answers reply back mid returned taken → IsTaken mac answers reply back returned Success))
+      (k : SentCheck mac answers) (c : ReceivedSoon k) → c.receipt.receiver.controlling ≡ not k.sender.controlling
+      → (s : ServedCheck mac answers k k.check c.receipt)
+      × ((r : ReturnedSoon c.near s.reply) → IsTaken mac answers s.reply r.at r.returned Success)

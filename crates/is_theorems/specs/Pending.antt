@@ -15,14 +15,14 @@ use Rattle.is_rules.specs.declared.emitted.Path.{Path}
 use Rattle.is_rules.specs.Agent.{AgentRecord}
 use Rattle.is_rules.specs.Answers.{goes_back}
 use Rattle.is_theorems.specs.AskedCourses.{EndsAlong}
-use Rattle.is_theorems.specs.Delivery.{KnowEachOther, IsReachedBy, Sends, Delivered, IsTaken}
+use Rattle.is_theorems.specs.Delivery.{KnowEachOther, Delivered, IsTaken, SentCheck, ReceivedPacket, ServedCheck}
 use Rattle.is_theorems.specs.Exchange.{Course}
 use Rattle.is_rules.specs.Issuing.{via_out}
 use Rattle.is_rules.specs.Sending.{path_of}
 use Rattle.is_rules.specs.Sound.{IsSound, GivesBased}
 use Rattle.is_theorems.specs.Staying.{MayEnd}
-use Rattle.is_rules.specs.Steps.{Call, Entry, HandleTimeout, Step}
-use Rattle.is_rules.specs.Emitted.{issued_as, reversed}
+use Rattle.is_rules.specs.Steps.{Call, Entry, Step}
+use Rattle.is_rules.specs.Emitted.{issued_as}
 
 -- the check as it was sent: without the time of a response
 abbrev pub as_sent : Check → Check
@@ -120,19 +120,32 @@ module _ {H P : Type 0} where
     abbrev pub IsValidBy : AgentRecord H P → Path → Type 0
     IsValidBy a path = (p : PairRecord) × Has a.pairs p × (goes_back path (path_of a p) ≡ true) × (is_valid p ≡ true)
 
-    -- One of two agents sends a check in a `handle_timeout` call, while the two know each other. The other agent receives it at
-    -- any time, in the other role. Then it accepts the check, and issues a success response. The first agent receives this
-    -- response at any time and after any calls of its own, while the two know each other and fewer later checks were sent on the
-    -- path than a pair stores. Then it accepts the response, and a pair on the path is valid, unless such a pair may have been
-    -- removed.
+    -- The response is returned while the check is pending: after any calls of the check's sender, of which fewer send a later
+    -- check on the path than a pair stores. Then the sender and the agent that sent the response know each other.
+    pub record ReturnedWhilePending (k : SentCheck mac answers) (b : AgentRecord H P) (response : Packet) : Type 0 where
+      pub mid : AgentRecord H P
+      pub calls : List (Call P × Entry)
+      pub course : Course mac answers calls k.sent mid
+      pub limit : ℕ
+      pub keeps : KeepsAlong limit calls k.sent mid course
+      pub few : checks_on (via_out k.check) calls < limit
+      pub know : KnowEachOther mac mid b
+      pub taken : AgentRecord H P
+      pub at : ℕ
+      pub returned : Entry
+      pub delivered : Delivered mac answers response at mid returned taken
+
+    -- The response is accepted, and a pair on its path is valid, unless a pair on the check's path may have been removed before.
+    abbrev pub SucceedsOrEnds : (k : SentCheck mac answers) (b : AgentRecord H P) (response : Packet) → ReturnedWhilePending k b response → Type 0
+    SucceedsOrEnds k b response r =
+        (IsTaken mac answers response r.at r.returned Success × IsValidBy r.taken (via_out response))
+        ⊎ EndsAlong mac answers r.calls k.sent r.mid r.course (via_out k.check)
+
+    -- If a check is sent, and received at any time as it was sent, by an agent that knew its sender then and has the other role,
+    -- it is served. If its success response is returned while the check is pending, the exchange succeeds.
     abbrev pub ExchangesSucceedLater : Type 0
     ExchangesSucceedLater =
-        (a sent b served : AgentRecord H P) (s t : Stream) (now at : ℕ) (check : Packet) (id : List ℕ) (timeout handed : Entry)
-        → IsSound a → IsSound b → Step mac answers a s (HandleTimeout now) timeout sent t → Sends a timeout Request id check sent
-        → KnowEachOther mac a b → b.controlling ≡ not a.controlling → IsReachedBy b (via_out check) → Delivered mac answers check at b handed served
-        → IsTaken mac answers check at handed Request
-        × ((reply : Packet) × (via_out reply ≡ reversed (via_out check)) × Sends b handed Success id reply served
-        × ((mid taken : AgentRecord H P) (xs : List (Call P × Entry)) (back limit : ℕ) (returned : Entry) → (course : Course mac answers xs sent mid)
-        → KeepsAlong limit xs sent mid course → checks_on (via_out check) xs < limit → KnowEachOther mac mid b
-        → Delivered mac answers reply back mid returned taken
-        → (IsTaken mac answers reply back returned Success × IsValidBy taken (via_out reply)) ⊎ EndsAlong mac answers xs sent mid course (via_out check)))
+        (k : SentCheck mac answers) (c : ReceivedPacket mac answers k.check) → KnowEachOther mac k.sender c.receiver
+        → c.receiver.controlling ≡ not k.sender.controlling
+        → (s : ServedCheck mac answers k k.check c)
+        × ((r : ReturnedWhilePending k c.receiver s.reply) → SucceedsOrEnds k c.receiver s.reply r)

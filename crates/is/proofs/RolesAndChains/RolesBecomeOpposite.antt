@@ -26,8 +26,9 @@ use Rattle.is.specs.Meetings.{AreOpposite, StayOpposite, RolesMeet}
 use Rattle.is.specs.Selections.{state_after}
 use Rattle.is.specs.World.{WorldRecord, Event, LoggedEvent, Happens, WorldRun, at, other, Streams}
 use Rattle.is.specs.WorldRoles.{IsFairWorld, Makes, Meets, role_in}
-use Rattle.is.proofs.TwoAgentEvents.DeliveredPackets.{rewritten, delivered}
+use Rattle.is.proofs.TwoAgentEvents.DeliveredPackets.{rewritten}
 use Rattle.is.proofs.TwoAgentEvents.EventsOfSegments.{Follow, follows, cut, state_is, meet, own, Checked, checked, Awaited, awaits, removed}
+use Rattle.is.proofs.TwoAgentEvents.ExchangedChecks.{sent-check, carried-check, carried-back}
 use Rattle.is.proofs.ExternalViews.ViewsOfExecutions.{seen_of, emitted_at, AreSound, BothCompare, event, none_keeps, compares_on}
 use Rattle.is.proofs.TwoAgentEvents.OwnExecutions.{twice, role_after}
 use Rattle.is.proofs.ExternalViews.NetworkModel as seen
@@ -214,45 +215,44 @@ module _ {H P : Type 0} where
 
         -- the 487 comes back to the agent with the lesser tie-breaker
         rejected : side ≡ other greater
-            → (i : IsConflictCarried mac answers (at side k.sent.before) (at side k.sent.following) (at (other side) handed.before) (at (other side) handed.following) k.check came k.id handed.entry.outcome.entry)
+            → (i : IsConflictCarried mac answers (sent-check mac answers side path over part last k c) (carried-check mac answers side path over part last k c))
             → IsReturnedInTime mac answers side path over part k i.rejection → Apart last
-        rejected lesser i e = by (i.returns (at side again.before) (at side again.following) (rewritten r.via i.rejection) (own mac answers side between) r.comes.hands.now r.pending.limit
-            again.entry.outcome.entry z.course.0 z.course.2 z.few z.know free refl z.goes z.comes) where
-              r : IsReturned mac side path over part k i.rejection
-              r = e.returned
+        rejected lesser i e = by (i.returns (carried-back mac answers side path over part last k c between i.rejection r z) free) where
+          r : IsReturned mac side path over part k i.rejection
+          r = e.returned
 
-              again : Occurrence H P
-              again = r.comes.handed
+          again : Occurrence H P
+          again = r.comes.handed
 
-              between : List (Occurrence H P)
-              between = k.comes.between ++ handed ∷ r.comes.between
+          between : List (Occurrence H P)
+          between = k.comes.between ++ handed ∷ r.comes.between
 
-              z : Awaited mac answers side path between over part last k i.rejection r
-              z = awaits mac answers side path between over part last k i.rejection r c.onward (λ x has. has)
+          z : Awaited mac answers side path between over part last k i.rejection r
+          z = awaits mac answers side path between over part last k i.rejection r c.onward (λ x has. has)
 
-              split : part ≡ (k.before ++ k.sent ∷ between) ++ again ∷ r.comes.rest
-              split =
-                  k.split ∙ (ap (λ xs. k.before ++ k.sent ∷ xs) (k.comes.split ∙ (ap (λ xs. k.comes.between ++ handed ∷ xs) r.comes.split
-                  ∙ sym (append_assoc k.comes.between (handed ∷ r.comes.between) (again ∷ r.comes.rest))))
-                  ∙ sym (append_assoc k.before (k.sent ∷ between) (again ∷ r.comes.rest)))
+          split : part ≡ (k.before ++ k.sent ∷ between) ++ again ∷ r.comes.rest
+          split =
+              k.split ∙ (ap (λ xs. k.before ++ k.sent ∷ xs) (k.comes.split ∙ (ap (λ xs. k.comes.between ++ handed ∷ xs) r.comes.split
+              ∙ sym (append_assoc k.comes.between (handed ∷ r.comes.between) (again ∷ r.comes.rest))))
+              ∙ sym (append_assoc k.before (k.sent ∷ between) (again ∷ r.comes.rest)))
 
-              -- it is no lite agent that keeps its role
-              free : keeps_role (at side again.before) ≡ false
-              free =
-                  let k_again = comes_here (k.before ++ k.sent ∷ between) r.comes.rest again split in
-                  none_keeps how again.before k_again.compares side
+          -- it is no lite agent that keeps its role
+          free : keeps_role (at side again.before) ≡ false
+          free =
+              let k_again = comes_here (k.before ++ k.sent ∷ between) r.comes.rest again split in
+              none_keeps how again.before k_again.compares side
 
-              by : (IsRejectedBy (at side again.before) (handing (rewritten r.via i.rejection) r.comes.hands.now) again.entry.outcome.entry (at side again.following)
-                  × (AreSentUnder (at side k.sent.before).controlling (at side again.before) k.id → (at side again.following).controlling ≡ not (at (other side) handed.before).controlling))
-                  ⊎ EndsAlong mac answers (own mac answers side between) (at side k.sent.following) (at side again.before) z.course.0 (via_out k.check) → Apart last
-              by (inl ((now, via, way, m, role, brings, failure, conflict, kept, gives), under)) =
-                  let met : Meets side again.before again.entry =
-                  (agent.ReceivePacket r.comes.hands.now r.via i.rejection.contents, handed_makes side r.via i.rejection again.before again.entry r.comes.hands, inr (now, via, m, brings, failure, conflict)) in
-                  so (k.before ++ k.sent ∷ between) r.comes.rest again split
-                  (λ k_x s t happens. met_on again.before again.following s t again.entry (entries r.comes.rest ++ left) k_x happens (subst (λ y. Meets y again.before again.entry) lesser met))
-              by (inr ends) =
-                  let f = removed mac answers side path between over part last k i.rejection r z ends in
-                  absurd (let none : ⊥ = search (e.stays f.0 f.1 f.2) in none)
+          by : (IsRejectedBy (at side again.before) (handing (rewritten r.via i.rejection) r.comes.hands.now) again.entry.outcome.entry (at side again.following)
+              × (AreSentUnder (at side k.sent.before).controlling (at side again.before) k.id → (at side again.following).controlling ≡ not (at (other side) handed.before).controlling))
+              ⊎ EndsAlong mac answers (own mac answers side between) (at side k.sent.following) (at side again.before) z.course.0 (via_out k.check) → Apart last
+          by (inl ((now, via, way, m, role, brings, failure, conflict, kept, gives), under)) =
+              let met : Meets side again.before again.entry =
+              (agent.ReceivePacket r.comes.hands.now r.via i.rejection.contents, handed_makes side r.via i.rejection again.before again.entry r.comes.hands, inr (now, via, m, brings, failure, conflict)) in
+              so (k.before ++ k.sent ∷ between) r.comes.rest again split
+              (λ k_x s t happens. met_on again.before again.following s t again.entry (entries r.comes.rest ++ left) k_x happens (subst (λ y. Meets y again.before again.entry) lesser met))
+          by (inr ends) =
+              let f = removed mac answers side path between over part last k i.rejection r z ends in
+              absurd (let none : ⊥ = search (e.stays f.0 f.1 f.2) in none)
 
         -- equal roles when the check is sent
         alike : (at side k.sent.before).controlling ≡ (at greater first).controlling
@@ -268,10 +268,8 @@ module _ {H P : Type 0} where
           there : ServesPastTests (at (other side) handed.before) (handing came k.comes.hands.now) handed.entry.outcome.entry
               × ((at (other side) handed.before).controlling ≡ (at side k.sent.before).controlling
               → (((at (other side) handed.before).tie_breaker < (at side k.sent.before).tie_breaker) × ((at (other side) handed.following).controlling ≡ not (at side k.sent.before).controlling))
-              ⊎ IsConflictCarried mac answers (at side k.sent.before) (at side k.sent.following) (at (other side) handed.before) (at (other side) handed.following) k.check came k.id handed.entry.outcome.entry)
-          there = resolves (at side k.sent.before) (at side k.sent.following) (at (other side) handed.before) (at (other side) handed.following) c.s c.t k.now k.comes.hands.now k.check came k.id
-              k.sent.entry.outcome.entry handed.entry.outcome.entry (c.sound_sent side) (c.sound (other side)) c.step k.sends c.know refl c.reached
-              (delivered mac answers (other side) over k.check handed.before handed.following c.u c.v handed.entry k.comes.hands c.happens)
+              ⊎ IsConflictCarried mac answers (sent-check mac answers side path over part last k c) (carried-check mac answers side path over part last k c))
+          there = resolves (sent-check mac answers side path over part last k c) (carried-check mac answers side path over part last k c)
 
           by : (side ≡ greater) ⊎ (side ≡ other greater) → Apart last
           by (inl is) =

@@ -34,8 +34,9 @@ use Rattle.is.specs.WorldRoles.{IsNewAgent}
 use Rattle.is.proofs.ExternalViews.ViewsOfExecutions.{Has-front, Has-rear, AreSound}
 use Rattle.is.proofs.RolesAndChains.RolesAndChainsOfViews.{sound_new}
 use Rattle.is.proofs.TwoAgentEvents.OwnExecutions.{either_has, turn_step, acts_emitted}
-use Rattle.is.proofs.TwoAgentEvents.DeliveredPackets.{rewritten, handed_has, delivered}
+use Rattle.is.proofs.TwoAgentEvents.DeliveredPackets.{rewritten, handed_has}
 use Rattle.is.proofs.TwoAgentEvents.EventsOfSegments.{middle, Follow, follows, cut, meet, sound_along, acts_at, own, own_course, own_has, handed_is, Checked, checked, sent_in, following_in, Found, Owned, act_owned, owned, awaited, Awaited, awaits, removed, awaited_in}
+use Rattle.is.proofs.TwoAgentEvents.ExchangedChecks.{sent-check, carried-check, carried-back}
 use Rattle.is.proofs.SelectedPaths.LastSelected.{selected_call}
 
 module _ {H P : Type 0} (mac : H → List ℕ → List ℕ → List ℕ) (answers : P → CandidateRecord → ℕ → ℕ → Type 0) where
@@ -59,11 +60,8 @@ module _ {H P : Type 0} (mac : H → List ℕ → List ℕ → List ℕ) (answer
       → Checked mac answers from path over all last k → AreNominatedOn (at from k.sent.following) path → (at from k.sent.before).controlling ≡ true → (at (other from) k.comes.handed.before).controlling ≡ false
       → AcceptsNomination (at (other from) k.comes.handed.before) (agent.ReceivePacket k.comes.hands.now over k.check.contents) k.comes.handed.entry.outcome.entry (reversed over)
   accepts_nomination paths asks from path over all last k c nominated steers controlled =
-      let handed = k.comes.handed in
-      asks (at from k.sent.before) (at from k.sent.following) (at (other from) handed.before) (at (other from) handed.following) c.s c.t k.now k.comes.hands.now
-      k.check (rewritten over k.check) k.id k.sent.entry.outcome.entry handed.entry.outcome.entry (c.sound_sent from) (c.sound (other from)) c.step k.sends steers
-      (subst (λ w. AreNominatedOn (at from k.sent.following) w) (sym k.on) nominated) c.know controlled refl c.reached
-      (delivered mac answers (other from) over k.check handed.before handed.following c.u c.v handed.entry k.comes.hands c.happens)
+      asks (sent-check mac answers from path over all last k c) (carried-check mac answers from path over all last k c) steers controlled
+      (subst (λ w. AreNominatedOn (at from k.sent.following) w) (sym k.on) nominated)
 
   -- ---- the path is nominated in a segment
 
@@ -150,17 +148,12 @@ module _ {H P : Type 0} (mac : H → List ℕ → List ℕ → List ℕ) (answer
       answered side path roles (over, k, returns) =
           let c = checked mac answers paths side path over part w last k sound follow in
           let handed = k.comes.handed in
-          let there = succeeds (at side k.sent.before) (at side k.sent.following) (at (other side) handed.before) (at (other side) handed.following) c.s c.t k.now k.comes.hands.now
-          k.check (rewritten over k.check) k.id k.sent.entry.outcome.entry handed.entry.outcome.entry (c.sound_sent side) (c.sound (other side)) c.step k.sends c.know
-          ((roles handed (following_in mac answers side path over part k handed (inl refl))).1 ∙ sym (ap not (roles k.sent (sent_in mac answers side path over part k)).0))
-          refl c.reached (delivered mac answers (other side) over k.check handed.before handed.following c.u c.v handed.entry k.comes.hands c.happens) in
-          let reply : Packet = there.1.0 in
-          let r : IsReturned mac side path over part k reply = search (returns reply there.1.2) in
-          let again = r.comes.handed in
+          let there = succeeds (sent-check mac answers side path over part last k c) (carried-check mac answers side path over part last k c)
+          ((roles handed (following_in mac answers side path over part k handed (inl refl))).1 ∙ sym (ap not (roles k.sent (sent_in mac answers side path over part k)).0)) in
+          let reply : Packet = there.0.reply in
+          let r : IsReturned mac side path over part k reply = search (returns reply there.0.sends) in
           let z = awaits mac answers side path whole over part last k reply r c.onward (λ x has. among x (awaited_in mac answers side path whole over part k reply r x has)) in
-          returned side path over k reply r z
-          (there.1.3 (at side again.before) (at side again.following) (rewritten r.via reply) (own mac answers side (awaited mac answers side path whole over part k reply r)) r.comes.hands.now r.pending.limit
-          again.entry.outcome.entry z.course.0 z.course.2 z.few z.know refl z.goes z.comes)
+          returned side path over k reply r z (there.1 (carried-back mac answers side path over part last k c whole reply r z))
 
   -- what was selected in the per-agent execution was selected in the network model
   emitted_back : (side : Side) (before part : List (Occurrence H P)) (timeout : Occurrence H P) (first start near : WorldRecord H P) (c d : agent.Call P) → Follow mac answers first before start → Follow mac answers start part near

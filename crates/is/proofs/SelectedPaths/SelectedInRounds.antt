@@ -8,7 +8,7 @@ use Rattle.is_candidate.specs.Candidates.{CandidateRecord}
 use Rattle.is_pair.specs.Pairs.{PairRecord, is_valid}
 use Rattle.is_stun.specs.declared.header.Class.TheVariants.{Success}
 use Rattle.is_rules.specs.declared.emitted.Path.{Path}
-use Rattle.is_rules.specs.Agent.{AgentRecord, fresh}
+use Rattle.is_rules.specs.Agent.{fresh}
 use Rattle.is_theorems.specs.AskedCourses.{EndsAlong, IsAnsweredAlong, SuccessesSelect}
 use Rattle.is_theorems.specs.FirstTimeouts.{CoursesReachUnanswered}
 use Rattle.is_theorems.specs.Carried.{CarriedSucceedLater}
@@ -34,8 +34,9 @@ use Rattle.is.specs.WorldRoles.{IsNewAgent}
 use Rattle.is.proofs.ExternalViews.ViewsOfExecutions.{Has-front, Has-rear, AreSound}
 use Rattle.is.proofs.RolesAndChains.RolesAndChainsOfViews.{sound_new}
 use Rattle.is.proofs.TwoAgentEvents.OwnExecutions.{either_has, turn_step, Steered, steered_on, acts_steered}
-use Rattle.is.proofs.TwoAgentEvents.DeliveredPackets.{rewritten, handed, delivered}
+use Rattle.is.proofs.TwoAgentEvents.DeliveredPackets.{rewritten, handed}
 use Rattle.is.proofs.TwoAgentEvents.EventsOfSegments.{middle, Follow, follows, cut, state_is, meet, sound_along, acts_at, own, own_course, checked, sent_in, after_in, Awaited, awaits, removed}
+use Rattle.is.proofs.TwoAgentEvents.ExchangedChecks.{sent-check, carried-check, carried-back}
 use Rattle.is.proofs.SelectedPaths.SelectedAfterNomination.{own_emitted}
 use Rattle.is.proofs.SelectedPaths.BothSelectInRounds.{round_of, rounds_of, Moves, moved, are_passed, only_polls, same_times, back, SomeChecks, reached_unanswered, in_rounds, succeeds_in}
 
@@ -158,18 +159,13 @@ module _ {H P : Type 0} (mac : H → List ℕ → List ℕ → List ℕ) (answer
             let controlled = role_along (other side) false k.comes.between k.sent.following handing.before two.led
             (λ x has. (roles x (after_in mac answers side path over part k x (subst (λ xs. Has xs x) (sym k.comes.split) (Has-front k.comes.between (handing ∷ k.comes.rest) x has)))).1)
             (roles k.sent (sent_in mac answers side path over part k)).1 in
-            let there = succeeds (at side k.sent.before) (at side k.sent.following) (at (other side) handing.before) (at (other side) handing.following) c.s c.t k.now k.comes.hands.now
-            k.check (rewritten over k.check) k.id k.sent.entry.outcome.entry handing.entry.outcome.entry (c.sound_sent side) (c.sound (other side)) c.step k.sends c.know
-            (controlled ∙ sym (ap not steers)) refl c.reached (delivered mac answers (other side) over k.check handing.before handing.following c.u c.v handing.entry k.comes.hands c.happens) in
-            let reply : Packet = there.1.0 in
-            let in_time : IsReturnedInTime mac answers side path over part k reply = search (returns reply there.1.2) in
+            let there = succeeds (sent-check mac answers side path over part last k c) (carried-check mac answers side path over part last k c) (controlled ∙ sym (ap not steers)) in
+            let reply : Packet = there.0.reply in
+            let in_time : IsReturnedInTime mac answers side path over part k reply = search (returns reply there.0.sends) in
             let r = in_time.returned in
-            let again = r.comes.handed in
             let between : List (Occurrence H P) = k.comes.between ++ handing ∷ r.comes.between in
             let z = awaits mac answers side path between over part last k reply r c.onward (λ x has. has) in
-            by k reply r (λ x has ends. search (in_time.stays x has ends)) z
-            (there.1.3 (at side again.before) (at side again.following) (rewritten r.via reply) (own mac answers side between) r.comes.hands.now r.pending.limit
-            again.entry.outcome.entry z.course.0 z.course.2 z.few z.know refl z.goes z.comes) where
+            by k reply r (λ x has ends. search (in_time.stays x has ends)) z (there.1 (carried-back mac answers side path over part last k c between reply r z)) where
               by : (k : HandedCheck mac side path over part) (reply : Packet) (r : IsReturned mac side path over part k reply)
                   → ((x : Occurrence H P) → Has (k.comes.between ++ k.comes.handed ∷ r.comes.between) x → MayEndAt answers side path x → ⊥)
                   → (z : Awaited mac answers side path (k.comes.between ++ k.comes.handed ∷ r.comes.between) over part last k reply r)

@@ -4,12 +4,13 @@ use Rattle.std.specs.List.{list_any}
 use Rattle.rand_core.specs.Stream.{Stream}
 use Rattle.is_proto.specs.Packets.{Packet}
 use Rattle.is_candidate.specs.Candidates.{CandidateRecord}
+use Rattle.is_stun.specs.declared.header.Class.TheVariants as class
 use Rattle.is_rules.specs.declared.credentials.IceCreds.{IceCreds}
 use Rattle.is_rules.specs.Agent.{AgentRecord}
 use Rattle.is_rules.specs.Answers.{keeps_check_on}
-use Rattle.is_theorems.specs.Delivery.{IsFragment, KnowEachOther, ChecksAreServed, ChecksAreKept, RepliesAreAccepted}
+use Rattle.is_theorems.specs.Delivery.{IsFragment, KnowEachOther, Issued, IsTaken, SentCheck, ReceivedPacket, ServedCheck, ChecksAreServed, ChecksAreKept, RepliesAreAccepted}
 use Rattle.is_rules.specs.Effects.{local_after, remote_after}
-use Rattle.is_theorems.specs.Exchange.{AreBetween, Course, ExchangesSucceed}
+use Rattle.is_theorems.specs.Exchange.{AreBetween, Course, ReceivedSoon, ReturnedSoon, ExchangesSucceed}
 use Rattle.is_rules.specs.Fitting.{are_too_long}
 use Rattle.is_rules.specs.Issuing.{via_out}
 use Rattle.is_theorems.specs.Rounds.{is_between}
@@ -78,33 +79,55 @@ module _ {H P : Type 0} where
         let on = (path_theorem mac answers old mid s t x.0 x.1 sound based step).1 in
         keys-between rest mid new on (λ y has. fits y (inr has)) more ∙ keys_one x.0 x.1 old mid s t sound (fits x (inl refl)) step
 
+    -- the `handle_timeout` call issues the check
+    abbrev pub issued-check : (k : SentCheck mac answers) → Issued mac answers class.Request k.id k.check k.sender k.sent
+    issued-check k = record { call = HandleTimeout k.now; entry = k.timeout; before = k.before; following = k.following; step = k.step; sends = k.sends }
+
+    -- the call that receives the check issues the response
+    abbrev pub issued-reply : (k : SentCheck mac answers) (came : Packet) (c : ReceivedPacket mac answers came) (s : ServedCheck mac answers k came c)
+        → Issued mac answers class.Success k.id s.reply c.receiver c.served
+    issued-reply k came c s = record {
+      call = ReceivePacket c.at (via_out came) came.contents;
+      entry = c.handed;
+      before = c.delivered.before;
+      following = c.delivered.following;
+      step = c.delivered.step;
+      sends = s.sends;
+    }
+
+    -- the state after the `handle_timeout` call
+    pub sound-sent : (k : SentCheck mac answers) → IsSound k.sent
+    sound-sent k = (path_theorem mac answers k.sender k.sent k.before k.following (HandleTimeout k.now) k.timeout k.sound tt k.step).1
+
+    -- who knows the sender before its next `handle_timeout` call knew it when it sent the check
+    pub known-sender : (k : SentCheck mac answers) (c : ReceivedSoon mac answers k) → KnowEachOther mac k.sender c.receipt.receiver
+    known-sender k c =
+        known-on mac c.near k.sender c.receipt.receiver
+        (sym (keys-between c.soon.calls k.sent c.near (sound-sent k) (search c.soon.between) c.soon.course ∙ keys-timeout k.now k.timeout k.sender k.sent k.before k.following k.sound k.step))
+        (search c.know)
+
     pub exchanges-succeed : ChecksAreServed mac answers → ChecksAreKept mac answers → RepliesAreAccepted mac answers → ExchangesSucceed mac answers
-    exchanges-succeed served_law kept_law accepted_law a sent near b served s t now at check id timeout handed xs sound_a sound_b step sends fits gone know apart reached delivered =
-        let sound_sent = (path_theorem mac answers a sent s t (HandleTimeout now) timeout sound_a tt step).1 in
-        let keys : keys_of a ≡ keys_of near = sym (keys-between xs sent near sound_sent fits gone ∙ keys-timeout now timeout a sent s t sound_a step) in
-        let taken = served_law a sent b served check id at handed sound_a sound_b (known-on mac near a b keys know) apart reached
-        (record { call = HandleTimeout now; entry = timeout; before = s; following = t; step = step; sends = sends }) delivered in
-        let reply : Packet = taken.1.0 in
-        let via_back : list_any (keeps_check_on sent (via_out reply) id) sent.pairs ≡ true =
-        subst (λ w. list_any (keeps_check_on sent w id) sent.pairs ≡ true) (sym taken.1.1) (kept_law a sent s t now check id timeout sound_a step sends) in
-        let kept = checks-stay mac answers sent near xs (via_out reply) id sound_sent fits gone via_back in
-        let sound_near = sound-course mac answers xs sent near sound_sent gone in (
-          taken.0,
-          (
-            reply,
-            taken.1.1,
-            taken.1.2,
-            λ mid end ys back returned fits_on on came.
-                accepted_law mid end b served reply id back returned sound_b (known-on mac near mid b (keys-between ys near mid sound_near fits_on on) know)
-                (record {
-                  call = ReceivePacket at (via_out check) check.contents;
-                  entry = handed;
-                  before = delivered.before;
-                  following = delivered.following;
-                  step = delivered.step;
-                  sends = taken.1.2;
-                })
-                (checks-stay mac answers near mid ys (via_out reply) id sound_near fits_on on kept)
-                came,
-          ),
-        )
+    exchanges-succeed served_law kept_law accepted_law k c apart = (s, accepted) where
+      got : ReceivedPacket mac answers k.check
+      got = c.receipt
+
+      s : ServedCheck mac answers k k.check got
+      s =
+          let taken = served_law k.sender k.sent got.receiver got.served k.check k.id got.at got.handed (search k.sound) (search got.sound) (known-sender k c) (search apart) (search got.reached)
+          (issued-check k) (search got.delivered) in
+          record { taken = taken.0; reply = taken.1.0; via_back = taken.1.1; sends = taken.1.2 }
+
+      sound_near : IsSound c.near
+      sound_near = sound-course mac answers c.soon.calls k.sent c.near (sound-sent k) c.soon.course
+
+      kept : list_any (keeps_check_on c.near (via_out s.reply) k.id) c.near.pairs ≡ true
+      kept =
+          checks-stay mac answers k.sent c.near c.soon.calls (via_out s.reply) k.id (sound-sent k) (search c.soon.between) c.soon.course
+          (subst (λ w. list_any (keeps_check_on k.sent w k.id) k.sent.pairs ≡ true) (sym s.via_back)
+          (kept_law k.sender k.sent k.before k.following k.now k.check k.id k.timeout k.sound k.step k.sends))
+
+      accepted : (r : ReturnedSoon mac answers c.near s.reply) → IsTaken mac answers s.reply r.at r.returned class.Success
+      accepted r =
+          accepted_law r.mid r.taken got.receiver got.served s.reply k.id r.at r.returned got.sound
+          (known-on mac c.near r.mid got.receiver (keys-between r.soon.calls c.near r.mid sound_near (search r.soon.between) r.soon.course) (search c.know))
+          (issued-reply k k.check got s) (checks-stay mac answers c.near r.mid r.soon.calls (via_out s.reply) k.id sound_near (search r.soon.between) r.soon.course kept) (search r.delivered)

@@ -22,9 +22,9 @@ use Rattle.is_rules.specs.Accepting.{IsAcceptedAs, IsAcceptedOn}
 use Rattle.is_rules.specs.Agent.{AgentRecord}
 use Rattle.is_rules.specs.Answers.{is_role_conflict, keeps_check_on}
 use Rattle.is_rules.specs.Brought.{Brings, IsKept, IsRejectedBy, IsServing, IsServedPastTests, role_once}
-use Rattle.is_theorems.specs.Carried.{IsConflictCarried, CarriedSettle}
+use Rattle.is_theorems.specs.Carried.{CarriedCheck, IsConflictCarried, CarriedSettle}
 use Rattle.is_theorems.specs.Conflicts.{AreSentUnder, ServesPastTests, ConflictsSettle, IsConflictSent, handing}
-use Rattle.is_theorems.specs.Delivery.{KnowEachOther, IsReachedBy, Sends, Delivered, Issued, ChecksAreKept}
+use Rattle.is_theorems.specs.Delivery.{KnowEachOther, IsReachedBy, Sends, Delivered, Issued, SentCheck, ChecksAreKept}
 use Rattle.is_rules.specs.Fitting.{USERNAME_LIMIT}
 use Rattle.is_rules.specs.Issuing.{Says, key_for, via_out}
 use Rattle.is_rules.specs.Places.{local_place}
@@ -35,8 +35,8 @@ use Rattle.is_rules.specs.Sound.{IsSound}
 use Rattle.is_rules.specs.Steps.{Entry, HandleTimeout, Step}
 use Rattle.is_rules.specs.Emitted.{issued_as, reversed}
 use Rattle.is_theorems.proofs.CheckExchanges.DeliveredChecks.{Comes, same_reading, took, check-comes, emitted_as, issued_packet, live_place, goes-back, brought-by}
-use Rattle.is_theorems.proofs.CallEffects.PathAndTradeEffects.{path_theorem, trade_theorem}
-use Rattle.is_theorems.proofs.CheckExchanges.ReturnedResponses.{known-on, keys-timeout, keys-between}
+use Rattle.is_theorems.proofs.CallEffects.PathAndTradeEffects.{trade_theorem}
+use Rattle.is_theorems.proofs.CheckExchanges.ReturnedResponses.{known-on, keys-between, sound-sent, known-sender}
 use Rattle.is_theorems.proofs.StoredPairs.TransactionsThatStay.{still-kept}
 use Rattle.is_theorems.proofs.StoredPairs.TransactionsOverPackets.{sound-course, checks-stay}
 
@@ -180,59 +180,70 @@ module _ {H P : Type 0} (mac : H → List ℕ → List ℕ → List ℕ) (answer
       issues b served came rejection id at handed delivered sends =
           record { call = handing came at; entry = handed; before = delivered.before; following = delivered.following; step = delivered.step; sends = sends }
 
+      -- the check that is received: served, and if the roles are equal, its receiver switches or sends a 487
+      settles : (k : SentCheck mac answers) (c : CarriedCheck mac answers k) → ServesPastTests c.receipt.receiver (handing c.came c.receipt.at) c.receipt.handed
+          × (c.receipt.receiver.controlling ≡ k.sender.controlling
+          → ((c.receipt.receiver.tie_breaker < k.sender.tie_breaker) × (c.receipt.served.controlling ≡ not k.sender.controlling))
+          ⊎ Sent487 k.sender c.receipt.receiver c.receipt.served c.came k.id c.receipt.handed)
+      settles k c =
+          let got = c.receipt in
+          meets k.sender k.sent got.receiver got.served k.before k.following k.now got.at k.check c.came k.id k.timeout got.handed (search k.sound) (search got.sound) k.step k.sends (search c.know) (search c.unaltered)
+          (search got.reached) got.delivered
+
       pub conflicts-settle : ChecksAreKept mac answers → ConflictsSettle mac answers
-      conflicts-settle kept_law a sent near b served s t now at check id timeout handed xs sound_a sound_b step sends fits_in gone know reached delivered =
-          (there.0, λ alike. elim (there.1 alike) [ inl lesser ↦ inl lesser | inr i ↦ inr (sent_487 alike i) ]) where
-            sound_sent : IsSound sent
-            sound_sent = (path_theorem mac answers a sent s t (HandleTimeout now) timeout sound_a tt step).1
+      conflicts-settle kept_law k c = (there.0, λ alike. elim (there.1 alike) [ inl lesser ↦ inl lesser | inr i ↦ inr (sent_487 alike i) ]) where
+        there : ServesPastTests c.receipt.receiver (handing k.check c.receipt.at) c.receipt.handed
+            × (c.receipt.receiver.controlling ≡ k.sender.controlling
+            → ((c.receipt.receiver.tie_breaker < k.sender.tie_breaker) × (c.receipt.served.controlling ≡ not k.sender.controlling))
+            ⊎ Sent487 k.sender c.receipt.receiver c.receipt.served k.check k.id c.receipt.handed)
+        there = settles k (record { came = k.check; unaltered = refl; receipt = c.receipt; know = known-sender mac answers k c })
 
-            known : KnowEachOther mac a b
-            known =
-                known-on mac near a b (sym (keys-between mac answers xs sent near sound_sent fits_in gone ∙ keys-timeout mac answers now timeout a sent s t sound_a step)) know
+        sound_near : IsSound c.near
+        sound_near = sound-course mac answers c.soon.calls k.sent c.near (sound-sent mac answers k) c.soon.course
 
-            there : ServesPastTests b (handing check at) handed × (b.controlling ≡ a.controlling
-                → ((b.tie_breaker < a.tie_breaker) × (served.controlling ≡ not a.controlling)) ⊎ Sent487 a b served check id handed)
-            there = meets a sent b served s t now at check check id timeout handed sound_a sound_b step sends known refl reached delivered
-
-            sent_487 : b.controlling ≡ a.controlling → Sent487 a b served check id handed → IsConflictSent mac answers a near b served check id handed
-            sent_487 alike i =
-                let via_back : list_any (keeps_check_on sent (via_out i.rejection) id) sent.pairs ≡ true =
-                subst (λ w. list_any (keeps_check_on sent w id) sent.pairs ≡ true) (sym i.via_back) (kept_law a sent s t now check id timeout sound_a step sends) in
-                let kept = checks-stay mac answers sent near xs (via_out i.rejection) id sound_sent fits_in gone via_back in
-                let sound_near = sound-course mac answers xs sent near sound_sent gone in record {
-                  no_smaller = λ unkept. (let le = i.no_smaller unkept in omega (arith, le));
-                  stays = i.stays;
-                  rejection = i.rejection;
-                  via_back = i.via_back;
-                  sends = i.sends;
-                  returns = λ mid taken ys at_back returned fits_on on unkept came. (
-                      let gives = gives-way a.controlling mid taken b served i.rejection i.rejection id at_back returned (sound-course mac answers ys near mid sound_near on) sound_b
-                      (known-on mac near mid b (keys-between mac answers ys near mid sound_near fits_on on) know) (issues b served check i.rejection id at handed delivered i.sends) refl
-                      (checks-stay mac answers near mid ys (via_out i.rejection) id sound_near fits_on on kept) unkept came in
-                      (gives.0, λ under. gives.1 under ∙ ap not (sym alike)));
-                }
-
-      pub carried-settle : CarriedSettle mac answers
-      carried-settle a sent b served s t now at check came id timeout handed sound_a sound_b step sends know unaltered reached delivered =
-          (there.0, λ alike. elim (there.1 alike) [ inl lesser ↦ inl lesser | inr i ↦ inr (sent_487 alike i) ]) where
-            there : ServesPastTests b (handing came at) handed × (b.controlling ≡ a.controlling
-                → ((b.tie_breaker < a.tie_breaker) × (served.controlling ≡ not a.controlling)) ⊎ Sent487 a b served came id handed)
-            there = meets a sent b served s t now at check came id timeout handed sound_a sound_b step sends know unaltered reached delivered
-
-            sent_487 : b.controlling ≡ a.controlling → Sent487 a b served came id handed → IsConflictCarried mac answers a sent b served check came id handed
-            sent_487 alike i = record {
-              no_smaller = i.no_smaller;
+        sent_487 : c.receipt.receiver.controlling ≡ k.sender.controlling → Sent487 k.sender c.receipt.receiver c.receipt.served k.check k.id c.receipt.handed → IsConflictSent mac answers k c
+        sent_487 alike i =
+            let via_back : list_any (keeps_check_on k.sent (via_out i.rejection) k.id) k.sent.pairs ≡ true =
+            subst (λ w. list_any (keeps_check_on k.sent w k.id) k.sent.pairs ≡ true) (sym i.via_back)
+            (kept_law k.sender k.sent k.before k.following k.now k.check k.id k.timeout k.sound k.step k.sends) in
+            let kept = checks-stay mac answers k.sent c.near c.soon.calls (via_out i.rejection) k.id (sound-sent mac answers k) (search c.soon.between) c.soon.course via_back in record {
+              no_smaller = λ unkept. (let le = i.no_smaller unkept in omega (arith, le));
               stays = i.stays;
               rejection = i.rejection;
               via_back = i.via_back;
               sends = i.sends;
-              returns = λ mid taken answer xs back limit returned course keeps few known unkept unaltered_back returns got.
-                  elim (still-kept mac answers a sent mid s t now limit check answer id timeout xs sound_a step sends course keeps few (search returns)) [
-                    | inl kept ↦
-                        (let sound_mid = sound-course mac answers xs sent mid (path_theorem mac answers a sent s t (HandleTimeout now) timeout sound_a tt step).1 course in
-                        let gives = gives-way a.controlling mid taken b served i.rejection answer id back returned sound_mid sound_b known
-                        (issues b served came i.rejection id at handed delivered i.sends) unaltered_back kept unkept got in
-                        inl (gives.0, λ under. gives.1 under ∙ ap not (sym alike)))
-                    | inr ends ↦ inr ends
-                  ];
+              returns = λ r unkept. (
+                  let gives = gives-way k.sender.controlling r.mid r.taken c.receipt.receiver c.receipt.served i.rejection i.rejection k.id r.at r.returned
+                  (sound-course mac answers r.soon.calls c.near r.mid sound_near r.soon.course) c.receipt.sound
+                  (known-on mac c.near r.mid c.receipt.receiver (keys-between mac answers r.soon.calls c.near r.mid sound_near (search r.soon.between) r.soon.course) (search c.know))
+                  (issues c.receipt.receiver c.receipt.served k.check i.rejection k.id c.receipt.at c.receipt.handed c.receipt.delivered i.sends) refl
+                  (checks-stay mac answers c.near r.mid r.soon.calls (via_out i.rejection) k.id sound_near (search r.soon.between) r.soon.course kept) unkept (search r.delivered) in
+                  (gives.0, λ under. gives.1 under ∙ ap not (sym alike)));
             }
+
+      pub carried-settle : CarriedSettle mac answers
+      carried-settle k c = (there.0, λ alike. elim (there.1 alike) [ inl lesser ↦ inl lesser | inr i ↦ inr (sent_487 alike i) ]) where
+        there : ServesPastTests c.receipt.receiver (handing c.came c.receipt.at) c.receipt.handed
+            × (c.receipt.receiver.controlling ≡ k.sender.controlling
+            → ((c.receipt.receiver.tie_breaker < k.sender.tie_breaker) × (c.receipt.served.controlling ≡ not k.sender.controlling))
+            ⊎ Sent487 k.sender c.receipt.receiver c.receipt.served c.came k.id c.receipt.handed)
+        there = settles k c
+
+        sent_487 : c.receipt.receiver.controlling ≡ k.sender.controlling → Sent487 k.sender c.receipt.receiver c.receipt.served c.came k.id c.receipt.handed → IsConflictCarried mac answers k c
+        sent_487 alike i = record {
+          no_smaller = i.no_smaller;
+          stays = i.stays;
+          rejection = i.rejection;
+          via_back = i.via_back;
+          sends = i.sends;
+          returns = λ r unkept.
+              elim (still-kept mac answers k c.receipt.receiver r.answer r.receipt (search r.back)) [
+                | inl kept ↦
+                    (let e = r.receipt in
+                    let sound_mid = sound-course mac answers e.calls k.sent e.mid (sound-sent mac answers k) e.course in
+                    let gives = gives-way k.sender.controlling e.mid e.taken c.receipt.receiver c.receipt.served i.rejection r.answer k.id e.at e.returned sound_mid c.receipt.sound (search e.know)
+                    (issues c.receipt.receiver c.receipt.served c.came i.rejection k.id c.receipt.at c.receipt.handed c.receipt.delivered i.sends) (search r.unaltered) kept unkept e.delivered in
+                    inl (gives.0, λ under. gives.1 under ∙ ap not (sym alike)))
+                | inr ends ↦ inr ends
+              ];
+        }

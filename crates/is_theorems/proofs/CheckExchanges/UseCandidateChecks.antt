@@ -19,7 +19,7 @@ use Rattle.is_rules.specs.Agent.{AgentRecord}
 use Rattle.is_theorems.specs.Asking.{AreNominatedOn, ChecksAsk}
 use Rattle.is_rules.specs.Checking.{check_message}
 use Rattle.is_theorems.specs.Carried.{CarriedAreServed, CarriedAsk}
-use Rattle.is_theorems.specs.Delivery.{IsFragment, KnowEachOther}
+use Rattle.is_theorems.specs.Delivery.{IsFragment, KnowEachOther, ReceivedPacket}
 use Rattle.is_rules.specs.Fitting.{USERNAME_LIMIT, are_too_long}
 use Rattle.is_rules.specs.Issuing.{Says, via_out}
 use Rattle.is_rules.specs.Nominating.{nominates_at_once, nomination_of, numbers, stays_nominated}
@@ -31,8 +31,7 @@ use Rattle.is_rules.specs.Emitted.{issued_as}
 use Rattle.is_theorems.proofs.BasicLemmas.PairsInTurn.{nominated-before, pairs-sent, sent_at, sent-number}
 use Rattle.is_theorems.proofs.BasicLemmas.ServedPairs.{asks-taken}
 use Rattle.is_theorems.proofs.CheckExchanges.DeliveredChecks.{same_reading, emitted_as, issued_packet, check_reads}
-use Rattle.is_theorems.proofs.CallEffects.PathAndTradeEffects.{path_theorem}
-use Rattle.is_theorems.proofs.CheckExchanges.ReturnedResponses.{keys_of, known-on, keys-timeout, keys-between}
+use Rattle.is_theorems.proofs.CheckExchanges.ReturnedResponses.{keys_of, known-on, keys-timeout, issued-check, known-sender}
 use Rattle.is_theorems.proofs.StoredPairs.StoredChecks.{Checks, checks-as, number_same}
 use Rattle.is_theorems.proofs.CallEffects.ServedRequests.{Has-mapped}
 use Rattle.is_theorems.proofs.RuleEffects.SelectedPaths.{some_is}
@@ -79,54 +78,58 @@ module _ {H P : Type 0} (mac : H → List ℕ → List ℕ → List ℕ) (answer
       (fits : (key id username : List ℕ) (controlling : Bool) (tie_breaker priority : ℕ) (nominates : Bool) (number : Option ℕ)
       → length username ≤ USERNAME_LIMIT → FitsInto key LONGEST_NUMBERED_CHECK (with_nomination number (binding_request username id controlling tie_breaker priority nominates))) where
     pub carried-ask : CarriedAreServed mac answers → CarriedAsk mac answers
-    carried-ask served_law a sent b served s t now at check came id timeout handed sound_a sound_b step sends role nominated know other unaltered reached delivered =
-        let taken = served_law a sent b served check came id at handed sound_a sound_b know (other ∙ ap not (sym role)) reached
-        (record { call = HandleTimeout now; entry = timeout; before = s; following = t; step = step; sends = sends }) unaltered delivered in
-        let c = checks-as mac answers a sent s t now (via_out check) id timeout sends.emitted step in
-        let know_old : KnowEachOther mac c.old b =
-        known-on mac a c.old b (ap (λ (x : AgentRecord H P). keys_of x) (sym c.made) ∙ keys-timeout mac answers now timeout a sent s t sound_a step) know in (
-          (request_in at (via_out came) taken.0.0),
-          id,
-          (at, via_out came, taken.0.0, taken.0.1, taken.0.2, ap (λ o. is_some o) know.its, refl),
-          asks c know_old taken.0.0 (subst (λ bs. Reads bs taken.0.0) unaltered taken.0.1.2),
-          taken.1.2.emitted ∙ ap (λ w. Some (issued_as w class.Success id)) taken.1.1,
+    carried-ask served_law k c role other nominated =
+        let taken = served_law k.sender k.sent b got.served k.check c.came k.id got.at got.handed (search k.sound) (search got.sound) (search c.know) (search other ∙ ap not (sym role)) (search got.reached)
+        (issued-check mac answers k) (search c.unaltered) (search got.delivered) in
+        let x = checks-as mac answers k.sender k.sent k.before k.following k.now (via_out k.check) k.id k.timeout k.sends.emitted k.step in
+        let know_old : KnowEachOther mac x.old b =
+        known-on mac k.sender x.old b
+        (ap (λ (y : AgentRecord H P). keys_of y) (sym x.made) ∙ keys-timeout mac answers k.now k.timeout k.sender k.sent k.before k.following k.sound k.step) c.know in (
+          (request_in got.at (via_out c.came) taken.0.0),
+          k.id,
+          (got.at, via_out c.came, taken.0.0, taken.0.1, taken.0.2, ap (λ o. is_some o) c.know.its, refl),
+          asks x know_old taken.0.0 (subst (λ bs. Reads bs taken.0.0) c.unaltered taken.0.1.2),
+          taken.1.2.emitted ∙ ap (λ w. Some (issued_as w class.Success k.id)) taken.1.1,
         ) where
-          stays : sent.controlling ≡ a.controlling
+          got : ReceivedPacket mac answers c.came
+          got = c.receipt
+
+          b : AgentRecord H P
+          b = c.receipt.receiver
+
+          stays : k.sent.controlling ≡ k.sender.controlling
           stays =
-              let i = issued_packet mac answers a sent class.Request id check sound_a
-              (record { call = HandleTimeout now; entry = timeout; before = s; following = t; step = step; sends = sends }) in
-              let same = emitted_as (via_out check) (via_out check) class.Request i.0.class id i.0.id (sym sends.emitted ∙ i.2) in
-              let says : Says class.Request a (HandleTimeout now) timeout check.contents i.0 (via_out check) sent.controlling =
-              subst (λ k. Says k a (HandleTimeout now) timeout check.contents i.0 (via_out check) sent.controlling) (sym same.1) i.3 in
+              let i = issued_packet mac answers k.sender k.sent class.Request k.id k.check k.sound (issued-check mac answers k) in
+              let same = emitted_as (via_out k.check) (via_out k.check) class.Request i.0.class k.id i.0.id (sym k.sends.emitted ∙ i.2) in
+              let says : Says class.Request k.sender (HandleTimeout k.now) k.timeout k.check.contents i.0 (via_out k.check) k.sent.controlling =
+              subst (λ y. Says y k.sender (HandleTimeout k.now) k.timeout k.check.contents i.0 (via_out k.check) k.sent.controlling) (sym same.1) i.3 in
               says.8
 
-          asks : (c : Checks mac answers now (via_out check) id sent) → KnowEachOther mac c.old b → (m : Message) → Reads check.contents m
-              → nominates b (request_in at (via_out came) m) ≡ true
-          asks c know_old m reads =
-              let x : Message = check_message c.old c.remote c.pair id in
-              let it : c.remote ≡ b.local_creds = some_is c.remote b.local_creds (sym c.known ∙ know_old.mine) in
-              let back : ReadsBack (mac c.old.provider) c.remote.pass (written (mac c.old.provider) (Some c.remote.pass) x) x =
-              check_reads mac answers read fits c.remote.pass c.old.local_creds c.remote id c.old.controlling (c.old.controlling && stays_nominated c.old c.pair) (nomination_of c.old c.pair) c.old.tie_breaker
-              (check_priority (candidate_at c.old.local c.pair.local)) (mac c.old.provider) (written (mac c.old.provider) (Some c.remote.pass) x) know_old.twenty
-              (subst (λ (y : IceCreds). are_too_long c.old.local_creds (Some y) ≡ false) (sym it) know_old.fit) know_old.own
-              (subst (λ (y : IceCreds). IsFragment y.ufrag) (sym it) know_old.other) c.put in
+          asks : (x : Checks mac answers k.now (via_out k.check) k.id k.sent) → KnowEachOther mac x.old b → (m : Message) → Reads k.check.contents m
+              → nominates b (request_in got.at (via_out c.came) m) ≡ true
+          asks x know_old m reads =
+              let msg : Message = check_message x.old x.remote x.pair k.id in
+              let it : x.remote ≡ b.local_creds = some_is x.remote b.local_creds (sym x.known ∙ know_old.mine) in
+              let back : ReadsBack (mac x.old.provider) x.remote.pass (written (mac x.old.provider) (Some x.remote.pass) msg) msg =
+              check_reads mac answers read fits x.remote.pass x.old.local_creds x.remote k.id x.old.controlling (x.old.controlling && stays_nominated x.old x.pair) (nomination_of x.old x.pair) x.old.tie_breaker
+              (check_priority (candidate_at x.old.local x.pair.local)) (mac x.old.provider) (written (mac x.old.provider) (Some x.remote.pass) msg) know_old.twenty
+              (subst (λ (y : IceCreds). are_too_long x.old.local_creds (Some y) ≡ false) (sym it) know_old.fit) know_old.own
+              (subst (λ (y : IceCreds). IsFragment y.ufrag) (sym it) know_old.other) x.put in
               let packet : Packet = record {
-                proto = (path_of c.old c.pair).proto;
-                source = (path_of c.old c.pair).source;
-                destination = (path_of c.old c.pair).destination;
-                contents = written (mac c.old.provider) (Some c.remote.pass) x;
+                proto = (path_of x.old x.pair).proto;
+                source = (path_of x.old x.pair).source;
+                destination = (path_of x.old x.pair).destination;
+                contents = written (mac x.old.provider) (Some x.remote.pass) msg;
               } in
-              let same : check ≡ packet = last_alike a.packets c.old.packets check packet (sym sends.put ∙ ap (λ (y : AgentRecord H P). y.packets) c.made) in
-              let bytes : Reads (written (mac c.old.provider) (Some c.remote.pass) x) m = subst (λ (y : Packet). Reads y.contents m) same reads in
-              let is : m ≡ back.read = same_reading (written (mac c.old.provider) (Some c.remote.pass) x) back.read m back.reads bytes in
-              asks-taken (numbers b) (request_in at (via_out came) m)
+              let same : k.check ≡ packet = last_alike k.sender.packets x.old.packets k.check packet (sym k.sends.put ∙ ap (λ (y : AgentRecord H P). y.packets) x.made) in
+              let bytes : Reads (written (mac x.old.provider) (Some x.remote.pass) msg) m = subst (λ (y : Packet). Reads y.contents m) same reads in
+              let is : m ≡ back.read = same_reading (written (mac x.old.provider) (Some x.remote.pass) msg) back.read m back.reads bytes in
+              asks-taken (numbers b) (request_in got.at (via_out c.came) m)
               (ap (λ (y : Message). y.attributes.use_candidate) is ∙ (ap (λ (r : AttributesRecord). r.use_candidate) back.same.attributes
-              ∙ leads now (via_out check) id sent c (stays ∙ role) nominated))
-              (λ none. never-zero (c.old.controlling && numbers c.old && stays_nominated c.old c.pair) c.old.nominations
+              ∙ leads k.now (via_out k.check) k.id k.sent x (stays ∙ search role) (search nominated)))
+              (λ none. never-zero (x.old.controlling && numbers x.old && stays_nominated x.old x.pair) x.old.nominations
               (sym (ap (λ (r : AttributesRecord). r.nomination) back.same.attributes) ∙ (sym (ap (λ (y : Message). y.attributes.nomination) is) ∙ none)))
 
     pub checks-ask : CarriedAsk mac answers → ChecksAsk mac answers
-    checks-ask law a sent near b served s t now at check id timeout handed xs sound_a sound_b step sends role nominated between gone know other reached delivered =
-        let sound_sent = (path_theorem mac answers a sent s t (HandleTimeout now) timeout sound_a tt step).1 in
-        let keys = sym (keys-between mac answers xs sent near sound_sent between gone ∙ keys-timeout mac answers now timeout a sent s t sound_a step) in
-        law a sent b served s t now at check check id timeout handed sound_a sound_b step sends role nominated (known-on mac near a b keys know) other refl reached delivered
+    checks-ask law k c role other nominated =
+        law k (record { came = k.check; unaltered = refl; receipt = c.receipt; know = known-sender mac answers k c }) (search role) (search other) (search nominated)

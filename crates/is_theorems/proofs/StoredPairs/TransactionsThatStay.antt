@@ -11,7 +11,7 @@ use Rattle.is_candidate.specs.Candidates.{CandidateRecord, candidate_at}
 use Rattle.is_candidate.specs.Priorities.{candidate_priority}
 use Rattle.is_pair.specs.Due.{asked}
 use Rattle.is_pair.specs.Checks.{Check, has_id, last_checks}
-use Rattle.is_pair.specs.Pairs.{PairRecord, undue, is_valid, check_of, checked, renominated}
+use Rattle.is_pair.specs.Pairs.{PairRecord, undue, is_valid, check_of, renominated}
 use Rattle.is_stun.specs.declared.header.Class.TheVariants as class
 use Rattle.is_rules.specs.Agent.{AgentRecord}
 use Rattle.is_rules.specs.Accepting.{discovered_emitted}
@@ -27,7 +27,7 @@ use Rattle.is_rules.specs.Settings.{with_rtos}
 use Rattle.is_rules.specs.Sound.{IsSound}
 use Rattle.is_theorems.specs.Staying.{IsOfDiscarded, MayEnd}
 use Rattle.is_rules.specs.Emitted.{issued_as}
-use Rattle.is_theorems.specs.Pending.{as_sent, sent_of, is_check_on, checks_on, SendsLater, Follows, Pends, PendsAfter, EndsOf, KeepsAlong, IsValidBy, PairsKeepChecks, ChecksPend, ChecksPendAlong, ExchangesSucceedLater}
+use Rattle.is_theorems.specs.Pending.{as_sent, sent_of, is_check_on, checks_on, SendsLater, Follows, Pends, PendsAfter, EndsOf, ReturnedWhilePending, SucceedsOrEnds, IsValidBy, PairsKeepChecks, ChecksPend, ChecksPendAlong, ExchangesSucceedLater}
 use Rattle.std.specs.Prelude.{bytes_eq}
 use Rattle.std.specs.List.{list_any}
 use Rattle.is_proto.specs.Packets.{Packet}
@@ -37,13 +37,12 @@ use Rattle.is_rules.specs.Answers.{goes_back, keeps_check_on}
 use Rattle.is_theorems.specs.AskedCourses.{EndsAlong}
 use Rattle.is_rules.specs.Checking.{check_sent}
 use Rattle.is_rules.specs.declared.emitted.Issued.{Issued}
-use Rattle.is_theorems.specs.Carried.{CarriedAreServed, CarriedAreAccepted, CarriedSucceedLater}
-use Rattle.is_theorems.specs.Delivery as delivery
-use Rattle.is_theorems.specs.Delivery.{IsTaken}
-use Rattle.is_theorems.specs.Exchange.{Course}
+use Rattle.is_theorems.specs.Carried.{CarriedAreServed, CarriedAreAccepted, CarriedBack, CarriedSucceedLater}
+use Rattle.is_theorems.specs.Delivery.{IsTaken, SentCheck, ReceivedPacket, ServedCheck}
 use Rattle.is_rules.specs.Issuing.{via_out}
 use Rattle.is_rules.specs.Points.{AnswersAreValid}
 use Rattle.is_theorems.proofs.BasicLemmas.EqualAddresses.{both}
+use Rattle.is_theorems.proofs.CheckExchanges.ReturnedResponses.{issued-check, issued-reply, sound-sent}
 use Rattle.is_theorems.proofs.StoredPairs.StoredChecks.{Checks, checks-as, back_again, bytes_same, same_self, number_same, Has-rear}
 use Rattle.is_theorems.proofs.RuleEffects.ChangedPairs.{Has-map}
 use Rattle.is_theorems.proofs.BasicLemmas.UsernamesAndFirstMatches.{any_has}
@@ -394,67 +393,55 @@ module _ {H P : Type 0} where
         (ap (λ b. b && goes_back via (path_of a k.pair)) kept ∙ (ap (λ w. goes_back via w) k.on ∙ back))
 
     -- the check that was sent is still stored, or such a pair may have been removed
-    pub still-kept : (a sent mid : AgentRecord H P) (s t : Stream) (now limit : ℕ) (check answer : Packet) (id : List ℕ) (timeout : Entry) (xs : List (Call P × Entry)) → IsSound a
-        → Step mac answers a s (HandleTimeout now) timeout sent t → delivery.Sends a timeout class.Request id check sent → (course : Course mac answers xs sent mid)
-        → KeepsAlong mac answers limit xs sent mid course → checks_on (via_out check) xs < limit → goes_back (via_out answer) (via_out check) ≡ true
-        → (list_any (keeps_check_on mid (via_out answer) id) mid.pairs ≡ true) ⊎ EndsAlong mac answers xs sent mid course (via_out check)
-    still-kept a sent mid s t now limit check answer id timeout xs sound_a step sends course keeps few returns =
-        let sound_sent = (path_theorem mac answers a sent s t (HandleTimeout now) timeout sound_a tt step).1 in
-        let k = checks-as mac answers a sent s t now (via_out check) id timeout sends.emitted step in
-        let c : Check = check_of now k.old.controlling id (begun now (via_out check) id sent k) in
-        elim (checks-pend-along sent mid xs k.pair.number (via_out check) c 0 limit sound_sent course keeps (pends-now now (via_out check) id sent sound_sent.checks k) (omega (arith, few))) [
-          | inl (n, le, still) ↦ inl (pends-kept mid k.pair.number (via_out check) (via_out answer) c n returns still)
+    pub still-kept : (k : SentCheck mac answers) (b : AgentRecord H P) (answer : Packet) (r : ReturnedWhilePending mac answers k b answer) → goes_back (via_out answer) (via_out k.check) ≡ true
+        → (list_any (keeps_check_on r.mid (via_out answer) k.id) r.mid.pairs ≡ true) ⊎ EndsAlong mac answers r.calls k.sent r.mid r.course (via_out k.check)
+    still-kept k b answer r returns =
+        let sound = sound-sent mac answers k in
+        let x = checks-as mac answers k.sender k.sent k.before k.following k.now (via_out k.check) k.id k.timeout k.sends.emitted k.step in
+        let c : Check = check_of k.now x.old.controlling k.id (begun k.now (via_out k.check) k.id k.sent x) in
+        let few = r.few in
+        elim (checks-pend-along k.sent r.mid r.calls x.pair.number (via_out k.check) c 0 r.limit sound r.course (search r.keeps) (pends-now k.now (via_out k.check) k.id k.sent sound.checks x) (omega (arith, few))) [
+          | inl (n, le, still) ↦ inl (pends-kept r.mid x.pair.number (via_out k.check) (via_out answer) c n returns still)
           | inr ends ↦ inr ends
         ]
 
+    valid-by : (taken : AgentRecord H P) (answer : Packet) (back : ℕ) (returned : Entry) → IsTaken {H = H} {P = P} mac answers answer back returned class.Success
+        → AnswersAreValid (ReceivePacket back (via_out answer) answer.contents) returned taken → IsValidBy mac answers taken (via_out answer)
+    valid-by taken answer back returned (m, brings, class_is) valid = found (valid back (via_out answer) m brings class_is) where
+      found : (p : PairRecord) × Has taken.pairs p × (keeps_check_on taken (via_out answer) m.id p ≡ true) × (is_valid p ≡ true) → IsValidBy mac answers taken (via_out answer)
+      found (p, has, keeps, is) = (p, has, (both (keeps_check m.id p) (goes_back (via_out answer) (path_of taken p)) keeps).1, is)
+
     pub carried-succeed-later : CarriedAreServed {H = H} {P = P} mac answers → CarriedAreAccepted {H = H} {P = P} mac answers → CarriedSucceedLater {H = H} {P = P} mac answers
-    carried-succeed-later served_law accepted_law a sent b served s t now at check came id timeout handed sound_a sound_b step sends know apart unaltered reached delivered =
-        let sound_sent = (path_theorem mac answers a sent s t (HandleTimeout now) timeout sound_a tt step).1 in
-        let served_is = served_law a sent b served check came id at handed sound_a sound_b know apart reached
-        (record { call = HandleTimeout now; entry = timeout; before = s; following = t; step = step; sends = sends }) unaltered delivered in
-        let reply : Packet = served_is.1.0 in (
-          served_is.0,
-          (
-            reply,
-            served_is.1.1,
-            served_is.1.2,
-            λ mid taken answer xs back limit returned course keeps few known unaltered_back returns got.
-                elim (still-kept a sent mid s t now limit check answer id timeout xs sound_a step sends course keeps few (search returns)) [
-                  | inl still ↦
-                      (let is_taken = accepted_law mid taken b served reply answer id back returned sound_b known
-                      (record {
-                        call = ReceivePacket at (via_out came) came.contents;
-                        entry = handed;
-                        before = delivered.before;
-                        following = delivered.following;
-                        step = delivered.step;
-                        sends = served_is.1.2;
-                      })
-                      unaltered_back still got in
-                      let sound_mid = sound-course mac answers xs sent mid sound_sent course in
-                      let effect = (path_theorem mac answers mid taken got.before got.following (ReceivePacket back (via_out answer) answer.contents) returned sound_mid tt got.step).0 in
-                      inl (is_taken, valid-by taken answer back returned is_taken effect.taken))
-                  | inr ends ↦ inr ends
-                ],
-          ),
-        ) where
-          valid-by : (taken : AgentRecord H P) (answer : Packet) (back : ℕ) (returned : Entry) → IsTaken {H = H} {P = P} mac answers answer back returned class.Success
-              → AnswersAreValid (ReceivePacket back (via_out answer) answer.contents) returned taken → IsValidBy mac answers taken (via_out answer)
-          valid-by taken answer back returned (m, brings, class_is) valid = found (valid back (via_out answer) m brings class_is) where
-            found : (p : PairRecord) × Has taken.pairs p × (keeps_check_on taken (via_out answer) m.id p ≡ true) × (is_valid p ≡ true) → IsValidBy mac answers taken (via_out answer)
-            found (p, has, keeps, is) = (p, has, (both (keeps_check m.id p) (goes_back (via_out answer) (path_of taken p)) keeps).1, is)
+    carried-succeed-later served_law accepted_law k c apart = (s, returns) where
+      got : ReceivedPacket mac answers c.came
+      got = c.receipt
+
+      s : ServedCheck mac answers k c.came got
+      s =
+          let taken = served_law k.sender k.sent got.receiver got.served k.check c.came k.id got.at got.handed (search k.sound) (search got.sound) (search c.know) (search apart) (search got.reached)
+          (issued-check mac answers k) (search c.unaltered) (search got.delivered) in
+          record { taken = taken.0; reply = taken.1.0; via_back = taken.1.1; sends = taken.1.2 }
+
+      returns : (r : CarriedBack mac answers k c s.reply) → SucceedsOrEnds mac answers k got.receiver r.answer r.receipt
+      returns r = elim (still-kept k got.receiver r.answer r.receipt (search r.back)) [
+        | inl still ↦
+            (let b = r.receipt in
+            let is_taken = accepted_law b.mid b.taken got.receiver got.served s.reply r.answer k.id b.at b.returned got.sound (search b.know) (issued-reply mac answers k c.came got s) (search r.unaltered) still b.delivered in
+            let sound_mid = sound-course mac answers b.calls k.sent b.mid (sound-sent mac answers k) b.course in
+            let effect = (path_theorem mac answers b.mid b.taken b.delivered.before b.delivered.following (ReceivePacket b.at (via_out r.answer) r.answer.contents) b.returned sound_mid tt b.delivered.step).0 in
+            inl (is_taken, valid-by b.taken r.answer b.at b.returned is_taken effect.taken))
+        | inr ends ↦ inr ends
+      ]
 
     -- the network of today is the one that rewrites nothing
     pub exchanges-succeed-later : CarriedSucceedLater {H = H} {P = P} mac answers → ExchangesSucceedLater {H = H} {P = P} mac answers
-    exchanges-succeed-later law a sent b served s t now at check id timeout handed sound_a sound_b step sends know apart reached delivered =
-        let k = law a sent b served s t now at check check id timeout handed sound_a sound_b step sends know apart refl reached delivered in (
-          k.0,
-          (
-            k.1.0,
-            k.1.1,
-            k.1.2,
-            λ mid taken xs back limit returned course keeps few known got.
-                k.1.3 mid taken k.1.0 xs back limit returned course keeps few known refl
-                (subst (λ w. goes_back w (via_out check) ≡ true) (sym k.1.1) (back_again (via_out check))) got,
-          ),
+    exchanges-succeed-later law k c know apart =
+        let e = law k (record { came = k.check; unaltered = refl; receipt = c; know = know }) apart in (
+          e.0,
+          λ r. e.1 (record {
+            answer = e.0.reply;
+            unaltered = refl;
+            back = subst (λ w. goes_back w (via_out k.check) ≡ true) (sym e.0.via_back) (back_again (via_out k.check));
+            receipt = r;
+          }),
         )
