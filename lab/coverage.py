@@ -8,8 +8,8 @@ from dataclasses import dataclass, field, replace
 
 from .clauses import (
     both, by_number, completed_nominations_are_selected, connect, connected_are_answered, connected_have_consent, consent_ends_in_time,
-    consent_holds, due_rounds, in_time, meet, nomination_accepted, nominations, of_use, one_path, rounds, run_in_time,
-    successes, valid_have_consented, world_rounds)
+    consent_holds, due_rounds, in_time, meet, nomination_accepted, nominations, of_use, one_path, rounds, run_connected,
+    run_connected_answered, run_in_time, successes, valid_have_consented, world_rounds)
 from .clauses.execution import Execution
 from .clauses.accepted_nominations import Network
 from .clauses.verdict import Verdict
@@ -27,7 +27,8 @@ WORLD: dict[str, Callable[[Network], Verdict]] = {
     "nomination_accepted": nomination_accepted.find, "connect": connect.find, "both": both.find, "one_path": one_path.find,
     "by_number": by_number.find}
 RUN: dict[str, Callable[[Execution], Verdict]] = {
-    "run: of_use": of_use.find, "run: successes": successes.find, "run: nominations": nominations.find, "run: rounds": rounds.find,
+    "run: of_use": of_use.find, "run: successes": successes.find, "run: nominations": nominations.find,
+    "run: connected": run_connected.find, "run: connected_answered": run_connected_answered.find, "run: rounds": rounds.find,
     "run: due_rounds": due_rounds.find, "run: in_time": run_in_time.find}
 THEOREMS: dict[str, Callable[[Execution], Verdict]] = {
     "consent_holds": consent_holds.find, "consent_ends_in_time": consent_ends_in_time.find,

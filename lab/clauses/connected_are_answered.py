@@ -25,12 +25,13 @@ def is_alive_by(consent: Consent, now: int, p: Pair) -> bool:
     return now < p.consented + consent.timeout or (not consent.strict and p.is_heard(now))
 
 
+def verdict_of(x: Execution, c: Choice) -> Verdict:
+    """Whether it is so after the call."""
+    time, consent = x.time(c.moment), x.steps[c.moment].after[c.side].rules.consent
+    is_true = consent is not None and any(is_alive_by(consent, x.now(c.moment), p) for p in c.pairs)
+    return Verdict("", time, time, time if is_true else None)
+
+
 def find(x: Execution) -> Verdict:
     """Returns the first such call, or one after which the path is not alive."""
-
-    def verdict(c: Choice) -> Verdict:
-        time, consent = x.time(c.moment), x.steps[c.moment].after[c.side].rules.consent
-        is_true = consent is not None and any(is_alive_by(consent, x.now(c.moment), p) for p in c.pairs)
-        return Verdict("", time, time, time if is_true else None)
-
-    return first_of_all(choices(x), lambda c: lacking(x, c), verdict, "connected")
+    return first_of_all(choices(x), lambda c: lacking(x, c), lambda c: verdict_of(x, c), "connected")

@@ -3,14 +3,15 @@ no early request has consent on the path that it selected last."""
 
 from __future__ import annotations
 
-from collections.abc import Iterator
+from collections.abc import Callable, Iterator
 from dataclasses import dataclass
 
 from ..pairs import Pair, Path
+from ..replay import Step
 from ..scenario import SIDES
 from .execution import Execution, Lacks, lacks
 from .fair import is_new_agent
-from .seen import walk
+from .seen import Seen, walk
 from .verdict import Verdict, first_of_all
 
 
@@ -34,12 +35,17 @@ def lacking(x: Execution, c: Choice) -> Lacks:
 
 def choices(x: Execution) -> Iterator[Choice]:
     """Proposes each `handle_timeout` call."""
+    yield from choices_by(x, lambda side, step, seen: seen.selected)
+
+
+def choices_by(x: Execution, selected: Callable[[str, Step, Seen], Path | None]) -> Iterator[Choice]:
+    """The same, with the path that `selected` returns."""
     for side in SIDES:
         for step, seen in walk(x, side):
             if step.is_timeout:
-                agent = step.after[side]
-                pairs = (p for p in seen.pairs(agent) if agent.path(p) == seen.selected and agent.is_eligible(p))
-                yield Choice(side, step.at, seen.selected, tuple(pairs))
+                agent, path = step.after[side], selected(side, step, seen)
+                pairs = (p for p in seen.pairs(agent) if agent.path(p) == path and agent.is_eligible(p))
+                yield Choice(side, step.at, path, tuple(pairs))
 
 
 def has_consent_on(x: Execution, c: Choice) -> bool:
@@ -48,11 +54,12 @@ def has_consent_on(x: Execution, c: Choice) -> bool:
     return any(p.has_consent(x.now(c.moment), consent) for p in c.pairs)
 
 
+def verdict_of(x: Execution, c: Choice) -> Verdict:
+    """Whether it is so after the call."""
+    time = x.time(c.moment)
+    return Verdict("", time, time, time if has_consent_on(x, c) else None)
+
+
 def find(x: Execution) -> Verdict:
     """Returns the first such call, or one after which the path has no consent."""
-
-    def verdict(c: Choice) -> Verdict:
-        time = x.time(c.moment)
-        return Verdict("", time, time, time if has_consent_on(x, c) else None)
-
-    return first_of_all(choices(x), lambda c: lacking(x, c), verdict, "connected")
+    return first_of_all(choices(x), lambda c: lacking(x, c), lambda c: verdict_of(x, c), "connected")

@@ -1,5 +1,5 @@
-"""Tests the checkers of the theorems on one agent, and of the clauses `in_time`: for each precondition, a log that lacks exactly it; and a
-log in which the conclusion does not come true."""
+"""Tests the checkers of the theorems on one agent, and of the clauses `in_time` and `connected`: for each precondition, a log that lacks
+exactly it; and a log in which the conclusion does not come true."""
 
 import unittest
 from collections.abc import Callable
@@ -9,7 +9,7 @@ from typing import Any
 from is_ice import NominatedSend
 from lab.clauses import (
     completed_nominations_are_selected, connected_are_answered, connected_have_consent, consent_ends_in_time, consent_holds, in_time,
-    run_in_time, valid_have_consented)
+    run_connected, run_connected_answered, run_in_time, valid_have_consented)
 from lab.clauses.execution import Execution, Lacks
 from lab.clauses.progress import has_selected
 from lab.clauses.verdict import Verdict
@@ -177,21 +177,28 @@ class Valid(unittest.TestCase):
 
 
 class Connected(unittest.TestCase):
-    def lacking(self, x: Execution, of: Any = connected_have_consent) -> Lacks:
+    """The theorems."""
+
+    of: Any = connected_have_consent
+    answered: Any = connected_are_answered
+    choices: Any = staticmethod(connected_have_consent.choices)
+    never_lite = "AreNeverLite"
+
+    def lacking(self, x: Execution, of: Any = None) -> Lacks:
         """Of the last timeout of A."""
-        found: Lacks = of.lacking(x, [c for c in connected_have_consent.choices(x) if c.side == "a"][-1])
+        found: Lacks = (of or self.of).lacking(x, [c for c in self.choices(x) if c.side == "a"][-1])
         return found
 
     def test_after_a_timeout(self) -> None:
         x = answered().network().x
-        self.assertEqual((self.lacking(x), self.lacking(x, connected_are_answered)), ([], []))
-        for theorem in (connected_have_consent, connected_are_answered):
+        self.assertEqual((self.lacking(x), self.lacking(x, self.answered)), ([], []))
+        for theorem in (self.of, self.answered):
             self.assertEqual(theorem.find(x), Verdict("", at(50), at(50), at(50)))
 
     def test_the_preconditions(self) -> None:
         story = answered()
         last = story.moments["a"][-1]
-        for of in (connected_have_consent, connected_are_answered):
+        for of in (self.of, self.answered):
             self.assertEqual(self.lacking(altered(story, 0, "a", next_number=1), of), ["IsFresh"])
             self.assertEqual(self.lacking(altered(story, last, "a", queue=(REQUEST,)), of), ["unqueued"])
             self.assertEqual(self.lacking(altered(story, last, "a", lite=True), of), ["full"])
@@ -199,21 +206,21 @@ class Connected(unittest.TestCase):
             lost.timeout("a", 0)
             self.assertEqual(self.lacking(lost.network().x, of), ["connected"])
         self.assertEqual(self.lacking(answered(ORIGINAL).network().x), [])
-        self.assertEqual(self.lacking(answered(ORIGINAL).network().x, connected_are_answered), ["rule"])
+        self.assertEqual(self.lacking(answered(ORIGINAL).network().x, self.answered), ["rule"])
         lite = Story(rules=CONSENT)
         lite.set("a", "set_ice_lite", True)
         lite.set("a", "set_ice_lite", False)
         lite.exchange("a", 0)
         lite.exchange("a", 50)
         self.assertEqual(self.lacking(lite.network().x), [])
-        self.assertEqual(self.lacking(lite.network().x, connected_are_answered), ["AreNeverLite"])
+        self.assertEqual(self.lacking(lite.network().x, self.answered), [self.never_lite])
 
     def test_without_a_selected_path_or_without_consent(self) -> None:
         story = answered()
         pairs, state = story.agents["a"].pairs, story.agents["a"].state
         story.timeout("a", 1050)
         kept = altered(story, story.moments["a"][-1], "a", True, pairs=pairs, state=state)
-        for theorem in (connected_have_consent, connected_are_answered):
+        for theorem in (self.of, self.answered):
             self.assertTrue(theorem.find(without_selections(answered(), "a")).is_broken)
             self.assertTrue(theorem.find(kept).is_broken)
 
@@ -221,6 +228,21 @@ class Connected(unittest.TestCase):
         alive, pair = connected_are_answered.is_alive_by, Pair(0, 0, 0, 1, consented=7, last_request=9)
         self.assertEqual([alive(Consent(10, strict), now, pair) for strict in (True, False) for now in (16, 17)], [True, False, True, True])
         self.assertFalse(alive(Consent(10), 8, replace(pair, consented=None)))
+
+
+class ConnectedOfRun(Connected):
+    """The clauses of `run`."""
+
+    of = run_connected
+    answered = run_connected_answered
+    choices = staticmethod(run_connected.choices)
+    never_lite = "NeverLite"
+
+    def test_the_path_that_was_selected_last(self) -> None:
+        x = answered().network().x
+        found = list(run_connected.choices(x))
+        self.assertEqual(found, list(connected_have_consent.choices(x)))
+        self.assertEqual([c.selected for c in found if c.side == "a"], [None, TO_B, TO_B])
 
 
 class Completed(unittest.TestCase):

@@ -5,6 +5,7 @@ ghost use Rattle.is_theorems.specs.Bounds.{ListsAreBounded, PairsAreBounded, Pai
 ghost use Rattle.is_rules.specs.Owed.{AreAmong};
 ghost use Rattle.is_theorems.specs.Runs.{IsFresh, PathsAreAnswered, PathsAreNominatedByPeer, LastPathsAreTop, SuccessesMakeValid, RequestsNominate};
 ghost use Rattle.is_theorems.specs.Progress.{SuccessesSelectPaths, NominationsSelect};
+ghost use Rattle.is_theorems.specs.ConsentLogs.{PathsAreAlive, PathsHaveConsent};
 ghost use Rattle.is_theorems.specs.Rounds.{LoggedTimeoutsAreOfUse, PartsPersist};
 ghost use Rattle.is_theorems.specs.DueRounds.{DueRoundsSelect};
 ghost use Rattle.is_theorems.specs.TimedRounds.{RoundsReachInTime};
@@ -19,6 +20,7 @@ use crate::steps::step;
 use is_agent::Agent;
 use is_candidate::LocalPreference;
 use is_proto::Sha1HmacProvider;
+use is_theorems::consent::{selected_are_alive, selected_have_consent};
 use is_theorems::flooding::{discoveries_stay_few, limits_bound, limits_pairs, queues_are_short};
 use is_theorems::logs::{entries_are_points, parts_are_runs, queues_are_kept, replies_are_among};
 use is_theorems::rounds_to_select::{due_rounds_select, open_rounds_select};
@@ -105,6 +107,16 @@ pub fn run<H: Sha1HmacProvider + Drop, P: LocalPreference, R: Rng>(
         → SuccessesSelectPaths H.mac P.answers (record_of agent.old) (R.stream rng.old) (log_of calls.items result) }
     ensures nominations { IsFresh (record_of agent.old)
         → NominationsSelect H.mac P.answers (record_of agent.old) (R.stream rng.old) (log_of calls.items result) }
+
+    // Consent: a full agent is Connected or Completed after a `handle_timeout` call that served no early request. Then the path that was
+    // selected last since the last clear is that of an eligible pair that has consent at the time of the call, whatever rules are set.
+    ensures connected { IsFresh (record_of agent.old)
+        → PathsHaveConsent H.mac P.answers (record_of agent.old) (R.stream rng.old) (log_of calls.items result) }
+
+    // Never lite before such a call, with the rule `consent`: a check of the path's pair got a response, and the last such check was sent
+    // less than the timeout before the call. Or, if consent is not strict, a check of the peer arrived less than 15 s before it.
+    ensures connected_answered { IsFresh (record_of agent.old)
+        → PathsAreAlive H.mac P.answers (record_of agent.old) (R.stream rng.old) (log_of calls.items result) }
 
     // Each segment of the log leads from one state to another, to which the two next clauses refer.
     ensures parts { PartsPersist H.mac P.answers (record_of agent.old) (R.stream rng.old) (log_of calls.items result) }
@@ -195,6 +207,8 @@ pub fn run<H: Sha1HmacProvider + Drop, P: LocalPreference, R: Rng>(
     discoveries_stay_few::<H, P>();
     answers_select::<H, P>();
     timeouts_select::<H, P>();
+    selected_have_consent::<H, P>();
+    selected_are_alive::<H, P>();
     parts_are_runs::<H, P>();
     turns_are_of_use::<H, P>();
     open_rounds_select::<H, P>();

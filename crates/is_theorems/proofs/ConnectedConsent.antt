@@ -4,3 +4,4 @@ pub mod ConnectedCourses
 pub mod AnsweredPairs
 pub mod AnsweredCourses
 pub mod AnsweredLately
+pub mod ConnectedLogs

@@ -40,5 +40,6 @@ pub mod InTime
 pub mod TimedRounds
 pub mod Consent
 pub mod ConsentCourses
+pub mod ConsentLogs
 pub mod AtOnceCourses
 pub mod SelectedInTime

@@ -2,6 +2,7 @@
 
 ghost use Rattle.is_theorems.specs.Consent.{ConsentHolds, ConsentEndsInTime};
 ghost use Rattle.is_theorems.specs.ConsentCourses.{ConnectedAreAnswered, ConnectedHaveConsent, ValidHaveConsented};
+ghost use Rattle.is_theorems.specs.ConsentLogs.{SelectedAreAlive, SelectedHaveConsent};
 
 use is_candidate::LocalPreference;
 use is_proto::Sha1HmacProvider;
@@ -39,3 +40,17 @@ pub fn valid_have_consented<H: Sha1HmacProvider, P: LocalPreference>()
 pub fn connected_are_answered<H: Sha1HmacProvider, P: LocalPreference>()
     ensures { ConnectedAreAnswered H.mac P.answers }
 {}
+
+/// The same as `connected_have_consent` at each entry of a log that is such a call.
+pub fn selected_have_consent<H: Sha1HmacProvider, P: LocalPreference>()
+    ensures { SelectedHaveConsent H.mac P.answers }
+{
+    connected_have_consent::<H, P>();
+}
+
+/// The same as `connected_are_answered` at each entry of a log that is such a call, if the agent was never lite before it.
+pub fn selected_are_alive<H: Sha1HmacProvider, P: LocalPreference>()
+    ensures { SelectedAreAlive H.mac P.answers }
+{
+    connected_are_answered::<H, P>();
+}
