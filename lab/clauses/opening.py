@@ -67,7 +67,7 @@ class Counts:
         key = place, by < self.x.now(self.timeouts[place])
         if key not in self._open:
             self._open[key] = self._least_open(*key)
-        found = [self._open[key], self._least_polled(place, by)]
+        found = [self._open[key], self.least_polled(place, by)]
         return min((count for count in found if count is not None), default=None)
 
     def due_by(self, place: int, by: int) -> int:
@@ -84,7 +84,8 @@ class Counts:
     def _agent(self, place: int) -> Agent:
         return self.x.state(self.timeouts[place], self.side)
 
-    def _least_polled(self, place: int, by: int) -> int | None:
+    def least_polled(self, place: int, by: int) -> int | None:
+        """Returns the least number in which the side only polls (`SufficeForDue`)."""
         most = most_rounds(self.x, self.side, place, is_between)
         found = [1] if len(self._agent(place).pairs) <= 1 else []
         if by < self.x.now(self.timeouts[place]):

@@ -1,0 +1,159 @@
+"""Tests the checker of the theorem `courses_select_in_time`: for each precondition, a log that lacks exactly it; and logs in which the
+conclusion does not come true."""
+
+import unittest
+from dataclasses import replace
+from typing import Any
+
+from is_ice import NominatedSend
+from lab.clauses import courses_select_in_time as of
+from lab.clauses.execution import MAX, Execution, Lacks
+from lab.clauses.verdict import Verdict
+from lab.clock import BEGINNING, MILLISECOND
+from lab.kinds import Rules
+from lab.pairs import Check, Timing
+from lab.replay import replay
+from lab.requests import Request
+from lab.tests.stories import A, B, Story
+
+REQUEST = Request(BEGINNING, A, B, bytes(12), 1, False, "aaaa", 1, None)
+
+
+def at(time: float) -> int:
+    return BEGINNING + round(time * MILLISECOND)
+
+
+def selecting(call: float | None = None, is_answered: bool = True, third: float = 100) -> Story:
+    """A has four pairs, and a timeout each 50 ms. It checks the last pair at 150. The response arrives at 250, two rounds later, and
+    selects the pair. After one timeout another call may follow."""
+    story = Story(hosts=(4, 1))
+    response = None
+    for time in (0, 50, third, 150, 200, 250):
+        check = story.timeout("a", time)
+        if time == 150:
+            response = story.deliver(check, "b", 200)
+        if time == call:
+            story.set("a", "set_ice_lite", False, time)
+    if is_answered:
+        story.deliver(response, "a", 250)
+    return story
+
+
+class SelectsInTime(unittest.TestCase):
+    def choice(self, x: Execution, count: int = 4, pair: int = 3, first: int = 0) -> of.Choice:
+        return of.Choice("a", pair, x.timeouts["a"][first], count, len(x))
+
+    def lacking(self, x: Execution, count: int = 4, pair: int = 3, first: int = 0) -> Lacks:
+        return of.lacking(x, self.choice(x, count, pair, first))
+
+    def altered(self, story: Story, **fields: Any) -> Lacks:
+        """With another state of A before the first round."""
+        return self.lacking(story.altered(story.moments["a"][0], "a", **fields).x)
+
+    def test_four_pairs(self) -> None:
+        x = selecting().network().x
+        self.assertEqual([self.lacking(x, count) for count in (3, 4, 5)], [["SufficeForDue"], [], []])
+        self.assertEqual(of.find(x), Verdict("", at(0), at(3 * 50 + 100), at(250), 4))
+
+    def test_pairs_that_are_due_before_the_first_round(self) -> None:
+        x = selecting().network().x
+        self.assertEqual([self.lacking(x, count, first=1) for count in (2, 3)], [["SufficeForDue"], []])
+        self.assertEqual(of.limit(x, self.choice(x, 3, first=1)), at(50 + 2 * 50 + 100))
+
+    def test_a_single_pair(self) -> None:
+        story = Story()
+        response = story.deliver(story.timeout("a", 0), "b", 50)
+        story.passes("a", 50, 100)
+        story.deliver(response, "a", 100)
+        self.assertEqual(of.find(story.network().x), Verdict("", at(0), at(100), at(100), 1))
+
+    def test_the_round_trip(self) -> None:
+        x = selecting().network().x
+        trips = [of.trip(x, self.choice(x, 4, pair)) for pair in (3, 2, 1, 0)]
+        self.assertEqual(trips, [n * MILLISECOND for n in (100, 150, 200, 250)])
+        unchecked = replace(self.choice(x), end=x.timeouts["a"][1])
+        self.assertEqual((of.trip(x, unchecked), of.trip(x, replace(unchecked, pair=0))), (0, None))
+
+    def test_the_delay(self) -> None:
+        x = selecting(third=102).network().x
+        self.assertEqual(of.find(x), Verdict("", at(0), at(3 * 52 + 100), at(250), 4))
+
+    def test_a_new_agent(self) -> None:
+        self.assertEqual(self.lacking(selecting().altered(0, "a", next_number=1).x), ["IsFresh"])
+
+    def test_the_agent_is_controlling(self) -> None:
+        story = selecting()
+        self.assertEqual(self.altered(story, controlling=False), ["controlling"])
+        for later in (story.moments["a"][0] + 1, story.end - 1):
+            self.assertEqual(self.lacking(story.altered(later, "a", controlling=False).x), ["CourseRounds"])
+
+    def test_the_pair_waits(self) -> None:
+        story = selecting()
+        pairs = story.session().steps[story.moments["a"][0]].before["a"].pairs
+        cases: tuple[tuple[dict[str, Any], str], ...] = (
+            ({"lite": True}, "checking.full"), ({"peer": None}, "checking.peer"), ({"timing": Timing(initial=1)}, "paced"),
+            ({"queue": (REQUEST,)}, "queue"), ({"pairs": (*pairs[:3], replace(pairs[3], due=at(1)))}, "due"))
+        for fields, missing in cases:
+            self.assertEqual(self.altered(story, **fields), [f"Awaits.{missing}"])
+
+    def test_no_pair_is_valid_and_this_one_is_not_removed(self) -> None:
+        story = selecting()
+        pairs = story.session().steps[story.moments["a"][0]].before["a"].pairs
+        silent = replace(pairs[3], due=BEGINNING, checks=tuple(Check(bytes(12), BEGINNING, False, True) for _ in range(9)))
+        cases: tuple[tuple[dict[str, Any], str], ...] = (
+            ({"renominates": True, "rules": Rules(numbered_nominations=True), "selected": 0, "nomination_due": True}, "calm"),
+            ({"pairs": (replace(pairs[0], state="succeeded"), *pairs[1:])}, "invalid"), ({"pairs": (*pairs[:3], silent)}, "young"))
+        for fields, missing in cases:
+            self.assertEqual(self.altered(story, **fields), [f"IsUnanswered.{missing}"])
+
+    def test_other_calls_in_the_rounds(self) -> None:
+        cases = ((0, "first.between"), (50, "IsPassed.between"), (150, "IsPassed.between"), (200, "AreBetween"))
+        for call, missing in cases:
+            self.assertEqual(self.lacking(selecting(call).network().x), [missing])
+        self.assertEqual(of.find(selecting(50).network().x), Verdict("", at(100), at(250), at(250), 2))
+
+    def test_later_rounds_begin_later(self) -> None:
+        story = Story()
+        story.exchange("a", 0)
+        story.exchange("a", 0)
+        x = story.network().x
+        self.assertEqual([self.lacking(x, count, 0) for count in (1, 2)], [[], ["IsPassed.late"]])
+
+    def test_before_the_end_of_the_clock(self) -> None:
+        story = selecting()
+        story.timeout("a", MAX // MILLISECOND)
+        self.assertEqual([self.lacking(story.network().x, count) for count in (6, 7)], [[], ["IsPassed.early"]])
+        last = Story()
+        last.exchange("a", MAX // MILLISECOND)
+        self.assertEqual(self.lacking(last.network().x, 1, 0), ["first.early"])
+
+    def test_the_caller_is_punctual(self) -> None:
+        story = selecting()
+        poll = next(n for n, e in enumerate(story.log.entries) if e.side == "a" and e.call == "poll_timeout")
+        story.log.entries[poll] = replace(story.log.entries[poll], returned=None)
+        self.assertEqual(self.lacking(Execution(replay(story.log))), ["punctual"])
+
+    def test_no_response_arrives(self) -> None:
+        x = selecting(is_answered=False).network().x
+        self.assertEqual(self.lacking(x), ["IsAnsweredWithin"])
+        self.assertEqual(of.find(x).failed, "IsAnsweredWithin")
+
+    def test_no_path_is_selected(self) -> None:
+        story = selecting()
+        story.log.entries = [e for e in story.log.entries if not isinstance(e.returned, NominatedSend)]
+        self.assertTrue(of.find(Execution(replay(story.log))).is_broken)
+
+    def test_a_path_is_selected_too_late(self) -> None:
+        story = selecting()
+        event = next(e for e in story.log.entries if isinstance(e.returned, NominatedSend))
+        story.log.entries.remove(event)
+        story.exchange("a", 300)
+        story.log.entries.append(event)
+        x = Execution(replay(story.log))
+        broken = self.choice(x)
+        self.assertEqual((self.lacking(x), of.limit(x, broken), of.selected_at(x, broken)), ([], at(250), at(300)))
+        self.assertTrue(of.find(x).is_broken)
+
+
+if __name__ == "__main__":
+    unittest.main()
