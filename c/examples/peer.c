@@ -348,9 +348,20 @@ static void begin_sockets(struct session *s, const struct options *o)
     }
 }
 
+/* Requests that arrive before the other peer's signal are then answered all at once when it comes. By the rule they are answered one in
+ * each pacing interval, and checks begin after the last one. */
+static int32_t serve_early_at_once(is_ice_agent *agent)
+{
+    is_ice_agent_rules rules;
+    int32_t code = is_ice_rules(agent, &rules);
+    rules.timeout_after_requests = false; /* `run` calls handle_timeout before any signal, so there always is a next timeout */
+    return code == IS_ICE_OK ? is_ice_set_rules(agent, &rules) : code;
+}
+
 static void begin_agent(struct session *s, const struct options *o)
 {
     int32_t code = signal_begin(&s->agent);
+    if (code == IS_ICE_OK) code = serve_early_at_once(&s->agent);
     if (code == IS_ICE_OK) code = is_ice_set_controlling(&s->agent, o->controlling);
     if (code == IS_ICE_OK) code = is_ice_set_lite(&s->agent, o->lite);
     if (code == IS_ICE_OK) code = is_ice_set_lite_timeout(&s->agent, 30 * SECOND);
