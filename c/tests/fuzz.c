@@ -113,7 +113,9 @@ static bool is_read(const is_ice_agent_rules *given, const is_ice_agent_rules *t
         && told->triggered_checks == given->triggered_checks && told->early_retransmits == given->early_retransmits
         && told->early_interval == interval && told->consent_timeout == given->consent_timeout && told->strict_consent == strict
         && told->selected_first == given->selected_first && told->timeout_after_requests == given->timeout_after_requests
-        && told->lite_keeps_role == given->lite_keeps_role && told->numbered_nominations == given->numbered_nominations;
+        && told->lite_keeps_role == given->lite_keeps_role && told->numbered_nominations == given->numbered_nominations
+        && told->discovered_if_served == given->discovered_if_served
+        && told->state_after_nomination == given->state_after_nomination;
 }
 
 /* Sets the rules of the original, those of a new agent, or each rule to a value of its own, and reads them. */
@@ -130,6 +132,7 @@ static void set_rules(void)
         given->consent_timeout = number(), given->kinds_in_turn = one_in(2), given->selects_at_once = one_in(2);
         given->strict_consent = one_in(2), given->selected_first = one_in(2), given->timeout_after_requests = one_in(2);
         given->lite_keeps_role = one_in(2), given->numbered_nominations = one_in(2);
+        given->discovered_if_served = one_in(2), given->state_after_nomination = one_in(2);
     }
     on = agent;
     if (CALL(OK | QUIET, is_ice_set_rules(agents[on], given)) != IS_ICE_OK) return;

@@ -112,6 +112,7 @@ static void view(is_ice_agent *agent, struct view *v)
         *to++ = (uint64_t)rules.kinds_in_turn * 2 + rules.selects_at_once, *to++ = rules.consent_timeout;
         *to++ = (uint64_t)rules.strict_consent * 4 + (uint64_t)rules.selected_first * 2 + rules.timeout_after_requests;
         *to++ = (uint64_t)rules.lite_keeps_role * 2 + rules.numbered_nominations;
+        *to++ = (uint64_t)rules.discovered_if_served * 2 + rules.state_after_nomination;
     }
     if (is_ice_stats(agent, &stats) == IS_ICE_OK) {
         *to++ = stats.bind_request_sent, *to++ = stats.bind_success_recv, *to++ = stats.bind_request_recv;

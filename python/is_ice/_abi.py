@@ -161,6 +161,8 @@ class AgentRules(ctypes.Structure):
         ("timeout_after_requests", c_bool),
         ("lite_keeps_role", c_bool),
         ("numbered_nominations", c_bool),
+        ("discovered_if_served", c_bool),
+        ("state_after_nomination", c_bool),
     ]
 
 
@@ -221,7 +223,7 @@ class StunTexts(ctypes.Structure):
 
 # The sizes of the structs that c/is_ice.h asserts.
 SIZES = {Agent: 16, Address: 28, Candidate: 60, Fields: 120, Packet: 72, Event: 68, Status: 40, Stats: 40, Nominated: 88, MediaPath: 60,
-         Pair: 96, KindPreferences: 8, PreferenceTable: 16, AgentRules: 40, StunTransaction: 12, StunResult: 32, StunNumber: 16,
+         Pair: 96, KindPreferences: 8, PreferenceTable: 16, AgentRules: 48, StunTransaction: 12, StunResult: 32, StunNumber: 16,
          StunMessage: 248, StunSpan: 24, StunTexts: 144}
 
 _AGENT = POINTER(Agent)

@@ -513,16 +513,18 @@ class Errors(unittest.TestCase):
         self.assertEqual(self.agent.rules, Rules.modern())
         self.assertEqual(Rules.modern(), Rules(
             kinds_in_turn=True, triggered_checks=4, early_rto=early, selects_at_once=True, consent=Consent(29_600_000_000, strict=False),
-            selected_first=True, timeout_after_requests=True, lite_keeps_role=True, numbered_nominations=True))
+            selected_first=True, timeout_after_requests=True, lite_keeps_role=True, numbered_nominations=True, discovered_if_served=True,
+            state_after_nomination=True))
         self.assertEqual(Rules.original(), Rules(
             kinds_in_turn=False, triggered_checks=None, early_rto=None, selects_at_once=False, consent=None, selected_first=False,
-            timeout_after_requests=False, lite_keeps_role=False, numbered_nominations=False))
+            timeout_after_requests=False, lite_keeps_role=False, numbered_nominations=False, discovered_if_served=False,
+            state_after_nomination=False))
         most = (1 << 64) - 1
         changes: tuple[dict[str, Any], ...] = (
             {"kinds_in_turn": False}, {"triggered_checks": None}, {"triggered_checks": most}, {"early_rto": None},
             {"early_rto": EarlyRto(most, most)}, {"early_rto": EarlyRto(1, 0)}, {"selects_at_once": False}, {"consent": None},
             {"consent": Consent(most, strict=True)}, {"consent": Consent(1)}, {"selected_first": False}, {"timeout_after_requests": False},
-            {"lite_keeps_role": False}, {"numbered_nominations": False},
+            {"lite_keeps_role": False}, {"numbered_nominations": False}, {"discovered_if_served": False}, {"state_after_nomination": False},
         )
         for change in changes:
             for rules in (Rules.modern(), Rules.original()):

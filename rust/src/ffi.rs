@@ -219,6 +219,8 @@ pub(crate) struct AgentRules {
     pub(crate) timeout_after_requests: bool,
     pub(crate) lite_keeps_role: bool,
     pub(crate) numbered_nominations: bool,
+    pub(crate) discovered_if_served: bool,
+    pub(crate) state_after_nomination: bool,
 }
 
 #[repr(C)]
@@ -289,7 +291,7 @@ const _: () = {
     assert!(size_of::<Fields>() == 120 && std::mem::offset_of!(Fields, foundation_length) == 88);
     assert!(size_of::<Packet>() == 72 && size_of::<Event>() == 68 && size_of::<Status>() == 40);
     assert!(size_of::<Stats>() == 40 && size_of::<Nominated>() == 88 && size_of::<Pair>() == 96);
-    assert!(size_of::<KindPreferences>() == 8 && size_of::<PreferenceTable>() == 16 && size_of::<AgentRules>() == 40);
+    assert!(size_of::<KindPreferences>() == 8 && size_of::<PreferenceTable>() == 16 && size_of::<AgentRules>() == 48);
     assert!(size_of::<StunTransaction>() == 12 && size_of::<StunResult>() == 32);
     assert!(size_of::<StunNumber>() == 16 && size_of::<StunMessage>() == 248);
     assert!(size_of::<StunSpan>() == 24 && size_of::<StunTexts>() == 144);

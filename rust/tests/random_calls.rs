@@ -217,6 +217,8 @@ impl Session {
         rules.timeout_after_requests = self.random.once_in(2);
         rules.lite_keeps_role = self.random.once_in(2);
         rules.numbered_nominations = self.random.once_in(2);
+        rules.discovered_if_served = self.random.once_in(2);
+        rules.state_after_nomination = self.random.once_in(2);
         rules.triggered_checks = self.random.once_in(2).then_some(count as u64);
         rules.early_rto = self.random.once_in(2).then_some(EarlyRto { retransmits, interval });
         let (timeout, strict) = (self.random.duration(), self.random.once_in(2));

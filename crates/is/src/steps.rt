@@ -6,7 +6,7 @@ ghost use Rattle.is_rules.specs.Steps as steps;
 ghost use Rattle.is_rules.specs.Steps.{Receives, Step};
 ghost use Rattle.is_rules.specs.Sound.{GivesBased};
 ghost use Rattle.is.specs.Views.{call_view, answer_view, entry_view};
-ghost use Rattle.is.specs.Subjects.{is_plain_setting, is_quiet};
+ghost use Rattle.is.specs.Subjects.{is_plain_setting, is_quiet, may_select};
 ghost use Rattle.is.specs.Accepted.{AcceptsOnPath, LeavesOut};
 
 use crate::calls::{AgentCall, Answer, Entry};
@@ -32,7 +32,7 @@ pub(crate) fn quiet(number: usize, answer: Answer) -> Entry
     }
 }
 
-/// The log entry of a packet or of a `handle_timeout` call: what it emitted is read from the agent.
+/// The log entry of a call that may select a path: what it emitted is read from the agent.
 fn telling<H, P>(agent: &Agent<H, P>, number: usize, answer: Answer) -> Entry
     ensures emitted { entry_view result ≡ record { answer = answer_view answer; emitted = emitted_of agent.now } }
     ensures numbered { result.number ≡ number }
@@ -212,9 +212,6 @@ fn take_quiet<H: Sha1HmacProvider + Drop, P: LocalPreference>(
         AgentCall::SetMaxStunRetransmits(limit) => take_limit(agent, limit),
         AgentCall::SetLocalCredentials(own) => done_or_rejected(agent.set_local_credentials(own)),
         AgentCall::SetRemoteCredentials(far) => done_or_rejected(agent.set_remote_credentials(far)),
-        AgentCall::AddLocalCandidate(added) => added_or_rejected(add_local(agent, added)),
-        AgentCall::AddRemoteCandidate(added) => done_or_rejected(agent.add_remote_candidate(added)),
-        AgentCall::InvalidateCandidate(lost) => Answer::Flag(agent.invalidate_candidate(&lost)),
         AgentCall::RestartIce { creds, keep } => done_or_rejected(agent.ice_restart(creds, keep)),
         AgentCall::RecreateCandidatePairs => done_or_rejected(agent.recreate_candidate_pairs()),
         AgentCall::PollTransmit => Answer::Transmit(agent.poll_transmit()),
@@ -225,6 +222,26 @@ fn take_quiet<H: Sha1HmacProvider + Drop, P: LocalPreference>(
             Answer::Done
         }
     }
+}
+
+/// A call that may select another path.
+fn take_candidate<H: Sha1HmacProvider + Drop, P: LocalPreference>(
+    agent: &mut Agent<H, P>,
+    number: usize,
+    call: AgentCall<P>,
+) -> Entry
+    requires selects { may_select (call_view call) ≡ true }
+    ensures did { (s : Stream) → Step H.mac P.answers (record_of agent.old) s (call_view call) (entry_view result) (record_of agent.new) s }
+    ensures numbered { result.number ≡ number }
+    ensures given { GivesBased (call_view call) }
+{
+    let answer = match call {
+        AgentCall::AddLocalCandidate(added) => added_or_rejected(add_local(agent, added)),
+        AgentCall::AddRemoteCandidate(added) => done_or_rejected(agent.add_remote_candidate(added)),
+        AgentCall::InvalidateCandidate(lost) => flag_or_rejected(agent.invalidate_candidate(&lost)),
+        _ => unreachable!(),
+    };
+    telling(agent, number, answer)
 }
 
 /// One call, with its number.
@@ -255,6 +272,9 @@ pub(crate) fn step<H: Sha1HmacProvider + Drop, P: LocalPreference, R: Rng>(
             take_packet(agent, number, now, path, &bytes)
         }
         AgentCall::HandleTimeout(now) => take_timeout(agent, number, now, rng),
+        AgentCall::AddLocalCandidate(_)
+        | AgentCall::AddRemoteCandidate(_)
+        | AgentCall::InvalidateCandidate(_) => take_candidate(agent, number, call),
         other => quiet(number, take_quiet(agent, other)),
     }
 }

@@ -34,7 +34,7 @@ impl<H: Sha1HmacProvider + Drop, P: LocalPreference> Agent<H, P> {
         Ok(Some(IceAgentEvent::IceRestart(self.local_creds.clone()?)))
     }
 
-    /// Emits the start event, if there is one, evaluates the state, and removes this many outdated requests, within the
+    /// Emits the start event, if there is one, evaluates the state unless it is after nomination, and removes this many outdated requests, within the
     /// reserved capacity for two events.
     pub(crate) fn begin_timeout(
         &mut self,
@@ -51,7 +51,7 @@ impl<H: Sha1HmacProvider + Drop, P: LocalPreference> Agent<H, P> {
         ensures checks { (t : ℕ) → HasCheckRoomAt t self.old → HasCheckRoomAt t self.new }
     {
         emit_start(&mut self.events, start);
-        self.evaluate_state(now);
+        self.start_state(now);
         drop_first(&mut self.queue, expired);
     }
 

@@ -2,11 +2,10 @@
 
 ghost use Rattle.std.specs.Prelude.{◌≡◌, None};
 ghost use Rattle.is_agent.specs.View.{record_of};
-ghost use Rattle.is_rules.specs.Discarding.{Invalidates};
 ghost use Rattle.is_c.specs.Adding.{addition_index, addition_code, has_room, PutsAddition, AddsGiven, AddsRead};
-ghost use Rattle.is_c.specs.Codes.{found_code};
+ghost use Rattle.is_c.specs.Codes.{flag_code};
 ghost use Rattle.is_c.specs.Held.{home_of, held_by, At};
-ghost use Rattle.is_c.specs.Given.{CallsMade, CallsGiven, CallsRead};
+ghost use Rattle.is_c.specs.Given.{CallsMade, CallsGiven, CallsRead, Discards};
 
 use crate::candidate::{LocalCandidate, line_candidate, local_candidate};
 use crate::codes;
@@ -142,10 +141,10 @@ pub extern "C" fn is_ice_add_remote(
 
 /// Discards a candidate that equals the one that was made, or returns the code of why there is none.
 fn invalidate_made(home: &mut Home, made: Option<Result<Candidate, IceError>>, why: i32) -> i32
-    ensures { CallsMade Invalidates found_code why made (home_of home.old) result (home_of home.new) }
+    ensures { CallsMade Discards flag_code why made (home_of home.old) result (home_of home.new) }
 {
     match made {
-        Some(Ok(candidate)) => codes::found_code(home.agent.invalidate_candidate(&candidate)),
+        Some(Ok(candidate)) => codes::flag_code(home.agent.invalidate_candidate(&candidate)),
         Some(Err(error)) => codes::code_of(&error),
         None => why,
     }
@@ -158,7 +157,7 @@ pub extern "C" fn is_ice_invalidate_local(
     slot: &mut Slot,
     candidate: &LocalCandidate,
 ) -> i32
-    ensures { At (CallsGiven Invalidates found_code candidate.now) (held_by slot.old) result (held_by slot.new) }
+    ensures { At (CallsGiven Discards flag_code candidate.now) (held_by slot.old) result (held_by slot.new) }
 {
     let Some(home) = slot.home() else {
         return codes::NO_AGENT;
@@ -169,7 +168,7 @@ pub extern "C" fn is_ice_invalidate_local(
 /// Discards a candidate that equals the one of the candidate attribute.
 #[unsafe(no_mangle)]
 pub extern "C" fn is_ice_invalidate(alloc: Global, slot: &mut Slot, line: &[u8]) -> i32
-    ensures { At (CallsRead Invalidates found_code line.now) (held_by slot.old) result (held_by slot.new) }
+    ensures { At (CallsRead Discards flag_code line.now) (held_by slot.old) result (held_by slot.new) }
 {
     let Some(home) = slot.home() else {
         return codes::NO_AGENT;

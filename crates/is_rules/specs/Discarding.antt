@@ -1,5 +1,7 @@
 -- Discarded candidates: a discarded candidate keeps its index, and its pairs are removed (`invalidate_candidate`).
-use Rattle.std.specs.Prelude.{◌≡◌, ℕ, ◌==◌, Bool, true, false, List, position, slice_set, Option, Some, None, if◌then◌else◌}
+use Rattle.std.specs.Prelude.{◌≡◌, ℕ, ◌==◌, Bool, true, false, List, position, slice_set, Option, Some, None, Result, Ok, Err, if◌then◌else◌}
+use Rattle.is_proto.specs.declared.error.IceError.{IceError}
+use Rattle.is_proto.specs.declared.error.IceError.TheVariants.{OutOfMemory}
 use Rattle.is_candidate.specs.Candidates.{CandidateRecord, candidate_at}
 use Rattle.is_candidate.specs.Equality.{is_equivalent}
 use Rattle.is_pair.specs.Pairs.{PairRecord}
@@ -46,6 +48,7 @@ module _ {H P : Type 0} where
   InvalidatesAt None (Some place) old found new = (found ≡ true) × (new ≡ remote_discarded place old)
   InvalidatesAt None None old found new = (found ≡ false) × (new ≡ old)
 
-  -- `invalidate_candidate`: a local candidate, else a remote one
-  abbrev pub Invalidates : AgentRecord H P → CandidateRecord → Bool → AgentRecord H P → Type 0
-  Invalidates old c found new = InvalidatesAt (place_to_discard c old.local) (place_to_discard c old.remote) old found new
+  -- `invalidate_candidate`: a local candidate, else a remote one. It fails only for an allocation failure.
+  abbrev pub Invalidates : AgentRecord H P → CandidateRecord → Result Bool IceError → AgentRecord H P → Type 0
+  Invalidates old c (Ok found) new = InvalidatesAt (place_to_discard c old.local) (place_to_discard c old.remote) old found new
+  Invalidates old c (Err error) new = (error ≡ OutOfMemory) × (new ≡ old)

@@ -9,7 +9,7 @@ use crate::places::candidate_at;
 use is_candidate::Candidate;
 use is_candidate::candidate::equality::is_equivalent;
 use is_candidate::candidate::internals::{discard, is_discarded};
-use is_pair::checklist::PairTest;
+use is_pair::checklist::{PairRemoval, PairTest, Removal};
 use is_pair::pair::CandidatePair;
 
 /// Marks the candidate at the index as discarded.
@@ -54,6 +54,18 @@ impl PairTest for RemoteAt {
 
     fn passes(&self, pair: &CandidatePair) -> bool {
         pair.remote_idx() == self.place
+    }
+}
+
+impl PairRemoval for LocalAt {
+    fn removal(&self, _pair: &CandidatePair) -> Removal {
+        Removal::Invalidated
+    }
+}
+
+impl PairRemoval for RemoteAt {
+    fn removal(&self, _pair: &CandidatePair) -> Removal {
+        Removal::Invalidated
     }
 }
 

@@ -39,4 +39,5 @@ pub mod Pacing
 pub mod InTime
 pub mod Consent
 pub mod ConsentCourses
+pub mod Settled
 pub mod AtOnceCourses

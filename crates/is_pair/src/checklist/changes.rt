@@ -6,7 +6,7 @@ ghost use Rattle.is_pair.specs.Pairs.{heard, undue};
 ghost use Rattle.is_pair.specs.Due.{asked};
 ghost use Rattle.is_pair.specs.Checklists.{multiset_of, HasRoom, HasCheckRoom};
 
-use super::{Checklist, PairChange, PairPriority, mapped, ranks};
+use super::{Checklist, PairChange, PairPriority, listed, ranks};
 use crate::pair::CandidatePair;
 use crate::reset_next_binding_attempt;
 use is_proto::Instant;
@@ -70,7 +70,7 @@ impl Checklist {
         ensures check_room { HasCheckRoom self.old → HasCheckRoom self.new }
         ensures below { (n : ℕ) → are_below n (multiset_of self.old) ≡ true → are_below n (multiset_of self.new) ≡ true }
     {
-        mapped::change(&mut self.pairs, number, change);
+        listed::change(&mut self.pairs, number, change);
     }
 
     /// Changes all pairs.
@@ -81,7 +81,7 @@ impl Checklist {
         ensures check_room { HasCheckRoom self.old → HasCheckRoom self.new }
         ensures below { (n : ℕ) → are_below n (multiset_of self.old) ≡ true → are_below n (multiset_of self.new) ≡ true }
     {
-        mapped::change_all(&mut self.pairs, change);
+        listed::change_all(&mut self.pairs, change);
     }
 
     /// Computes the due times of the next checks of all pairs, and fixes them.
@@ -122,7 +122,7 @@ impl Checklist {
         ensures check_room { HasCheckRoom self.old → HasCheckRoom self.new }
         ensures below { (n : ℕ) → are_below n (multiset_of self.old) ≡ true → are_below n (multiset_of self.new) ≡ true }
     {
-        mapped::set_priorities(&mut self.pairs, rule);
+        listed::set_priorities(&mut self.pairs, rule);
         ranks::rebuild_order(&mut self.ranks, &self.pairs);
     }
 }

@@ -5,7 +5,7 @@ ghost use Rattle.std.specs.Option.{option_copied};
 ghost use Rattle.is_pair.specs.Multiset.{are_below, Evicts, IsLowest};
 ghost use Rattle.is_pair.specs.Checklists.{multiset_of, HasRoom, HasCheckRoom};
 
-use super::Checklist;
+use super::{Checklist, Removal, listed};
 use crate::pair::CandidatePair;
 
 impl Checklist {
@@ -14,7 +14,7 @@ impl Checklist {
         ensures { IsLowest (multiset_of self.now) (option_copied result) }
     {
         match self.ranks.first() {
-            Some(rank) => self.pairs.get(&rank.number),
+            Some(rank) => listed::get(&self.pairs, rank.number),
             None => None,
         }
     }
@@ -31,7 +31,7 @@ impl Checklist {
                 None => return,
                 Some(least) => {
                     let number = least.id().0;
-                    self.remove(number);
+                    self.remove(number, Removal::Evicted);
                 }
             }
         }

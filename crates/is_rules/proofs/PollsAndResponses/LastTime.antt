@@ -53,7 +53,7 @@ module _ {H P : Type 0} where
   removes : (now : ℕ) (old new : AgentRecord H P) (path : Option Path) → RemovesExpired now old path new → Keeps old new
   removes now old new path h = either (list_any (is_expired now old) old.pairs) h
       (λ _ k. ap (λ (a : AgentRecord H P). a.last_time) k.2 ∙ nominates (expired_gone now old) k.0 path k.1)
-      (λ _ k. same old new k.1)
+      (λ _ k. ap (λ (a : AgentRecord H P). a.last_time) k.1)
 
   -- ---- by the rule, the time is noted before an early request is served
 

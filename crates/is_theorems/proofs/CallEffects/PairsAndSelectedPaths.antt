@@ -233,7 +233,7 @@ module _ {H P : Type 0} (mac : H → List ℕ → List ℕ → List ℕ) (answer
 
   module _ (now : ℕ) (via : Path) (bytes : List ℕ) (m : Message) (mid : AgentRecord H P) (emitted : Emitted) (sound : IsSound old)
       (fit : Fit (parts_of (Asks (ReceivePacket now via bytes)) (Met (ReceivePacket now via bytes)) Sent old))
-      (reads : Reads bytes m) (accepted : IsAcceptedOn mac old via m) (e_is : e ≡ record { answer = Flag true; emitted = emitted }) (made : new ≡ discovered_emitted via mid) where
+      (reads : Reads bytes m) (accepted : IsAcceptedOn mac old via m) (e_is : e ≡ record { answer = Flag true; emitted = emitted }) (made : new ≡ discovered_emitted m.class emitted via mid) where
     abbrev packet : Call P
     packet = ReceivePacket now via bytes
 

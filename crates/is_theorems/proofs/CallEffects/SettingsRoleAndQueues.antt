@@ -303,7 +303,7 @@ module _ {H P : Type 0} where
       entry = record { answer = Flag true; emitted = emitted }
 
       abbrev new : AgentRecord H P
-      new = discovered_emitted path mid
+      new = discovered_emitted m.class emitted path mid
 
       abbrev q : RequestRecord
       q = request_in now path m
@@ -498,7 +498,7 @@ module _ {H P : Type 0} where
         unmoved _ (quiet (Flag false)) (is ∙ ap (λ (x : Emitted). let f : Entry = record { answer = Flag false; emitted = x } in f) emitted_is) made
         (plain old old _ _ refl refl refl refl refl refl refl (inl refl) (inl refl) (λ q h. (let no : Flag false ≡ Flag true = h.3.3 in cc)) (λ at by n h. (let no : Flag false ≡ Flag true = h.3 in cc)))
     receives now path bytes (inr (m, reads, (Ok true, emitted, is, (accepted, (mid, takes, made))))) =
-        moved old new (discovered_emitted path mid) _ e _ is made (taken mac now old mid path bytes m emitted reads m.class refl takes)
+        moved old new (discovered_emitted m.class emitted path mid) _ e _ is made (taken mac now old mid path bytes m emitted reads m.class refl takes)
     receives now path bytes (inr (m, reads, (Err error, emitted, is, (may, emitted_is, made)))) =
         unmoved _ (quiet (Rejected error)) (is ∙ ap (λ (x : Emitted). let f : Entry = record { answer = Rejected error; emitted = x } in f) emitted_is) made
         (plain old old _ _ refl refl refl refl refl refl refl (inl refl) (inl refl) (λ q h. (let no : Rejected error ≡ Flag true = h.3.3 in cc)) (λ at by n h. (let no : Rejected error ≡ Flag true = h.3 in cc)))

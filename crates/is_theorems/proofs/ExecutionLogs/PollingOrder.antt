@@ -1,5 +1,5 @@
 -- Events are appended, in the order in which they happen.
-use Rattle.std.proofs.Common.{◌≡◌, ℕ, ◌==◌, Bool, true, false, List, [], ◌∷◌, ◌++◌, length, Option, Some, None, Result, Ok, Err, inl, inr, refl, ap, sym, ◌∙◌, subst, append_assoc, if◌then◌else◌, not}
+use Rattle.std.proofs.Common.{is_some, ◌≡◌, ℕ, ◌==◌, Bool, true, false, List, [], ◌∷◌, ◌++◌, length, Option, Some, None, Result, Ok, Err, inl, inr, refl, ap, sym, ◌∙◌, subst, append_assoc, if◌then◌else◌, not}
 use Rattle.std.specs.Prelude.{MatchBool, MatchOption, ◌&&◌}
 use Rattle.std.specs.List.{list_any}
 use Rattle.std.proofs.lemmas.List.{append-nil}
@@ -36,11 +36,12 @@ use Rattle.is_rules.specs.Remote.{AddsRemote, as_remote, with_remote}
 use Rattle.is_rules.specs.Restarting.{restarted, emptied}
 use Rattle.is_rules.specs.States.{same_state, with_state, evaluated}
 use Rattle.is_rules.specs.Nominating.{with_selection, nominated_emitted, Nominates, NominatesWhere}
-use Rattle.is_rules.specs.Serving.{selects_at_requests, pair_served, request_counted, with_sender, with_sender_at, is_misled, names_another, RecordsAndResponds, FindsOrAddsPair, AddsUnknownSender, CountsAndServes, ResolvesRoleConflictBy, ResolvesRoleConflict, Drops, Serves}
+use Rattle.is_rules.specs.Serving.{trigger_time, selects_at_requests, pair_served, request_counted, with_sender, with_sender_at, is_misled, names_another, RecordsAndResponds, FindsOrAddsPair, AddsUnknownSender, CountsAndServes, ResolvesRoleConflictBy, ResolvesRoleConflict, Drops, Serves}
 use Rattle.is_rules.specs.Queue.{first_taken, request_at, queued}
 use Rattle.is_rules.specs.Answers.{TakesSuccess, TakesFailure, LeavesRole, is_role_conflict}
 use Rattle.is_rules.specs.Accepting.{Takes, discovered_emitted, is_passed_over, HandlesPacket}
 use Rattle.is_rules.specs.Checking.{all_asked, MayCheck, ChecksTop}
+use Rattle.is_rules.specs.Settling.{settled}
 use Rattle.is_rules.specs.Timeouts.{at_request, timeout_begun, start_emitted, at_timeout, is_expired, expired_gone, RemovesExpired, MaintainsPairs, ServesQueued, TimesOut}
 use Rattle.is_rules.specs.Steps.{Call, SetMtu, SetControlTieBreaker, SetMaxCandidatePairs, SetMaxDiscovered, SetIceLite, SetRenomination, SetRules, SetTimingAdvance, SetInitialStunRto, SetMaxStunRto, SetMaxStunRetransmits, SetLiteTimeout, SetLocalPreference, SetControlling, SetLocalCredentials, SetRemoteCredentials, SkipPairIds, AddLocalCandidate, AddRemoteCandidate, InvalidateCandidate, RestartIce, RecreateCandidatePairs, ReceivePacket, HandleTimeout, PollTransmit, PollTimeout, PollEvent, Done, NotCalled, Entry, quiet, Becomes, Receives, Step}
 use Rattle.is_theorems.specs.Reporting.{Extends, Begins, Reports, QueuesTheorem}
@@ -111,7 +112,8 @@ module _ {H P : Type 0} where
     pair_grows : (l r number : ℕ) (s new : AgentRecord H P) (emitted : Emitted) → RecordsAndResponds mac q l r number s emitted new → Grows s new
     pair_grows l r number s new emitted (path, mid, nominates, (put, is, made)) =
         let k : Grows s mid = where_grows (selects_at_requests s && is_valid_at number s.pairs) (pair_served q number s) mid path nominates in
-        both s mid new k (same_events mid new (ap (λ (a : AgentRecord H P). a.events) made))
+        let at : AgentRecord H P = settled (is_some path) (trigger_time q s) mid in
+        both s mid new k (both mid at new (state_grows _ mid) (same_events at new (ap (λ (a : AgentRecord H P). a.events) made)))
 
     takes_grows : (l r : ℕ) (number : Option ℕ) (s new : AgentRecord H P) (emitted : Emitted) → FindsOrAddsPair mac q l r number s emitted new → Grows s new
     takes_grows l r (Some number) s new emitted h = pair_grows l r number s new emitted h
@@ -181,7 +183,7 @@ module _ {H P : Type 0} where
       (λ _ k. (
       let a : Grows old k.0 = nominates_grows (expired_gone now old) k.0 path k.1 in
       both old k.0 new a (grown k.0 (evaluated now k.0) new k.2 (state_grows _ k.0))))
-      (λ _ k. stays old new k.1)
+      (λ _ k. grown old (settled true now old) new k.1 (state_grows _ old))
 
   check_grows : (mac : H → List ℕ → List ℕ → List ℕ) (now : ℕ) (remote : Option IceCreds) (old new : AgentRecord H P) (s t : Stream) (issued : Option Issued)
       → MayCheck mac now remote old s issued new t → Grows old new
@@ -234,13 +236,13 @@ module _ {H P : Type 0} where
     by true = inl refl
     by false = inr refl
 
-  source_grows : (via : Path) (a : AgentRecord H P) → Grows a (discovered_emitted via a)
-  source_grows via a = one_more (is_passed_over via a) a.events _
+  source_grows : (c : Class) (emitted : Emitted) (via : Path) (a : AgentRecord H P) → Grows a (discovered_emitted c emitted via a)
+  source_grows c emitted via a = one_more (is_passed_over c emitted via a) a.events _
 
   handles_grows : (mac : H → List ℕ → List ℕ → List ℕ) (now : ℕ) (old new : AgentRecord H P) (via : Path) (m : Message) (r : Result Bool IceError) (emitted : Emitted)
       → HandlesPacket mac now old via m r emitted new → Grows old new
   handles_grows mac now old new via m (Ok true) emitted (accepted, (mid, takes, made)) =
-      both old mid new (taken_grows mac m.class now old mid via m emitted takes) (grown mid (discovered_emitted via mid) new made (source_grows via mid))
+      both old mid new (taken_grows mac m.class now old mid via m emitted takes) (grown mid (discovered_emitted m.class emitted via mid) new made (source_grows m.class emitted via mid))
   handles_grows mac now old new via m (Ok false) emitted (unaccepted, is, made) = stays old new made
   handles_grows mac now old new via m (Err error) emitted (may, is, made) = stays old new made
 

@@ -78,7 +78,7 @@ module _ {H P : Type 0} where
   gives-up-same : (now : ℕ) (old new : AgentRecord H P) (path : Option Path) → RemovesExpired now old path new → Same old new
   gives-up-same now old new path h = either (list_any (is_expired now old) old.pairs) h
       (λ _ k. made-of _ new k.2 ∙ nominates-same (expired_gone now old) k.0 path k.1)
-      (λ _ k. made-of old new k.1)
+      (λ _ k. made-of _ new k.1)
 
   -- ---- responses
 

@@ -307,7 +307,7 @@ module _ {H P : Type 0} where
     -- ---- packets and timeouts
 
     module _ (now : ℕ) (via : Path) (bytes : List ℕ) (comes : x.call ≡ ReceivePacket now via bytes) (m : Message) (mid : AgentRecord H P) (emitted : Emitted)
-        (e_is : x.entry ≡ record { answer = Flag true; emitted = emitted }) (reads : Reads bytes m) (made : new ≡ discovered_emitted via mid) where
+        (e_is : x.entry ≡ record { answer = Flag true; emitted = emitted }) (reads : Reads bytes m) (made : new ≡ discovered_emitted m.class emitted via mid) where
       emitted-is : x.entry.emitted ≡ emitted
       emitted-is = ap (λ (y : Entry). y.emitted) e_is
 
@@ -324,7 +324,7 @@ module _ {H P : Type 0} where
       request None none is (nothing, same_is) =
           silent (last-by (ap (λ (a : AgentRecord H P). a.last_nominated) same_is)) (ap (λ (y : Emitted). y.issued) (emitted-is ∙ nothing))
       request (Some peer) known is h =
-          by-serving (request_in now via m) old (discovered_emitted via mid) emitted (serving-now peer known is) emitted-is refl refl made
+          by-serving (request_in now via m) old (discovered_emitted m.class emitted via mid) emitted (serving-now peer known is) emitted-is refl refl made
           (serves mac (request_in now via m) old mid emitted sound.based h)
 
       failure-silent : TakesFailure old via m emitted mid → emitted.issued ≡ None

@@ -40,6 +40,7 @@ use Rattle.is_rules.specs.Roles.{conflict_of, switched, switched_sides, with_pri
 use Rattle.is_rules.specs.Serving.{selects_at_requests, after_request, is_misled, names_another, pair_served, request_counted, served, validated_by_peer, with_sender, with_sender_at, Drops, Queues, RecordsAndResponds, FindsOrAddsPair, AddsUnknownSender, CountsAndServes, ResolvesRoleConflictBy, ResolvesRoleConflict, Serves, as_taken, nominated_by_peer}
 use Rattle.is_rules.specs.States.{evaluated}
 use Rattle.is_rules.specs.Steps.{Entry, Receives}
+use Rattle.is_rules.specs.Settling.{settled}
 use Rattle.is_rules.specs.Timeouts.{at_request, RemovesExpired, MaintainsPairs, TimesOut, at_timeout, expired_gone, is_expired, timeout_begun}
 use Rattle.is_theorems.proofs.BasicLemmas.EqualAddresses.{both}
 use Rattle.is_theorems.proofs.StorageBounds.BoundedLists.{is_own}
@@ -196,7 +197,7 @@ module _ {H P : Type 0} where
   removes_expired_fewer now old new path h = either (list_any (is_expired now old) old.pairs) h
       (λ _ k. evaluated_fewer now old k.0 new k.2
       (on old (expired_gone now old) k.0 (extras-filter (own_at old.local) (λ p. not (is_expired now old p)) old.pairs) (nominates_fewer (expired_gone now old) k.0 path k.1)))
-      (λ _ k. unchanged old new k.1)
+      (λ _ k. made-as old (settled true now old) new k.1 (unchanged old old refl))
 
   -- ---- checks
 
@@ -322,7 +323,7 @@ module _ {H P : Type 0} where
     handled : (now : ℕ) (old new : AgentRecord H P) (via : Path) (m : Message) (r : Result Bool IceError) (emitted : Emitted) → ((q : PairRecord) → Has old.pairs q → q.local < length old.local) → HandlesPacket mac now old via m r emitted new → Fewer old new
     handled now old new via m (Ok false) emitted inside (rejected, is, made) = unchanged old new made
     handled now old new via m (Ok true) emitted inside (accepted, (mid, takes_it, made)) =
-        made-as old (discovered_emitted via mid) new made (by_class m.class now old mid via m emitted inside takes_it)
+        made-as old (discovered_emitted m.class emitted via mid) new made (by_class m.class now old mid via m emitted inside takes_it)
     handled now old new via m (Err error) emitted inside (may, is, made) = unchanged old new made
 
     pub received : (answers : P → CandidateRecord → ℕ → ℕ → Type 0) (now : ℕ) (old new : AgentRecord H P) (via : Path) (bytes : List ℕ) (e : Entry)

@@ -16,7 +16,7 @@ use Rattle.is_rules.specs.declared.emitted.Path.{Path}
 use Rattle.is_rules.specs.declared.event.IceAgentEvent.{IceAgentEvent}
 use Rattle.is_rules.specs.declared.event.IceAgentEvent.TheVariants.{DiscoveredRecv, IceRestart}
 use Rattle.is_rules.specs.declared.event.IceConnectionState.TheVariants.{Checking}
-use Rattle.is_rules.specs.Accepting.{Takes, discovered_emitted, is_discovered, is_passed_over}
+use Rattle.is_rules.specs.Accepting.{Takes, discovered_emitted, is_discovered, is_passed_over, reports_none}
 use Rattle.is_rules.specs.Agent.{AgentRecord}
 use Rattle.is_theorems.specs.Bounds.{IsWithin, may_serve}
 use Rattle.is_rules.specs.Credentials.{SetsLocal, SetsRemote}
@@ -64,11 +64,11 @@ loose a b m n old new g w =
     let c = g.packets in let d = g.others in let e = w.packets in let f = w.others in
     record { packets = omega (arith, c, e); others = omega (arith, d, f) }
 
-below-limit : (b : Bool) (limit : Option ℕ) (most k : ℕ) → (b || not (is_below limit k)) ≡ false → IsWithin most limit → k < most
-below-limit true limit most k is limited = let no : true ≡ false = is in absurd (cc)
-below-limit false None most k is limited = absurd limited
-below-limit false (Some l) most k is limited = by (is_below (Some l) k) refl is where
-  by : (b : Bool) → is_below (Some l) k ≡ b → not b ≡ false → k < most
+below-limit : (b c : Bool) (limit : Option ℕ) (most k : ℕ) → (b || not (is_below limit k) || c) ≡ false → IsWithin most limit → k < most
+below-limit true c limit most k is limited = let no : true ≡ false = is in absurd (cc)
+below-limit false c None most k is limited = absurd limited
+below-limit false c (Some l) most k is limited = by (is_below (Some l) k) refl is where
+  by : (b : Bool) → is_below (Some l) k ≡ b → (not b || c) ≡ false → k < most
   by true e h = let lt : k < l = ltb-true k l e in omega (arith, lt, limited)
   by false e h = let no : true ≡ false = h in absurd (cc)
 
@@ -84,7 +84,7 @@ module _ {H P : Type 0} where
     -- ---- packets
 
     class_adds : (c : Class) (now : ℕ) (old mid : AgentRecord H P) (via : Path) (m : Message) (emitted : Emitted) → Takes mac c now old via m emitted mid → Adds 1 2 old mid
-    class_adds class.Request now old mid via m emitted h = most 1 1 1 2 old mid (omega arith) (omega arith) (requested_adds mac (request_in now via m) old.remote_creds old mid emitted h)
+    class_adds class.Request now old mid via m emitted h = most 1 2 1 2 old mid (omega arith) (omega arith) (requested_adds mac (request_in now via m) old.remote_creds old mid emitted h)
     class_adds class.Success now old mid via m emitted h = most 0 2 1 2 old mid (omega arith) (omega arith) (success_adds now old mid via m emitted h)
     class_adds class.Failure now old mid via m emitted h = most 0 0 1 2 old mid (omega arith) (omega arith) (failure_adds old mid via m emitted h)
     class_adds class.Indication now old mid via m emitted h = absurd h
@@ -96,11 +96,11 @@ module _ {H P : Type 0} where
       others : other_count new.events ≤ other_count old.events
       discoveries : (limit : ℕ) → IsWithin limit old.max_discovered → Holds limit old new
 
-    discovers : (via : Path) (a : AgentRecord H P) → Discovers a (discovered_emitted via a)
-    discovers via a = record {
+    discovers : (c : Class) (emitted : Emitted) (via : Path) (a : AgentRecord H P) → Discovers a (discovered_emitted c emitted via a)
+    discovers c emitted via a = record {
       packets = omega arith;
-      others = others (is_passed_over via a);
-      discoveries = λ limit limited was. found limit limited was (is_passed_over via a) refl;
+      others = others (is_passed_over c emitted via a);
+      discoveries = λ limit limited was. found limit limited was (is_passed_over c emitted via a) refl;
     } where
       e : IceAgentEvent
       e = DiscoveredRecv via.proto via.source
@@ -111,13 +111,13 @@ module _ {H P : Type 0} where
           let one : other_count (a.events ++ e ∷ []) ≡ other_count a.events + 0 = count-more (λ x. not (is_discovery x)) a.events e in
           omega (arith, one)
 
-      found : (limit : ℕ) → IsWithin limit a.max_discovered → discovery_count a.events ≤ limit → (b : Bool) → is_passed_over via a ≡ b
+      found : (limit : ℕ) → IsWithin limit a.max_discovered → discovery_count a.events ≤ limit → (b : Bool) → is_passed_over c emitted via a ≡ b
           → discovery_count (if b then a.events else a.events ++ e ∷ []) ≤ limit
       found limit limited was true is = was
       found limit limited was false is =
           let one : discovery_count (a.events ++ e ∷ []) ≡ discovery_count a.events + 1 = count-more is_discovery a.events e in
           let all = counts-all a.events in
-          let lt : length a.events < limit = below-limit (is_discovered via a) a.max_discovered limit (length a.events) is limited in
+          let lt : length a.events < limit = below-limit (is_discovered via a) (reports_none c emitted a) a.max_discovered limit (length a.events) is limited in
           omega (arith, one, all, lt)
 
     -- what a packet does to the queues
@@ -138,11 +138,11 @@ module _ {H P : Type 0} where
     received now old new via bytes e (inr (m, reads, (Err error, emitted, is, (may, none, made)))) = unmoved _ _ e old new made
     received now old new via bytes e (inr (m, reads, (Ok true, emitted, is, (accepted, (mid, takes, made))))) =
         let g : Adds 1 2 old mid = class_adds m.class now old mid via m emitted takes in
-        let d : Discovers mid (discovered_emitted via mid) = discovers via mid in
+        let d : Discovers mid (discovered_emitted m.class emitted via mid) = discovers m.class emitted via mid in
         let one : 1 ≤ packets_of {P = P} (ReceivePacket now via bytes) = omega arith in
         let two : 2 ≤ events_of {P = P} (ReceivePacket now via bytes) = omega arith in
         subst (λ (a : AgentRecord H P). Receiving (packets_of {P = P} (ReceivePacket now via bytes)) (events_of {P = P} (ReceivePacket now via bytes)) e old a) (sym made) (record {
-          waits = λ i j w. subst (λ (b : Bool). Waits (after b (packets_of {P = P} (ReceivePacket now via bytes)) false i) (after b (events_of {P = P} (ReceivePacket now via bytes)) false j) (lines_of (discovered_emitted via mid)))
+          waits = λ i j w. subst (λ (b : Bool). Waits (after b (packets_of {P = P} (ReceivePacket now via bytes)) false i) (after b (events_of {P = P} (ReceivePacket now via bytes)) false j) (lines_of (discovered_emitted m.class emitted via mid)))
               (sym (ap (λ (x : Entry). is_taken x.answer) is)) (
               let a1 = g.packets in let a2 = g.others in let b1 = d.packets in let b2 = d.others in let c1 = w.packets in let c2 = w.others in
               record { packets = omega (arith, one, a1, b1, c1); others = omega (arith, two, a2, b2, c2) });
@@ -235,8 +235,8 @@ module _ {H P : Type 0} where
             by : (q : Option RequestRecord) → MatchOption q (MaintainsPairs mac now (timeout_begun now old) s emitted new t) (λ q. Serves mac q (first_taken (at_request now (timeout_begun now old))) emitted new × (t ≡ s)) → Adds 1 5 old new
             by None k = more 0 2 1 3 old (timeout_begun now old) new (begun_adds now old) (maintains_adds mac now (timeout_begun now old) new s t emitted k)
             by (Some q) (k, drawn) =
-                most 1 3 1 5 old new (omega arith) (omega arith)
-                (more 0 2 1 1 old (timeout_begun now old) new (begun_adds now old) (serves_adds mac q (first_taken (at_request now (timeout_begun now old))) new emitted k))
+                most 1 4 1 5 old new (omega arith) (omega arith)
+                (more 0 2 1 2 old (timeout_begun now old) new (begun_adds now old) (serves_adds mac q (first_taken (at_request now (timeout_begun now old))) new emitted k))
 
       polls_packet : (given : Option Packet) → e ≡ quiet (Polled given) → IsPolled old.packets given new.packets → new ≡ record old { packets = new.packets } → Moves PollTransmit
       polls_packet None is polled made =

@@ -44,7 +44,7 @@ module _ {H P : Type 0} where
   pub removes_expired_same : (now : ℕ) (old new : AgentRecord H P) (path : Option Path) → RemovesExpired now old path new → Same old new
   removes_expired_same now old new path h = either (list_any (is_expired now old) old.pairs) h
       (λ _ k. ap (λ (a : AgentRecord H P). lists_of a) k.2 ∙ nominates_same (expired_gone now old) k.0 path k.1)
-      (λ _ k. same old new k.1)
+      (λ _ k. ap (λ (a : AgentRecord H P). lists_of a) k.1)
 
   check_same : (mac : H → List ℕ → List ℕ → List ℕ) (now : ℕ) (remote : Option IceCreds) (old new : AgentRecord H P) (s t : Stream) (issued : Option Issued)
       → MayCheck mac now remote old s issued new t → Same old new

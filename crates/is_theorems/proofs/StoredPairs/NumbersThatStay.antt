@@ -30,6 +30,7 @@ use Rattle.is_rules.specs.Serving.{selects_at_requests, after_request, served, i
 use Rattle.is_rules.specs.Answers.{is_role_conflict, TakesSuccess, LeavesRole, TakesFailure}
 use Rattle.is_rules.specs.Accepting.{Takes}
 use Rattle.is_rules.specs.Checking.{all_asked, ChecksTop, MayCheck}
+use Rattle.is_rules.specs.Settling.{settled}
 use Rattle.is_rules.specs.Timeouts.{at_timeout, is_expired, expired_gone, RemovesExpired, MaintainsPairs}
 use Rattle.is_rules.specs.States.{evaluated}
 use Rattle.is_theorems.proofs.RuleEffects.UnchangedSettings.{either}
@@ -148,7 +149,7 @@ module _ {H P : Type 0} where
       → Persists p.number new.pairs ⊎ (is_expired now old p ≡ true)
   gives-up-leaves now old new path h p has = either (list_any (is_expired now old) old.pairs) h
       (λ _ k. by (is_expired now old p) refl k)
-      (λ _ k. inl (keep-same old new k.1 p.number (p, has, refl))) where
+      (λ _ k. inl (keep-as old (settled true now old) new (λ n x. x) k.1 p.number (p, has, refl))) where
         by : (b : Bool) → is_expired now old p ≡ b → (mid : AgentRecord H P) × Nominates (expired_gone now old) path mid × (new ≡ evaluated now mid)
             → Persists p.number new.pairs ⊎ (is_expired now old p ≡ true)
         by true is k = inr is

@@ -104,7 +104,7 @@ module _ {H P : Type 0} where
 
       packet : (now : ℕ) (path : Path) (bytes : List ℕ) → Receives mac answers now old path bytes e new → Persists p.number new.pairs
       packet now path bytes (inl (fault, has_fault, is, made)) = as-it-was made
-      packet now path bytes (inr (m, reads, (Ok true, emitted, is, (accepted, (mid, takes, made))))) = becomes (discovered_emitted path mid) (by-class mac m.class now old mid path m emitted takes) made
+      packet now path bytes (inr (m, reads, (Ok true, emitted, is, (accepted, (mid, takes, made))))) = becomes (discovered_emitted m.class emitted path mid) (by-class mac m.class now old mid path m emitted takes) made
       packet now path bytes (inr (m, reads, (Ok false, emitted, is, (no_one, nothing, made)))) = as-it-was made
       packet now path bytes (inr (m, reads, (Err error, emitted, is, (may, nothing, made)))) = as-it-was made
 

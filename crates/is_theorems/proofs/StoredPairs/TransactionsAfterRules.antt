@@ -191,7 +191,7 @@ module _ {H P : Type 0} where
       → Persists p new.pairs ⊎ (is_expired now old p ≡ true)
   gives-up-leaves now old new path h p has = either (list_any (is_expired now old) old.pairs) h
       (λ _ k. by (is_expired now old p) refl k)
-      (λ _ k. inl (keep-same old new k.1 p has)) where
+      (λ _ k. inl (subst (λ (a : AgentRecord H P). Persists p a.pairs) (sym k.1) (keep-same old old refl p has))) where
         by : (b : Bool) → is_expired now old p ≡ b → (mid : AgentRecord H P) × Nominates (expired_gone now old) path mid × (new ≡ evaluated now mid)
             → Persists p new.pairs ⊎ (is_expired now old p ≡ true)
         by true is k = inr is

@@ -132,7 +132,7 @@ module _ {H P : Type 0} where
 
       packet : (now : ℕ) (via : Path) (bytes : List ℕ) → Receives mac answers now old via bytes e new → Persists p new.pairs
       packet now via bytes (inl (fault, has_fault, is, made)) = as-it-was made
-      packet now via bytes (inr (m, reads, (Ok true, emitted, is, (accepted, (mid, takes, made))))) = becomes (discovered_emitted via mid) (by-class mac m.class now old mid via m emitted takes) made
+      packet now via bytes (inr (m, reads, (Ok true, emitted, is, (accepted, (mid, takes, made))))) = becomes (discovered_emitted m.class emitted via mid) (by-class mac m.class now old mid via m emitted takes) made
       packet now via bytes (inr (m, reads, (Ok false, emitted, is, (no_one, nothing, made)))) = as-it-was made
       packet now via bytes (inr (m, reads, (Err error, emitted, is, (may, nothing, made)))) = as-it-was made
 
