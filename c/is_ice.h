@@ -296,6 +296,28 @@ typedef struct is_ice_pair {
     bool has_due;
 } is_ice_pair;
 
+/* Why a pair was removed. */
+enum {
+    IS_ICE_REMOVED_NO_RESPONSE = 1,  /* no check on it had a response */
+    IS_ICE_REMOVED_CONSENT_LOST = 2, /* a check had a response once, and then consent ended (RFC 7675, section 5.1) */
+    IS_ICE_REMOVED_PEER_SILENT = 3,  /* under lite: the checks of the other agent stopped */
+    IS_ICE_REMOVED_EVICTED = 4,      /* there were more pairs than the limit (RFC 8445, section 6.1.2.5) */
+    IS_ICE_REMOVED_REPLACED = 5,     /* a pair of greater priority on the same path replaced it */
+    IS_ICE_REMOVED_INVALIDATED = 6   /* a candidate of it was invalidated */
+};
+
+/* A pair that was removed, as it was then. */
+typedef struct is_ice_removed_pair {
+    uint64_t priority;
+    uint64_t checks_sent;   /* the number of checks that were sent on it */
+    uint64_t responses;     /* the number of success responses to its checks */
+    is_ice_media_path path; /* where it led, if has_path */
+    int32_t state;          /* IS_ICE_PAIR_.. */
+    int32_t reason;         /* IS_ICE_REMOVED_.. */
+    int32_t error;          /* the code of the last error response, or 0 (RFC 8489, section 14.8) */
+    bool has_path;
+} is_ice_removed_pair;
+
 /* Local preferences by kind, for one IP version. */
 typedef struct is_ice_kind_preferences {
     uint16_t host;
@@ -324,6 +346,9 @@ typedef struct is_ice_agent_rules {
     bool timeout_after_requests; /* is_ice_poll_timeout returns a time after an early request was served, too */
     bool lite_keeps_role;      /* a lite agent never changes its role */
     bool numbered_nominations; /* with renomination, nominations have numbers, and the greatest one counts */
+    bool discovered_if_served; /* no IS_ICE_DISCOVERED_RECV for a request that is dropped */
+    bool state_after_nomination; /* the state is evaluated after nomination in each call */
+    bool invalidates_listed; /* each candidate that is listed can be invalidated */
 } is_ice_agent_rules;
 
 /* ---- creating */
@@ -532,7 +557,16 @@ IS_ICE_QUIET_CALL int32_t is_ice_original_rules(is_ice_agent_rules *rules);
  * selects, from 1, also over restarts, and sends the number on each check of its selected pair, next to USE-CANDIDATE. It
  * nominates a path in the next is_ice_handle_timeout call after it selected it. A controlled or lite one selects the
  * valid pair with the greatest number, so a late or repeated check does not turn it back. USE-CANDIDATE without a number
- * counts as 1, once a number came since the last restart. */
+ * counts as 1, once a number came since the last restart.
+ *
+ * discovered_if_served: an authentic request that is dropped without a response reports no source.
+ *
+ * state_after_nomination: the state is evaluated after nomination in each call, so that it says whether a path is
+ * selected. If a candidate that is added or invalidated takes the selected pair away, another one is selected at once,
+ * or the state changes.
+ *
+ * invalidates_listed: is_ice_invalidate_local and is_ice_invalidate_remote pass over candidates that were invalidated
+ * before, so each one that is listed can be invalidated. */
 IS_ICE_QUIET_CALL int32_t is_ice_set_rules(is_ice_agent *agent, const is_ice_agent_rules *rules);
 
 /* is_ice_set_mtu - stores how long a packet may be, and the length to warn about; is_ice_status returns both.
@@ -903,6 +937,15 @@ IS_ICE_CALL int32_t is_ice_pair_count(is_ice_agent *agent, size_t *count);
  * IS_ICE_OK. IS_ICE_NOTHING: the index is past the last one; *pair is unchanged. */
 IS_ICE_CALL int32_t is_ice_pair_at(is_ice_agent *agent, size_t index, is_ice_pair *pair);
 
+/* is_ice_removed_count - returns how many removed pairs are listed: the last 32 at most since the last restart, fewer if memory
+ * was short. IS_ICE_OK. */
+IS_ICE_CALL int32_t is_ice_removed_count(is_ice_agent *agent, size_t *count);
+
+/* is_ice_removed_at - returns a pair that was removed, and why. The index counts from 0, the pair that was removed first.
+ *
+ * IS_ICE_OK. IS_ICE_NOTHING: the index is past the last one; *pair is unchanged. */
+IS_ICE_CALL int32_t is_ice_removed_at(is_ice_agent *agent, size_t index, is_ice_removed_pair *pair);
+
 /* is_ice_find_pair - returns a pair whose remote candidate equals the candidate of this text in address, base, protocol,
  * kind and related address: one of the greatest priority. This query allocates.
  *
@@ -1142,9 +1185,10 @@ IS_ICE_SIZE(is_ice_agent_stats, 40);
 IS_ICE_SIZE(is_ice_nominated_pair, 88);
 IS_ICE_SIZE(is_ice_media_path, 60);
 IS_ICE_SIZE(is_ice_pair, 96);
+IS_ICE_SIZE(is_ice_removed_pair, 104);
 IS_ICE_SIZE(is_ice_kind_preferences, 8);
 IS_ICE_SIZE(is_ice_preference_table, 16);
-IS_ICE_SIZE(is_ice_agent_rules, 40);
+IS_ICE_SIZE(is_ice_agent_rules, 48);
 IS_ICE_SIZE(is_ice_stun_transaction, 12);
 IS_ICE_SIZE(is_ice_stun_result, 32);
 IS_ICE_SIZE(is_ice_stun_number, 16);

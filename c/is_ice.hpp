@@ -113,6 +113,21 @@ struct nominated_send {
 };
 using event = std::variant<restarted, state_changed, discovered_recv, nominated_send>;
 
+/* Why a pair was removed. */
+enum class removal : int32_t {
+    no_response = IS_ICE_REMOVED_NO_RESPONSE,
+    consent_lost = IS_ICE_REMOVED_CONSENT_LOST,
+    peer_silent = IS_ICE_REMOVED_PEER_SILENT,
+    evicted = IS_ICE_REMOVED_EVICTED,
+    replaced = IS_ICE_REMOVED_REPLACED,
+    invalidated = IS_ICE_REMOVED_INVALIDATED
+};
+
+/* A pair that was removed: the struct of C, whose `reason` is `why`. */
+struct removed_pair : is_ice_removed_pair {
+    removal why() const noexcept { return static_cast<removal>(reason); }
+};
+
 /* A packet to send. */
 struct packet {
     uint8_t protocol;
@@ -563,6 +578,19 @@ public:
             return detail::explained(
                 is_ice_find_pair(at(), detail::at(line), line.size(), found), detail::refusal_of(line));
         });
+    }
+    size_t removed_count() const { return *filled<size_t>(is_ice_removed_count); }
+    std::optional<removed_pair> removed_at(size_t index) const
+    {
+        return detail::filled<removed_pair>([&](removed_pair *found) { return is_ice_removed_at(at(), index, found); });
+    }
+    /* All of them, the one that was removed first before the others. */
+    std::vector<removed_pair> removed_pairs() const
+    {
+        std::vector<removed_pair> all;
+        all.reserve(removed_count());
+        while (auto next = removed_at(all.size())) all.push_back(*next);
+        return all;
     }
     bool has_viable_remote(const address &remote) const { return done(is_ice_has_viable_remote(at(), &remote)); }
     credentials local_credentials() const { return {*text(is_ice_local_ufrag), *text(is_ice_local_pass)}; }

@@ -151,7 +151,7 @@ class Agent(Candidates):
         """Takes a `handle_timeout`. `seen` is the path of the check that was sent, which decides between equal pairs."""
         begun = self._evaluated(now)
         if self.peer is not None and (queue := self._current(now)) != ():
-            last = now if self.rules.timeout_after_requests else self.last
+            last = now if self.rules.timeout_after_requests and self.last is None else self.last
             return replace(begun, queue=queue[1:], last=last)._serve(queue[0])
         start = replace(begun, last=now, queue=self._current(now) if self.peer is not None else self.queue)
         new, first = start._nominate()

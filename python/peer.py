@@ -86,6 +86,8 @@ class Peer:
         elif word == "/pairs":
             for pair in self.agent.pairs:
                 tell(f"{pair}")
+            for removed in self.agent.removed_pairs():
+                tell(f"removed {removed}")
         elif word == "/quit":
             self.ended.set()
         elif word.startswith("/"):

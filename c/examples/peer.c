@@ -208,10 +208,11 @@ static void print_address(const char *what, int32_t code, const is_ice_fields *f
     if (code == IS_ICE_OK) fprintf(stderr, " %s %s", what, net_text(&fields->address, text));
 }
 
+static const char *const states[] = {"waiting", "in progress", "succeeded"}; /* of a pair */
+
 /* Prints each pair with its candidates. */
 static void print_pairs(struct session *s)
 {
-    static const char *const states[] = {"waiting", "in progress", "succeeded"};
     is_ice_pair pair;
     for (size_t i = 0; is_ice_pair_at(&s->agent, i, &pair) == IS_ICE_OK; i++) {
         uint8_t line[512];
@@ -229,11 +230,28 @@ static void print_pairs(struct session *s)
     }
 }
 
+/* Prints each pair that was removed, and why. */
+static void print_removed(struct session *s)
+{
+    static const char *const reasons[] = {"", "no response", "consent lost", "peer silent", "evicted", "replaced", "invalidated"};
+    char from[NET_TEXT], to[NET_TEXT];
+    is_ice_removed_pair pair;
+    for (size_t i = 0; is_ice_removed_at(&s->agent, i, &pair) == IS_ICE_OK; i++) {
+        fprintf(stderr, "removed");
+        if (pair.has_path)
+            fprintf(stderr, " from %s to %s", net_text(&pair.path.source, from), net_text(&pair.path.destination, to));
+        fprintf(stderr, " %s sent %llu answered %llu", states[pair.state], (unsigned long long)pair.checks_sent,
+                (unsigned long long)pair.responses);
+        if (pair.error != 0) fprintf(stderr, " error %d", (int)pair.error);
+        fprintf(stderr, ": %s\n", reasons[pair.reason]);
+    }
+}
+
 static void take_command(struct session *s, const char *line)
 {
     if (strcmp(line, "/quit") == 0) s->is_over = true;
     else if (strcmp(line, "/stats") == 0) print_stats(s);
-    else if (strcmp(line, "/pairs") == 0) print_pairs(s);
+    else if (strcmp(line, "/pairs") == 0) print_pairs(s), print_removed(s);
     else if (strcmp(line, "/restart") == 0) warn("restart", signal_restart(&s->agent, NULL));
     else fprintf(stderr, "peer: %s: unknown command; there are /restart, /stats, /pairs and /quit\n", line);
 }
@@ -348,20 +366,9 @@ static void begin_sockets(struct session *s, const struct options *o)
     }
 }
 
-/* Requests that arrive before the other peer's signal are then answered all at once when it comes. By the rule they are answered one in
- * each pacing interval, and checks begin after the last one. */
-static int32_t serve_early_at_once(is_ice_agent *agent)
-{
-    is_ice_agent_rules rules;
-    int32_t code = is_ice_rules(agent, &rules);
-    rules.timeout_after_requests = false; /* `run` calls handle_timeout before any signal, so there always is a next timeout */
-    return code == IS_ICE_OK ? is_ice_set_rules(agent, &rules) : code;
-}
-
 static void begin_agent(struct session *s, const struct options *o)
 {
     int32_t code = signal_begin(&s->agent);
-    if (code == IS_ICE_OK) code = serve_early_at_once(&s->agent);
     if (code == IS_ICE_OK) code = is_ice_set_controlling(&s->agent, o->controlling);
     if (code == IS_ICE_OK) code = is_ice_set_lite(&s->agent, o->lite);
     if (code == IS_ICE_OK) code = is_ice_set_lite_timeout(&s->agent, 30 * SECOND);

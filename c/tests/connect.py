@@ -151,6 +151,22 @@ def trickle():
     talk_over(a, b, "[::1]:")
 
 
+def removed():
+    """A pair that a check brings is replaced when its candidate is signaled, and /pairs says so."""
+    a, b = pair("-a", "127.0.0.1")
+    ufrag, password, candidate = b.says("signal ").split(" ", 2)
+    a.hears(f"signal {ufrag} {password}")
+    b.hears("signal " + a.says("signal "))
+    address = a.says("source ")
+    a.hears(candidate)
+    a.hears("/pairs")
+    said = a.says("removed from 127.0.0.1:")
+    if not re.search(rf" to {re.escape(address)} [a-z ]+ sent \d+ answered \d+: replaced$", said):
+        raise Failed(said)
+    connected(a, b)
+    talk(a, b)
+
+
 def restart():
     """One side restarts and the other follows: both report the path again, and talk."""
     a, b = pair("-a", "127.0.0.1")
@@ -350,7 +366,7 @@ def late():
     a.ends(1)
 
 
-CASES = [roles, families, interfaces, trickle, restart, lite, renomination, reflexive, silent_server, mdns, replay, options, errors,
+CASES = [roles, families, interfaces, trickle, removed, restart, lite, renomination, reflexive, silent_server, mdns, replay, options, errors,
          long_candidate, late]
 
 

@@ -113,7 +113,9 @@ static bool is_read(const is_ice_agent_rules *given, const is_ice_agent_rules *t
         && told->triggered_checks == given->triggered_checks && told->early_retransmits == given->early_retransmits
         && told->early_interval == interval && told->consent_timeout == given->consent_timeout && told->strict_consent == strict
         && told->selected_first == given->selected_first && told->timeout_after_requests == given->timeout_after_requests
-        && told->lite_keeps_role == given->lite_keeps_role && told->numbered_nominations == given->numbered_nominations;
+        && told->lite_keeps_role == given->lite_keeps_role && told->numbered_nominations == given->numbered_nominations
+        && told->discovered_if_served == given->discovered_if_served
+        && told->state_after_nomination == given->state_after_nomination && told->invalidates_listed == given->invalidates_listed;
 }
 
 /* Sets the rules of the original, those of a new agent, or each rule to a value of its own, and reads them. */
@@ -130,6 +132,8 @@ static void set_rules(void)
         given->consent_timeout = number(), given->kinds_in_turn = one_in(2), given->selects_at_once = one_in(2);
         given->strict_consent = one_in(2), given->selected_first = one_in(2), given->timeout_after_requests = one_in(2);
         given->lite_keeps_role = one_in(2), given->numbered_nominations = one_in(2);
+        given->discovered_if_served = one_in(2), given->state_after_nomination = one_in(2);
+        given->invalidates_listed = one_in(2);
     }
     on = agent;
     if (CALL(OK | QUIET, is_ice_set_rules(agents[on], given)) != IS_ICE_OK) return;
@@ -155,7 +159,7 @@ static void restart(void)
 
 static void recreate(void)
 {
-    CALL(OK | NO_IDS, is_ice_recreate_pairs(agents[on]));
+    CALL(OK | NO_IDS | LISTS, is_ice_recreate_pairs(agents[on]));
 }
 
 /* ---- candidates of an agent */
@@ -164,7 +168,7 @@ static void add_local(void)
 {
     const is_ice_candidate *candidate = candidate_argument();
     size_t *index = argument(sizeof *index);
-    int32_t code = CALL(OK | NOTHING | TOO_MANY | BAD_ADDRESS | BAD_CANDIDATE | PRIORITY | NO_IDS,
+    int32_t code = CALL(OK | NOTHING | TOO_MANY | BAD_ADDRESS | BAD_CANDIDATE | PRIORITY | NO_IDS | LISTS,
         is_ice_add_local(agents[on], candidate, index));
     if (code < 0) filled(code, index, sizeof *index);
 }
@@ -173,7 +177,7 @@ static void add_remote(void)
 {
     struct bytes text = line();
     size_t *index = argument(sizeof *index);
-    int32_t code = CALL(OK | NOTHING | OTHER | TOO_MANY | NOT_UTF8 | BAD_CANDIDATE | NO_IDS,
+    int32_t code = CALL(OK | NOTHING | OTHER | TOO_MANY | NOT_UTF8 | BAD_CANDIDATE | NO_IDS | LISTS,
         is_ice_add_remote(agents[on], text.bytes, text.length, index));
     if (code < 0) filled(code, index, sizeof *index);
 }
@@ -182,10 +186,10 @@ static void invalidate(void)
 {
     if (one_in(2)) {
         const is_ice_candidate *candidate = candidate_argument();
-        CALL(OK | NOTHING | BAD_ADDRESS | BAD_CANDIDATE, is_ice_invalidate_local(agents[on], candidate));
+        CALL(OK | NOTHING | BAD_ADDRESS | BAD_CANDIDATE | LISTS, is_ice_invalidate_local(agents[on], candidate));
     } else {
         struct bytes text = line();
-        CALL(OK | NOTHING | NOT_UTF8 | BAD_CANDIDATE, is_ice_invalidate(agents[on], text.bytes, text.length));
+        CALL(OK | NOTHING | NOT_UTF8 | BAD_CANDIDATE | LISTS, is_ice_invalidate(agents[on], text.bytes, text.length));
     }
 }
 
@@ -319,7 +323,7 @@ static void line_fields(void)
         is_ice_line_fields(text.bytes, text.length, o.bytes, o.size, o.length, fields));
     written_fields(code, o, fields);
     on = agent;
-    int32_t added = CALL(OK | NOTHING | OTHER | TOO_MANY | NOT_UTF8 | BAD_CANDIDATE | NO_IDS,
+    int32_t added = CALL(OK | NOTHING | OTHER | TOO_MANY | NOT_UTF8 | BAD_CANDIDATE | NO_IDS | LISTS,
         is_ice_add_remote(agents[on], text.bytes, text.length, index));
     if (code == IS_ICE_OUT_OF_MEMORY || added == IS_ICE_OUT_OF_MEMORY || added == IS_ICE_NO_AGENT || added == IS_ICE_TOO_MANY_CANDIDATES)
         return;
@@ -454,7 +458,7 @@ static void timeout_of(size_t length)
 {
     uint8_t *random = argument(length);
     for (size_t i = 0; i < length; i++) random[i] = (uint8_t)((now >> (i % 8 * 8)) + on * 3 + i);
-    CALL((length < IS_ICE_TIMEOUT_RANDOM ? FEW_RANDOM : OK | NO_IDS), is_ice_handle_timeout(agents[on], now, random, length));
+    CALL((length < IS_ICE_TIMEOUT_RANDOM ? FEW_RANDOM : OK | NO_IDS | LISTS), is_ice_handle_timeout(agents[on], now, random, length));
 }
 
 static void handle_timeout(void)
@@ -566,9 +570,10 @@ static void play(void)
 static void queries(void)
 {
     const unsigned quiet = QUIET | QUERY;
-    uint8_t kind = take() % 8;
     static const size_t sizes[] = {sizeof(is_ice_agent_status), sizeof(is_ice_agent_stats), sizeof(is_ice_nominated_pair), sizeof(size_t),
-        sizeof(is_ice_pair), sizeof(size_t), sizeof(is_ice_agent_rules), sizeof(is_ice_media_path)};
+        sizeof(is_ice_pair), sizeof(size_t), sizeof(is_ice_agent_rules), sizeof(is_ice_media_path), sizeof(size_t),
+        sizeof(is_ice_removed_pair)};
+    uint8_t kind = take() % COUNT(sizes);
     void *result = argument(sizes[kind]);
     size_t index = one_in(8) ? (size_t)number() : below(16);
     const is_ice_address *remote = address_argument();
@@ -581,6 +586,8 @@ static void queries(void)
     if (kind == 5) CALL(OK | NOTHING | BAD_ADDRESS | quiet, is_ice_has_viable_remote(agents[on], remote));
     if (kind == 6) code = CALL(OK | quiet, is_ice_rules(agents[on], result));
     if (kind == 7) code = CALL(OK | NOTHING | quiet, is_ice_valid_path(agents[on], result));
+    if (kind == 8) code = CALL(OK | quiet, is_ice_removed_count(agents[on], result));
+    if (kind == 9) code = CALL(OK | NOTHING | quiet, is_ice_removed_at(agents[on], index, result));
     filled(code, result, sizes[kind]);
 }
 

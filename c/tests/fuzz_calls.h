@@ -84,7 +84,7 @@ static const char *const passwords[AGENTS] = {"password of the left one", "passw
 
 /* What queries say of an agent. */
 struct view {
-    uint64_t values[31];
+    uint64_t values[33];
 };
 
 /* A code as the number of a bit. */
@@ -112,6 +112,7 @@ static void view(is_ice_agent *agent, struct view *v)
         *to++ = (uint64_t)rules.kinds_in_turn * 2 + rules.selects_at_once, *to++ = rules.consent_timeout;
         *to++ = (uint64_t)rules.strict_consent * 4 + (uint64_t)rules.selected_first * 2 + rules.timeout_after_requests;
         *to++ = (uint64_t)rules.lite_keeps_role * 2 + rules.numbered_nominations;
+        *to++ = (uint64_t)rules.discovered_if_served * 4 + (uint64_t)rules.state_after_nomination * 2 + rules.invalidates_listed;
     }
     if (is_ice_stats(agent, &stats) == IS_ICE_OK) {
         *to++ = stats.bind_request_sent, *to++ = stats.bind_success_recv, *to++ = stats.bind_request_recv;
@@ -124,6 +125,7 @@ static void view(is_ice_agent *agent, struct view *v)
         *to++ = (uint64_t)pair.state, *to++ = pair.nominated;
     }
     if (is_ice_poll_timeout(agent, &timeout) == IS_ICE_OK) *to++ = timeout;
+    if (is_ice_removed_count(agent, &count) == IS_ICE_OK) *to++ = count;
 }
 
 static bool is_utf8(const uint8_t *text, size_t length)
@@ -162,7 +164,8 @@ enum {
     LITE_STAYS = 1u << 18,
     QUIET = 1u << 22, /* the call does not allocate */
     QUERY = 1u << 23, /* nor change the agent */
-    MOVES = 1u << 24  /* IS_ICE_BUFFER_TOO_SHORT takes the packet out of those for which is_ice_poll_timeout returns an early time */
+    MOVES = 1u << 24, /* IS_ICE_BUFFER_TOO_SHORT takes the packet out of those for which is_ice_poll_timeout returns an early time */
+    LISTS = 1u << 25  /* it lists the pairs that it removes, and leaves one out if that allocation fails */
 };
 
 static struct view before;
@@ -186,7 +189,8 @@ static int32_t expect(const char *call, int32_t code, unsigned allowed)
     struct view after;
     end_arguments();
     saw(subject_of(call, which), bit_of(code));
-    if (has_refused != (code == IS_ICE_OUT_OF_MEMORY)) wrong(call, code, has_refused ? "an allocation failed" : "no allocation failed");
+    bool is_unlisted = has_refused && code == IS_ICE_OK && (allowed & LISTS);
+    if (!is_unlisted && has_refused != (code == IS_ICE_OUT_OF_MEMORY)) wrong(call, code, has_refused ? "an allocation failed" : "no allocation failed");
     if (on < AGENTS && (code == IS_ICE_NO_AGENT) == is_held[on])
         wrong(call, code, is_held[on] ? "there is an agent" : "there is no agent");
     bool is_general = code == IS_ICE_OUT_OF_MEMORY || (code == IS_ICE_NO_AGENT && on < AGENTS);

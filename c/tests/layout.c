@@ -46,6 +46,9 @@ static void offsets(void)
     AT(is_ice_pair, total_rtt, 48), AT(is_ice_pair, rtt, 56), AT(is_ice_pair, last_request, 64), AT(is_ice_pair, due, 72);
     AT(is_ice_pair, state, 80), AT(is_ice_pair, nominated, 84), AT(is_ice_pair, selected, 85), AT(is_ice_pair, has_rtt, 86);
     AT(is_ice_pair, has_request, 87), AT(is_ice_pair, has_due, 88);
+    AT(is_ice_removed_pair, priority, 0), AT(is_ice_removed_pair, checks_sent, 8), AT(is_ice_removed_pair, responses, 16);
+    AT(is_ice_removed_pair, path, 24), AT(is_ice_removed_pair, state, 84), AT(is_ice_removed_pair, reason, 88);
+    AT(is_ice_removed_pair, error, 92), AT(is_ice_removed_pair, has_path, 96);
     AT(is_ice_kind_preferences, host, 0), AT(is_ice_kind_preferences, peer_reflexive, 2);
     AT(is_ice_kind_preferences, server_reflexive, 4), AT(is_ice_kind_preferences, relayed, 6);
     AT(is_ice_preference_table, v4, 0), AT(is_ice_preference_table, v6, 8);
@@ -54,6 +57,8 @@ static void offsets(void)
     AT(is_ice_agent_rules, kinds_in_turn, 32), AT(is_ice_agent_rules, selects_at_once, 33), AT(is_ice_agent_rules, strict_consent, 34);
     AT(is_ice_agent_rules, selected_first, 35), AT(is_ice_agent_rules, timeout_after_requests, 36);
     AT(is_ice_agent_rules, lite_keeps_role, 37), AT(is_ice_agent_rules, numbered_nominations, 38);
+    AT(is_ice_agent_rules, discovered_if_served, 39), AT(is_ice_agent_rules, state_after_nomination, 40),
+    AT(is_ice_agent_rules, invalidates_listed, 41);
 }
 
 static is_ice_agent made(void)
@@ -91,7 +96,8 @@ static bool same_rules(const is_ice_agent_rules *a, const is_ice_agent_rules *b)
         && a->early_interval == b->early_interval && a->consent_timeout == b->consent_timeout && a->kinds_in_turn == b->kinds_in_turn
         && a->selects_at_once == b->selects_at_once && a->strict_consent == b->strict_consent && a->selected_first == b->selected_first
         && a->timeout_after_requests == b->timeout_after_requests && a->lite_keeps_role == b->lite_keeps_role
-        && a->numbered_nominations == b->numbered_nominations;
+        && a->numbered_nominations == b->numbered_nominations && a->discovered_if_served == b->discovered_if_served
+        && a->state_after_nomination == b->state_after_nomination && a->invalidates_listed == b->invalidates_listed;
 }
 
 /* is_ice_agent_rules: what is set is read. */
@@ -111,11 +117,13 @@ static void rules(void)
     HOLD(is_ice_modern_rules(&modern) == IS_ICE_OK && modern.kinds_in_turn && modern.triggered_checks == 4);
     HOLD(modern.early_retransmits == 4 && modern.early_interval == 100000000 && modern.selects_at_once);
     HOLD(modern.consent_timeout == 29600000000 && !modern.strict_consent && modern.selected_first && modern.timeout_after_requests);
-    HOLD(modern.lite_keeps_role && modern.numbered_nominations);
+    HOLD(modern.lite_keeps_role && modern.numbered_nominations && modern.discovered_if_served && modern.state_after_nomination);
+    HOLD(modern.invalidates_listed);
     HOLD(is_ice_original_rules(&original) == IS_ICE_OK && !original.kinds_in_turn && original.triggered_checks == 0);
     HOLD(original.early_retransmits == 0 && original.early_interval == 0 && !original.selects_at_once);
     HOLD(original.consent_timeout == 0 && !original.strict_consent && !original.selected_first && !original.timeout_after_requests);
-    HOLD(!original.lite_keeps_role && !original.numbered_nominations);
+    HOLD(!original.lite_keeps_role && !original.numbered_nominations && !original.discovered_if_served);
+    HOLD(!original.state_after_nomination && !original.invalidates_listed);
     HOLD(is_ice_rules(&agent, &r) == IS_ICE_OK && same_rules(&r, &modern));
     keeps_rules(&agent, &original), keeps_rules(&agent, &modern);
     r = original, r.kinds_in_turn = true, keeps_rules(&agent, &r);
@@ -129,6 +137,9 @@ static void rules(void)
     r = original, r.timeout_after_requests = true, keeps_rules(&agent, &r);
     r = original, r.lite_keeps_role = true, keeps_rules(&agent, &r);
     r = original, r.numbered_nominations = true, keeps_rules(&agent, &r);
+    r = original, r.discovered_if_served = true, keeps_rules(&agent, &r);
+    r = original, r.state_after_nomination = true, keeps_rules(&agent, &r);
+    r = original, r.invalidates_listed = true, keeps_rules(&agent, &r);
     r = original, r.early_interval = 7, r.strict_consent = true;
     HOLD(is_ice_set_rules(&agent, &r) == IS_ICE_OK && is_ice_rules(&agent, &r) == IS_ICE_OK && same_rules(&r, &original));
     is_ice_agent_free(&agent);
@@ -286,6 +297,32 @@ static void valid_path(void)
     HOLD(is_ice_valid_path(&b, &path) == IS_ICE_NO_AGENT && same(&path.source, &at_b));
 }
 
+/* is_ice_removed_pair: of a session, as a candidate is invalidated. */
+static void removed(void)
+{
+    const is_ice_address at_a = v6, at_b = seen6;
+    is_ice_agent a = side("aaaa", "bbbb", true, &at_a, &at_b), b = side("bbbb", "aaaa", false, &at_b, &at_a);
+    const is_ice_candidate host = {at_a, at_a, IS_ICE_HOST, IS_ICE_UDP, 0};
+    is_ice_removed_pair gone, unchanged;
+    is_ice_pair pair;
+    size_t count = SIZE_MAX;
+    memset(&gone, 0xaa, sizeof gone), memset(&unchanged, 0xaa, sizeof unchanged);
+    HOLD(is_ice_removed_count(&a, &count) == IS_ICE_OK && count == 0);
+    HOLD(is_ice_removed_at(&a, 0, &gone) == IS_ICE_NOTHING && memcmp(&gone, &unchanged, sizeof gone) == 0);
+    HOLD(is_ice_handle_timeout(&a, UINT64_C(60000000000), TEXT("twelve bytes")) == IS_ICE_OK);
+    carry(&a, &b, &at_a, &at_b, 88, UINT64_C(60010000000));
+    carry(&b, &a, &at_b, &at_a, 76, UINT64_C(60030000000));
+    HOLD(is_ice_pair_at(&a, 0, &pair) == IS_ICE_OK && is_ice_invalidate_local(&a, &host) == IS_ICE_OK);
+    HOLD(is_ice_removed_count(&a, &count) == IS_ICE_OK && count == 1 && is_ice_removed_at(&a, 0, &gone) == IS_ICE_OK);
+    HOLD(gone.priority == pair.priority && gone.checks_sent == 1 && gone.responses == 1 && gone.state == IS_ICE_PAIR_SUCCEEDED);
+    HOLD(gone.reason == IS_ICE_REMOVED_INVALIDATED && gone.error == 0 && gone.has_path && gone.path.protocol == IS_ICE_UDP);
+    HOLD(same(&gone.path.source, &at_a) && same(&gone.path.destination, &at_b));
+    HOLD(is_ice_removed_at(&a, 1, &gone) == IS_ICE_NOTHING);
+    is_ice_agent_free(&a);
+    is_ice_agent_free(&b);
+    HOLD(is_ice_removed_count(&a, &count) == IS_ICE_NO_AGENT && is_ice_removed_at(&a, 0, &gone) == IS_ICE_NO_AGENT && count == 1);
+}
+
 int main(void)
 {
     offsets();
@@ -295,5 +332,6 @@ int main(void)
     session();
     flow_and_scope();
     valid_path();
+    removed();
     return 0;
 }

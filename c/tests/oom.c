@@ -1,6 +1,6 @@
 /* Makes each allocation fail in turn, while two agents connect, restart and lose candidates. The call that needed the memory
- * returns IS_ICE_OUT_OF_MEMORY and succeeds when it is repeated. All later packets, events and statistics are the same as
- * without a failure, and no memory leaks.
+ * returns IS_ICE_OUT_OF_MEMORY and succeeds when it is repeated; or it only does not list a pair that it removed. All later packets,
+ * events and statistics are the same as without a failure, and no memory leaks.
  *
  * Link with -Wl,--wrap=malloc,--wrap=realloc,--wrap=free. */
 #include "is_ice.h"
@@ -54,6 +54,7 @@ struct story {
     is_ice_agent a, b;
     uint64_t sum; /* a hash of all results */
     int refused;
+    size_t listed; /* removed pairs */
     uint8_t random[IS_ICE_CREDENTIALS_RANDOM];
 };
 
@@ -299,6 +300,15 @@ static void connect(struct story *s)
     }
 }
 
+static size_t removed_pairs(is_ice_agent *agent)
+{
+    size_t count = 0;
+    is_ice_removed_pair pair;
+    QUIET(IS_ICE_OK, is_ice_removed_count(agent, &count));
+    for (size_t i = 0; i < count; i++) QUIET(IS_ICE_OK, is_ice_removed_at(agent, i, &pair));
+    return count;
+}
+
 static void end(struct story *s)
 {
     is_ice_agent_stats stats;
@@ -329,6 +339,7 @@ static void end(struct story *s)
     CALL(s, IS_ICE_OK, is_ice_recreate_pairs(&s->a));
     CALL(s, IS_ICE_OK, is_ice_invalidate_local(&s->b, &host_b));
     CALL(s, IS_ICE_NOTHING, is_ice_invalidate(&s->b, TEXT("candidate:1 1 udp 7 10.0.0.9 9 typ host")));
+    s->listed = removed_pairs(&s->a) + removed_pairs(&s->b);
     CALL(s, IS_ICE_OK, is_ice_restart(&s->a, TEXT("CCCC"), TEXT("RRRR"), true));
     note(s, &s->a);
     is_ice_agent_free(&s->a);
@@ -359,9 +370,11 @@ int main(void)
     const struct story ample = played(-1);
     const long requests = asked;
     if (live != before) fail(__LINE__, "leaked", live - before);
+    if (ample.listed == 0) fail(__LINE__, "no pair was removed", 0);
     for (long n = 0; n < requests; n++) {
         const struct story story = played(n);
-        if (story.refused != 1) fail(__LINE__, "not one call reported failed allocation", n);
+        const int unlisted = (int)(ample.listed - story.listed);
+        if (story.refused + unlisted != 1) fail(__LINE__, "not one call reported failed allocation, nor left a removed pair out", n);
         if (live != before) fail(__LINE__, "memory leaked after failed allocation", n);
         if (story.sum != ample.sum) fail(__LINE__, "other results after failed allocation", n);
     }

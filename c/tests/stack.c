@@ -196,6 +196,7 @@ static void ask(struct story *s)
     is_ice_nominated_pair selected;
     is_ice_media_path path;
     is_ice_pair pair;
+    is_ice_removed_pair removed;
     is_ice_fields fields;
     is_ice_candidate of_b = host(2, 1, IS_ICE_UDP);
     uint8_t text[512];
@@ -207,6 +208,8 @@ static void ask(struct story *s)
     CALL(IS_ICE_OK, is_ice_valid_path(&s->a, &path));
     CALL(IS_ICE_OK, is_ice_pair_count(&s->a, &count));
     for (size_t i = 0; i < count; i++) CALL(IS_ICE_OK, is_ice_pair_at(&s->a, i, &pair));
+    CALL(IS_ICE_OK, is_ice_removed_count(&s->a, &count));
+    CALL(IS_ICE_NOTHING, is_ice_removed_at(&s->a, count, &removed));
     CALL(ANY, is_ice_find_pair(&s->a, TEXT(line), &pair));
     CALL(ANY, is_ice_has_viable_remote(&s->a, &of_b.address));
     CALL(IS_ICE_OK, is_ice_local_fields(&s->a, 0, text, sizeof text, &length, &fields));
@@ -222,6 +225,7 @@ static void ask(struct story *s)
 static void change(struct story *s)
 {
     is_ice_candidate of_b = host(2, 1, IS_ICE_UDP), of_a = host(1, 1, IS_ICE_UDP);
+    is_ice_removed_pair removed;
     CALL(IS_ICE_OK, is_ice_recreate_pairs(&s->a));
     CALL(IS_ICE_OK, is_ice_set_max_pairs(&s->a, HOSTS));
     CALL(IS_ICE_OK, is_ice_recreate_pairs(&s->a));
@@ -231,6 +235,7 @@ static void change(struct story *s)
     CALL(IS_ICE_OK, is_ice_invalidate_local(&s->b, &of_b));
     CALL(ANY, is_ice_invalidate_local(&s->b, &of_a));
     CALL(ANY, is_ice_invalidate(&s->b, TEXT("candidate:1 1 udp 7 10.0.1.5 5000 typ host")));
+    CALL(IS_ICE_OK, is_ice_removed_at(&s->a, 0, &removed));
     CALL(IS_ICE_OK, is_ice_restart(&s->a, TEXT("CCCC"), TEXT("password"), true));
     CALL(IS_ICE_OK, is_ice_restart(&s->b, TEXT("DDDD"), TEXT("password"), false));
     paint();

@@ -154,8 +154,25 @@ static void has_a_session()
     HOLD(!agent.nominated() && !agent.valid_path() && !agent.has_viable_remote(host(2).address) && agent.stats().bind_request_sent == 1);
     agent.recreate_pairs();
     HOLD(agent.invalidate(host(1)) && agent.invalidate(remote) && !agent.invalidate(remote));
+    HOLD(agent.removed_count() == 1);
     agent.restart("again", "pass", false);
-    HOLD(agent.local_credentials().ufrag == "again");
+    HOLD(agent.local_credentials().ufrag == "again" && agent.removed_pairs().empty());
+}
+
+static void says_why_a_pair_was_removed()
+{
+    is_ice::agent agent("ufrag", "pass", 1);
+    HOLD(agent.removed_count() == 0 && agent.removed_pairs().empty() && !agent.removed_at(0));
+    agent.set_remote_credentials("peer", "password");
+    agent.set_max_pairs(1);
+    HOLD(agent.add_local(host(1)) && agent.add_remote("candidate:1 1 udp 1 10.0.0.2 5000 typ host") == is_ice::added::yes);
+    HOLD(agent.add_remote(is_ice::candidate_line(host(3))) == is_ice::added::yes && agent.invalidate(host(1)));
+    auto removed = agent.removed_pairs();
+    HOLD(removed.size() == 2 && agent.removed_count() == 2 && agent.removed_at(1)->priority == removed[1].priority);
+    HOLD(removed[0].why() == is_ice::removal::evicted && removed[1].why() == is_ice::removal::invalidated);
+    HOLD(removed[0].state == IS_ICE_PAIR_WAITING && removed[0].checks_sent == 0 && removed[0].error == 0);
+    HOLD(removed[0].has_path && removed[0].path.source.bytes[3] == 1 && removed[0].path.destination.bytes[3] == 2);
+    HOLD(removed[1].path.destination.bytes[3] == 3);
 }
 
 static void has_stun_messages()
@@ -219,6 +236,7 @@ int main()
     reads_what_the_library_reads();
     settings_are_kept();
     has_a_session();
+    says_why_a_pair_was_removed();
     has_stun_messages();
     passes_codes_on();
 #if __cplusplus >= 202002L

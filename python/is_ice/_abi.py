@@ -134,6 +134,21 @@ class Pair(ctypes.Structure):
     ]
 
 
+class RemovedPair(ctypes.Structure):
+    """is_ice_removed_pair."""
+
+    _fields_ = [
+        ("priority", c_uint64),
+        ("checks_sent", c_uint64),
+        ("responses", c_uint64),
+        ("path", MediaPath),
+        ("state", c_int32),
+        ("reason", c_int32),
+        ("error", c_int32),
+        ("has_path", c_bool),
+    ]
+
+
 class KindPreferences(ctypes.Structure):
     """is_ice_kind_preferences."""
 
@@ -161,6 +176,9 @@ class AgentRules(ctypes.Structure):
         ("timeout_after_requests", c_bool),
         ("lite_keeps_role", c_bool),
         ("numbered_nominations", c_bool),
+        ("discovered_if_served", c_bool),
+        ("state_after_nomination", c_bool),
+        ("invalidates_listed", c_bool),
     ]
 
 
@@ -221,8 +239,8 @@ class StunTexts(ctypes.Structure):
 
 # The sizes of the structs that c/is_ice.h asserts.
 SIZES = {Agent: 16, Address: 28, Candidate: 60, Fields: 120, Packet: 72, Event: 68, Status: 40, Stats: 40, Nominated: 88, MediaPath: 60,
-         Pair: 96, KindPreferences: 8, PreferenceTable: 16, AgentRules: 40, StunTransaction: 12, StunResult: 32, StunNumber: 16,
-         StunMessage: 248, StunSpan: 24, StunTexts: 144}
+         Pair: 96, RemovedPair: 104, KindPreferences: 8, PreferenceTable: 16, AgentRules: 48, StunTransaction: 12, StunResult: 32,
+         StunNumber: 16, StunMessage: 248, StunSpan: 24, StunTexts: 144}
 
 _AGENT = POINTER(Agent)
 _BYTES = [c_char_p, c_size_t]
@@ -301,6 +319,8 @@ PROTOTYPES: dict[str, list[object]] = {
     "is_ice_valid_path": [_AGENT, POINTER(MediaPath)],
     "is_ice_pair_count": [_AGENT, POINTER(c_size_t)],
     "is_ice_pair_at": [_AGENT, c_size_t, POINTER(Pair)],
+    "is_ice_removed_count": [_AGENT, POINTER(c_size_t)],
+    "is_ice_removed_at": [_AGENT, c_size_t, POINTER(RemovedPair)],
     "is_ice_find_pair": [_AGENT, *_BYTES, POINTER(Pair)],
     "is_ice_has_viable_remote": [_AGENT, POINTER(Address)],
     "is_ice_local_ufrag": [_AGENT, *_TEXT],

@@ -30,16 +30,15 @@ def _pair_text(pair: CandidatePair, local: list[CandidateFields], remote: list[C
 
 
 def tried(agent: IceAgent, discarded: Mapping[str, int]) -> str:
-    """Says what an agent tried and what came back. `discarded` counts the STUN messages that nobody took, by kind.
-
-    The agent does not list a pair that it removed, nor why: once the library does, it belongs after the pairs.
-    """
+    """Says what an agent tried and what came back. `discarded` counts the STUN messages that nobody took, by kind."""
     local, remote, pairs, stats = agent.local_fields(), agent.remote_fields(), agent.pairs, agent.stats
+    removed = agent.removed_pairs()
     return "; ".join([
         f"state {agent.state.name.capitalize()}",
         _listed("local candidates", map(_candidate_text, local), len(local)),
         _listed("remote candidates", map(_candidate_text, remote), len(remote)),
         _listed("pairs", (_pair_text(pair, local, remote) for pair in pairs), len(pairs)),
+        _listed("removed pairs", map(str, removed), len(removed)),
         f"{stats.bind_request_sent} checks sent, {stats.bind_success_recv} answered, {stats.bind_request_recv} received in all",
         _listed("discarded", (f"{count} x {kind}" for kind, count in discarded.items()), len(discarded))])
 

@@ -5,12 +5,13 @@ from __future__ import annotations
 import logging
 from collections import Counter
 from collections.abc import MutableMapping
+from itertools import dropwhile
 from typing import Any
 
 from .address import SocketAddress
 from .agent import IceAgent
 from .errors import IceError, NoAgent
-from .events import DiscoveredRecv, IceAgentEvent, IceConnectionStateChange, IceRestart, NominatedSend
+from .events import DiscoveredRecv, IceAgentEvent, IceConnectionStateChange, IceRestart, NominatedSend, RemovedPair
 from .stun import StunClass, StunMessage
 
 _MOST_KINDS = 32  # of messages that are counted each for itself
@@ -38,6 +39,7 @@ class SessionLog(logging.LoggerAdapter[logging.Logger]):
         super().__init__(logger)
         self.discarded: Counter[str] = Counter()
         self._agent, self._ufrag = agent, agent.local_credentials.ufrag
+        self._removed: list[RemovedPair] = []  # those that the agent listed last: what comes after them is new
 
     def process(self, msg: Any, kwargs: MutableMapping[str, Any]) -> tuple[Any, MutableMapping[str, Any]]:
         """Puts the username fragment before a line."""
@@ -57,6 +59,18 @@ class SessionLog(logging.LoggerAdapter[logging.Logger]):
             self.info("session begins")
         elif isinstance(event, DiscoveredRecv):
             self.debug("discovered %s", event.source)
+
+    def removals(self) -> None:
+        """Logs each pair that was removed since the last call.
+
+        The agent lists the last ones, and none after a restart, so their number does not say how many are new.
+        """
+        if not self.isEnabledFor(logging.INFO) or self._agent.removed_pairs(max(0, len(self._removed) - 1)) == self._removed[-1:]:
+            return
+        known, listed = iter(self._removed), self._agent.removed_pairs()
+        for pair in dropwhile(lambda pair: pair in known, listed):
+            self.info("removed %s", pair)
+        self._removed = listed
 
     def message_discarded(self, source: SocketAddress, local: SocketAddress, data: bytes) -> None:
         """Counts a STUN message, and logs it if it is the first of its kind."""

@@ -30,6 +30,8 @@ from .events import (
     MediaPath,
     NominatedPair,
     NominatedSend,
+    Removal,
+    RemovedPair,
     Transmit,
 )
 from .lines import line_refusal
@@ -53,6 +55,13 @@ def _pair_of(pair: _abi.Pair) -> CandidatePair:
         pair.local, pair.remote, pair.priority, CheckState(pair.state), pair.nominated, pair.selected, pair.checks_sent,
         pair.requests_received, pair.responses, pair.total_rtt, pair.rtt if pair.has_rtt else None,
         pair.last_request if pair.has_request else None, pair.due if pair.has_due else None)
+
+
+def _removed_of(pair: _abi.RemovedPair) -> RemovedPair:
+    path = pair.path
+    return RemovedPair(
+        MediaPath(socket_of(path.source), socket_of(path.destination), PROTOCOLS[path.protocol]) if pair.has_path else None,
+        pair.priority, CheckState(pair.state), pair.checks_sent, pair.responses, pair.error or None, Removal(pair.reason))
 
 
 @one_call_at_a_time
@@ -281,6 +290,16 @@ class IceAgent(Settings):
         pair, pairs = _abi.Pair(), list[CandidatePair]()
         while done(self._c.is_ice_pair_at(self._at, len(pairs), byref(pair))):
             pairs.append(_pair_of(pair))
+        return pairs
+
+    def removed_pairs(self, first: int = 0) -> list[RemovedPair]:
+        """Returns the pairs that were removed since the last restart, and why, the one that was removed first before the others.
+
+        The agent lists the last 32 of them, fewer if memory was short. `first` is the index to begin at.
+        """
+        pair, pairs = _abi.RemovedPair(), list[RemovedPair]()
+        while done(self._c.is_ice_removed_at(self._at, first + len(pairs), byref(pair))):
+            pairs.append(_removed_of(pair))
         return pairs
 
     def find_pair_for_equivalent_remote_candidate(self, line: str) -> CandidatePair | None:

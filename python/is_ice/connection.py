@@ -71,7 +71,8 @@ class Connection(Unique):
     for which the connection responds until it is closed, other candidates without a related address, and all with numbers as
     foundations, since the agent computes its own from the addresses.
 
-    The logger `is_ice` has a line for each candidate, state and selected path, and for the first packet of each kind that is discarded.
+    The logger `is_ice` has a line for each candidate, state, selected path and removed pair, and for the first packet of each kind that is
+    discarded.
     """
 
     closed_event: Callable[[], Any] = ConnectionClosed

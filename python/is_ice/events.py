@@ -142,6 +142,52 @@ class MediaPath:
     protocol: Protocol
 
 
+class Removal(enum.IntEnum):
+    """Why a pair was removed.
+
+    NO_RESPONSE: no check on it had a response. CONSENT_LOST: one had, and then consent ended (RFC 7675, section 5.1). PEER_SILENT: the
+    agent is lite, and the peer's checks stopped. EVICTED: there were more pairs than the limit. REPLACED: a pair of greater priority on
+    the same path replaced it. INVALIDATED: a candidate of it was invalidated. It prints as `no response`.
+    """
+
+    NO_RESPONSE = 1
+    CONSENT_LOST = 2
+    PEER_SILENT = 3
+    EVICTED = 4
+    REPLACED = 5
+    INVALIDATED = 6
+
+    def __str__(self) -> str:
+        return self.name.replace("_", " ").lower()
+
+    def __format__(self, spec: str) -> str:
+        return format(str(self), spec)
+
+
+@dataclass(frozen=True)
+class RemovedPair:
+    """A pair that was removed, as it was then.
+
+    `path` is None if the agent no longer lists its candidates. `responses` counts the success responses to its checks.
+    `error` is the code of the last error response, or None. It prints as `10.0.0.1:1000 -> 10.0.0.2:2000 in progress, 15 checks sent,
+    0 answered: no response`.
+    """
+
+    path: MediaPath | None
+    priority: int
+    state: CheckState
+    checks_sent: int
+    responses: int
+    error: int | None
+    reason: Removal
+
+    def __str__(self) -> str:
+        path = f"{self.path.source} -> {self.path.destination}" if self.path else "unknown path"
+        state = self.state.name.replace("_", " ").lower()
+        error = "" if self.error is None else f", error response {self.error}"
+        return f"{path} {state}, {self.checks_sent} checks sent, {self.responses} answered{error}: {self.reason}"
+
+
 @dataclass(frozen=True)
 class NominatedPair:
     """The selected pair. Times are nanoseconds. `rtt` is the last round-trip time, or None if there is none.

@@ -57,7 +57,8 @@ class IceLoop(Unique):
     returns True if it took the message. If a handler raises, the event loop's exception handler gets the exception, and the session
     goes on. A handler may close the loop and the agent.
 
-    The logger `is_ice.loop` has a line for each event, and for the first STUN message of each kind that nobody took.
+    The logger `is_ice.loop` has a line for each event, for each pair that is removed, and for the first STUN message of each kind that
+    nobody took.
     """
 
     def __init__(self, agent: IceAgent, on_event: EventHandler, on_media: DatagramHandler,
@@ -138,9 +139,8 @@ class IceLoop(Unique):
             self._on_media(source, local, data)
 
     def tried(self) -> str:
-        """Says what the session tried and what came back: candidates, pairs with their checks, counters, STUN messages that nobody took.
-
-        A pair that was removed is in the counters only. NoAgent if the agent was closed.
+        """Says what the session tried and what came back: candidates, pairs with their checks, pairs that were removed with the reason,
+        counters, STUN messages that nobody took. NoAgent if the agent was closed.
         """
         return tried(self.agent, self.log.discarded)
 
@@ -197,6 +197,7 @@ class IceLoop(Unique):
                 self._set_timer(min(due, self._last_timeout + _LEAST_PACING) if soon else due)
             while self._began and (packet := self.agent.poll_transmit()):
                 self.send(packet.source, packet.destination, packet.contents)
+            self.log.removals()  # before what they cause: a handler may close the agent
             while self._began and (event := self.agent.poll_event()):
                 self.log.event(event)
                 self._report(self._on_event, event)

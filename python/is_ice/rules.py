@@ -77,6 +77,14 @@ class Rules:
     also over restarts, and sends the number on each check of its selected pair, next to USE-CANDIDATE. It nominates a path in the next
     `handle_timeout` call after it selected it. A controlled or lite agent selects the valid pair with the greatest number, so a late or
     repeated check does not turn it back. USE-CANDIDATE without a number counts as 1, once a number came since the last restart.
+
+    `discovered_if_served`: an authentic request that is dropped without a response reports no source.
+
+    `state_after_nomination`: the state is evaluated after nomination in each call, so that it says whether a path is selected. If a
+    candidate that is added or invalidated takes the selected pair away, another one is selected at once, or the state changes.
+
+    `invalidates_listed`: `invalidate_candidate` passes over candidates that were invalidated before, so each one that is listed can be
+    invalidated.
     """
 
     kinds_in_turn: bool
@@ -88,6 +96,9 @@ class Rules:
     timeout_after_requests: bool
     lite_keeps_role: bool
     numbered_nominations: bool
+    discovered_if_served: bool
+    state_after_nomination: bool
+    invalidates_listed: bool
 
     @staticmethod
     def original() -> Rules:
@@ -108,8 +119,8 @@ def rules_from(call: Callable[..., int], *arguments: Any) -> Rules:
     consent = Consent(rules.consent_timeout, rules.strict_consent) if rules.consent_timeout else None
     return Rules(
         rules.kinds_in_turn, rules.triggered_checks or None, early, rules.selects_at_once, consent, rules.selected_first,
-        rules.timeout_after_requests, rules.lite_keeps_role, rules.numbered_nominations,
-    )
+        rules.timeout_after_requests, rules.lite_keeps_role, rules.numbered_nominations, rules.discovered_if_served,
+        rules.state_after_nomination, rules.invalidates_listed)
 
 
 def struct_of_rules(rules: Rules) -> _abi.AgentRules:
@@ -127,4 +138,7 @@ def struct_of_rules(rules: Rules) -> _abi.AgentRules:
         timeout_after_requests=rules.timeout_after_requests,
         lite_keeps_role=rules.lite_keeps_role,
         numbered_nominations=rules.numbered_nominations,
+        discovered_if_served=rules.discovered_if_served,
+        state_after_nomination=rules.state_after_nomination,
+        invalidates_listed=rules.invalidates_listed,
     )

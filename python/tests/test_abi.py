@@ -9,7 +9,7 @@ from ctypes import POINTER, c_bool, c_char_p, c_int32, c_size_t, c_uint8, c_uint
 from pathlib import Path
 from typing import Any
 
-from is_ice import CandidateKind, CheckState, IceConnectionState, IceError, Protocol, TcpType, _abi
+from is_ice import CandidateKind, CheckState, IceConnectionState, IceError, Protocol, Removal, TcpType, _abi
 from is_ice._loop_calls import PACKET
 from is_ice.stun import StunClass, StunMethod, StunText
 
@@ -77,7 +77,7 @@ class Header(unittest.TestCase):
                      "FOUNDATION_START"):
             self.assertEqual(getattr(_abi, name), self.numbers[name], name)
         for enum, prefix in ((CandidateKind, ""), (IceConnectionState, ""), (Protocol, ""), (TcpType, "TCP_"), (CheckState, "PAIR_"),
-                             (StunMethod, "STUN_"), (StunClass, "STUN_"), (StunText, "STUN_")):
+                             (Removal, "REMOVED_"), (StunMethod, "STUN_"), (StunClass, "STUN_"), (StunText, "STUN_")):
             for member in enum:
                 name = "STUN_DATA_INDICATION" if member is StunMethod.DATA else prefix + member.name
                 self.assertEqual(member.value, self.numbers[name], name)

@@ -21,6 +21,7 @@ from is_ice import _abi
 from is_ice._loop_calls import PACKET
 from is_ice.address import PATHS, POINTERS, address_of
 from is_ice.gather import TurnServer
+from is_ice.stun import StunClass, StunMessage, StunMethod, write_message
 from is_ice import (
     AddResult,
     BadAddress,
@@ -44,6 +45,8 @@ from is_ice import (
     NoAgent,
     NominatedSend,
     Protocol,
+    Removal,
+    RemovedPair,
     Rules,
     SocketAddress,
     TooFewRandomBytes,
@@ -513,16 +516,19 @@ class Errors(unittest.TestCase):
         self.assertEqual(self.agent.rules, Rules.modern())
         self.assertEqual(Rules.modern(), Rules(
             kinds_in_turn=True, triggered_checks=4, early_rto=early, selects_at_once=True, consent=Consent(29_600_000_000, strict=False),
-            selected_first=True, timeout_after_requests=True, lite_keeps_role=True, numbered_nominations=True))
+            selected_first=True, timeout_after_requests=True, lite_keeps_role=True, numbered_nominations=True, discovered_if_served=True,
+            state_after_nomination=True, invalidates_listed=True))
         self.assertEqual(Rules.original(), Rules(
             kinds_in_turn=False, triggered_checks=None, early_rto=None, selects_at_once=False, consent=None, selected_first=False,
-            timeout_after_requests=False, lite_keeps_role=False, numbered_nominations=False))
+            timeout_after_requests=False, lite_keeps_role=False, numbered_nominations=False, discovered_if_served=False,
+            state_after_nomination=False, invalidates_listed=False))
         most = (1 << 64) - 1
         changes: tuple[dict[str, Any], ...] = (
             {"kinds_in_turn": False}, {"triggered_checks": None}, {"triggered_checks": most}, {"early_rto": None},
             {"early_rto": EarlyRto(most, most)}, {"early_rto": EarlyRto(1, 0)}, {"selects_at_once": False}, {"consent": None},
             {"consent": Consent(most, strict=True)}, {"consent": Consent(1)}, {"selected_first": False}, {"timeout_after_requests": False},
-            {"lite_keeps_role": False}, {"numbered_nominations": False},
+            {"lite_keeps_role": False}, {"numbered_nominations": False}, {"discovered_if_served": False}, {"state_after_nomination": False},
+            {"invalidates_listed": False},
         )
         for change in changes:
             for rules in (Rules.modern(), Rules.original()):
@@ -702,6 +708,43 @@ class Values(unittest.TestCase):
         assert pair.due is not None and pair.last_request is not None
         self.assertGreater(pair.due, pair.last_request)
         self.assertEqual(a.pairs, a.pairs)
+
+    def test_a_removed_pair_has_its_path_its_figures_and_the_reason(self) -> None:
+        a, _ = two_agents()
+        (pair,) = a.pairs
+        self.assertEqual(a.removed_pairs(), [])
+        self.assertTrue(a.invalidate_candidate(LINE_OF_THERE))
+        removed = RemovedPair(
+            MediaPath(HERE, THERE, Protocol.UDP), pair.priority, CheckState.WAITING, 0, 0, None, Removal.INVALIDATED)
+        self.assertEqual((a.pairs, a.removed_pairs(), a.removed_pairs(1)), ([], [removed], []))
+        self.assertEqual(str(removed), "10.0.0.1:1000 -> 10.0.0.2:2000 waiting, 0 checks sent, 0 answered: invalidated")
+        a.ice_restart(new_creds(), True)
+        self.assertEqual(a.removed_pairs(), [])
+
+    def test_a_removed_pair_has_the_code_of_an_error_response(self) -> None:
+        a, b = two_agents()
+        a.set_rules(Rules.original())
+        a.set_max_stun_retransmits(2)
+        a.handle_timeout(BEGINNING)
+        check = a.poll_transmit()
+        assert check is not None
+        refusal = write_message(StunMethod.BINDING, StunClass.FAILURE, StunMessage(check.contents).transaction,
+                                key=b.local_credentials.pass_.encode(), error=(400, "Bad Request"))
+        self.assertTrue(a.handle_packet(BEGINNING, THERE, HERE, refusal))
+        for after in (SECOND // 4, SECOND * 3 // 4):
+            a.handle_timeout(BEGINNING + after)
+        self.assertEqual([str(pair) for pair in a.removed_pairs()], [
+            "10.0.0.1:1000 -> 10.0.0.2:2000 in progress, 2 checks sent, 0 answered, error response 400: no response"])
+
+    def test_the_last_32_removed_pairs_are_listed(self) -> None:
+        agent = IceAgent()
+        agent.add_local_candidate(Candidate.host(HERE))
+        for port in range(40):
+            line = LINE_OF_THERE.replace(" 2000 ", f" {2000 + port} ")
+            agent.add_remote_candidate(line)
+            agent.invalidate_candidate(line)
+        ports = [pair.path.destination.port for pair in agent.removed_pairs() if pair.path]
+        self.assertEqual(ports, list(range(2008, 2040)))
 
     def test_preferences_by_kind(self) -> None:
         agent = IceAgent()

@@ -10,7 +10,17 @@ from typing import Any
 from unittest import mock
 
 import is_ice.connection
-from is_ice import CandidateKind, CheckState, IceAgent, IceConnectionState, SocketAddress
+from is_ice import (
+    CandidateKind,
+    CheckState,
+    IceAgent,
+    IceConnectionState,
+    MediaPath,
+    Protocol,
+    Removal,
+    RemovedPair,
+    SocketAddress,
+)
 from is_ice._report import tried
 from is_ice._session_log import SessionLog, kind_of_message
 from is_ice.mdns import Mdns
@@ -20,6 +30,12 @@ from pairs import LOOPBACK, NOBODY, add_candidates, agent, close, gather, join
 from test_loop import BINDING_REQUEST, BINDING_RESPONSE
 
 THERE, HERE = SocketAddress("192.0.2.2", 2000), SocketAddress("192.0.2.1", 1000)
+
+
+def removed_to(port: int, path: bool = True) -> RemovedPair:
+    """A pair with this port of the peer, to which nobody responded."""
+    to = MediaPath(HERE, SocketAddress(THERE.ip, port), Protocol.UDP) if path else None
+    return RemovedPair(to, 7, CheckState.IN_PROGRESS, 3, 0, None, Removal.NO_RESPONSE)
 
 
 def unauthorized(code: int = 401) -> bytes:
@@ -71,6 +87,31 @@ class Lines(unittest.IsolatedAsyncioTestCase):
         self.assertEqual(a._loop.log.discarded, kinds)
         await a.close()
 
+    def test_each_removed_pair_has_a_line(self) -> None:
+        listed: list[RemovedPair] = []
+        lister: Any = SimpleNamespace(local_credentials=SimpleNamespace(ufrag="abcd"), removed_pairs=lambda first=0: listed[first:])
+        log = SessionLog(logging.getLogger("is_ice.test"), lister)
+        for now, new in (
+            ([], []), ([1, 2], [1, 2]), ([1, 2], []), ([1, 2, 2], [2]),  # one more that is equal
+            ([2, 2, 3], [3]), ([2, 3, 4, 5], [4, 5]),  # the oldest one was dropped, or another one was forgotten
+            ([6, 7], [6, 7]), ([], []), ([6], [6]),  # all are new; after a restart there are none
+        ):
+            listed[:] = map(removed_to, now)
+            with self.subTest(now=now), self.assertLogs("is_ice.test", "INFO") as logged:
+                log.info("the lines:")
+                log.removals()
+                self.assertEqual([record.getMessage() for record in logged.records[1:]],
+                                 [f"abcd: removed 192.0.2.1:1000 -> 192.0.2.2:{port} in progress, 3 checks sent, 0 answered: no response"
+                                  for port in new])
+
+    def test_a_removed_pair_is_read_only_if_it_is_logged(self) -> None:
+        log = SessionLog(logging.getLogger("is_ice.test"), IceAgent())
+        with mock.patch.object(IceAgent, "removed_pairs") as asked:
+            logging.getLogger("is_ice.test").setLevel(logging.WARNING)
+            log.removals()
+        self.assertFalse(asked.called)
+        logging.getLogger("is_ice.test").setLevel(logging.NOTSET)
+
     def test_kinds_are_limited(self) -> None:
         log = SessionLog(logging.getLogger("is_ice.test"), IceAgent())
         for code in range(300, 400):
@@ -110,8 +151,13 @@ class Failures(unittest.IsolatedAsyncioTestCase):
 
     async def test_nobody_responds(self) -> None:
         a = await self.alone(NOBODY)
-        told = await self.failed(a)
+        with self.assertLogs("is_ice.loop", "INFO") as logged:
+            told = await self.failed(a)
         self.assertRegex(told, "^ICE negotiation failed: all checks failed; state Disconnected; ")
+        lines = [record.getMessage().removeprefix(f"{a.local_username}: ") for record in logged.records]
+        self.assertRegex(lines[-2], "^removed 127.0.0.1:[0-9]+ -> 127.0.0.1:9 in progress, [1-9] checks sent, 0 answered: no response$")
+        self.assertEqual(lines[-1], "state Disconnected")
+        self.assertIn(f"; pairs: none; removed pairs: {lines[-2].removeprefix('removed ')}; ", told)
         self.assertIn(f"; local candidates: 127.0.0.1:{a.local_candidates[0].port} (host); remote candidates: 127.0.0.1:9 (host); ", told)
         self.assertRegex(told, "; [1-9][0-9]* checks sent, 0 answered, 0 received in all; discarded: none$")
         await a.close()
@@ -146,7 +192,8 @@ class Failures(unittest.IsolatedAsyncioTestCase):
             a = await self.alone("1 1 udp 1 h.local 9 typ host")
             with mock.patch.object(is_ice.connection, "_PATIENCE", 0.1):
                 told = await self.failed(a)
-        self.assertRegex(told, "; remote candidates: none; pairs: none; .*; mDNS names of the peer without an address: 1$")
+        self.assertRegex(
+            told, "; remote candidates: none; pairs: none; removed pairs: none; .*; mDNS names of the peer without an address: 1$")
         await a.close()
 
     async def test_it_is_closed(self) -> None:
@@ -172,12 +219,14 @@ class Failures(unittest.IsolatedAsyncioTestCase):
         pair = SimpleNamespace(local=0, remote=99, state=CheckState.SUCCEEDED, checks_sent=3, responses=2, requests_received=1)
         of_ten: Any = SimpleNamespace(
             local_fields=lambda: [fields(1)], remote_fields=lambda: [fields(port) for port in range(1, 101)], pairs=[pair] * 9,
+            removed_pairs=lambda: [removed_to(2000, path=False)] * 9,
             stats=SimpleNamespace(bind_request_sent=27, bind_success_recv=18, bind_request_recv=9), state=IceConnectionState.CONNECTED)
         told = tried(of_ten, {}).split("; ")
         self.assertEqual(told[1], "local candidates: 127.0.0.1:1 (server-reflexive)")
         self.assertRegex(told[2], r"^remote candidates: (127.0.0.1:[1-8] \(server-reflexive\)(, )?){8} and 92 more$")
         self.assertRegex(told[3], "^pairs: .*127.0.0.1:1 -> 127.0.0.1:100 succeeded, 3 checks sent, 2 answered, 1 received and 1 more$")
-        self.assertEqual(told[4:], ["27 checks sent, 18 answered, 9 received in all", "discarded: none"])
+        self.assertRegex(told[4], "^removed pairs: (unknown path in progress, 3 checks sent, 0 answered: no response(, )?){8} and 1 more$")
+        self.assertEqual(told[5:], ["27 checks sent, 18 answered, 9 received in all", "discarded: none"])
 
 
 if __name__ == "__main__":

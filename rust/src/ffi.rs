@@ -191,6 +191,19 @@ pub(crate) struct Pair {
 
 #[repr(C)]
 #[derive(Clone, Copy, Default)]
+pub(crate) struct RemovedPair {
+    pub(crate) priority: u64,
+    pub(crate) checks_sent: u64,
+    pub(crate) responses: u64,
+    pub(crate) path: MediaPath,
+    pub(crate) state: i32,
+    pub(crate) reason: i32,
+    pub(crate) error: i32,
+    pub(crate) has_path: bool,
+}
+
+#[repr(C)]
+#[derive(Clone, Copy, Default)]
 pub(crate) struct KindPreferences {
     pub(crate) host: u16,
     pub(crate) peer_reflexive: u16,
@@ -219,6 +232,9 @@ pub(crate) struct AgentRules {
     pub(crate) timeout_after_requests: bool,
     pub(crate) lite_keeps_role: bool,
     pub(crate) numbered_nominations: bool,
+    pub(crate) discovered_if_served: bool,
+    pub(crate) state_after_nomination: bool,
+    pub(crate) invalidates_listed: bool,
 }
 
 #[repr(C)]
@@ -289,13 +305,14 @@ const _: () = {
     assert!(size_of::<Fields>() == 120 && std::mem::offset_of!(Fields, foundation_length) == 88);
     assert!(size_of::<Packet>() == 72 && size_of::<Event>() == 68 && size_of::<Status>() == 40);
     assert!(size_of::<Stats>() == 40 && size_of::<Nominated>() == 88 && size_of::<Pair>() == 96);
-    assert!(size_of::<KindPreferences>() == 8 && size_of::<PreferenceTable>() == 16 && size_of::<AgentRules>() == 40);
+    assert!(size_of::<MediaPath>() == 60 && size_of::<RemovedPair>() == 104);
+    assert!(size_of::<KindPreferences>() == 8 && size_of::<PreferenceTable>() == 16 && size_of::<AgentRules>() == 48);
     assert!(size_of::<StunTransaction>() == 12 && size_of::<StunResult>() == 32);
     assert!(size_of::<StunNumber>() == 16 && size_of::<StunMessage>() == 248);
     assert!(size_of::<StunSpan>() == 24 && size_of::<StunTexts>() == 144);
     assert!(std::mem::offset_of!(Agent, at) == 8 && std::mem::offset_of!(Address, flow) == 20);
     assert!(std::mem::offset_of!(Gathered, kind) == 56 && std::mem::offset_of!(Gathered, tcptype) == 58);
-    assert!(std::mem::offset_of!(Packet, length) == 56);
+    assert!(std::mem::offset_of!(Packet, length) == 56 && std::mem::offset_of!(RemovedPair, state) == 84);
     assert!(std::mem::offset_of!(Event, state) == 60 && std::mem::offset_of!(Status, mtu) == 8);
 };
 
@@ -338,6 +355,8 @@ unsafe extern "C" {
     pub(crate) safe fn is_ice_valid_path(agent: &mut Agent, path: &mut MediaPath) -> i32;
     pub(crate) safe fn is_ice_pair_count(agent: &mut Agent, count: &mut usize) -> i32;
     pub(crate) safe fn is_ice_pair_at(agent: &mut Agent, index: usize, pair: &mut Pair) -> i32;
+    pub(crate) safe fn is_ice_removed_count(agent: &mut Agent, count: &mut usize) -> i32;
+    pub(crate) safe fn is_ice_removed_at(agent: &mut Agent, index: usize, pair: &mut RemovedPair) -> i32;
     pub(crate) safe fn is_ice_has_viable_remote(agent: &mut Agent, address: &Address) -> i32;
     pub(crate) safe fn is_ice_retransmit_timeout(initial_rto: u64, max_rto: u64, max_retransmits: usize, timeout: &mut u64) -> i32;
     pub(crate) safe fn is_ice_retransmit_delay(initial_rto: u64, max_rto: u64, limit: usize, sent: usize, delay: &mut u64) -> i32;

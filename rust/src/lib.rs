@@ -32,9 +32,11 @@ mod hmac;
 mod pair;
 mod preference;
 mod proto;
+mod removed;
 mod rules;
 #[cfg(feature = "serde")]
 mod serde;
+mod session_log;
 mod settings;
 pub mod stun;
 mod stun_builder;
@@ -51,4 +53,6 @@ pub use hmac::{DefaultSha1HmacProvider, Sha1HmacProvider};
 pub use pair::{CandidatePair, CheckState};
 pub use preference::{KindPreferences, LocalPreference, PreferenceTable, default_local_preference, try_default_local_preference};
 pub use proto::{Protocol, TcpType};
+pub use removed::{Removal, RemovedPair};
 pub use rules::{Consent, EarlyRto, Rules};
+pub use session_log::SessionLog;

@@ -16,6 +16,16 @@ pub enum CheckState {
     Succeeded,
 }
 
+impl CheckState {
+    pub(crate) fn of(number: i32) -> CheckState {
+        match number {
+            0 => CheckState::Waiting,
+            1 => CheckState::InProgress,
+            _ => CheckState::Succeeded,
+        }
+    }
+}
+
 /// A candidate pair, with its figures since it was formed.
 #[derive(Clone, Copy, Debug, PartialEq, Eq)]
 pub struct CandidatePair {
@@ -131,11 +141,7 @@ impl CandidatePair {
             local: pair.local,
             remote: pair.remote,
             priority: pair.priority,
-            state: match pair.state {
-                0 => CheckState::Waiting,
-                1 => CheckState::InProgress,
-                _ => CheckState::Succeeded,
-            },
+            state: CheckState::of(pair.state),
             nominated: pair.nominated,
             selected: pair.selected,
             checks_sent: pair.checks_sent,

@@ -62,6 +62,14 @@ pub struct Rules {
     /// controlled or lite agent selects the valid pair with the greatest number, so a late or repeated check does not turn it back.
     /// USE-CANDIDATE without a number counts as 1, once a number came since the last restart.
     pub numbered_nominations: bool,
+    /// An authentic request that is dropped without a response reports no source.
+    pub discovered_if_served: bool,
+    /// The state is evaluated after nomination in each call, so that it says whether a path is selected. If a candidate that is added or
+    /// invalidated takes the selected pair away, another one is selected at once, or the state changes.
+    pub state_after_nomination: bool,
+    /// [`IceAgent::invalidate_candidate`] passes over candidates that were invalidated before, so each one that is listed can be
+    /// invalidated.
+    pub invalidates_listed: bool,
 }
 
 /// How long the response to a check keeps a pair: see [`Rules::consent`].
@@ -110,6 +118,9 @@ impl Rules {
             timeout_after_requests: rules.timeout_after_requests,
             lite_keeps_role: rules.lite_keeps_role,
             numbered_nominations: rules.numbered_nominations,
+            discovered_if_served: rules.discovered_if_served,
+            state_after_nomination: rules.state_after_nomination,
+            invalidates_listed: rules.invalidates_listed,
         }
     }
 
@@ -126,6 +137,9 @@ impl Rules {
             timeout_after_requests: self.timeout_after_requests,
             lite_keeps_role: self.lite_keeps_role,
             numbered_nominations: self.numbered_nominations,
+            discovered_if_served: self.discovered_if_served,
+            state_after_nomination: self.state_after_nomination,
+            invalidates_listed: self.invalidates_listed,
         }
     }
 }

@@ -177,6 +177,8 @@ fn rules_begin_as_documented() {
     assert_eq!(IceAgent::new(creds("near")).rules(), modern);
     assert!(modern.kinds_in_turn && modern.selects_at_once && modern.selected_first && modern.timeout_after_requests);
     assert!(modern.lite_keeps_role && modern.numbered_nominations && !original.lite_keeps_role && !original.numbered_nominations);
+    assert!(modern.discovered_if_served && modern.state_after_nomination && modern.invalidates_listed);
+    assert!(!original.discovered_if_served && !original.state_after_nomination && !original.invalidates_listed);
     assert_eq!(modern.consent, Some(Consent { timeout: ms(29_600), strict: false }));
     assert_eq!(modern.triggered_checks, Some(4));
     assert_eq!(modern.early_rto, Some(EarlyRto { retransmits: 4, interval: ms(100) }));
@@ -193,7 +195,7 @@ fn rules_after(rules: Rules) -> Rules {
 
 #[test]
 fn rules_are_set() {
-    let changes: [fn(&mut Rules); 12] = [
+    let changes: [fn(&mut Rules); 15] = [
         |rules| *rules = Rules::original(),
         |rules| rules.kinds_in_turn = !rules.kinds_in_turn,
         |rules| rules.triggered_checks = Some(u64::MAX),
@@ -206,6 +208,9 @@ fn rules_are_set() {
         |rules| rules.timeout_after_requests = !rules.timeout_after_requests,
         |rules| rules.lite_keeps_role = !rules.lite_keeps_role,
         |rules| rules.numbered_nominations = !rules.numbered_nominations,
+        |rules| rules.discovered_if_served = !rules.discovered_if_served,
+        |rules| rules.state_after_nomination = !rules.state_after_nomination,
+        |rules| rules.invalidates_listed = !rules.invalidates_listed,
     ];
     for change in changes {
         for mut rules in [Rules::modern(), Rules::original()] {

@@ -7,7 +7,7 @@ mod random;
 
 use is::stun::{BindingResponse, StunMessage, StunMessageBuilder, StunPacket, StunTiming, TransId};
 use is::{Candidate, CandidateKind, DefaultSha1HmacProvider, IceAgent, IceAgentEvent, IceCreds, Sha1HmacProvider, TcpType};
-use is::{Consent, EarlyRto, KindPreferences, PreferenceTable, Protocol, Rules};
+use is::{Consent, EarlyRto, KindPreferences, PreferenceTable, Protocol, Rules, SessionLog};
 use random::Random;
 use random::looks::{PASSWORD, is_named_by_a_word, look_at_candidate, look_at_message, look_at_pair};
 use std::hint::black_box;
@@ -24,6 +24,7 @@ struct Session {
     seed: u64,
     random: Random,
     agents: [IceAgent; 2],
+    logs: [SessionLog; 2],
     candidates: Vec<Candidate>,
     wire: Vec<Datagram>,
     began: Instant,
@@ -81,7 +82,8 @@ impl Session {
             }
         }
         let began = Instant::now();
-        Session { seed, random, agents, candidates: Vec::new(), wire: Vec::new(), began, now: began, seen: [0; 2] }
+        let logs = [SessionLog::new(), SessionLog::new()];
+        Session { seed, random, agents, logs, candidates: Vec::new(), wire: Vec::new(), began, now: began, seen: [0; 2] }
     }
 
     fn run(mut self) -> [usize; 2] {
@@ -217,6 +219,9 @@ impl Session {
         rules.timeout_after_requests = self.random.once_in(2);
         rules.lite_keeps_role = self.random.once_in(2);
         rules.numbered_nominations = self.random.once_in(2);
+        rules.discovered_if_served = self.random.once_in(2);
+        rules.state_after_nomination = self.random.once_in(2);
+        rules.invalidates_listed = self.random.once_in(2);
         rules.triggered_checks = self.random.once_in(2).then_some(count as u64);
         rules.early_rto = self.random.once_in(2).then_some(EarlyRto { retransmits, interval });
         let (timeout, strict) = (self.random.duration(), self.random.once_in(2));
@@ -300,6 +305,7 @@ impl Session {
         let (local, remote) = (agent.try_local_candidates().unwrap(), agent.try_remote_candidates().unwrap());
         assert_eq!((agent.local_candidates().collect(), agent.remote_candidates().collect()), (local.clone(), remote.clone()));
         agent.pairs().take(2).for_each(|pair| look_at_pair(&pair, &local, &remote));
+        assert!(agent.removed_pairs().all(|pair| pair.path.is_some()));
         for text in [format!("{agent:?}"), format!("{:?} {:?}", agent.local_credentials(), agent.remote_credentials())] {
             assert!(!text.contains(PASSWORD), "{text}");
         }
@@ -335,12 +341,15 @@ impl Session {
             assert!(sent.contents.len() <= 596 && StunMessage::parse_any(&sent.contents).is_ok());
             self.wire.push((1 - side, sent.proto, sent.source, sent.destination, sent.contents));
         }
+        for line in self.logs[side].removals(agent) {
+            assert!(line.contains(": removed ") && !line.contains(PASSWORD), "{line}");
+        }
         while let Some(event) = agent.poll_event() {
             if let IceAgentEvent::IceRestart(creds) = &event {
                 assert_eq!(creds, agent.local_credentials());
             }
             self.seen[1] += usize::from(matches!(event, IceAgentEvent::NominatedSend { .. }));
-            let text = format!("{event:?}");
+            let text = format!("{event:?} {}", self.logs[side].event(agent, &event));
             assert!(!text.contains(PASSWORD), "{text}");
         }
     }

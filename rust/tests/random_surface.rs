@@ -5,11 +5,12 @@ use std::fs::{read_dir, read_to_string};
 use std::path::Path;
 
 /// What a method of a type is called on in the sessions. A builder is also what its own methods return.
-const RECEIVERS: [(&str, &[&str]); 8] = [
+const RECEIVERS: [(&str, &[&str]); 9] = [
     ("IceAgent", &["agent", "self.agents[side]"]),
     ("IceConnectionState", &["agent.state()"]),
     ("Candidate", &["c", "named"]),
     ("CandidatePair", &["pair"]),
+    ("SessionLog", &["self.logs[side]"]),
     ("StunMessage", &["m"]),
     ("StunTiming", &["timing", "StunTiming::default()"]),
     ("Builder", &["new()", "method", "builder", ")"]),

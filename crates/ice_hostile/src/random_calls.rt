@@ -182,11 +182,11 @@ fn add_remote(agent: &mut Agent, candidate: Candidate) -> Result<Did, Broken> {
     what_became(agent.add_remote_candidate(candidate))
 }
 
-fn invalidate(agent: &mut Agent, candidate: &Candidate) -> Did {
-    if agent.invalidate_candidate(candidate) {
-        Did::Done
-    } else {
-        Did::False
+fn invalidate(agent: &mut Agent, candidate: &Candidate) -> Result<Did, Broken> {
+    match agent.invalidate_candidate(candidate) {
+        Ok(true) => Ok(Did::Done),
+        Ok(false) => Ok(Did::False),
+        Err(_) => Err(Broken),
     }
 }
 
@@ -198,7 +198,7 @@ fn candidate(agent: &mut Agent, alloc: Global, random: &mut Pcg32) -> Result<Did
     };
     let candidate = host(alloc, number, random)?;
     match below(random, 4) {
-        0 => Ok(invalidate(agent, &candidate)),
+        0 => invalidate(agent, &candidate),
         1 => add_local(agent, candidate),
         _ => add_remote(agent, candidate),
     }

@@ -2,9 +2,9 @@
 use crate::fault::Stop;
 use crate::fields::Fields;
 use crate::table::{
-    CONSENT, EARLY_RTO, INTERVAL, KINDS_IN_TURN, LITE_KEEPS_ROLE, NAME, NUMBERED_NOMINATIONS,
-    RETRANSMITS, SELECTED_FIRST, SELECTS_AT_ONCE, STRICT, TIMEOUT, TIMEOUT_AFTER_REQUESTS,
-    TRIGGERED_CHECKS,
+    CONSENT, DISCOVERED_IF_SERVED, EARLY_RTO, INTERVAL, INVALIDATES_LISTED, KINDS_IN_TURN,
+    LITE_KEEPS_ROLE, NAME, NUMBERED_NOMINATIONS, RETRANSMITS, SELECTED_FIRST, SELECTS_AT_ONCE,
+    STATE_AFTER_NOMINATION, STRICT, TIMEOUT, TIMEOUT_AFTER_REQUESTS, TRIGGERED_CHECKS,
 };
 use is::{Consent, EarlyRto, Rules};
 
@@ -24,6 +24,12 @@ pub fn rules_of(fields: Fields<'_>) -> Result<Rules, Stop> {
         )?,
         lite_keeps_role: fields.flag_or(LITE_KEEPS_ROLE, named.lite_keeps_role)?,
         numbered_nominations: fields.flag_or(NUMBERED_NOMINATIONS, named.numbered_nominations)?,
+        discovered_if_served: fields.flag_or(DISCOVERED_IF_SERVED, named.discovered_if_served)?,
+        state_after_nomination: fields.flag_or(
+            STATE_AFTER_NOMINATION,
+            named.state_after_nomination,
+        )?,
+        invalidates_listed: fields.flag_or(INVALIDATES_LISTED, named.invalidates_listed)?,
     })
 }
 

@@ -123,6 +123,12 @@ pub const LITE_KEEPS_ROLE: Field = Field("lite_keeps_role", Kind::Flag);
 
 pub const NUMBERED_NOMINATIONS: Field = Field("numbered_nominations", Kind::Flag);
 
+pub const DISCOVERED_IF_SERVED: Field = Field("discovered_if_served", Kind::Flag);
+
+pub const STATE_AFTER_NOMINATION: Field = Field("state_after_nomination", Kind::Flag);
+
+pub const INVALIDATES_LISTED: Field = Field("invalidates_listed", Kind::Flag);
+
 /// The name of a call.
 #[derive(Clone, Copy, PartialEq, Eq)]
 pub enum CallName {

@@ -1,6 +1,6 @@
 -- Which function of a run makes a call.
 use Rattle.std.specs.Prelude.{Bool, true, false}
-use Rattle.is_rules.specs.Steps.{Call, SetControlTieBreaker, SetMaxCandidatePairs, SetMaxDiscovered, SetIceLite, SetRenomination, SetRules, SetTimingAdvance}
+use Rattle.is_rules.specs.Steps.{Call, SetControlTieBreaker, SetMaxCandidatePairs, SetMaxDiscovered, SetIceLite, SetRenomination, SetRules, SetTimingAdvance, AddLocalCandidate, AddRemoteCandidate, InvalidateCandidate}
 use Rattle.is_rules.specs.Steps.{SetInitialStunRto, SetMaxStunRto, SetLiteTimeout, SetLocalPreference, SkipPairIds, ReceivePacket, HandleTimeout}
 
 -- a setting that takes any value
@@ -23,4 +23,7 @@ is_plain_setting _ = false
 abbrev pub is_quiet : {P : Type 0} → Call P → Bool
 is_quiet (ReceivePacket _ _ _) = false
 is_quiet (HandleTimeout _) = false
+is_quiet (AddLocalCandidate _) = false
+is_quiet (AddRemoteCandidate _) = false
+is_quiet (InvalidateCandidate _) = false
 is_quiet _ = true

@@ -183,7 +183,7 @@ pub fn run<H: Sha1HmacProvider + Drop, P: LocalPreference, R: Rng>(
     // After each call, whatever was received: at most as many packets wait to be polled as packets were accepted and
     // `handle_timeout` was called since `poll_transmit` returned None or the agent was restarted. Events wait likewise since
     // `poll_event` returned None, `DiscoveredRecv` aside: at most two for each of these packets, five for each of these calls, and
-    // those of a clear. At most 100 early requests wait.
+    // those of a clear, and two for each candidate that was added or invalidated. At most 100 early requests wait.
     ensures waiting { IsFresh (record_of agent.old)
         → QueuesStayShort H.mac P.answers (record_of agent.old) (R.stream rng.old) (log_of calls.items result) }
 

@@ -1,6 +1,7 @@
 //! One call of a run.
 ghost use Rattle.std.specs.Prelude.{◌≡◌, true, IsTrue, ◌↔◌};
 ghost use Rattle.rand_core.specs.Stream.{Stream};
+ghost use Rattle.is_candidate.specs.Candidates.{IsBased};
 ghost use Rattle.is_agent.specs.View.{record_of, emitted_of};
 ghost use Rattle.is_rules.specs.Steps as steps;
 ghost use Rattle.is_rules.specs.Steps.{Receives, Step};
@@ -13,7 +14,7 @@ use crate::calls::{AgentCall, Answer, Entry};
 use is_agent::Agent;
 use is_agent::emitted::{last_issued, last_selected};
 use is_agent::local::add_local;
-use is_candidate::LocalPreference;
+use is_candidate::{Candidate, LocalPreference};
 use is_proto::{IceError, Instant, Sha1HmacProvider, StunError};
 use is_rules::emitted::Path;
 use is_stun::stun::{StunMessage, StunPacket};
@@ -32,7 +33,7 @@ pub(crate) fn quiet(number: usize, answer: Answer) -> Entry
     }
 }
 
-/// The log entry of a packet or of a `handle_timeout` call: what it emitted is read from the agent.
+/// The log entry of a call that may select a path: what it emitted is read from the agent.
 fn telling<H, P>(agent: &Agent<H, P>, number: usize, answer: Answer) -> Entry
     ensures emitted { entry_view result ≡ record { answer = answer_view answer; emitted = emitted_of agent.now } }
     ensures numbered { result.number ≡ number }
@@ -212,9 +213,6 @@ fn take_quiet<H: Sha1HmacProvider + Drop, P: LocalPreference>(
         AgentCall::SetMaxStunRetransmits(limit) => take_limit(agent, limit),
         AgentCall::SetLocalCredentials(own) => done_or_rejected(agent.set_local_credentials(own)),
         AgentCall::SetRemoteCredentials(far) => done_or_rejected(agent.set_remote_credentials(far)),
-        AgentCall::AddLocalCandidate(added) => added_or_rejected(add_local(agent, added)),
-        AgentCall::AddRemoteCandidate(added) => done_or_rejected(agent.add_remote_candidate(added)),
-        AgentCall::InvalidateCandidate(lost) => Answer::Flag(agent.invalidate_candidate(&lost)),
         AgentCall::RestartIce { creds, keep } => done_or_rejected(agent.ice_restart(creds, keep)),
         AgentCall::RecreateCandidatePairs => done_or_rejected(agent.recreate_candidate_pairs()),
         AgentCall::PollTransmit => Answer::Transmit(agent.poll_transmit()),
@@ -225,6 +223,49 @@ fn take_quiet<H: Sha1HmacProvider + Drop, P: LocalPreference>(
             Answer::Done
         }
     }
+}
+
+/// A local candidate is added, and may take the selected pair away.
+fn take_local<H: Sha1HmacProvider + Drop, P: LocalPreference>(
+    agent: &mut Agent<H, P>,
+    number: usize,
+    candidate: Candidate,
+) -> Entry
+    ensures did { (s : Stream) → Step H.mac P.answers (record_of agent.old) s (steps.AddLocalCandidate candidate) (entry_view result)
+        (record_of agent.new) s }
+    ensures numbered { result.number ≡ number }
+    ensures given { IsBased candidate }
+{
+    let answer = added_or_rejected(add_local(agent, candidate));
+    telling(agent, number, answer)
+}
+
+/// The same of a remote one.
+fn take_remote<H: Sha1HmacProvider + Drop, P: LocalPreference>(
+    agent: &mut Agent<H, P>,
+    number: usize,
+    candidate: Candidate,
+) -> Entry
+    ensures did { (s : Stream) → Step H.mac P.answers (record_of agent.old) s (steps.AddRemoteCandidate candidate) (entry_view result)
+        (record_of agent.new) s }
+    ensures numbered { result.number ≡ number }
+{
+    let answer = done_or_rejected(agent.add_remote_candidate(candidate));
+    telling(agent, number, answer)
+}
+
+/// A candidate is invalidated, and may take the selected pair away.
+fn take_lost<H: Sha1HmacProvider + Drop, P: LocalPreference>(
+    agent: &mut Agent<H, P>,
+    number: usize,
+    candidate: &Candidate,
+) -> Entry
+    ensures did { (s : Stream) → Step H.mac P.answers (record_of agent.old) s (steps.InvalidateCandidate candidate.now) (entry_view result)
+        (record_of agent.new) s }
+    ensures numbered { result.number ≡ number }
+{
+    let answer = flag_or_rejected(agent.invalidate_candidate(candidate));
+    telling(agent, number, answer)
 }
 
 /// One call, with its number.
@@ -255,6 +296,9 @@ pub(crate) fn step<H: Sha1HmacProvider + Drop, P: LocalPreference, R: Rng>(
             take_packet(agent, number, now, path, &bytes)
         }
         AgentCall::HandleTimeout(now) => take_timeout(agent, number, now, rng),
+        AgentCall::AddLocalCandidate(added) => take_local(agent, number, added),
+        AgentCall::AddRemoteCandidate(added) => take_remote(agent, number, added),
+        AgentCall::InvalidateCandidate(lost) => take_lost(agent, number, &lost),
         other => quiet(number, take_quiet(agent, other)),
     }
 }

@@ -6,3 +6,4 @@ pub mod RecomputedPriorities
 pub mod ReceivedResponses
 pub mod UsernameLength
 pub mod PairsInLists
+pub mod SelectedAgain

@@ -5,9 +5,11 @@ use Rattle.is_candidate.specs.Candidates.{CandidateRecord}
 use Rattle.is_candidate.specs.Equality.{is_same_place, is_equivalent}
 use Rattle.is_agent.specs.declared.added.Addition.{Addition}
 use Rattle.is_agent.specs.declared.added.Addition.TheVariants.{Added, Known, Ignored, OtherComponent, OtherUfrag}
+use Rattle.is_rules.specs.declared.emitted.Emitted.{Emitted}
 use Rattle.is_rules.specs.Agent.{AgentRecord}
 use Rattle.is_rules.specs.Forming.{is_alive}
 use Rattle.is_rules.specs.Local.{AddsLocal}
+use Rattle.is_rules.specs.Settling.{ReselectsAfter}
 use Rattle.is_rules.specs.Remote.{AddsRemote, is_ignored, has_other_ufrag, is_placeholder, place_or_end}
 
 -- how many listed candidates come before the one at this place
@@ -37,7 +39,8 @@ module _ {H P : Type 0} where
   abbrev pub AddsLocalListed : (P → CandidateRecord → ℕ → ℕ → Type 0) → AgentRecord H P → CandidateRecord → Result Addition IceError
       → AgentRecord H P → Type 0
   AddsLocalListed answers old c result new =
-      (place : Result (Option ℕ) IceError) × AddsLocal answers old c place new × (result ≡ reported (local_addition c old.local new.local) place)
+      (place : Result (Option ℕ) IceError) × (emitted : Emitted) × ReselectsAfter (AddsLocal answers old c place) old emitted new
+      × (result ≡ reported (local_addition c old.local new.local) place)
 
   -- why a remote candidate is ignored: for its component, for its username fragment, or for a pair whose remote candidate equals it
   abbrev pub ignored_addition : AgentRecord H P → CandidateRecord → Addition
@@ -55,4 +58,5 @@ module _ {H P : Type 0} where
   -- `add_remote_listed`
   abbrev pub AddsRemoteListed : AgentRecord H P → CandidateRecord → Result Addition IceError → AgentRecord H P → Type 0
   AddsRemoteListed old c result new =
-      (done : Result (Unit {0}) IceError) × AddsRemote old c done new × (result ≡ reported (λ _. remote_addition old c) done)
+      (done : Result (Unit {0}) IceError) × (emitted : Emitted) × ReselectsAfter (AddsRemote old c done) old emitted new
+      × (result ≡ reported (λ _. remote_addition old c) done)

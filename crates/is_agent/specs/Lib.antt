@@ -6,3 +6,4 @@ pub mod Listed
 pub mod Ready
 pub mod Room
 pub mod Keys
+pub mod Removed

@@ -1,5 +1,5 @@
 -- Reserved capacity for what a call can add.
-use Rattle.std.specs.Prelude.{◌≡◌, ℕ, ◌+◌, ◌≤◌, ◌<◌, true, IfSome, length, vec_len, vec_capacity, string_bytes}
+use Rattle.std.specs.Prelude.{◌≡◌, ℕ, ◌+◌, ◌≤◌, ◌<◌, ◌&&◌, true, IfSome, length, vec_len, vec_capacity, string_bytes}
 use Rattle.std.specs.VecDeque.{deque_len, deque_capacity}
 use Rattle.is_pair.specs.Checklists as checklists
 use Rattle.is_pair.specs.Checklists.{HasRoom}
@@ -7,6 +7,8 @@ use Rattle.is_agent.specs.declared.agent.Agent.{Agent}
 use Rattle.is_rules.specs.Fitting.{CHECK_ROOM}
 use Rattle.is_rules.specs.Checking.{username_between}
 use Rattle.is_rules.specs.Due.{may_fall_due}
+use Rattle.is_rules.specs.Agent.{AgentRecord}
+use Rattle.is_rules.specs.Settling.{settles, has_selected}
 use Rattle.is_agent.specs.View.{record_of}
 
 module _ {H P : Type 0} where
@@ -68,3 +70,7 @@ module _ {H P : Type 0} where
   -- the same, if a check may be due at this time
   abbrev pub HasCheckRoomAt : ℕ → Agent H P → Type 0
   HasCheckRoomAt now a = may_fall_due now (record_of a) ≡ true → HasCheckRoom a
+
+  -- two events more, if by the rule another path is selected once the selected pair is removed
+  abbrev pub HasSelectionRoom : AgentRecord H P → Agent H P → Type 0
+  HasSelectionRoom old a = (settles old && has_selected old) ≡ true → HasEventRoom 2 a

@@ -45,7 +45,7 @@ record_of a = record {
   stats = a.stats;
 }
 
--- what the agent issued and selected at the last packet or `handle_timeout` call
+-- what the agent issued and selected at the last packet, `handle_timeout` call, or candidate that was added or invalidated
 abbrev pub emitted_of : {H P : Type 0} → code.Agent H P → Emitted
 emitted_of a = a.emitted
 

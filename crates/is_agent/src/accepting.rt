@@ -11,12 +11,12 @@ ghost use Rattle.is_rules.specs.Answers.{keeps_check_on};
 ghost use Rattle.is_agent.specs.Ready.{NamesPeer};
 ghost use Rattle.is_agent.specs.Room.{HasNewsRoom};
 ghost use Rattle.is_rules.specs.Limit.{is_crowded};
-ghost use Rattle.is_rules.specs.Accepting.{IsAddressed, IsAcceptedAs, IsAccepted, IsAcceptedOn, Arrives, discovered_emitted, HandlesPacket};
+ghost use Rattle.is_rules.specs.Accepting.{IsAddressed, IsAcceptedAs, IsAccepted, IsAcceptedOn, Arrives, reports_none, discovered_emitted, HandlesPacket};
 
 use crate::agent::Agent;
 use is_candidate::LocalPreference;
 use is_proto::{IceError, Instant, Sha1HmacProvider};
-use is_rules::accepting::{Source, is_discovered, is_same};
+use is_rules::accepting::{Source, is_discovered, is_dropped, is_same};
 use is_rules::answers::keeps_any;
 use is_rules::emitted::{Emitted, Path};
 use is_rules::event::IceAgentEvent;
@@ -99,13 +99,23 @@ impl<H: Sha1HmacProvider + Drop, P: LocalPreference> Agent<H, P> {
         !is_below(self.max_discovered, self.events.len())
     }
 
-    /// Emits `DiscoveredRecv` for the source of a packet, if it was not emitted for it since the last ICE restart. With a
-    /// limit on discovered candidates, it is emitted only while fewer events wait to be polled.
-    fn emit_discovered(&mut self, path: &Path)
-        requires { HasNewsRoom 1 self.old }
-        ensures { record_of self.new ≡ discovered_emitted path.now (record_of self.old) }
+    /// By the rule, a request that is dropped reports no source.
+    fn reports_none(&self, class: Class, emitted: &Emitted) -> bool
+        ensures { result ≡ reports_none class emitted.now (record_of self.now) }
     {
-        if is_discovered(&self.discovered_sources, path) || self.is_crowded() {
+        self.rules.discovered_if_served && is_dropped(class, self.remote_creds.is_some(), emitted)
+    }
+
+    /// Emits `DiscoveredRecv` for the source of a packet of this class, if it was not emitted for it since the last ICE restart.
+    /// With a limit on discovered candidates, it is emitted only while fewer events wait to be polled.
+    fn emit_discovered(&mut self, class: Class, emitted: &Emitted, path: &Path)
+        requires { HasNewsRoom 1 self.old }
+        ensures { record_of self.new ≡ discovered_emitted class emitted.now path.now (record_of self.old) }
+    {
+        if is_discovered(&self.discovered_sources, path)
+            || self.is_crowded()
+            || self.reports_none(class, emitted)
+        {
             return;
         }
         self.discovered_sources.push_reserved(Source {
@@ -134,7 +144,7 @@ impl<H: Sha1HmacProvider + Drop, P: LocalPreference> Agent<H, P> {
     {
         match self.take_packet(now, &packet) {
             Ok(Some(emitted)) => {
-                self.emit_discovered(&packet_path(&packet));
+                self.emit_discovered(packet.message.class(), &emitted, &packet_path(&packet));
                 self.emitted = emitted;
                 Ok(true)
             }

@@ -11,6 +11,7 @@ use is_candidate::candidate::equality::{is_equivalent, is_same_place};
 use is_candidate::candidate::internals::{component, is_discarded};
 use is_candidate::{Candidate, LocalPreference};
 use is_proto::{IceError, Sha1HmacProvider};
+use is_rules::emitted::Emitted;
 use is_rules::remote::place_or_end;
 
 /// What became of a candidate. Its index counts the candidates that `local_candidates` or `remote_candidates` returns, from 0.
@@ -151,6 +152,7 @@ pub fn add_remote_listed<H: Sha1HmacProvider + Drop, P: LocalPreference>(
     ensures { AddsRemoteListed (record_of agent.old) candidate result (record_of agent.new) }
 {
     if agent.is_ignored(&candidate) {
+        agent.emitted = Emitted::nothing();
         return Ok(ignored_addition(agent, &candidate));
     }
     let place = agent.place_for(&candidate);

@@ -21,7 +21,7 @@ ghost use Rattle.is_rules.specs.Answers.{success_counted, Concludes, LeavesRole,
 use crate::agent::{Agent, sides};
 use is_candidate::candidate::making::peer_reflexive;
 use is_candidate::{Candidate, LocalPreference};
-use is_proto::{Instant, Sha1HmacProvider};
+use is_proto::{Instant, Sha1HmacProvider, reserve_one};
 use is_rules::answers::{is_left_out, is_of_role, is_role_conflict, join, pair_awaiting};
 use is_rules::emitted::{Emitted, Path};
 use is_rules::places::{base_at, check_priority_at, proto_at};
@@ -129,8 +129,8 @@ impl<H: Sha1HmacProvider + Drop, P: LocalPreference> Agent<H, P> {
         ensures local { OnOk result (vec_len self.new.local < vec_capacity self.new.local) }
         ensures news { OnOk result (HasNewsRoom 3 self.new) }
     {
-        self.local.reserve(1)?;
-        self.discovered_sources.reserve(1)?;
+        reserve_one(&mut self.local)?;
+        reserve_one(&mut self.discovered_sources)?;
         self.events.reserve(3)?;
         Ok(())
     }
@@ -210,12 +210,23 @@ impl<H: Sha1HmacProvider + Drop, P: LocalPreference> Agent<H, P> {
         }
     }
 
-    /// An error response with code 487 may switch the role. Any other one does nothing.
+    /// The pair with this number got this error response.
+    fn note_error(&mut self, number: u64, message: &StunMessage<'_>)
+        ensures record { record_of self.new ≡ record_of self.old }
+        ensures news { UsesNews 0 self.old self.new }
+    {
+        if let Some((code, _)) = message.error_code() {
+            self.pairs.note_error(number, code);
+        }
+    }
+
+    /// An error response with code 487 may switch the role. Any other one only leaves its code at the pair.
     pub(crate) fn take_failure(&mut self, number: u64, path: &Path, message: &StunMessage<'_>)
         requires kept { KeepsCheckOn (record_of self.old) path.now (message_view message.now).id number }
         ensures taken { TakesFailure (record_of self.old) path.now (message_view message.now) nothing_emitted (record_of self.new) }
         ensures news { UsesNews 0 self.old self.new }
     {
+        self.note_error(number, message);
         if is_role_conflict(message) {
             self.leave_role(number, path, message);
         }

@@ -1,14 +1,17 @@
 //! Discarding candidates: each keeps its index, and its pairs are removed; the rules: `is_rules::discarding`.
 
 ghost use Rattle.std.specs.Prelude.{◌≡◌, ℕ, ◌<◌, length, IfSome, vec_len, vec_capacity};
-ghost use Rattle.is_agent.specs.View.{record_of};
+ghost use Rattle.is_agent.specs.View.{record_of, emitted_of};
+ghost use Rattle.is_agent.specs.Room.{UsesEvents};
 ghost use Rattle.is_pair.specs.Checklists.{HasRoom};
-ghost use Rattle.is_rules.specs.Discarding.{discarded, place_to_discard, local_discarded, remote_discarded, Invalidates};
+ghost use Rattle.is_rules.specs.Discarding.{discarded, local_to_discard, remote_to_discard, local_discarded, remote_discarded, InvalidatesAt, Invalidates};
+ghost use Rattle.is_rules.specs.Settling.{ReselectsAfter};
 
 use crate::agent::Agent;
 use is_candidate::{Candidate, LocalPreference};
-use is_proto::Sha1HmacProvider;
+use is_proto::{IceError, Sha1HmacProvider};
 use is_rules::discarding::{LocalAt, RemoteAt, discard_at, place_to_discard};
+use is_rules::emitted::Emitted;
 
 impl<H: Sha1HmacProvider + Drop, P: LocalPreference> Agent<H, P> {
     /// Discards the local candidate at the index.
@@ -17,6 +20,7 @@ impl<H: Sha1HmacProvider + Drop, P: LocalPreference> Agent<H, P> {
         ensures discarded { record_of self.new ≡ local_discarded place (record_of self.old) }
         ensures local { vec_len self.new.local ≡ vec_len self.old.local }
         ensures local_capacity { vec_capacity self.new.local ≡ vec_capacity self.old.local }
+        ensures events { UsesEvents 0 self.old self.new }
         ensures pairs { (n : ℕ) → HasRoom n self.old.pairs → HasRoom n self.new.pairs }
     {
         discard_at(&mut self.local, place);
@@ -25,32 +29,31 @@ impl<H: Sha1HmacProvider + Drop, P: LocalPreference> Agent<H, P> {
 
     fn discard_remote(&mut self, place: usize)
         requires { place < length self.old.remote.items }
-        ensures { record_of self.new ≡ remote_discarded place (record_of self.old) }
+        ensures discarded { record_of self.new ≡ remote_discarded place (record_of self.old) }
+        ensures events { UsesEvents 0 self.old self.new }
     {
         discard_at(&mut self.remote, place);
         self.pairs.remove_where(&RemoteAt { place });
     }
 
     fn local_to_discard(&self, candidate: &Candidate) -> Option<usize>
-        ensures place { result ≡ place_to_discard candidate.now (record_of self.now).local }
+        ensures place { result ≡ local_to_discard candidate.now (record_of self.now) }
         ensures within { IfSome result (λ place. place < length self.now.local.items) }
     {
-        place_to_discard(&self.local, candidate)
+        place_to_discard(self.rules.invalidates_listed, &self.local, candidate)
     }
 
     fn remote_to_discard(&self, candidate: &Candidate) -> Option<usize>
-        ensures place { result ≡ place_to_discard candidate.now (record_of self.now).remote }
+        ensures place { result ≡ remote_to_discard candidate.now (record_of self.now) }
         ensures within { IfSome result (λ place. place < length self.now.remote.items) }
     {
-        place_to_discard(&self.remote, candidate)
+        place_to_discard(self.rules.invalidates_listed, &self.remote, candidate)
     }
 
-    /// Discards a candidate that is no longer usable, for example because its interface was removed. It discards the first
-    /// local candidate that equals this one in address, base, protocol, kind and related address, if that one is not
-    /// discarded; else the first such remote candidate, likewise. The pairs of the discarded candidate are removed. Returns
-    /// whether there was one. Does not allocate.
-    pub fn invalidate_candidate(&mut self, candidate: &Candidate) -> bool
-        ensures { Invalidates (record_of self.old) candidate.now result (record_of self.new) }
+    fn discard(&mut self, candidate: &Candidate) -> bool
+        ensures discarded { InvalidatesAt (local_to_discard candidate.now (record_of self.old)) (remote_to_discard candidate.now (record_of self.old))
+            (record_of self.old) result (record_of self.new) }
+        ensures events { UsesEvents 0 self.old self.new }
     {
         match (
             self.local_to_discard(candidate),
@@ -66,5 +69,25 @@ impl<H: Sha1HmacProvider + Drop, P: LocalPreference> Agent<H, P> {
             }
             (None, None) => false,
         }
+    }
+
+    /// Discards a candidate that is no longer usable, for example because its interface was removed. It discards the first
+    /// local candidate that equals this one in address, base, protocol, kind and related address, if that one is not
+    /// discarded; else the first such remote candidate, likewise. By the rule `invalidates_listed` those that are discarded are
+    /// passed over. The pairs of the discarded candidate are removed. Returns whether there was one. By the rule `state_after_nomination`, another path is selected at once if the selected one is lost.
+    ///
+    /// Fails with `OutOfMemory`, only by that rule. The agent is then unchanged.
+    pub fn invalidate_candidate(&mut self, candidate: &Candidate) -> Result<bool, IceError>
+        ensures { ReselectsAfter (Invalidates (record_of self.old) candidate.now result) (record_of self.old) (emitted_of self.new)
+            (record_of self.new) }
+    {
+        if self.take_selection_room().is_err() {
+            self.emitted = Emitted::nothing();
+            return Err(IceError::OutOfMemory);
+        }
+        let kept = self.keeps_selected();
+        let found = self.discard(candidate);
+        self.reselect(kept);
+        Ok(found)
     }
 }

@@ -1,4 +1,4 @@
-//! What the last packet or `handle_timeout` call issued and selected; the rules: `is_rules::emitted`.
+//! What the last packet, `handle_timeout` call or candidate issued and selected; the rules: `is_rules::emitted`.
 
 ghost use Rattle.std.specs.Prelude.{◌≡◌};
 ghost use Rattle.is_agent.specs.View.{emitted_of};
@@ -6,16 +6,16 @@ ghost use Rattle.is_agent.specs.View.{emitted_of};
 use crate::agent::Agent;
 use is_rules::emitted::{Issued, Path};
 
-/// The packet that the agent issued at the last packet or `handle_timeout` call, if there was one. Other calls issue none,
-/// and do not change this.
+/// The packet that the agent issued at the last packet or `handle_timeout` call, if there was one. A candidate that is added or
+/// invalidated issues none, and clears this. Other calls issue none, and do not change this.
 pub fn last_issued<H, P>(agent: &Agent<H, P>) -> Option<Issued>
     ensures { result ≡ (emitted_of agent.now).issued }
 {
     agent.emitted.issued
 }
 
-/// The paths that the agent selected at the last packet or `handle_timeout` call, in order. Other calls select none, and do
-/// not change this.
+/// The paths that the agent selected at the last packet or `handle_timeout` call, or when the last candidate was added or invalidated,
+/// in order. Other calls select none, and do not change this.
 pub fn last_selected<H, P>(agent: &Agent<H, P>) -> [Option<Path>; 2]
     ensures { result ≡ (emitted_of agent.now).selected_paths }
 {

@@ -6,9 +6,10 @@ ghost use Rattle.std.specs.Borrow.{sem};
 ghost use Rattle.is_candidate.specs.Equality.{is_same_place};
 ghost use Rattle.is_candidate.specs.Candidates.{candidate_at};
 ghost use Rattle.is_agent.specs.contracts.agent.Agent.{the_row};
-ghost use Rattle.is_agent.specs.View.{record_of};
+ghost use Rattle.is_agent.specs.View.{record_of, emitted_of};
 ghost use Rattle.is_agent.specs.Borrows.{EndsAs};
-ghost use Rattle.is_agent.specs.Room.{HasLocalRoom};
+ghost use Rattle.is_agent.specs.Room.{HasLocalRoom, HasSelectionRoom, UsesEvents};
+ghost use Rattle.is_rules.specs.Settling.{ReselectsAfter};
 ghost use Rattle.is_rules.specs.Discarding.{local_discarded};
 ghost use Rattle.is_rules.specs.Forming.{AreIn, HasNumbers, FormsAll, local_combinations};
 ghost use Rattle.is_rules.specs.Local.{Prefers, comes_again, preferred, as_own, appended, is_unwanted, HasNumbersAt, EntersAgain};
@@ -18,7 +19,8 @@ use crate::agent::Agent;
 use is_candidate::candidate::equality::is_same_place;
 use is_candidate::candidate::kind::same_kind;
 use is_candidate::{Candidate, CandidateKind, LocalPreference};
-use is_proto::{IceError, Sha1HmacProvider};
+use is_proto::{IceError, Sha1HmacProvider, reserve_one};
+use is_rules::emitted::Emitted;
 use is_rules::forming::{has_numbers_for, local_combinations};
 use is_rules::local::{
     Rejection, append, as_own, borrowed_at, comes_again, enable_at, place_of_same, preference_for,
@@ -95,9 +97,11 @@ impl<H: Sha1HmacProvider + Drop, P: LocalPreference> Agent<H, P> {
     fn take_local_room(&mut self, pairs: usize) -> Result<(), AllocError>
         ensures record { record_of self.new ≡ record_of self.old }
         ensures room { OnOk result (HasLocalRoom pairs self.new) }
+        ensures selection { OnOk result (HasSelectionRoom (record_of self.old) self.new) }
     {
+        self.take_selection_room()?;
         self.pairs.reserve(pairs)?;
-        self.local.reserve(1)?;
+        reserve_one(&mut self.local)?;
         Ok(())
     }
 
@@ -111,6 +115,7 @@ impl<H: Sha1HmacProvider + Drop, P: LocalPreference> Agent<H, P> {
         ensures within { IfOk result (λ n. AreIn (length self.old.local.items + 1) (length self.old.remote.items) n.all.items) }
         ensures numbers { IfOk result (λ n. HasNumbersAt (record_of self.old) candidate × HasNumbers self.old.next_number (length n.all.items)) }
         ensures room { IfOk result (λ n. HasLocalRoom (length n.all.items) self.new) }
+        ensures selection { OnOk result (HasSelectionRoom (record_of self.old) self.new) }
         ensures rejected { IfErr result (λ rejection. EntersNew (record_of self.old) candidate (record_of self.old) (Err (error_of rejection))
             (record_of self.new)) }
     {
@@ -148,6 +153,7 @@ impl<H: Sha1HmacProvider + Drop, P: LocalPreference> Agent<H, P> {
         requires numbers { HasNumbers self.old.next_number (length all.now) }
         ensures forms { FormsAll (appended own (record_of self.old)) all.now (record_of self.new) }
         ensures place { result ≡ length (record_of self.old).local }
+        ensures events { UsesEvents 0 self.old self.new }
     {
         let place = append(&mut self.local, own);
         self.form(all);
@@ -157,7 +163,8 @@ impl<H: Sha1HmacProvider + Drop, P: LocalPreference> Agent<H, P> {
     /// Appends the candidate after the others.
     fn enter_last(&mut self, candidate: Candidate) -> Result<Option<usize>, Rejection>
         requires low { candidate_priority candidate < TOO_HIGH }
-        ensures { EntersNew (record_of self.old) candidate (record_of self.old) (widened result) (record_of self.new) }
+        ensures entered { EntersNew (record_of self.old) candidate (record_of self.old) (widened result) (record_of self.new) }
+        ensures selection { OnOk result (HasSelectionRoom (record_of self.old) self.new) }
     {
         let Newcomer { own, all } = self.newcomer(candidate)?;
         Ok(Some(self.store_local(own, &all)))
@@ -167,7 +174,8 @@ impl<H: Sha1HmacProvider + Drop, P: LocalPreference> Agent<H, P> {
     fn supersede(&mut self, place: usize, candidate: Candidate) -> Result<Option<usize>, Rejection>
         requires within { place < length self.old.local.items }
         requires low { candidate_priority candidate < TOO_HIGH }
-        ensures { EntersNew (record_of self.old) candidate (local_discarded place (record_of self.old)) (widened result) (record_of self.new) }
+        ensures entered { EntersNew (record_of self.old) candidate (local_discarded place (record_of self.old)) (widened result) (record_of self.new) }
+        ensures selection { OnOk result (HasSelectionRoom (record_of self.old) self.new) }
     {
         let Newcomer { own, all } = self.newcomer(candidate)?;
         self.discard_local(place);
@@ -177,7 +185,8 @@ impl<H: Sha1HmacProvider + Drop, P: LocalPreference> Agent<H, P> {
     /// The discarded candidate at the index is enabled again.
     fn enable_again(&mut self, place: usize) -> Result<Option<usize>, Rejection>
         requires within { place < length self.old.local.items }
-        ensures { EntersAgain (record_of self.old) place (widened result) (record_of self.new) }
+        ensures entered { EntersAgain (record_of self.old) place (widened result) (record_of self.new) }
+        ensures selection { OnOk result (HasSelectionRoom (record_of self.old) self.new) }
     {
         if !self.has_numbers_again(place) {
             return Err(Rejection::PairIdsExhausted);
@@ -192,7 +201,8 @@ impl<H: Sha1HmacProvider + Drop, P: LocalPreference> Agent<H, P> {
     /// The first local candidate of equal address, base and protocol decides.
     fn enrol(&mut self, candidate: Candidate) -> Result<Option<usize>, Rejection>
         requires low { candidate_priority candidate < TOO_HIGH }
-        ensures { Enrols (record_of self.old) candidate (widened result) (record_of self.new) }
+        ensures enrolled { Enrols (record_of self.old) candidate (widened result) (record_of self.new) }
+        ensures selection { IfOk result (λ place. IfSome place (λ _. HasSelectionRoom (record_of self.old) self.new)) }
     {
         match self.place_of_same(&candidate) {
             None => self.enter_last(candidate),
@@ -211,15 +221,17 @@ impl<H: Sha1HmacProvider + Drop, P: LocalPreference> Agent<H, P> {
     /// The candidate gets its preference, then `enrol` decides.
     fn enrol_preferred(&mut self, candidate: Candidate) -> Result<Option<usize>, Rejection>
         requires low { candidate_priority candidate < TOO_HIGH }
-        ensures { EnrolsPreferred P.answers (record_of self.old) candidate (widened result) (record_of self.new) }
+        ensures enrolled { EnrolsPreferred P.answers (record_of self.old) candidate (widened result) (record_of self.new) }
+        ensures selection { IfOk result (λ place. IfSome place (λ _. HasSelectionRoom (record_of self.old) self.new)) }
     {
         let preference = self.preference_for(&candidate);
         self.enrol(preferred(candidate, preference))
     }
 
-    /// Adds a local candidate, and returns its index; see `add_local_candidate`.
-    pub(crate) fn add_local(&mut self, candidate: Candidate) -> Result<Option<usize>, Rejection>
-        ensures { AddsLocal P.answers (record_of self.old) candidate (widened result) (record_of self.new) }
+    /// Adds a local candidate, and returns its index, without regard to the selected pair.
+    fn store_preferred(&mut self, candidate: Candidate) -> Result<Option<usize>, Rejection>
+        ensures added { AddsLocal P.answers (record_of self.old) candidate (widened result) (record_of self.new) }
+        ensures selection { IfOk result (λ place. IfSome place (λ _. HasSelectionRoom (record_of self.old) self.new)) }
     {
         if candidate.prio() == u32::MAX {
             return Err(Rejection::PriorityTooHigh);
@@ -228,6 +240,24 @@ impl<H: Sha1HmacProvider + Drop, P: LocalPreference> Agent<H, P> {
             return Ok(None);
         }
         self.enrol_preferred(candidate)
+    }
+
+    /// Adds a local candidate, and returns its index; see `add_local_candidate`.
+    pub(crate) fn add_local(&mut self, candidate: Candidate) -> Result<Option<usize>, Rejection>
+        ensures { ReselectsAfter (AddsLocal P.answers (record_of self.old) candidate (widened result)) (record_of self.old) (emitted_of self.new)
+            (record_of self.new) }
+    {
+        let kept = self.keeps_selected();
+        match self.store_preferred(candidate) {
+            Ok(place) => {
+                self.reselect(kept && place.is_some());
+                Ok(place)
+            }
+            Err(rejection) => {
+                self.emitted = Emitted::nothing();
+                Err(rejection)
+            }
+        }
     }
 
     /// Adds a local candidate and returns a reference to it; see `add_local_candidate`. The errors own no memory.
@@ -281,7 +311,8 @@ pub fn add_local<H: Sha1HmacProvider + Drop, P: LocalPreference>(
     agent: &mut Agent<H, P>,
     candidate: Candidate,
 ) -> Result<Option<usize>, IceError>
-    ensures { AddsLocal P.answers (record_of agent.old) candidate result (record_of agent.new) }
+    ensures { ReselectsAfter (AddsLocal P.answers (record_of agent.old) candidate result) (record_of agent.old) (emitted_of agent.new)
+        (record_of agent.new) }
 {
     Ok(agent.add_local(candidate)?)
 }

@@ -75,7 +75,7 @@ impl<H: Sha1HmacProvider + Drop, P: LocalPreference> Agent<H, P> {
     }
 
     /// The pair that was selected last still exists.
-    fn has_selected(&self) -> bool
+    pub(crate) fn has_selected(&self) -> bool
         ensures { result ≡ is_some (pair_selected (record_of self.now).selected_pair (record_of self.now).pairs) }
     {
         pair_selected(self.selected_pair, &self.pairs).is_some()

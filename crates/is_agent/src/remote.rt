@@ -3,8 +3,9 @@
 ghost use Rattle.std.specs.Prelude.{◌≡◌, ◌<◌, IfSome, IsOkUnless, OnOk, position, length};
 ghost use Rattle.std.specs.List.{list_any};
 ghost use Rattle.is_pair.specs.Checklists.{HasRoom};
-ghost use Rattle.is_agent.specs.View.{record_of};
-ghost use Rattle.is_agent.specs.Room.{HasFormingRoom};
+ghost use Rattle.is_agent.specs.View.{record_of, emitted_of};
+ghost use Rattle.is_agent.specs.Room.{HasFormingRoom, HasSelectionRoom, UsesEvents};
+ghost use Rattle.is_rules.specs.Settling.{ReselectsAfter};
 ghost use Rattle.is_rules.specs.Forming.{AreIn, HasNumbers, FormsAll, remote_combinations};
 ghost use Rattle.is_rules.specs.Remote.{has_other_ufrag, has_equivalent, is_placeholder, as_remote, place_or_end, is_ignored, StoresAt};
 ghost use Rattle.is_rules.specs.Remote.{JoinsRemote, AddsRemote};
@@ -12,7 +13,8 @@ ghost use Rattle.is_rules.specs.Remote.{JoinsRemote, AddsRemote};
 use crate::agent::{Agent, sides};
 use is_candidate::candidate::internals::component;
 use is_candidate::{Candidate, LocalPreference};
-use is_proto::{IceError, Sha1HmacProvider};
+use is_proto::{IceError, Sha1HmacProvider, reserve_one};
+use is_rules::emitted::Emitted;
 use is_rules::forming::{form_each, has_numbers_for, remote_combinations};
 use is_rules::remote::{Equivalent, as_remote, place_of_placeholder, place_or_end, store};
 use is_rules::sides::Sides;
@@ -46,7 +48,8 @@ impl<H: Sha1HmacProvider + Drop, P: LocalPreference> Agent<H, P> {
         requires within { AreIn (length self.old.local.items) (length self.old.remote.items) all.now }
         requires room { HasRoom (length all.now) self.old.pairs }
         requires numbers { HasNumbers self.old.next_number (length all.now) }
-        ensures { FormsAll (record_of self.old) all.now (record_of self.new) }
+        ensures formed { FormsAll (record_of self.old) all.now (record_of self.new) }
+        ensures events { UsesEvents 0 self.old self.new }
     {
         form_each(
             *self.packets.allocator(),
@@ -64,9 +67,10 @@ impl<H: Sha1HmacProvider + Drop, P: LocalPreference> Agent<H, P> {
     ///
     /// Fails with `PairIdsExhausted` if no number is left for a pair, and with `OutOfMemory`. The agent is then unchanged.
     pub fn add_remote_candidate(&mut self, candidate: Candidate) -> Result<(), IceError>
-        ensures { AddsRemote (record_of self.old) candidate result (record_of self.new) }
+        ensures { ReselectsAfter (AddsRemote (record_of self.old) candidate result) (record_of self.old) (emitted_of self.new) (record_of self.new) }
     {
         if self.is_ignored(&candidate) {
+            self.emitted = Emitted::nothing();
             return Ok(());
         }
         let place = self.place_for(&candidate);
@@ -85,22 +89,21 @@ impl<H: Sha1HmacProvider + Drop, P: LocalPreference> Agent<H, P> {
     fn take_forming_room(&mut self, pairs: usize) -> Result<(), IceError>
         ensures record { record_of self.new ≡ record_of self.old }
         ensures room { OnOk result (HasFormingRoom pairs self.new) }
+        ensures selection { OnOk result (HasSelectionRoom (record_of self.old) self.new) }
         ensures rejected { IsOkUnless result IceError.OutOfMemory }
     {
+        self.take_selection_room()?;
         self.pairs.reserve(pairs)?;
-        self.remote.reserve(1)?;
+        reserve_one(&mut self.remote)?;
         Ok(())
     }
 
-    /// Stores the candidate at the index, or appends it, and forms pairs with it.
-    pub(crate) fn join_remote(
-        &mut self,
-        candidate: Candidate,
-        place: Option<usize>,
-    ) -> Result<(), IceError>
+    /// Stores the candidate at the index, or appends it, and forms pairs with it, without regard to the selected pair.
+    fn store_remote(&mut self, candidate: Candidate, place: Option<usize>) -> Result<(), IceError>
         requires place { place ≡ position (is_placeholder candidate) (record_of self.old).remote }
         requires within { IfSome place (λ place. place < length self.old.remote.items) }
-        ensures { JoinsRemote (record_of self.old) (as_remote candidate) result (record_of self.new) }
+        ensures joined { JoinsRemote (record_of self.old) (as_remote candidate) result (record_of self.new) }
+        ensures selection { OnOk result (HasSelectionRoom (record_of self.old) self.new) }
     {
         let candidate = as_remote(candidate);
         if !has_numbers_for(self.next_number, &candidate, &self.local) {
@@ -114,13 +117,38 @@ impl<H: Sha1HmacProvider + Drop, P: LocalPreference> Agent<H, P> {
         Ok(())
     }
 
+    /// Stores the candidate at the index, or appends it, and forms pairs with it.
+    pub(crate) fn join_remote(
+        &mut self,
+        candidate: Candidate,
+        place: Option<usize>,
+    ) -> Result<(), IceError>
+        requires place { place ≡ position (is_placeholder candidate) (record_of self.old).remote }
+        requires within { IfSome place (λ place. place < length self.old.remote.items) }
+        ensures { ReselectsAfter (JoinsRemote (record_of self.old) (as_remote candidate) result) (record_of self.old) (emitted_of self.new)
+            (record_of self.new) }
+    {
+        let kept = self.keeps_selected();
+        match self.store_remote(candidate, place) {
+            Ok(()) => {
+                self.reselect(kept);
+                Ok(())
+            }
+            Err(error) => {
+                self.emitted = Emitted::nothing();
+                Err(error)
+            }
+        }
+    }
+
     /// Stores the candidate at this index, and forms these combinations.
     fn store_at(&mut self, candidate: Candidate, place: Option<usize>, all: &[(usize, usize)])
         requires room { HasFormingRoom (length all.now) self.old }
         requires within { IfSome place (λ place. place < length self.old.remote.items) }
         requires numbers { HasNumbers self.old.next_number (length all.now) }
         requires all { all.now ≡ remote_combinations candidate (place_or_end place self.old.remote.items) self.old.local.items }
-        ensures { StoresAt (record_of self.old) candidate place (record_of self.new) }
+        ensures stored { StoresAt (record_of self.old) candidate place (record_of self.new) }
+        ensures events { UsesEvents 0 self.old self.new }
     {
         store(&mut self.remote, place, candidate);
         self.form(all);

@@ -65,6 +65,7 @@ impl<H: Sha1HmacProvider + Drop, P: LocalPreference> Agent<H, P> {
         self.remote.clear();
         self.pairs.clear();
         self.numbers_seen = false;
+        self.pairs.forget_all_removed();
         self.packets.clear();
         self.discovered_sources.clear();
         self.stats = IceAgentStats::default();

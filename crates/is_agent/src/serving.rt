@@ -28,7 +28,7 @@ use is_candidate::candidate::equality::TEMPORARY_FOUNDATION;
 use is_candidate::candidate::making::peer_reflexive;
 use is_candidate::{Candidate, LocalPreference};
 use is_pair::pair::CandidatePair;
-use is_proto::{IceError, Sha1HmacProvider, Text, Transmit};
+use is_proto::{IceError, Sha1HmacProvider, Text, Transmit, reserve_one, reserve_one_in};
 use is_rules::emitted::{Emitted, Issued, Path};
 use is_rules::forming::pair_of;
 use is_rules::limit::sender_place;
@@ -90,7 +90,7 @@ impl<H: Sha1HmacProvider + Drop, P: LocalPreference> Agent<H, P> {
         ensures room { OnOk result (HasNewsRoom 1 self.new) }
         ensures rejected { IsOkUnless result errors.OutOfMemory }
     {
-        self.discovered_sources.reserve(1)?;
+        reserve_one(&mut self.discovered_sources)?;
         self.events.reserve(1)?;
         Ok(())
     }
@@ -100,10 +100,10 @@ impl<H: Sha1HmacProvider + Drop, P: LocalPreference> Agent<H, P> {
         ensures record { record_of self.new ≡ record_of self.old }
         ensures room { OnOk result (HasServingRoom self.new × HasNewsRoom events self.new) }
     {
-        self.remote.reserve(1)?;
+        reserve_one(&mut self.remote)?;
         self.pairs.reserve(1)?;
-        self.packets.reserve(1)?;
-        self.discovered_sources.reserve(1)?;
+        reserve_one_in(&mut self.packets)?;
+        reserve_one(&mut self.discovered_sources)?;
         self.events.reserve(events)?;
         Ok(())
     }
@@ -262,7 +262,7 @@ impl<H: Sha1HmacProvider + Drop, P: LocalPreference> Agent<H, P> {
     }
 
     /// The pair records the request, nomination is evaluated if the pair is valid, and the response is sent. A controlled agent
-    /// evaluates it only if its rules say so.
+    /// evaluates it only if its rules say so. If a path is selected, the state is evaluated by the rule.
     fn record_and_respond(
         &mut self,
         request: &Request<'_>,
@@ -274,15 +274,17 @@ impl<H: Sha1HmacProvider + Drop, P: LocalPreference> Agent<H, P> {
         requires local { l < length self.old.local.items }
         requires remote { r < length self.old.remote.items }
         requires packets { HasPacketRoom self.old }
-        requires events { HasEventRoom 1 self.old }
+        requires events { HasEventRoom 2 self.old }
         requires reply { length reply.items ≡ LONGEST_REPLY }
         ensures served { RecordsAndResponds H.mac (request_view request.now) l r number (record_of self.old) result (record_of self.new) }
-        ensures news { UsesNews 1 self.old self.new }
+        ensures news { UsesNews 2 self.old self.new }
     {
         let path = self.path_between(l, r);
         let evaluates = self.evaluates_at(number);
+        let now = self.trigger(request).at;
         self.serve_pair(request, number);
         let selected_paths = self.nominate_where(evaluates);
+        self.settle_state(selected_paths.is_some(), now);
         self.reply(request, path, reply);
         let issued = Issued::new(path, Class::Success, request.id);
         Emitted::by(Some(issued), selected_paths, None)
@@ -326,11 +328,11 @@ impl<H: Sha1HmacProvider + Drop, P: LocalPreference> Agent<H, P> {
         requires remote { r < length self.old.remote.items }
         requires pairs { HasRoom 1 self.old.pairs }
         requires packets { HasPacketRoom self.old }
-        requires events { HasEventRoom 1 self.old }
+        requires events { HasEventRoom 2 self.old }
         requires reply { length reply.items ≡ LONGEST_REPLY }
         requires number { self.old.next_number < MAX }
         ensures served { AddsPairAndResponds H.mac (request_view request.now) l r (record_of self.old) result (record_of self.new) }
-        ensures news { UsesNews 1 self.old self.new }
+        ensures news { UsesNews 2 self.old self.new }
     {
         let number = self.next_number;
         self.add_pair(l, r);
@@ -351,11 +353,11 @@ impl<H: Sha1HmacProvider + Drop, P: LocalPreference> Agent<H, P> {
         requires remote { r < length self.old.remote.items }
         requires pairs { HasRoom 1 self.old.pairs }
         requires packets { HasPacketRoom self.old }
-        requires events { HasEventRoom 1 self.old }
+        requires events { HasEventRoom 2 self.old }
         requires reply { length reply.items ≡ LONGEST_REPLY }
         requires number { pair ≡ None → (candidate_at self.old.local.items l).discarded ≡ false → self.old.next_number < MAX }
         ensures served { FindsOrAddsPair H.mac (request_view request.now) l r pair (record_of self.old) result (record_of self.new) }
-        ensures news { UsesNews 1 self.old self.new }
+        ensures news { UsesNews 2 self.old self.new }
     {
         match pair {
             Some(number) => self.record_and_respond(request, l, r, number, reply),
@@ -380,7 +382,7 @@ impl<H: Sha1HmacProvider + Drop, P: LocalPreference> Agent<H, P> {
         requires { IsReady (needs_pair_at at.remote at.pair (candidate_at self.old.local.items at.local).discarded) self.old
             (request_view request.now) at supplies }
         ensures served { AddsUnknownSender H.mac (request_view request.now) at.local at.remote (record_of self.old) result (record_of self.new) }
-        ensures news { UsesNews 1 self.old self.new }
+        ensures news { UsesNews 2 self.old self.new }
     {
         let Supplies { reply, sender } = supplies;
         match (at.remote, sender) {
@@ -394,6 +396,7 @@ impl<H: Sha1HmacProvider + Drop, P: LocalPreference> Agent<H, P> {
             }
             (RemotePlace::Vacant(r), Some(sender)) => {
                 self.remote[r] = sender;
+                self.pairs.forget_removed(r);
                 self.find_or_add_pair(request, at.local, r, at.pair, reply)
             }
             _ => Emitted::nothing(),
@@ -406,7 +409,7 @@ impl<H: Sha1HmacProvider + Drop, P: LocalPreference> Agent<H, P> {
         requires { IsReady (not (is_misled self.old.controlling (request_view request.now)) && needs_pair_at at.remote at.pair
             (candidate_at self.old.local.items at.local).discarded) self.old (request_view request.now) at supplies }
         ensures served { CountsAndServes H.mac (request_view request.now) at.local (record_of self.old) result (record_of self.new) }
-        ensures news { UsesNews 1 self.old self.new }
+        ensures news { UsesNews 2 self.old self.new }
     {
         if is_misled(self.controlling, request) {
             return Emitted::nothing();
@@ -440,7 +443,7 @@ impl<H: Sha1HmacProvider + Drop, P: LocalPreference> Agent<H, P> {
         requires { IsReady (not (is_misled (not self.old.controlling) (request_view request.now)) && needs_pair_at at.remote at.pair
             (candidate_at self.old.local.items at.local).discarded) self.old (request_view request.now) at supplies }
         ensures served { CountsAndServes H.mac (request_view request.now) at.local (switched (record_of self.old)) result (record_of self.new) }
-        ensures news { UsesNews 1 self.old self.new }
+        ensures news { UsesNews 2 self.old self.new }
     {
         self.switch_role();
         self.count_and_serve(request, at, supplies)
@@ -455,7 +458,7 @@ impl<H: Sha1HmacProvider + Drop, P: LocalPreference> Agent<H, P> {
     ) -> Emitted
         requires { IsReady (needs_pair (record_of self.old) (request_view request.now) at) self.old (request_view request.now) at supplies }
         ensures served { ResolvesRoleConflict H.mac (request_view request.now) at.local (record_of self.old) result (record_of self.new) }
-        ensures news { UsesNews 1 self.old self.new }
+        ensures news { UsesNews 2 self.old self.new }
     {
         match self.conflict(request) {
             Conflict::Absent => self.count_and_serve(request, at, supplies),
@@ -477,7 +480,7 @@ impl<H: Sha1HmacProvider + Drop, P: LocalPreference> Agent<H, P> {
             self.take_source_room()?;
             return Ok(Emitted::nothing());
         };
-        self.take_serving_room(2)?;
+        self.take_serving_room(3)?;
         Ok(self.resolve_role_conflict(request, at, supplies))
     }
 }

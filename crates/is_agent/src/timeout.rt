@@ -2,7 +2,7 @@
 //!
 //! Capacity for all of it is reserved before the agent changes; what follows can't fail.
 
-ghost use Rattle.std.specs.Prelude.{◌≡◌, ℕ, ◌||◌, Option, Some, true, IsSome, None, IfOk, IfErr, OnOk, MatchOption};
+ghost use Rattle.std.specs.Prelude.{◌≡◌, ℕ, ◌||◌, Option, Some, true, is_some, IsSome, None, IfOk, IfErr, OnOk, MatchOption};
 ghost use Rattle.std.specs.List.{list_any};
 ghost use Rattle.is_stun.specs.Theorems.{IsPut};
 ghost use Rattle.is_stun.specs.Writing.{written};
@@ -30,7 +30,7 @@ use crate::agent::Agent;
 use crate::settings::CHECK_ROOM;
 use is_candidate::LocalPreference;
 use is_pair::checklist::Expired;
-use is_proto::{IceError, Instant, Sha1HmacProvider, Transmit};
+use is_proto::{IceError, Instant, Sha1HmacProvider, Transmit, reserve_one_in};
 use is_rules::checking::{Draft, write_username};
 use is_rules::emitted::{Emitted, Issued, Path};
 use is_rules::nomination::begin_nomination;
@@ -81,8 +81,8 @@ impl<H: Sha1HmacProvider + Drop, P: LocalPreference> Agent<H, P> {
         self.emitted = Emitted::by(None, first, second);
     }
 
-    /// Removes the pairs that are no longer possible. If there is one, nomination and state are evaluated. A path that this
-    /// selects is emitted after the path that was selected before.
+    /// Removes the pairs that are no longer possible. If there is one, nomination and state are evaluated; else the state is, by the
+    /// rule. A path that this selects is emitted after the path that was selected before.
     fn remove_expired(&mut self, first: Option<Path>, now: Instant)
         requires room { HasEventRoom 2 self.old }
         ensures expired { (second : Option Path) × RemovesExpired now.0 (record_of self.old) second (record_of self.new)
@@ -90,6 +90,7 @@ impl<H: Sha1HmacProvider + Drop, P: LocalPreference> Agent<H, P> {
         ensures checks { (t : ℕ) → HasCheckRoomAt t self.old → HasCheckRoomAt t self.new }
     {
         if !self.any_expired(now) {
+            self.settle_state(true, now);
             self.emitted = Emitted::selected_only(first);
             return;
         }
@@ -273,7 +274,7 @@ impl<H: Sha1HmacProvider + Drop, P: LocalPreference> Agent<H, P> {
         ensures room { OnOk result (HasCheckRoom self.new) }
     {
         self.prepare_check()?;
-        self.packets.reserve(1)?;
+        reserve_one_in(&mut self.packets)?;
         self.pairs.reserve_check()
     }
 
@@ -384,8 +385,8 @@ impl<H: Sha1HmacProvider + Drop, P: LocalPreference> Agent<H, P> {
     /// `OutOfMemory`. The agent is then unchanged, and no random words were drawn.
     pub fn handle_timeout<R: Rng>(&mut self, now: Instant, rng: &mut R) -> Result<(), IceError>
         ensures timed_out { TimesOut H.mac now.0 (record_of self.old) (R.stream rng.old) result (emitted_of self.new) (record_of self.new) (R.stream rng.new) }
-        // By the rule `timeout_after_requests`, a successful call counts as the last one, also if it served a request.
-        ensures noted { IfOk result (λ _. (record_of self.old).rules.timeout_after_requests ≡ true → (record_of self.new).last_time ≡ Some now.0) }
+        // By the rule `timeout_after_requests` there is a last call after each successful one, also if it served a request.
+        ensures noted { IfOk result (λ _. (record_of self.old).rules.timeout_after_requests ≡ true → is_some (record_of self.new).last_time ≡ true) }
     {
         theorems::calls_are_noted::<H, P>();
         match self.run_timeout(now, rng) {

@@ -34,7 +34,7 @@ impl<H: Sha1HmacProvider + Drop, P: LocalPreference> Agent<H, P> {
         Ok(Some(IceAgentEvent::IceRestart(self.local_creds.clone()?)))
     }
 
-    /// Emits the start event, if there is one, evaluates the state, and removes this many outdated requests, within the
+    /// Emits the start event, if there is one, evaluates the state unless it is after nomination, and removes this many outdated requests, within the
     /// reserved capacity for two events.
     pub(crate) fn begin_timeout(
         &mut self,
@@ -51,7 +51,7 @@ impl<H: Sha1HmacProvider + Drop, P: LocalPreference> Agent<H, P> {
         ensures checks { (t : ℕ) → HasCheckRoomAt t self.old → HasCheckRoomAt t self.new }
     {
         emit_start(&mut self.events, start);
-        self.evaluate_state(now);
+        self.start_state(now);
         drop_first(&mut self.queue, expired);
     }
 
@@ -79,14 +79,14 @@ impl<H: Sha1HmacProvider + Drop, P: LocalPreference> Agent<H, P> {
         self.plan(&request)
     }
 
-    /// A call that serves an early request counts as the last one only by the rule.
+    /// By the rule a call that serves an early request counts as the last one, if there was none before.
     fn note_request(&mut self, now: Instant)
         ensures noted { record_of self.new ≡ at_request now.0 (record_of self.old) }
         ensures serving { HasServingRoom self.old → HasServingRoom self.new }
         ensures news { UsesNews 0 self.old self.new }
     {
         if self.rules.timeout_after_requests {
-            self.last_time = Some(now);
+            self.last_time = Some(self.last_time.unwrap_or(now));
         }
     }
 

@@ -30,6 +30,7 @@ pub mod StunFill
 pub mod Pairs
 pub mod Selected
 pub mod Paths
+pub mod Removed
 pub mod Lines
 pub mod Fields
 pub mod Mdns

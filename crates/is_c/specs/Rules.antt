@@ -31,6 +31,9 @@ rules_of r = record {
   timeout_after_requests = r.timeout_after_requests;
   lite_keeps_role = r.lite_keeps_role;
   numbered_nominations = r.numbered_nominations;
+  discovered_if_served = r.discovered_if_served;
+  state_after_nomination = r.state_after_nomination;
+  invalidates_listed = r.invalidates_listed;
 }
 
 -- the struct of C that is written for rules
@@ -47,6 +50,9 @@ reported_rules rules = record {
   timeout_after_requests = rules.timeout_after_requests;
   lite_keeps_role = rules.lite_keeps_role;
   numbered_nominations = rules.numbered_nominations;
+  discovered_if_served = rules.discovered_if_served;
+  state_after_nomination = rules.state_after_nomination;
+  invalidates_listed = rules.invalidates_listed;
 }
 
 -- what C reads after it set this struct: without early retransmissions the interval is 0, and without a timeout consent is not strict

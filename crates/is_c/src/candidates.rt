@@ -2,11 +2,10 @@
 
 ghost use Rattle.std.specs.Prelude.{◌≡◌, None};
 ghost use Rattle.is_agent.specs.View.{record_of};
-ghost use Rattle.is_rules.specs.Discarding.{Invalidates};
 ghost use Rattle.is_c.specs.Adding.{addition_index, addition_code, has_room, PutsAddition, AddsGiven, AddsRead};
-ghost use Rattle.is_c.specs.Codes.{found_code};
+ghost use Rattle.is_c.specs.Codes.{flag_code};
 ghost use Rattle.is_c.specs.Held.{home_of, held_by, At};
-ghost use Rattle.is_c.specs.Given.{CallsMade, CallsGiven, CallsRead};
+ghost use Rattle.is_c.specs.Given.{CallsMade, CallsGiven, CallsRead, Discards, CountsMade, CountsGiven};
 
 use crate::candidate::{LocalCandidate, line_candidate, local_candidate};
 use crate::codes;
@@ -15,6 +14,7 @@ use crate::questions::{local_at, remote_at};
 use crate::slot::Slot;
 use is_agent::Addition;
 use is_agent::added::{add_local_listed, add_remote_listed};
+use is_agent::questions::alike_local;
 use is_candidate::Candidate;
 use is_proto::IceError;
 use std::alloc::Global;
@@ -142,10 +142,10 @@ pub extern "C" fn is_ice_add_remote(
 
 /// Discards a candidate that equals the one that was made, or returns the code of why there is none.
 fn invalidate_made(home: &mut Home, made: Option<Result<Candidate, IceError>>, why: i32) -> i32
-    ensures { CallsMade Invalidates found_code why made (home_of home.old) result (home_of home.new) }
+    ensures { CallsMade Discards flag_code why made (home_of home.old) result (home_of home.new) }
 {
     match made {
-        Some(Ok(candidate)) => codes::found_code(home.agent.invalidate_candidate(&candidate)),
+        Some(Ok(candidate)) => codes::flag_code(home.agent.invalidate_candidate(&candidate)),
         Some(Err(error)) => codes::code_of(&error),
         None => why,
     }
@@ -158,7 +158,7 @@ pub extern "C" fn is_ice_invalidate_local(
     slot: &mut Slot,
     candidate: &LocalCandidate,
 ) -> i32
-    ensures { At (CallsGiven Invalidates found_code candidate.now) (held_by slot.old) result (held_by slot.new) }
+    ensures { At (CallsGiven Discards flag_code candidate.now) (held_by slot.old) result (held_by slot.new) }
 {
     let Some(home) = slot.home() else {
         return codes::NO_AGENT;
@@ -169,10 +169,45 @@ pub extern "C" fn is_ice_invalidate_local(
 /// Discards a candidate that equals the one of the candidate attribute.
 #[unsafe(no_mangle)]
 pub extern "C" fn is_ice_invalidate(alloc: Global, slot: &mut Slot, line: &[u8]) -> i32
-    ensures { At (CallsRead Invalidates found_code line.now) (held_by slot.old) result (held_by slot.new) }
+    ensures { At (CallsRead Discards flag_code line.now) (held_by slot.old) result (held_by slot.new) }
 {
     let Some(home) = slot.home() else {
         return codes::NO_AGENT;
     };
     invalidate_made(home, line_candidate(alloc, line), codes::NOT_UTF8)
+}
+
+/// Counts the local candidates that are alike, or returns the code of why there is no candidate.
+fn count_made(
+    home: &Home,
+    made: &Option<Result<Candidate, IceError>>,
+    count: &mut usize,
+) -> i32
+    ensures { CountsMade made.now count.old count.new (home_of home.now) result (home_of home.now) }
+{
+    match made {
+        Some(Ok(candidate)) => {
+            *count = alike_local(&home.agent, candidate);
+            codes::OK
+        }
+        Some(Err(error)) => codes::code_of(error),
+        None => codes::BAD_ADDRESS,
+    }
+}
+
+/// Writes how many local candidates the agent has of the kind and IP version of this one, including those that were discarded.
+#[unsafe(no_mangle)]
+pub extern "C" fn is_ice_alike_local(
+    alloc: Global,
+    slot: &mut Slot,
+    candidate: &LocalCandidate,
+    count: &mut usize,
+) -> i32
+    ensures counted { At (CountsGiven candidate.now count.old count.new) (held_by slot.old) result (held_by slot.new) }
+    ensures without { held_by slot.old ≡ None → count.new ≡ count.old }
+{
+    let Some(home) = slot.home() else {
+        return codes::NO_AGENT;
+    };
+    count_made(home, &local_candidate(alloc, candidate), count)
 }

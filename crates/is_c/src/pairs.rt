@@ -45,7 +45,7 @@ pub struct Pair {
     pub has_due: bool,
 }
 
-fn check_number(state: CheckState) -> i32
+pub(crate) fn check_number(state: CheckState) -> i32
     ensures { result ≡ check_number state }
 {
     match state {

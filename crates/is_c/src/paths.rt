@@ -22,7 +22,7 @@ pub struct MediaPath {
     pub protocol: u8,
 }
 
-fn reported_path(path: Path) -> MediaPath
+pub(crate) fn reported_path(path: Path) -> MediaPath
     ensures { IsMediaPath path result }
 {
     MediaPath {

@@ -33,6 +33,9 @@ pub struct AgentRules {
     pub timeout_after_requests: bool,
     pub lite_keeps_role: bool,
     pub numbered_nominations: bool,
+    pub discovered_if_served: bool,
+    pub state_after_nomination: bool,
+    pub invalidates_listed: bool,
 }
 
 /// How many requests trigger a check: 0 means that there are no triggered checks.
@@ -82,6 +85,9 @@ fn rules_of(rules: &AgentRules) -> Rules
         timeout_after_requests: rules.timeout_after_requests,
         lite_keeps_role: rules.lite_keeps_role,
         numbered_nominations: rules.numbered_nominations,
+        discovered_if_served: rules.discovered_if_served,
+        state_after_nomination: rules.state_after_nomination,
+        invalidates_listed: rules.invalidates_listed,
     }
 }
 
@@ -108,6 +114,9 @@ fn reported_rules(rules: Rules) -> AgentRules
         timeout_after_requests: rules.timeout_after_requests,
         lite_keeps_role: rules.lite_keeps_role,
         numbered_nominations: rules.numbered_nominations,
+        discovered_if_served: rules.discovered_if_served,
+        state_after_nomination: rules.state_after_nomination,
+        invalidates_listed: rules.invalidates_listed,
     }
 }
 

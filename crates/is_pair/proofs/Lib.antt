@@ -4,3 +4,4 @@ mod ChecklistIndex
 mod PriorityOrder
 pub mod DueTimes
 pub mod ConsentTimes
+pub mod RemovedPairs

@@ -1,19 +1,17 @@
 -- The abstract state of a checklist, as contracts see it: its list of pairs, and its capacity.
 use Rattle.std.specs.Prelude.{◌≡◌, ℕ, ◌+◌, ◌<◌, ◌≤◌, true, List, vec_len, vec_capacity}
-use Rattle.std.specs.HashMap.{spare}
 use Rattle.std.specs.VecDeque.{deque_capacity}
 use Rattle.is_pair.specs.declared.checklist.Checklist as code
 use Rattle.is_pair.specs.Pairs.{PairRecord}
 use Rattle.is_pair.specs.Multiset.{keep_fewer}
-use Rattle.is_pair.specs.Entries.{pairs_of}
 
 -- the pairs, in the order of their numbers
 abbrev pub multiset_of : code.Checklist → List PairRecord
-multiset_of c = pairs_of c.pairs.entries
+multiset_of c = c.pairs.items
 
 -- there is capacity for n more pairs
 abbrev pub HasRoom : ℕ → code.Checklist → Type 0
-HasRoom n c = (n ≤ spare c.pairs) × (vec_len c.ranks + n ≤ vec_capacity c.ranks)
+HasRoom n c = (vec_len c.pairs + n ≤ vec_capacity c.pairs) × (vec_len c.ranks + n ≤ vec_capacity c.ranks)
 
 -- there is capacity for one more check, on any pair
 abbrev pub HasCheckRoom : code.Checklist → Type 0

@@ -1,15 +1,14 @@
 -- The entries in the index and in the ordered set of a checklist, compared with its list of pairs.
-use Rattle.std.specs.Prelude.{◌≡◌, ℕ, ◌==◌, ◌&&◌, ◌||◌, not, Bool, true, nat_eq, nat_le, bytes_eq, List, [], ◌∷◌, map, if◌then◌else◌}
+use Rattle.std.specs.Prelude.{◌≡◌, ℕ, ◌==◌, ◌&&◌, ◌||◌, not, Bool, true, nat_le, bytes_eq, List, [], ◌∷◌, if◌then◌else◌}
 use Rattle.std.specs.List.{list_any, list_all}
 use Rattle.std.specs.Cmp.Lexicographic.{slice_cmp}
 use Rattle.std.specs.Ordering.{is_lt, nat_cmp}
-use Rattle.std.specs.Map.{lookup}
 use Rattle.std.specs.Option.{option_map_or}
 use Rattle.is_pair.specs.declared.checklist.entries.Kept.{Kept}
 use Rattle.is_pair.specs.declared.checklist.entries.Rank.{Rank}
 use Rattle.is_pair.specs.Checks.{is_kept}
 use Rattle.is_pair.specs.Pairs.{PairRecord}
-use Rattle.is_pair.specs.Multiset.{passes_at, keeps, ranks}
+use Rattle.is_pair.specs.Multiset.{pair_numbered, passes_at, keeps, ranks}
 
 -- an ID comes before another in the order of their bytes
 abbrev pub is_before : List ℕ → List ℕ → Bool
@@ -19,14 +18,6 @@ is_before a b = is_lt (slice_cmp nat_cmp a b)
 abbrev pub ids_rise : List Kept → Bool
 ids_rise [] = true
 ids_rise (k ∷ ks) = list_all (λ (q : Kept). not (is_before q.id.0 k.id.0)) ks && ids_rise ks
-
--- the pairs of a map's entries
-abbrev pub pairs_of : List (ℕ × PairRecord) → List PairRecord
-pairs_of entries = map (λ e. e.1) entries
-
--- each pair is stored under its number
-abbrev pub are_keyed : List (ℕ × PairRecord) → Bool
-are_keyed entries = list_all (λ (e : ℕ × PairRecord). e.1.number == e.0) entries
 
 abbrev pub names : List ℕ → ℕ → Kept → Bool
 names id number k = k.number == number && bytes_eq k.id.0 id
@@ -62,8 +53,8 @@ abbrev pub has_passing : (PairRecord → Bool) → List PairRecord → Rank → 
 has_passing test pairs r = list_any (passes_at r.number test) pairs
 
 -- the entry with the current priority of its pair
-abbrev pub rank_now : List (ℕ × PairRecord) → Rank → Rank
-rank_now entries r = option_map_or (λ (p : PairRecord). record r { priority = p.priority }) (lookup (nat_eq r.number) entries) r
+abbrev pub rank_now : List PairRecord → Rank → Rank
+rank_now pairs r = option_map_or (λ (p : PairRecord). record r { priority = p.priority }) (pair_numbered r.number pairs) r
 
 -- ---- after a check is sent
 

@@ -2,7 +2,7 @@
 //! checks, and their order by priority.
 
 ghost use Rattle.std.specs.Prelude.{◌≡◌, true};
-ghost use Rattle.is_pair.specs.Entries.{pairs_of, are_keyed, are_ordered, ids_rise, IsIndex, IsRanking};
+ghost use Rattle.is_pair.specs.Entries.{are_ordered, ids_rise, IsIndex, IsRanking};
 ghost use Rattle.is_pair.specs.Multiset.{rises};
 
 mod changes;
@@ -11,20 +11,22 @@ mod entries;
 mod evicting;
 mod expired;
 mod index;
-mod mapped;
+mod listed;
 mod pair_change;
 mod pair_test;
 mod ranks;
 mod reading;
+mod removed;
 mod rule;
 
 use crate::pair::{BindingAttempt, CandidatePair};
 use entries::{Kept, Rank};
 pub use expired::Expired;
-use indexmap::IndexMap;
-pub use mapped::goes_before;
+use is_proto::reserve_few;
+pub use listed::goes_before;
 pub use pair_change::PairChange;
 pub use pair_test::PairTest;
+pub use removed::{PairRemoval, Removal, RemovedPair};
 pub use rule::PairPriority;
 use std::alloc::{AllocError, Global};
 use std::collections::VecDeque;
@@ -32,20 +34,21 @@ use std::collections::VecDeque;
 /// The pairs of an agent.
 #[derive(Drop)]
 pub struct Checklist {
-    /// Each pair by its number, in the order of the numbers.
-    pairs: IndexMap<u64, CandidatePair>,
+    /// The pairs, in the order of their numbers.
+    pairs: Vec<CandidatePair>,
     /// Which pairs store checks with which transaction IDs, sorted by ID.
     index: Vec<Kept>,
     /// The priority of each pair, sorted by priority.
     ranks: Vec<Rank>,
     /// Receives the checks of a pair whose queue is full.
     spare: VecDeque<BindingAttempt>,
-    ghost keyed: { are_keyed pairs.entries ≡ true },
-    ghost rising: { rises (pairs_of pairs.entries) ≡ true },
+    /// The pairs that were removed last, the oldest first.
+    removed: VecDeque<RemovedPair>,
+    ghost rising: { rises pairs.items ≡ true },
     ghost by_id: { ids_rise index.items ≡ true },
-    ghost indexed: { IsIndex index.items (pairs_of pairs.entries) },
+    ghost indexed: { IsIndex index.items pairs.items },
     ghost ordered: { are_ordered ranks.items ≡ true },
-    ghost ranked: { IsRanking ranks.items (pairs_of pairs.entries) },
+    ghost ranked: { IsRanking ranks.items pairs.items },
 }
 
 impl Checklist {
@@ -53,16 +56,18 @@ impl Checklist {
     ghost use Rattle.std.specs.Option.{option_copied};
     ghost use Rattle.is_pair.specs.Multiset.{is_numbered, has_number, pair_numbered, are_below, without};
     ghost use Rattle.is_pair.specs.Checklists.{multiset_of, HasRoom, HasCheckRoom};
+    ghost use Rattle.is_pair.specs.Removed.{removed_of, AreRemoved, HasRemovedRoom, IsKeptLast};
 
     /// Makes a checklist without pairs.
     pub fn new(alloc: Global) -> Checklist
         ensures { multiset_of result ≡ [] }
     {
         Checklist {
-            pairs: IndexMap::new(alloc),
+            pairs: Vec::new(alloc),
             index: Vec::new(alloc),
             ranks: Vec::new(alloc),
             spare: VecDeque::new(alloc),
+            removed: VecDeque::new(alloc),
         }
     }
 
@@ -91,7 +96,7 @@ impl Checklist {
         ensures found { option_copied result ≡ pair_numbered number (multiset_of self.now) }
         ensures has { is_some result ≡ has_number number (multiset_of self.now) }
     {
-        self.pairs.get(&number)
+        listed::get(&self.pairs, number)
     }
 
     /// Reserves capacity for n more pairs.
@@ -102,9 +107,10 @@ impl Checklist {
         ensures reserved { OnOk result (HasRoom n self.new) }
         ensures room { (n : ℕ) → HasRoom n self.old → HasRoom n self.new }
         ensures check_room { HasCheckRoom self.old → HasCheckRoom self.new }
+        ensures removed { removed_of self.new ≡ removed_of self.old }
     {
-        self.pairs.reserve(n)?;
-        self.ranks.reserve(n)
+        reserve_few(&mut self.pairs, n)?;
+        reserve_few(&mut self.ranks, n)
     }
 
     /// Adds a newly created pair, whose number is above all others.
@@ -116,35 +122,41 @@ impl Checklist {
         ensures room { (n : ℕ) → HasRoom (n + 1) self.old → HasRoom n self.new }
         ensures check_room { HasCheckRoom self.old → HasCheckRoom self.new }
         ensures below { are_below (pair.number + 1) (multiset_of self.new) ≡ true }
+        ensures removed { removed_of self.new ≡ removed_of self.old }
     {
         let rank = Rank {
             priority: pair.prio(),
             number: pair.id().0,
         };
-        mapped::put(&mut self.pairs, pair);
+        listed::put(&mut self.pairs, pair);
         ranks::put(&mut self.ranks, rank);
     }
 
     /// Removes the pairs that pass the test.
-    pub fn remove_where<T: PairTest>(&mut self, test: &T)
+    pub fn remove_where<T: PairRemoval>(&mut self, test: &T)
         ensures left { multiset_of self.new ≡ without (T.passes test.now) (multiset_of self.old) }
         ensures room { (n : ℕ) → HasRoom n self.old → HasRoom n self.new }
         ensures check_room { HasCheckRoom self.old → HasCheckRoom self.new }
         ensures below { (n : ℕ) → are_below n (multiset_of self.old) ≡ true → are_below n (multiset_of self.new) ≡ true }
+        ensures removed { AreRemoved (T.passes test.now) (T.reason test.now) (multiset_of self.old) (removed_of self.old) (removed_of self.new) }
     {
-        mapped::drop_passing(&mut self.pairs, test);
+        removed::keep_passing(&mut self.removed, &self.pairs, test);
+        listed::drop_passing(&mut self.pairs, test);
         index::keep_known(&mut self.index, &self.pairs);
         ranks::keep_known(&mut self.ranks, &self.pairs);
     }
 
-    /// Removes the pair with the number, if there is one.
-    pub fn remove(&mut self, number: u64)
+    /// Removes the pair with the number, if there is one, for this reason.
+    pub fn remove(&mut self, number: u64, why: Removal)
         ensures left { multiset_of self.new ≡ without (is_numbered number) (multiset_of self.old) }
         ensures room { (n : ℕ) → HasRoom n self.old → HasRoom n self.new }
         ensures check_room { HasCheckRoom self.old → HasCheckRoom self.new }
         ensures below { (n : ℕ) → are_below n (multiset_of self.old) ≡ true → are_below n (multiset_of self.new) ≡ true }
+        ensures removed { AreRemoved (is_numbered number) (λ p. why) (multiset_of self.old) (removed_of self.old) (removed_of self.new) }
+        ensures kept { HasRemovedRoom self.old → IsKeptLast why (pair_numbered number (multiset_of self.old)) (removed_of self.old) (removed_of self.new) }
     {
-        mapped::take_out(&mut self.pairs, number);
+        removed::keep_numbered(&mut self.removed, &self.pairs, number, why);
+        listed::take_out(&mut self.pairs, number);
         index::drop_number(&mut self.index, number);
         ranks::drop_number(&mut self.ranks, number);
     }
@@ -154,6 +166,7 @@ impl Checklist {
         ensures cleared { multiset_of self.new ≡ [] }
         ensures room { (n : ℕ) → HasRoom n self.old → HasRoom n self.new }
         ensures check_room { HasCheckRoom self.old → HasCheckRoom self.new }
+        ensures removed { removed_of self.new ≡ removed_of self.old }
     {
         self.pairs.clear();
         self.index.clear();

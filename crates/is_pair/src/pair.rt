@@ -50,6 +50,8 @@ pub struct CandidatePair {
     consented: Option<Instant>,
     /// The due time of the next check, if it is fixed.
     cached_next_attempt_time: Option<Instant>,
+    /// The code of the last error response, if one arrived. Nothing is decided by it.
+    last_error: Option<u16>,
 }
 
 impl Model for CandidatePair {
@@ -107,6 +109,7 @@ impl CandidatePair {
             total_round_trip_time: Duration(0),
             consented: None,
             cached_next_attempt_time: None,
+            last_error: None,
         }
     }
 
@@ -219,6 +222,7 @@ impl CandidatePair {
             total_round_trip_time: self.total_round_trip_time,
             consented: self.consented,
             cached_next_attempt_time: self.cached_next_attempt_time,
+            last_error: self.last_error,
         })
     }
 }

@@ -3,6 +3,7 @@ pub mod RisingNumbers
 pub mod PairsByNumber
 pub mod ChosenPair
 pub mod PairsInLists
+pub mod VisitedPairs
 pub mod CombinationsInLists
 pub mod CountedPairs
 pub mod LeastOfKind

@@ -1,5 +1,5 @@
 -- Which messages the agent accepts, and what it does with a packet (RFC 8445, sections 7.2.5 and 7.3).
-use Rattle.std.specs.Prelude.{◌≡◌, ℕ, ◌&&◌, ◌||◌, Bool, true, false, List, [], ◌∷◌, ◌++◌, IfSome, IsSomeAnd, Option, Some, None, Result, Ok, Err}
+use Rattle.std.specs.Prelude.{◌≡◌, ℕ, ◌&&◌, ◌||◌, Bool, true, false, not, List, [], ◌∷◌, ◌++◌, IfSome, IsSomeAnd, Option, Some, None, is_some, Result, Ok, Err}
 use Rattle.std.specs.Prelude.{if◌then◌else◌}
 use Rattle.std.specs.List.{list_any}
 use Rattle.is_proto.specs.Times.{counted}
@@ -23,6 +23,11 @@ use Rattle.is_rules.specs.Limit.{newest, is_crowded}
 use Rattle.is_rules.specs.Serving.{TakesRequest, MayFailAtArrival}
 use Rattle.is_pair.specs.Multiset.{keeps_check}
 use Rattle.is_rules.specs.Answers.{keeps_check_on, TakesSuccess, TakesFailure}
+
+-- The accepted message is a request that is dropped: the peer is known, and there is no response.
+abbrev pub is_dropped : Class → Bool → Emitted → Bool
+is_dropped Request knows_peer emitted = knows_peer && not (is_some emitted.issued)
+is_dropped _ knows_peer emitted = false
 
 -- The packet came from this discovered source.
 abbrev pub is_source : Path → Source → Bool
@@ -65,18 +70,22 @@ module _ {H P : Type 0} where
   abbrev pub is_discovered : Path → AgentRecord H P → Bool
   is_discovered path a = list_any (is_source path) a.discovered_sources
 
+  -- By the rule, a request that is dropped reports no source. `a` is the agent after the message, and `emitted` is what it emitted for it.
+  abbrev pub reports_none : Class → Emitted → AgentRecord H P → Bool
+  reports_none class emitted a = a.rules.discovered_if_served && is_dropped class (is_some a.remote_creds) emitted
+
   -- With a limit, a source is not reported while as many events wait to be polled.
-  abbrev pub is_passed_over : Path → AgentRecord H P → Bool
-  is_passed_over path a = is_discovered path a || is_crowded a
+  abbrev pub is_passed_over : Class → Emitted → Path → AgentRecord H P → Bool
+  is_passed_over class emitted path a = is_discovered path a || is_crowded a || reports_none class emitted a
 
   -- A protocol and source address that was not seen since the last ICE restart is discovered: its event is emitted, and counted.
   -- With a limit, only the newest sources are kept.
-  abbrev pub discovered_emitted : Path → AgentRecord H P → AgentRecord H P
-  discovered_emitted path a = record a {
-    discovered_sources = if is_passed_over path a then a.discovered_sources else newest a.max_discovered (a.discovered_sources ++ record { proto = path.proto; address = path.source } ∷ []);
-    events = if is_passed_over path a then a.events else a.events ++ DiscoveredRecv path.proto path.source ∷ [];
+  abbrev pub discovered_emitted : Class → Emitted → Path → AgentRecord H P → AgentRecord H P
+  discovered_emitted class emitted path a = record a {
+    discovered_sources = if is_passed_over class emitted path a then a.discovered_sources else newest a.max_discovered (a.discovered_sources ++ record { proto = path.proto; address = path.source } ∷ []);
+    events = if is_passed_over class emitted path a then a.events else a.events ++ DiscoveredRecv path.proto path.source ∷ [];
     stats = record a.stats {
-      discovered_recv_count = if is_passed_over path a then a.stats.discovered_recv_count else counted a.stats.discovered_recv_count;
+      discovered_recv_count = if is_passed_over class emitted path a then a.stats.discovered_recv_count else counted a.stats.discovered_recv_count;
     };
   }
 
@@ -102,7 +111,7 @@ module _ {H P : Type 0} where
       → AgentRecord H P → Type 0
   HandlesPacket mac now old path m (Ok false) emitted new = ¬ IsAcceptedOn mac old path m × (emitted ≡ nothing_emitted) × (new ≡ old)
   HandlesPacket mac now old path m (Ok true) emitted new =
-      IsAcceptedOn mac old path m × ((mid : AgentRecord H P) × Takes mac m.class now old path m emitted mid × (new ≡ discovered_emitted path mid))
+      IsAcceptedOn mac old path m × ((mid : AgentRecord H P) × Takes mac m.class now old path m emitted mid × (new ≡ discovered_emitted m.class emitted path mid))
   HandlesPacket mac now old path m (Err error) emitted new = MayFailAtPacket mac now old path m error × (emitted ≡ nothing_emitted) × (new ≡ old)
 
   -- what happens to a packet of this class, by whether it is accepted

@@ -82,6 +82,9 @@ original_rules = record {
   timeout_after_requests = false;
   lite_keeps_role = false;
   numbered_nominations = false;
+  discovered_if_served = false;
+  state_after_nomination = false;
+  invalidates_listed = false;
 }
 
 -- what connects fastest, and ends consent in time: within the 30 s of RFC 7675, section 5.1
@@ -96,6 +99,9 @@ modern_rules = record {
   timeout_after_requests = true;
   lite_keeps_role = true;
   numbered_nominations = true;
+  discovered_if_served = true;
+  state_after_nomination = true;
+  invalidates_listed = true;
 }
 
 abbrev pub no_stats : IceAgentStats

@@ -1,7 +1,11 @@
 -- Discarded candidates: a discarded candidate keeps its index, and its pairs are removed (`invalidate_candidate`).
-use Rattle.std.specs.Prelude.{◌≡◌, ℕ, ◌==◌, Bool, true, false, List, position, slice_set, Option, Some, None, if◌then◌else◌}
+use Rattle.std.specs.Prelude.{◌≡◌, ℕ, ◌==◌, ◌&&◌, not, Bool, true, false, List, position, slice_set, Option, Some, None, Result, Ok, Err, if◌then◌else◌}
+use Rattle.is_proto.specs.declared.error.IceError.{IceError}
+use Rattle.is_proto.specs.declared.error.IceError.TheVariants.{OutOfMemory}
 use Rattle.is_candidate.specs.Candidates.{CandidateRecord, candidate_at}
 use Rattle.is_candidate.specs.Equality.{is_equivalent}
+use Rattle.is_pair.specs.declared.checklist.removed.Removal.{Removal}
+use Rattle.is_pair.specs.declared.checklist.removed.Removal.TheVariants.{Invalidated}
 use Rattle.is_pair.specs.Pairs.{PairRecord}
 use Rattle.is_pair.specs.Multiset.{without}
 use Rattle.is_rules.specs.Agent.{AgentRecord}
@@ -19,16 +23,30 @@ is_local_at place p = p.local == place
 abbrev pub is_remote_at : ℕ → PairRecord → Bool
 is_remote_at place p = p.remote == place
 
+-- why the pairs of a discarded candidate are removed
+abbrev pub invalidated_reason : PairRecord → Removal
+invalidated_reason p = Invalidated
+
 -- the index of a candidate, if it is live
 abbrev pub live_at : List CandidateRecord → Option ℕ → Option ℕ
 live_at cs None = None
 live_at cs (Some place) = if (candidate_at cs place).discarded then None else Some place
 
--- the index of the first equivalent candidate, if that one is live
-abbrev pub place_to_discard : CandidateRecord → List CandidateRecord → Option ℕ
-place_to_discard c cs = live_at cs (position (is_equivalent c) cs)
+-- This one is equivalent, and live.
+abbrev pub is_live_equivalent : CandidateRecord → CandidateRecord → Bool
+is_live_equivalent c x = is_equivalent c x && not x.discarded
+
+-- the index of the first equivalent candidate, if that one is live; by the rule `invalidates_listed` that of the first one that is live
+abbrev pub place_to_discard : Bool → CandidateRecord → List CandidateRecord → Option ℕ
+place_to_discard listed c cs = if listed then position (is_live_equivalent c) cs else live_at cs (position (is_equivalent c) cs)
 
 module _ {H P : Type 0} where
+  abbrev pub local_to_discard : CandidateRecord → AgentRecord H P → Option ℕ
+  local_to_discard c a = place_to_discard a.rules.invalidates_listed c a.local
+
+  abbrev pub remote_to_discard : CandidateRecord → AgentRecord H P → Option ℕ
+  remote_to_discard c a = place_to_discard a.rules.invalidates_listed c a.remote
+
   abbrev pub local_discarded : ℕ → AgentRecord H P → AgentRecord H P
   local_discarded place a = record a {
     local = change_place place discarded a.local;
@@ -46,6 +64,7 @@ module _ {H P : Type 0} where
   InvalidatesAt None (Some place) old found new = (found ≡ true) × (new ≡ remote_discarded place old)
   InvalidatesAt None None old found new = (found ≡ false) × (new ≡ old)
 
-  -- `invalidate_candidate`: a local candidate, else a remote one
-  abbrev pub Invalidates : AgentRecord H P → CandidateRecord → Bool → AgentRecord H P → Type 0
-  Invalidates old c found new = InvalidatesAt (place_to_discard c old.local) (place_to_discard c old.remote) old found new
+  -- `invalidate_candidate`: a local candidate, else a remote one. It fails only for an allocation failure.
+  abbrev pub Invalidates : AgentRecord H P → CandidateRecord → Result Bool IceError → AgentRecord H P → Type 0
+  Invalidates old c (Ok found) new = InvalidatesAt (local_to_discard c old) (remote_to_discard c old) old found new
+  Invalidates old c (Err error) new = (error ≡ OutOfMemory) × (new ≡ old)

@@ -29,6 +29,7 @@ pub mod Nominating
 pub mod Answers
 pub mod Restarting
 pub mod States
+pub mod Settling
 pub mod Checking
 pub mod Due
 pub mod TimeoutStart

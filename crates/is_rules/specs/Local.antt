@@ -13,9 +13,11 @@ use Rattle.is_candidate.specs.Preferences.{default_preference}
 use Rattle.is_candidate.specs.Equality.{is_alike, is_same_place, is_same_origin}
 use Rattle.is_rules.specs.declared.local.Rejection.{Rejection}
 use Rattle.is_rules.specs.declared.local.Rejection.TheVariants as rejection
+use Rattle.is_rules.specs.declared.emitted.Emitted.{Emitted}
 use Rattle.is_rules.specs.Agent.{AgentRecord}
 use Rattle.is_rules.specs.Discarding.{change_place, local_discarded}
 use Rattle.is_rules.specs.Forming.{HasNumbers, partners, local_combinations, FormsAll}
+use Rattle.is_rules.specs.Settling.{ReselectsAfter}
 
 -- If both candidates have the greatest priority, no pair priority fits into 64 bits.
 abbrev pub is_too_high : CandidateRecord → Bool
@@ -116,7 +118,8 @@ module _ {H P : Type 0} where
   abbrev pub BorrowsLocal : (P → CandidateRecord → ℕ → ℕ → Type 0) → AgentRecord H P → CandidateRecord
       → Result (Option (Bor CandidateRecord)) IceError → AgentRecord H P → Type 0
   BorrowsLocal answers old c (Ok borrowed) new =
-      (place : Option ℕ) × AddsLocal answers old c (Ok place) new × (option_copied borrowed ≡ option_and_then (slice_get new.local) place)
+      (place : Option ℕ) × (emitted : Emitted) × ReselectsAfter (AddsLocal answers old c (Ok place)) old emitted new
+      × (option_copied borrowed ≡ option_and_then (slice_get new.local) place)
   BorrowsLocal answers old c (Err error) new = AddsLocal answers old c (Err error) new
 
 -- the errors of this call, which own no memory, as `IceError`

@@ -33,6 +33,7 @@ use Rattle.is_rules.specs.Forming.{formed, with_pair}
 use Rattle.is_rules.specs.Queue.{queued}
 use Rattle.is_rules.specs.Sending.{carried, path_between, with_packet}
 use Rattle.is_rules.specs.Nominating.{numbers, NominatesWhere}
+use Rattle.is_rules.specs.Settling.{settled}
 use Rattle.is_rules.specs.Roles.{conflict_of, switched}
 
 -- A lite agent sends no checks of its own: while it is controlled, each request makes the pair valid.
@@ -169,12 +170,12 @@ module _ {H P : Type 0} where
         × (emitted ≡ emitted_by (Some (issued_as path Success q.id)) selected_paths None) × (new ≡ replied q path s)
 
     -- The pair records the request. A controlling agent evaluates nomination if the pair is valid, and by the rule a controlled one too.
-    -- Then the response is sent.
+    -- If that selects a path, the state is evaluated by the rule. Then the response is sent.
     abbrev pub RecordsAndResponds : RequestRecord → ℕ → ℕ → ℕ → AgentRecord H P → Emitted → AgentRecord H P → Type 0
     RecordsAndResponds q l r number s emitted new =
         (path : Option Path) × (mid : AgentRecord H P)
         × NominatesWhere (selects_at_requests s && is_valid_at number s.pairs) (pair_served q number s) path mid
-        × Replies q (path_between s l r) path mid emitted new
+        × Replies q (path_between s l r) path (settled (is_some path) (trigger_time q s) mid) emitted new
 
     -- A pair is added, without regard to the limit and to redundancy. There is a number left for it.
     abbrev pub AddsPairAndResponds : RequestRecord → ℕ → ℕ → AgentRecord H P → Emitted → AgentRecord H P → Type 0

@@ -21,6 +21,7 @@ use Rattle.is_rules.specs.Discarding.{Invalidates}
 use Rattle.is_rules.specs.Local.{AddsLocal}
 use Rattle.is_rules.specs.Remote.{AddsRemote}
 use Rattle.is_rules.specs.Restarting.{Restarts, Recreates}
+use Rattle.is_rules.specs.Settling.{ReselectsAfter}
 use Rattle.is_rules.specs.Accepting.{HandlesPacket}
 use Rattle.is_rules.specs.Timeouts.{TimesOut}
 use Rattle.is_rules.specs.Polls.{PollsTransmit, PollsEvent, PollsTimeout}
@@ -122,6 +123,13 @@ Becomes needed s e new t = (e ≡ quiet Done) × (new ≡ needed) × (t ≡ s)
 abbrev pub MayDo : {A : Type 0} → (Result (Unit {0}) IceError → A → Type 0) → Stream → Entry → A → Stream → Type 0
 MayDo Does s e new t = (r : Result (Unit {0}) IceError) × (e ≡ quiet (answer_by done r)) × Does r new × (t ≡ s)
 
+-- The call succeeds or fails, and draws no random words. It may remove the selected pair, and then select another path.
+abbrev pub MaySelect : {H P A : Type 0} → (A → Answer) → (Result A IceError → AgentRecord H P → Type 0) → AgentRecord H P → Stream → Entry
+    → AgentRecord H P → Stream → Type 0
+MaySelect {A = A} to_answer Does old s e new t =
+    (r : Result A IceError) × (emitted : Emitted) × (e ≡ record { answer = answer_by to_answer r; emitted = emitted })
+    × ReselectsAfter (Does r) old emitted new × (t ≡ s)
+
 module _ {H P : Type 0} (mac : H → List ℕ → List ℕ → List ℕ) (answers : P → CandidateRecord → ℕ → ℕ → Type 0) where
   -- A received packet makes the transition of the message that its bytes encode. Bytes that are not a STUN message change
   -- nothing.
@@ -155,10 +163,9 @@ module _ {H P : Type 0} (mac : H → List ℕ → List ℕ → List ℕ) (answer
   Step old s (SetLocalCredentials creds) e new t = MayDo (SetsLocal old creds) s e new t
   Step old s (SetRemoteCredentials creds) e new t = MayDo (SetsRemote old creds) s e new t
   Step old s (SkipPairIds n) e new t = Becomes (numbers_skipped n old) s e new t
-  Step old s (AddLocalCandidate c) e new t =
-      (r : Result (Option ℕ) IceError) × (e ≡ quiet (answer_by added r)) × AddsLocal answers old c r new × (t ≡ s)
-  Step old s (AddRemoteCandidate c) e new t = MayDo (AddsRemote old c) s e new t
-  Step old s (InvalidateCandidate c) e new t = (found : Bool) × (e ≡ quiet (Flag found)) × Invalidates old c found new × (t ≡ s)
+  Step old s (AddLocalCandidate c) e new t = MaySelect added (AddsLocal answers old c) old s e new t
+  Step old s (AddRemoteCandidate c) e new t = MaySelect done (AddsRemote old c) old s e new t
+  Step old s (InvalidateCandidate c) e new t = MaySelect Flag (Invalidates old c) old s e new t
   Step old s (RestartIce creds keep) e new t = MayDo (Restarts old creds keep) s e new t
   Step old s RecreateCandidatePairs e new t = MayDo (Recreates old) s e new t
   Step old s (ReceivePacket now path bytes) e new t = Receives now old path bytes e new × (t ≡ s)

@@ -61,15 +61,16 @@ module _ {H P : Type 0} (mac : H → List ℕ → List ℕ → List ℕ) where
     pub call : TimesOut mac now old s (Ok tt) emitted new t
 
 module _ (P : Type 0) {H : Type 0} (mac : H → List ℕ → List ℕ → List ℕ) where
-  -- Its time is the time of the last call, also if it served an early request.
+  -- There is a last call after it, also if it served an early request.
   abbrev pub CallsAreNoted : Type 0
-  CallsAreNoted = (old new : AgentRecord H P) (now : ℕ) (s t : Stream) (emitted : Emitted) → IsNotedCall mac old now s emitted new t → new.last_time ≡ Some now
+  CallsAreNoted = (old new : AgentRecord H P) (now : ℕ) (s t : Stream) (emitted : Emitted) → IsNotedCall mac old now s emitted new t → is_some new.last_time ≡ true
 
-  -- So there is a next timeout after it, at least one pacing interval later, or 3 s later if there is nothing to check.
+  -- So there is a next timeout after it. If it served no early request, that is at least one pacing interval later, or 3 s later if there is
+  -- nothing to check.
   abbrev pub CallsAreFollowed : Type 0
   CallsAreFollowed =
       (old new polled : AgentRecord H P) (now : ℕ) (s t : Stream) (emitted : Emitted) → IsNotedCall mac old now s emitted new t
-      → (deadline : Option ℕ) → PollsTimeout new deadline polled → IsSomeAnd deadline (λ at. soonest new now ≤ at)
+      → (deadline : Option ℕ) → PollsTimeout new deadline polled → IsSomeAnd deadline (λ at. request_at now old ≡ None → soonest new now ≤ at)
 
   -- After such a call no path is left to be selected or nominated at once.
   abbrev pub NominationsAreSent : Type 0

@@ -1,6 +1,6 @@
 -- What a `handle_timeout` call does. It evaluates the state. Then it serves an early request, if there is one; otherwise it
--- nominates, removes failed pairs and sends a check.
-use Rattle.std.specs.Prelude.{◌≡◌, ℕ, Bool, List, [], ◌∷◌, ◌++◌, Option, Some, None, MatchBool, MatchOption, Result, Ok, Err, if◌then◌else◌}
+-- nominates, removes failed pairs and sends a check. By the rule `state_after_nomination` the state is evaluated after nomination.
+use Rattle.std.specs.Prelude.{◌≡◌, ℕ, Bool, true, List, [], ◌∷◌, ◌++◌, Option, Some, None, MatchBool, MatchOption, Result, Ok, Err, unwrap_or, if◌then◌else◌}
 use Rattle.std.specs.List.{list_any}
 use Rattle.rand_core.specs.Stream.{Stream}
 use Rattle.is_proto.specs.declared.error.IceError.{IceError}
@@ -18,6 +18,7 @@ use Rattle.is_pair.specs.Multiset.{without}
 use Rattle.is_rules.specs.Agent.{AgentRecord}
 use Rattle.is_rules.specs.Nominating.{Nominates}
 use Rattle.is_rules.specs.States.{same_state, evaluated}
+use Rattle.is_rules.specs.Settling.{started, settled}
 use Rattle.is_rules.specs.Serving.{Serves, MayFailAtRequest}
 use Rattle.is_rules.specs.Queue.{queue_cleared, first_taken, request_at}
 use Rattle.is_rules.specs.Checking.{MayCheck}
@@ -29,9 +30,9 @@ module _ {H P : Type 0} where
   abbrev pub start_emitted : AgentRecord H P → AgentRecord H P
   start_emitted a = record a { events = if same_state a.state New then a.events ++ IceRestart a.local_creds ∷ [] else a.events }
 
-  -- Then the state is evaluated, and outdated early requests are removed.
+  -- Then the state is evaluated, unless it is after nomination, and outdated early requests are removed.
   abbrev pub timeout_begun : ℕ → AgentRecord H P → AgentRecord H P
-  timeout_begun now a = queue_cleared now (evaluated now (start_emitted a))
+  timeout_begun now a = queue_cleared now (started now (start_emitted a))
 
   -- ---- pairs that are removed after timeout
 
@@ -42,21 +43,21 @@ module _ {H P : Type 0} where
   abbrev pub expired_gone : ℕ → AgentRecord H P → AgentRecord H P
   expired_gone now a = record a { pairs = without (is_expired now a) a.pairs }
 
-  -- If a pair is removed, nomination and state are evaluated.
+  -- If a pair is removed, nomination and state are evaluated. Otherwise the state is, by the rule.
   abbrev pub RemovesExpired : ℕ → AgentRecord H P → Option Path → AgentRecord H P → Type 0
   RemovesExpired now old path new =
       MatchBool (list_any (is_expired now old) old.pairs)
       ((mid : AgentRecord H P) × Nominates (expired_gone now old) path mid × (new ≡ evaluated now mid))
-      ((path ≡ None) × (new ≡ old))
+      ((path ≡ None) × (new ≡ settled true now old))
 
   -- ---- the call
 
   abbrev pub at_timeout : ℕ → AgentRecord H P → AgentRecord H P
   at_timeout now a = record a { last_time = Some now }
 
-  -- A call that serves an early request counts as the last one only by this rule.
+  -- By the rule `timeout_after_requests` a call that serves an early request counts as the last one, if there was none before.
   abbrev pub at_request : ℕ → AgentRecord H P → AgentRecord H P
-  at_request now a = record a { last_time = if a.rules.timeout_after_requests then Some now else a.last_time }
+  at_request now a = record a { last_time = if a.rules.timeout_after_requests then Some (unwrap_or a.last_time now) else a.last_time }
 
   -- Why a `handle_timeout` call may fail: for a reason for which the early request that it serves may fail, and without one only
   -- for an allocation failure.

@@ -2,11 +2,12 @@
 
 ghost use Rattle.std.specs.Prelude.{◌≡◌, ◌↔◌, IsTrue};
 ghost use Rattle.std.specs.List.{list_any};
-ghost use Rattle.is_rules.specs.Accepting.{is_source};
+ghost use Rattle.is_rules.specs.Accepting.{is_dropped, is_source};
 
-use crate::emitted::Path;
+use crate::emitted::{Emitted, Path};
 use is_candidate::candidate::address::{same_address, same_protocol};
 use is_proto::Protocol;
+use is_stun::stun::Class;
 use std::net::SocketAddr;
 
 /// A protocol and an address from which authentic packets were received.
@@ -16,6 +17,13 @@ pub struct Source {
     pub proto: Protocol,
     /// The address.
     pub address: SocketAddr,
+}
+
+/// The accepted message is a request that is dropped: the peer is known, and there is no response.
+pub fn is_dropped(class: Class, knows_peer: bool, emitted: &Emitted) -> bool
+    ensures { result ≡ is_dropped class knows_peer emitted.now }
+{
+    matches!(class, Class::Request) && knows_peer && emitted.issued.is_none()
 }
 
 fn is_source(source: &Source, path: &Path) -> bool

@@ -3,13 +3,13 @@
 ghost use Rattle.std.specs.Prelude.{◌≡◌, ◌<◌, length, position, IfSome, vec_len, vec_capacity};
 ghost use Rattle.is_candidate.specs.Equality.{is_equivalent};
 ghost use Rattle.is_rules.specs.Kept.{NoneTooHigh};
-ghost use Rattle.is_rules.specs.Discarding.{discarded, change_place, place_to_discard};
+ghost use Rattle.is_rules.specs.Discarding.{discarded, change_place, live_at, is_live_equivalent, place_to_discard};
 
 use crate::places::candidate_at;
 use is_candidate::Candidate;
 use is_candidate::candidate::equality::is_equivalent;
 use is_candidate::candidate::internals::{discard, is_discarded};
-use is_pair::checklist::PairTest;
+use is_pair::checklist::{PairRemoval, PairTest, Removal};
 use is_pair::pair::CandidatePair;
 
 /// Marks the candidate at the index as discarded.
@@ -57,6 +57,26 @@ impl PairTest for RemoteAt {
     }
 }
 
+impl PairRemoval for LocalAt {
+    ghost use Rattle.is_rules.specs.Discarding.{invalidated_reason};
+
+    ghost reason = { λ t p. invalidated_reason p };
+
+    fn removal(&self, _pair: &CandidatePair) -> Removal {
+        Removal::Invalidated
+    }
+}
+
+impl PairRemoval for RemoteAt {
+    ghost use Rattle.is_rules.specs.Discarding.{invalidated_reason};
+
+    ghost reason = { λ t p. invalidated_reason p };
+
+    fn removal(&self, _pair: &CandidatePair) -> Removal {
+        Removal::Invalidated
+    }
+}
+
 fn position_of(candidates: &[Candidate], candidate: &Candidate) -> Option<usize>
     ensures place { result ≡ position (is_equivalent candidate.now) candidates.now }
     ensures within { IfSome result (λ place. place < length candidates.now) }
@@ -66,9 +86,16 @@ fn position_of(candidates: &[Candidate], candidate: &Candidate) -> Option<usize>
         .position(|other| is_equivalent(candidate, other))
 }
 
+fn listed_position_of(candidates: &[Candidate], candidate: &Candidate) -> Option<usize>
+    ensures place { result ≡ position (is_live_equivalent candidate.now) candidates.now }
+    ensures within { IfSome result (λ place. place < length candidates.now) }
+{
+    candidates.iter().position(|other| is_equivalent(candidate, other) && !is_discarded(other))
+}
+
 /// The index of the first equivalent candidate, if that one is not discarded.
-pub fn place_to_discard(candidates: &[Candidate], candidate: &Candidate) -> Option<usize>
-    ensures place { result ≡ place_to_discard candidate.now candidates.now }
+fn first_to_discard(candidates: &[Candidate], candidate: &Candidate) -> Option<usize>
+    ensures place { result ≡ live_at candidates.now (position (is_equivalent candidate.now) candidates.now) }
     ensures within { IfSome result (λ place. place < length candidates.now) }
 {
     match position_of(candidates, candidate) {
@@ -81,4 +108,20 @@ pub fn place_to_discard(candidates: &[Candidate], candidate: &Candidate) -> Opti
             }
         }
     }
+}
+
+/// The index of the first equivalent candidate, if that one is not discarded; if discarded ones are passed over (the rule
+/// `invalidates_listed`), that of the first equivalent one that is listed.
+pub fn place_to_discard(
+    listed: bool,
+    candidates: &[Candidate],
+    candidate: &Candidate,
+) -> Option<usize>
+    ensures place { result ≡ place_to_discard listed candidate.now candidates.now }
+    ensures within { IfSome result (λ place. place < length candidates.now) }
+{
+    if listed {
+        return listed_position_of(candidates, candidate);
+    }
+    first_to_discard(candidates, candidate)
 }

@@ -16,7 +16,7 @@ ghost use Rattle.is_rules.specs.Cuts.{KindsStay};
 use crate::kinds::kind_of;
 use crate::sides::Sides;
 use is_candidate::Candidate;
-use is_pair::checklist::Checklist;
+use is_pair::checklist::{Checklist, Removal};
 use is_pair::pair::CandidatePair;
 
 /// How many pairs each kind has.
@@ -25,7 +25,7 @@ fn kind_counts(pairs: &Checklist, local: &[Candidate], remote: &[Candidate]) -> 
     ensures { (kind : ℕ) → kind < KINDS → slice_index result kind ≡ kind_count (kind_of local.now remote.now) (multiset_of pairs.now) kind }
 {
     let mut counts = [0; 16];
-    for pair in pairs.iter() {
+    for pair in pairs.as_slice() {
         counts[kind_of(local, remote, pair) as usize] += 1;
     }
     counts
@@ -77,7 +77,7 @@ fn least_of_kind<'a>(
     ensures { IsLeastOfKind (kind_of local.now remote.now) kind (multiset_of pairs.now) (option_copied result) }
 {
     let mut least = None;
-    for pair in pairs.iter() {
+    for pair in pairs.as_slice() {
         least = lower_of_kind(least, pair, local, remote, kind);
     }
     least
@@ -107,7 +107,7 @@ fn evict_of_most(pairs: &mut Checklist, limit: usize, local: &[Candidate], remot
             None => return,
             Some(least) => {
                 let number = least.id().0;
-                pairs.remove(number);
+                pairs.remove(number, Removal::Evicted);
             }
         }
     }

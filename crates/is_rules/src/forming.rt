@@ -23,7 +23,7 @@ use crate::sides::Sides;
 use is_candidate::Candidate;
 use is_candidate::candidate::address::{same_address, same_protocol, same_version};
 use is_candidate::candidate::internals::is_discarded;
-use is_pair::checklist::{Checklist, PairTest};
+use is_pair::checklist::{Checklist, PairTest, Removal};
 use is_pair::pair::{CandidatePair, PairId};
 use is_pair::take_over;
 use std::alloc::{AllocError, Global};
@@ -155,7 +155,7 @@ fn try_one(
             }
             let number = found.id().0;
             take_over(&mut pair, found, sides.lite);
-            pairs.remove(number);
+            pairs.remove(number, Removal::Replaced);
             add(pairs, next_number, pair)
         }
     }

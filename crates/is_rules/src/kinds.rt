@@ -232,7 +232,7 @@ pub fn next_ahead<'a>(
         timing,
     };
     let mut first = None;
-    for pair in pairs.iter() {
+    for pair in pairs.as_slice() {
         first = earlier(first, pair, &round);
     }
     first

@@ -49,7 +49,8 @@ impl From<Rejection> for IceError {
     }
 }
 
-fn count_alike(candidate: &Candidate, local: &[Candidate]) -> usize
+/// How many local candidates, including discarded ones, have the same kind and IP version.
+pub fn count_alike(candidate: &Candidate, local: &[Candidate]) -> usize
     ensures { result ≡ count_alike candidate.now local.now }
 {
     local

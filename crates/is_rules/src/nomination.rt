@@ -241,7 +241,7 @@ pub fn followed_by_number(
     ensures { result ≡ option_map (λ p. p.number) (first_numbered controlling selected (multiset_of pairs.now)) }
 {
     let mut first = None;
-    for pair in pairs.iter() {
+    for pair in pairs.as_slice() {
         first = first_with(controlling, selected, first, pair);
     }
     match first {

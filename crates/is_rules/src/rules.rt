@@ -44,6 +44,14 @@ pub struct Rules {
     /// `renomination`. A controlling agent numbers the paths that it selects, and nominates each at once. A controlled agent selects the
     /// valid pair with the greatest number, whatever is lost, late or replayed.
     pub numbered_nominations: bool,
+    /// `DiscoveredRecv` is not emitted for a request that is dropped: one that gets no response, although the peer is known.
+    pub discovered_if_served: bool,
+    /// The state is evaluated after nomination in each call, and not before it. So the agent is Connected or Completed if and only if the
+    /// path of the last `NominatedSend` is that of a pair that can be used.
+    pub state_after_nomination: bool,
+    /// `invalidate_candidate` passes over candidates that are discarded already, so each one that is listed can be invalidated. A candidate
+    /// that was discarded and came again with the same preference is listed once more.
+    pub invalidates_listed: bool,
 }
 
 /// How often, and how far apart.
@@ -73,11 +81,15 @@ impl Rules {
             timeout_after_requests: false,
             lite_keeps_role: false,
             numbered_nominations: false,
+            discovered_if_served: false,
+            state_after_nomination: false,
+            invalidates_listed: false,
         }
     }
 
-    /// All rules: agents connect sooner, consent ends in time, `poll_timeout` returns a time after each successful `handle_timeout`, and
-    /// lite agents keep their role. With renomination, nominations are numbered.
+    /// All rules: agents connect sooner, consent ends in time, `poll_timeout` returns a time after each successful `handle_timeout`,
+    /// lite agents keep their role, a request that is dropped reports no source, the state says whether a path is selected, and each
+    /// listed candidate can be invalidated. With renomination, nominations are numbered.
     pub fn modern() -> Rules
         ensures { result ≡ modern_rules }
     {
@@ -91,6 +103,9 @@ impl Rules {
             timeout_after_requests: true,
             lite_keeps_role: true,
             numbered_nominations: true,
+            discovered_if_served: true,
+            state_after_nomination: true,
+            invalidates_listed: true,
         }
     }
 }

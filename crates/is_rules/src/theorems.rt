@@ -33,8 +33,8 @@ pub fn timeout_is_given<H: Sha1HmacProvider, P: LocalPreference>()
     ensures { TimeoutIsGiven H P }
 {}
 
-/// With the rule `timeout_after_requests`, the time of each successful `handle_timeout` call is that of the last call. So `poll_timeout`
-/// returns a time after it, at least one pacing interval later, or 3 s if there is nothing to check.
+/// With the rule `timeout_after_requests` there is a last call after each successful `handle_timeout` call. So `poll_timeout` returns a
+/// time after it. If it served no early request, that is at least one pacing interval later, or 3 s if there is nothing to check.
 pub fn calls_are_noted<H: Sha1HmacProvider, P: LocalPreference>()
     ensures noted { CallsAreNoted P H.mac }
     ensures followed { CallsAreFollowed P H.mac }

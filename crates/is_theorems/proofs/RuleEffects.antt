@@ -5,3 +5,4 @@ pub mod SelectedPaths
 pub mod NominatedPairs
 pub mod ChangedPairs
 pub mod TriggeredPairs
+pub mod Reselection

@@ -41,5 +41,6 @@ pub mod TimedRounds
 pub mod Consent
 pub mod ConsentCourses
 pub mod ConsentLogs
+pub mod Settled
 pub mod AtOnceCourses
 pub mod SelectedInTime

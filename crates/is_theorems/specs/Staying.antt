@@ -6,7 +6,7 @@ use Rattle.is_candidate.specs.Candidates.{CandidateRecord}
 use Rattle.is_pair.specs.Pairs.{PairRecord, is_valid, is_nominated}
 use Rattle.is_rules.specs.Agent.{AgentRecord}
 use Rattle.is_rules.specs.declared.emitted.Path.{Path}
-use Rattle.is_rules.specs.Discarding.{place_to_discard}
+use Rattle.is_rules.specs.Discarding.{local_to_discard, remote_to_discard}
 use Rattle.is_theorems.specs.Logs.{Logged}
 use Rattle.is_rules.specs.Queue.{request_at}
 use Rattle.is_theorems.specs.Removing.{MayEndByLocal, MayEndByRemote}
@@ -30,7 +30,7 @@ module _ {H P : Type 0} where
   -- The pair's local candidate is discarded, or its remote one.
   abbrev pub IsOfDiscarded : AgentRecord H P → CandidateRecord → PairRecord → Type 0
   IsOfDiscarded old c p =
-      (place_to_discard c old.local ≡ Some p.local) ⊎ ((place_to_discard c old.local ≡ None) × (place_to_discard c old.remote ≡ Some p.remote))
+      (local_to_discard c old ≡ Some p.local) ⊎ ((local_to_discard c old ≡ None) × (remote_to_discard c old ≡ Some p.remote))
 
   -- The transition may remove the pair: a pair of an added candidate replaces or evicts it; its candidate is discarded; the pairs
   -- are cleared; or its checks were not answered in time (RFC 7675).

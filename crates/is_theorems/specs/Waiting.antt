@@ -6,13 +6,14 @@ use Rattle.is_rules.specs.declared.event.IceAgentEvent.TheVariants.{DiscoveredRe
 use Rattle.is_rules.specs.Agent.{AgentRecord}
 use Rattle.is_theorems.specs.Logs.{Logged}
 use Rattle.is_rules.specs.Queue.{QUEUE_LIMIT}
-use Rattle.is_rules.specs.Steps.{Call, RestartIce, RecreateCandidatePairs, ReceivePacket, HandleTimeout, PollTransmit, PollEvent}
-use Rattle.is_rules.specs.Steps.{Answer, Done, Flag, Polled, Happened, is_done}
+use Rattle.is_rules.specs.Steps.{Call, AddLocalCandidate, AddRemoteCandidate, InvalidateCandidate, RestartIce, RecreateCandidatePairs, ReceivePacket, HandleTimeout, PollTransmit, PollEvent}
+use Rattle.is_rules.specs.Steps.{Answer, Done, Added, Flag, Polled, Happened, is_done}
 use Rattle.is_theorems.specs.Shared.{IsNewlyCreated, SharedRun}
 
--- The call returned Ok, or the packet was accepted.
+-- The call returned Ok, or the packet was accepted, or a candidate was added or invalidated.
 abbrev pub is_taken : Answer → Bool
 is_taken Done = true
+is_taken Added = true
 is_taken (Flag accepted) = accepted
 is_taken _ = false
 
@@ -55,12 +56,15 @@ abbrev pub other_count : List IceAgentEvent → ℕ
 other_count events = count_by (λ (e : IceAgentEvent). not (is_discovery e)) events
 
 -- How many events the call emits at most, `DiscoveredRecv` aside. A packet: a selected path and a state. A `handle_timeout` call: the
--- start, two selected paths and two states.
+-- start, two selected paths and two states. A candidate that takes the selected pair away: a selected path and a state.
 abbrev pub events_of : {P : Type 0} → Call P → ℕ
 events_of (ReceivePacket now path bytes) = 2
 events_of (HandleTimeout now) = 5
 events_of (RestartIce creds keep) = 2
 events_of RecreateCandidatePairs = 1
+events_of (AddLocalCandidate c) = 2
+events_of (AddRemoteCandidate c) = 2
+events_of (InvalidateCandidate c) = 2
 events_of _ = 0
 
 -- `poll_event` returned None.

@@ -172,7 +172,7 @@ fn add_remotes(agent: &mut Agent, alloc: Global, count: u8) -> Outcome {
 
 fn invalidate(agent: &mut Agent, candidate: Option<Candidate>) -> Outcome {
     match candidate {
-        Some(candidate) => done_if(agent.invalidate_candidate(&candidate)),
+        Some(candidate) => done_if(agent.invalidate_candidate(&candidate).unwrap_or(false)),
         None => Outcome::Other,
     }
 }

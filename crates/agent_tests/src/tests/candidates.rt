@@ -1,6 +1,7 @@
 //! Local candidates and their preferences; which candidates are stored, listed, invalidated and enabled again.
 
 use super::driver::Player;
+use super::settings::ORIGINAL;
 use super::step::Call::*;
 use super::step::Held::*;
 use super::step::Start::*;
@@ -8,7 +9,7 @@ use super::step::Step::*;
 use super::step::{At, Outcome, Setting, Whose};
 use super::story::{Story, play};
 use super::*;
-use is::LocalPreference;
+use is::{LocalPreference, Rules};
 
 #[test]
 fn candidates_stay_or_not(rt: HostRuntime) -> Result<(), Fail> {
@@ -18,7 +19,13 @@ fn candidates_stay_or_not(rt: HostRuntime) -> Result<(), Fail> {
 
 const OWN: &str = "candidate:1 1 udp 1 10.0.0.1 1000 typ host";
 
-const LOCALS: [Story; 6] = [
+/// Those that are discarded are passed over.
+const LISTED: Rules = Rules {
+    invalidates_listed: true,
+    ..ORIGINAL
+};
+
+const LOCALS: [Story; 7] = [
     Story(
         "the_greatest_priority_is_rejected",
         &[
@@ -75,6 +82,21 @@ const LOCALS: [Story; 6] = [
             Fails(Own("candidate:1 1 udp 199 10.0.0.1 1000 typ srflx")),
             Does(Own("candidate:1 1 udp 200 10.0.0.1 1000 typ srflx")),
             Holds(Locals(&[At(1, 1000)])),
+        ],
+    ),
+    Story(
+        "by_the_rule_a_listed_candidate_can_be_invalidated",
+        &[
+            Begin(New("aaaa", "p", 1)),
+            Does(Own("candidate:1 1 udp 100 10.0.0.1 1000 typ host")),
+            Does(Own("candidate:1 1 udp 101 10.0.0.1 1000 typ host")),
+            // the first equal one was superseded
+            Fails(Invalidate(OWN)),
+            Holds(Locals(&[At(1, 1000)])),
+            Set(Setting::Rules(LISTED)),
+            Does(Invalidate(OWN)),
+            Holds(Locals(&[])),
+            Fails(Invalidate(OWN)),
         ],
     ),
     Story(

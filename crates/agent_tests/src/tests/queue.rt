@@ -19,8 +19,8 @@ fn requests_wait(rt: HostRuntime) -> Result<(), Fail> {
     play(rt.alloc(), &STORIES)
 }
 
-/// A call that serves a request counts as the last one.
-const COUNTS_EACH: Rules = Rules {
+/// A call that serves a request counts as the last one, if there was none before.
+const COUNTS_FIRST: Rules = Rules {
     timeout_after_requests: true,
     ..ORIGINAL
 };
@@ -109,8 +109,8 @@ const STORIES: [Story; 8] = [
         "a_call_that_serves_a_request_is_followed_by_another",
         &[
             Begin(Early),
-            Set(Setting::Rules(COUNTS_EACH)),
-            Takes(Many(2)),
+            Set(Setting::Rules(COUNTS_FIRST)),
+            Takes(Many(3)),
             Does(Creds(Whose::Remote, "SQAt", "x")),
             Shows(NoNext),
             Does(Check(10)),
@@ -118,8 +118,27 @@ const STORIES: [Story; 8] = [
             Shows(NextAt(60)),
             Does(Check(60)),
             Emits(Sent(Class::Success, 64)),
-            Shows(NextAt(110)),
-            Does(Check(110)),
+            // the others are served at once, and the first check follows
+            Shows(NextAt(60)),
+            Does(Check(60)),
+            Emits(Sent(Class::Success, 64)),
+            Shows(NextAt(60)),
+            Does(Check(60)),
+            Emits(Sent(Class::Request, 88)),
+            // after an earlier call
+            Begin(Early),
+            Set(Setting::Rules(COUNTS_FIRST)),
+            Does(Timeout(0)),
+            Takes(Many(2)),
+            Does(Creds(Whose::Remote, "SQAt", "x")),
+            Shows(NextAt(50)),
+            Does(Check(70)),
+            Emits(Sent(Class::Success, 64)),
+            Shows(NextAt(50)),
+            Does(Check(70)),
+            Emits(Sent(Class::Success, 64)),
+            Shows(NextAt(50)),
+            Does(Check(70)),
             Emits(Sent(Class::Request, 88)),
             // without the rule
             Begin(Early),

@@ -7,6 +7,7 @@ use super::story::same;
 use super::*;
 use is::pair::CheckState;
 use is::{CandidateKind, Duration, IceAgentStats, Path};
+use is_agent::removed::Removal;
 
 /// What can be seen of a pair.
 #[derive(Clone, Copy)]
@@ -77,7 +78,36 @@ impl Player {
             Held::FirstIs(ufrag, prio) => is_first(&self.agent, ufrag, Some(prio)),
             Held::LastReflexive(base, prio) => is_last_reflexive(&self.agent, base, prio),
             Held::RemotesUnnamed => are_unnamed(&self.agent),
+            Held::Removed(expected) => self.has_removed(expected),
+            Held::LastRemoved(count, to, why) => self.has_last_removed(count, to, why),
             _ => false,
+        }
+    }
+
+    /// The removed pairs are these, in this order.
+    fn has_removed(&mut self, expected: &[(At, Removal, u64, Option<u16>)]) -> bool {
+        let count = self.agent.removed_pair_count();
+        if !self.compares(count, expected.len()) {
+            return false;
+        }
+        for (index, (to, why, checks, error)) in expected.iter().enumerate() {
+            let actual = removed_at(&self.agent, index);
+            if !self.compares(actual, Some((to.socket(), *why, *checks, *error))) {
+                return false;
+            }
+        }
+        true
+    }
+
+    /// So many removed pairs are listed, and the last one is this.
+    fn has_last_removed(&mut self, count: usize, to: At, why: Removal) -> bool {
+        let actual = self.agent.removed_pair_count();
+        if !self.compares(actual, count) {
+            return false;
+        }
+        match removed_at(&self.agent, count.saturating_sub(1)) {
+            Some((address, reason, _, _)) => self.compares((address, reason), (to.socket(), why)),
+            None => false,
         }
     }
 
@@ -149,6 +179,13 @@ fn are_unnamed(agent: &Agent) -> bool {
         }
     }
     true
+}
+
+/// The destination of a removed pair, why it was removed, how many checks were sent, and the code of the last error response.
+fn removed_at(agent: &Agent, index: usize) -> Option<(SocketAddr, Removal, u64, Option<u16>)> {
+    let pair = agent.removed_pair(index)?;
+    let path = agent.removed_pair_path(pair)?;
+    Some((path.destination, pair.why, pair.checks_sent, pair.error))
 }
 
 // ---- getters

@@ -30,6 +30,9 @@ pub(super) const ORIGINAL: Rules = Rules {
     timeout_after_requests: false,
     lite_keeps_role: false,
     numbered_nominations: false,
+    discovered_if_served: false,
+    state_after_nomination: false,
+    invalidates_listed: false,
 };
 
 /// What connects fastest, keeps consent, and has a next timeout after each call.
@@ -49,6 +52,9 @@ pub(super) const MODERN: Rules = Rules {
     timeout_after_requests: true,
     lite_keeps_role: true,
     numbered_nominations: true,
+    discovered_if_served: true,
+    state_after_nomination: true,
+    invalidates_listed: true,
 };
 
 const STORIES: [Story; 5] = [

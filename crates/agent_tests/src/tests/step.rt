@@ -4,6 +4,7 @@
 use super::*;
 use is::Rules;
 use is::pair::CheckState;
+use is_agent::removed::Removal;
 
 /// The address 10.0.0.HOST:PORT.
 #[derive(Clone, Copy)]
@@ -289,6 +290,10 @@ pub(super) enum Held {
     LastReflexive(At, u32),
     /// No remote candidate has a username fragment.
     RemotesUnnamed,
+    /// The removed pairs are those to these addresses, in this order: why, how many checks were sent, and the code of the last error.
+    Removed(&'static [(At, Removal, u64, Option<u16>)]),
+    /// So many removed pairs are listed, and the last one is to this address, for this reason.
+    LastRemoved(usize, At, Removal),
 }
 
 /// What the getters return.

@@ -1,9 +1,12 @@
 -- What calls issue, and in which order it is polled.
-use Rattle.std.proofs.Common.{◌≡◌, ℕ, Bool, true, false, List, None, ap}
+use Rattle.std.proofs.Common.{◌≡◌, ℕ, Bool, true, false, List, Option, None, ap, ◌∙◌}
 use Rattle.std.specs.Prelude.{◌==◌, MatchBool}
 use Rattle.rand_core.specs.Stream.{Stream}
 use Rattle.is_candidate.specs.Candidates.{CandidateRecord}
 use Rattle.is_rules.specs.Agent.{AgentRecord}
+use Rattle.is_rules.specs.Emitted.{selected_only}
+use Rattle.is_rules.specs.declared.emitted.Emitted.{Emitted}
+use Rattle.is_rules.specs.declared.emitted.Path.{Path}
 use Rattle.is_rules.specs.Steps.{Call, Answer, Entry, quiet, Step, SetMtu, SetControlTieBreaker, SetMaxCandidatePairs, SetMaxDiscovered, SetIceLite, SetRenomination, SetRules, SetTimingAdvance, SetInitialStunRto, SetMaxStunRto, SetMaxStunRetransmits, SetLiteTimeout, SetLocalPreference, SetControlling, SetLocalCredentials, SetRemoteCredentials, SkipPairIds, AddLocalCandidate, AddRemoteCandidate, InvalidateCandidate, RestartIce, RecreateCandidatePairs, ReceivePacket, HandleTimeout, PollTransmit, PollTimeout, PollEvent}
 use Rattle.is_theorems.specs.Logs.{Logged}
 use Rattle.is_theorems.specs.Reporting.{QueuesTheorem}
@@ -12,6 +15,11 @@ use Rattle.is.specs.Queues.{IssuesNone, OthersIssueNone, QueuesAreKept}
 -- a quiet entry records no packet
 silent : (e : Entry) (answer : Answer) → e ≡ quiet answer → e.emitted.issued ≡ None
 silent e answer is = ap (λ (x : Entry). x.emitted.issued) is
+
+-- nor does one of a call that may select a path
+selects : {e : Entry} {answer : Answer} (emitted : Emitted) (path : Option Path) → e ≡ record { answer = answer; emitted = emitted } → emitted ≡ selected_only path
+    → e.emitted.issued ≡ None
+selects emitted path is emits = ap (λ (x : Entry). x.emitted.issued) is ∙ ap (λ (x : Emitted). x.issued) emits
 
 either : (b : Bool) {P Q R : Type 0} → MatchBool b P Q → (P → R) → (Q → R) → R
 either true h f g = f h
@@ -36,9 +44,9 @@ module _ {H P : Type 0} (mac : H → List ℕ → List ℕ → List ℕ) (answer
   issues_none old new s t (SetLocalCredentials creds) e h _ = silent e _ h.1
   issues_none old new s t (SetRemoteCredentials creds) e h _ = silent e _ h.1
   issues_none old new s t (SkipPairIds n) e h _ = silent e _ h.0
-  issues_none old new s t (AddLocalCandidate c) e h _ = silent e _ h.1
-  issues_none old new s t (AddRemoteCandidate c) e h _ = silent e _ h.1
-  issues_none old new s t (InvalidateCandidate c) e h _ = silent e _ h.1
+  issues_none old new s t (AddLocalCandidate c) e (r, emitted, is, (path, mid, does, made, emits), drawn) _ = selects emitted path is emits
+  issues_none old new s t (AddRemoteCandidate c) e (r, emitted, is, (path, mid, does, made, emits), drawn) _ = selects emitted path is emits
+  issues_none old new s t (InvalidateCandidate c) e (r, emitted, is, (path, mid, does, made, emits), drawn) _ = selects emitted path is emits
   issues_none old new s t (RestartIce creds keep) e h _ = silent e _ h.1
   issues_none old new s t RecreateCandidatePairs e h _ = silent e _ h.1
   issues_none old new s t (ReceivePacket now path bytes) e did h = cc

@@ -10,7 +10,8 @@ use Rattle.is_rules.specs.Request.{RequestRecord}
 use Rattle.is_rules.specs.RequestView.{waiting_view}
 use Rattle.is_rules.specs.Agent.{AgentRecord}
 use Rattle.is_rules.specs.Queue.{is_outdated, queue_left, next_request, first_taken, request_at}
-use Rattle.is_rules.specs.States.{same_state, evaluated}
+use Rattle.is_rules.specs.States.{same_state}
+use Rattle.is_rules.specs.Settling as settling
 use Rattle.is_rules.specs.declared.event.IceAgentEvent.TheVariants.{IceRestart}
 use Rattle.is_rules.specs.declared.event.IceConnectionState.TheVariants.{New}
 use Rattle.is_rules.specs.TimeoutStart.{with_start, start_event, outdated}
@@ -90,7 +91,7 @@ module _ {H P : Type 0} where
   started a following = rw (following) refl
 
   -- the state after the start of a call
-  pub begun : (now : ℕ) (a mid : AgentRecord H P) (queue : List RequestRecord) (many : ℕ) → mid ≡ evaluated now (start_emitted a) → queue ≡ drop many a.queue
+  pub begun : (now : ℕ) (a mid : AgentRecord H P) (queue : List RequestRecord) (many : ℕ) → mid ≡ settling.started now (start_emitted a) → queue ≡ drop many a.queue
       → many ≡ outdated now a.timing a.remote_creds a → record mid { queue = queue } ≡ timeout_begun now a
   begun now a mid queue many m q is = rw (m, q, is, outdated-left now a.timing a.remote_creds a) refl
 

@@ -19,6 +19,9 @@ const OFF: AgentRules = AgentRules {
     timeout_after_requests: false,
     lite_keeps_role: false,
     numbered_nominations: false,
+    discovered_if_served: false,
+    state_after_nomination: false,
+    invalidates_listed: false,
 };
 
 const ON: AgentRules = AgentRules {
@@ -33,6 +36,9 @@ const ON: AgentRules = AgentRules {
     timeout_after_requests: true,
     lite_keeps_role: true,
     numbered_nominations: true,
+    discovered_if_served: true,
+    state_after_nomination: true,
+    invalidates_listed: true,
 };
 
 fn are_same(one: &AgentRules, other: &AgentRules) -> bool {
@@ -47,6 +53,9 @@ fn are_same(one: &AgentRules, other: &AgentRules) -> bool {
         && one.timeout_after_requests == other.timeout_after_requests
         && one.lite_keeps_role == other.lite_keeps_role
         && one.numbered_nominations == other.numbered_nominations
+        && one.discovered_if_served == other.discovered_if_served
+        && one.state_after_nomination == other.state_after_nomination
+        && one.invalidates_listed == other.invalidates_listed
 }
 
 #[test]

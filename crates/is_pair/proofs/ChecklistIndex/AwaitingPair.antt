@@ -1,24 +1,15 @@
 -- The pair with a pending transaction of a response's id, found through the index.
-use Rattle.std.proofs.Common.{if◌then◌else◌, ◌≡◌, ◌==◌, ℕ, ◌&&◌, ◌||◌, Bool, true, false, List, [], ◌∷◌, filter, find, nat_eq, bytes_eq, Option, Some, None, IfSome, is_some, unwrap_or, inl, inr, refl, sym, ap, ◌∙◌}
+use Rattle.std.proofs.Common.{if◌then◌else◌, ◌≡◌, ◌==◌, ℕ, ◌&&◌, ◌||◌, Bool, true, false, List, [], ◌∷◌, filter, find, bytes_eq, Option, Some, None, IfSome, is_some, inl, inr, refl, sym, ap, ◌∙◌}
 use Rattle.std.proofs.lemmas.Bool.{eq-eqb, eqb-true}
 use Rattle.std.specs.List.{list_any}
-use Rattle.std.specs.Map.{lookup}
 use Rattle.is_proto.specs.Lists.{Has}
 use Rattle.is_pair.specs.declared.checklist.entries.Kept.{Kept}
 use Rattle.is_pair.specs.Checks.{is_kept}
 use Rattle.is_pair.specs.Pairs.{PairRecord}
-use Rattle.is_pair.specs.Multiset.{keeps, passes_at, rises, IsAwaiting}
-use Rattle.is_pair.specs.Entries.{pairs_of, are_keyed, names, names_passing, IsIndex}
+use Rattle.is_pair.specs.Multiset.{keeps, pair_numbered, passes_at, rises, IsAwaiting}
+use Rattle.is_pair.specs.Entries.{names, names_passing, IsIndex}
 use Rattle.is_pair.proofs.PairEntries.ChangedEntry.{both, none-passes, one-passes}
-use Rattle.is_pair.proofs.PriorityOrder.GreatestPair.{any-has, filter-none, found-has, has-any}
-
-find-has : {X : Type 0} (t : X → Bool) (xs : List X) (x : X) → find t xs ≡ Some x → Has xs x × (t x ≡ true)
-find-has t [] x found = absurd (cc)
-find-has t (y ∷ ys) x found =
-    elim (t y) as (λ b. t y ≡ b → (if b then Some y else find t ys) ≡ Some x → Has (y ∷ ys) x × (t x ≡ true)) [
-      | true ↦ λ is h. let same : y ≡ x = ap (λ o. unwrap_or o y) h in (inl same, ap t (sym same) ∙ is)
-      | false ↦ λ is h. let rest = find-has t ys x h in (inr rest.0, rest.1)
-    ] refl found
+use Rattle.is_pair.proofs.PriorityOrder.GreatestPair.{any-has, filter-none, find-has, found-has, has-any}
 
 none-found-has : {X : Type 0} (t : X → Bool) (xs : List X) (x : X) → find t xs ≡ None → Has xs x → t x ≡ true → ⊥
 none-found-has t [] x none has is = elim has [ ]
@@ -29,35 +20,35 @@ none-found-has t (y ∷ ys) x none (inr has) is =
       | false ↦ λ h. none-found-has t ys x h has is
     ] none
 
-module _ (es : List (ℕ × PairRecord)) (index : List Kept) (id : List ℕ) (test : PairRecord → Bool) (keyed : are_keyed es ≡ true) (rising : rises (pairs_of es) ≡ true) (indexed : IsIndex index (pairs_of es)) where
-  awaiting-at : (k : Kept) (p : PairRecord) → Has index k → names_passing id test (pairs_of es) k ≡ true → lookup (nat_eq k.number) es ≡ Some p → IsAwaiting id test (pairs_of es) (Some p)
+module _ (ps : List PairRecord) (index : List Kept) (id : List ℕ) (test : PairRecord → Bool) (rising : rises ps ≡ true) (indexed : IsIndex index ps) where
+  awaiting-at : (k : Kept) (p : PairRecord) → Has index k → names_passing id test ps k ≡ true → pair_numbered k.number ps ≡ Some p → IsAwaiting id test ps (Some p)
   awaiting-at k p has is found =
-      let b = both (bytes_eq k.id.0 id) (list_any (passes_at k.number test) (pairs_of es)) is in
+      let b = both (bytes_eq k.id.0 id) (list_any (passes_at k.number test) ps) is in
       let named = has-any (names id k.number) index k has (rw (eq-eqb k.number k.number refl) b.0) in
-      let kept = sym (one-passes k.number (λ q. is_kept id q.checks) es p keyed rising found) ∙ sym (indexed id k.number) ∙ named in
-      let passes = sym (one-passes k.number test es p keyed rising found) ∙ b.1 in
-      (found-has k.number es p found, rw kept passes)
+      let kept = sym (one-passes k.number (λ q. is_kept id q.checks) ps p rising found) ∙ sym (indexed id k.number) ∙ named in
+      let passes = sym (one-passes k.number test ps p rising found) ∙ b.1 in
+      (found-has k.number ps p found, rw kept passes)
 
-  pub awaiting-found : (k : Kept) → find (names_passing id test (pairs_of es)) index ≡ Some k → IsAwaiting id test (pairs_of es) (lookup (nat_eq k.number) es)
+  pub awaiting-found : (k : Kept) → find (names_passing id test ps) index ≡ Some k → IsAwaiting id test ps (pair_numbered k.number ps)
   awaiting-found k is =
-      let found = find-has (names_passing id test (pairs_of es)) index k is in
-      elim (lookup (nat_eq k.number) es) as (λ o. lookup (nat_eq k.number) es ≡ o → IsAwaiting id test (pairs_of es) o) [
+      let found = find-has (names_passing id test ps) index k is in
+      elim (pair_numbered k.number ps) as (λ o. pair_numbered k.number ps ≡ o → IsAwaiting id test ps o) [
         | Some p ↦ λ at. awaiting-at k p found.0 found.1 at
         | None ↦ λ none.
-            let fails = none-passes k.number test es keyed none in
-            let passes = (both (bytes_eq k.id.0 id) (list_any (passes_at k.number test) (pairs_of es)) found.1).1 in
+            let fails = none-passes k.number test ps none in
+            let passes = (both (bytes_eq k.id.0 id) (list_any (passes_at k.number test) ps) found.1).1 in
             absurd (cc)
       ] refl
 
-  pub none-awaiting : find (names_passing id test (pairs_of es)) index ≡ None → IsAwaiting id test (pairs_of es) None
-  none-awaiting none = filter-none (λ p. is_kept id p.checks && test p) (pairs_of es) (λ p has is.
+  pub none-awaiting : find (names_passing id test ps) index ≡ None → IsAwaiting id test ps None
+  none-awaiting none = filter-none (λ p. is_kept id p.checks && test p) ps (λ p has is.
       let b = both (is_kept id p.checks) (test p) is in
-      let keeps = has-any (passes_at p.number (λ q. is_kept id q.checks)) (pairs_of es) p has (rw (eq-eqb p.number p.number refl) b.0) in
+      let keeps = has-any (passes_at p.number (λ q. is_kept id q.checks)) ps p has (rw (eq-eqb p.number p.number refl) b.0) in
       let k = any-has (names id p.number) index (indexed id p.number ∙ keeps) in
       let n = both (k.0.number == p.number) (bytes_eq k.0.id.0 id) k.2 in
       let number = eqb-true k.0.number p.number n.0 in
-      let passes = has-any (passes_at k.0.number test) (pairs_of es) p has (rw (eq-eqb p.number k.0.number (sym number)) b.1) in
-      none-found-has (names_passing id test (pairs_of es)) index k.0 none k.1 (rw (n.1) passes))
+      let passes = has-any (passes_at k.0.number test) ps p has (rw (eq-eqb p.number k.0.number (sym number)) b.1) in
+      none-found-has (names_passing id test ps) index k.0 none k.1 (rw (n.1) passes))
 
 -- it stores the id under its number
 pub awaiting-keeps : (id : List ℕ) (test : PairRecord → Bool) (ps : List PairRecord) (o : Option PairRecord) → IsAwaiting id test ps o → IfSome o (λ p. keeps id p.number ps ≡ true)

@@ -1,5 +1,5 @@
 -- The index of a checklist after a check.
-use Rattle.std.proofs.Common.{if◌then◌else◌, ◌≡◌, ◌==◌, ℕ, ◌-◌, ◌<◌, ◌≤◌, zero, suc, ◌&&◌, ◌||◌, Bool, true, false, not, List, [], ◌∷◌, ◌++◌, length, drop, filter, nat_eq, nat_le, bytes_eq, Some, inl, inr, refl, sym, ap, ◌∙◌, arith}
+use Rattle.std.proofs.Common.{if◌then◌else◌, ◌≡◌, ◌==◌, ℕ, ◌-◌, ◌<◌, ◌≤◌, zero, suc, ◌&&◌, ◌||◌, Bool, true, false, not, List, [], ◌∷◌, ◌++◌, length, drop, filter, nat_le, bytes_eq, Some, inl, inr, refl, sym, ap, ◌∙◌, arith}
 use Rattle.std.proofs.lemmas.Bool.{eqb-true}
 use Rattle.std.proofs.lemmas.Bool.Decides.{nat_tests}
 use Rattle.std.proofs.lemmas.List.{length-append}
@@ -7,15 +7,14 @@ use Rattle.std.proofs.lemmas.List.Folds.{list_any-append}
 use Rattle.std.proofs.lemmas.Slice.Eq.{bytes_eq-Decides}
 use Rattle.std.proofs.lemmas.Map.Views.{any-filter_same}
 use Rattle.std.specs.List.{list_all, list_any}
-use Rattle.std.specs.Map.{lookup}
 use Rattle.is_proto.specs.Lists.{Has}
 use Rattle.is_stun.specs.declared.trans_id.TransId.{TransId}
 use Rattle.is_pair.specs.declared.checklist.entries.Kept.{Kept}
 use Rattle.is_pair.specs.Checks.{Check, has_id, is_kept, last_checks}
 use Rattle.is_pair.specs.Pairs.{PairRecord}
-use Rattle.is_pair.specs.Multiset.{change_at, change_pair, passes_at, keeps, rises}
-use Rattle.is_pair.specs.Entries.{pairs_of, are_keyed, names, is_named, is_current, named_after, IsIndex}
-use Rattle.is_pair.proofs.PairEntries.ChangedEntry.{both, one-passes, found-number, rises-changed, change-keeps, any-changed}
+use Rattle.is_pair.specs.Multiset.{change_at, change_pair, pair_numbered, passes_at, keeps, rises}
+use Rattle.is_pair.specs.Entries.{names, is_named, is_current, named_after, IsIndex}
+use Rattle.is_pair.proofs.PairEntries.ChangedEntry.{both, changed-found, one-passes, found-number, rises-changed, change-keeps, any-changed}
 use Rattle.is_pair.proofs.PriorityOrder.GreatestPair.{has-any}
 
 reversed_path : (a b : ℕ) → a == b ≡ b == a
@@ -80,9 +79,9 @@ kept-once-sent m checks c i some =
 -- ---- the index after a check
 
 -- the pair with a number is found under it
-module _ (es : List (ℕ × PairRecord)) (keyed : are_keyed es ≡ true) (rising : rises (pairs_of es) ≡ true) (n : ℕ) (p : PairRecord) (found : lookup (nat_eq n) es ≡ Some p) where
-  keeps-one : (i : List ℕ) → keeps i n (pairs_of es) ≡ is_kept i p.checks
-  keeps-one i = one-passes n (λ q. is_kept i q.checks) es p keyed rising found
+module _ (ps : List PairRecord) (rising : rises ps ≡ true) (n : ℕ) (p : PairRecord) (found : pair_numbered n ps ≡ Some p) where
+  keeps-one : (i : List ℕ) → keeps i n ps ≡ is_kept i p.checks
+  keeps-one i = one-passes n (λ q. is_kept i q.checks) ps p rising found
 
 others-changed : (n m : ℕ) (f : PairRecord → PairRecord) (test : PairRecord → Bool) → ((p : PairRecord) → (f p).number ≡ p.number) → n == m ≡ false
     → (p : PairRecord) → passes_at m test (change_at n f p) ≡ passes_at m test p
@@ -94,23 +93,30 @@ others-changed n m f test same other p =
       | false ↦ λ is. refl
     ] refl
 
-pub issued : (m : ℕ) (es fs : List (ℕ × PairRecord)) (index after : List Kept) (n : ℕ) (f : PairRecord → PairRecord) (p : PairRecord) (id : List ℕ) (c : Check)
-    → 0 < m → are_keyed es ≡ true → rises (pairs_of es) ≡ true → are_keyed fs ≡ true → IsIndex index (pairs_of es)
-    → lookup (nat_eq n) es ≡ Some p → lookup (nat_eq n) fs ≡ Some (f p)
+pub issued : (m : ℕ) (ps qs : List PairRecord) (index after : List Kept) (n : ℕ) (f : PairRecord → PairRecord) (p : PairRecord) (id : List ℕ) (c : Check)
+    → 0 < m → rises ps ≡ true → IsIndex index ps → pair_numbered n ps ≡ Some p
     → ((q : PairRecord) → (f q).number ≡ q.number) → (f p).checks ≡ last_checks m (p.checks ++ c ∷ []) → c.id ≡ id
-    → pairs_of fs ≡ change_pair n f (pairs_of es)
+    → qs ≡ change_pair n f ps
     → ((i : List ℕ) (k : ℕ) → is_named i k after ≡ named_after (f p) id i k index)
-    → IsIndex after (pairs_of fs)
-issued m es fs index after n f p id c some keyed rising keyed2 indexed found found2 same kept its changed named i k =
-    named i k ∙ elim ((f p).number == k) as (λ b. (f p).number == k ≡ b → (if b then bytes_eq id i || (is_named i k index && is_kept i (f p).checks) else is_named i k index) ≡ keeps i k (pairs_of fs)) [
+    → IsIndex after qs
+issued m ps qs index after n f p id c some rising indexed found same kept its changed named i k =
+    named i k ∙ elim ((f p).number == k) as (λ b. (f p).number == k ≡ b → (if b then bytes_eq id i || (is_named i k index && is_kept i (f p).checks) else is_named i k index) ≡ keeps i k qs) [
       | true ↦ λ is.
-          let here : n ≡ k = sym (found-number n fs (f p) keyed2 found2) ∙ eqb-true (f p).number k is in
-          let rising2 : rises (pairs_of fs) ≡ true = ap rises changed ∙ rises-changed (change_at n f) (change-keeps (λ q. q.number) n f same) (pairs_of es) ∙ rising in
-          rw (indexed i k, ← here, keeps-one es keyed rising n p found i, keeps-one fs keyed2 rising2 n (f p) found2 i, kept, ← its) (kept-once-sent m p.checks c i some)
+          let here : n ≡ k = sym numbered ∙ eqb-true (f p).number k is in
+          rw (indexed i k, ← here, keeps-one ps rising n p found i, keeps-one qs rising2 n (f p) found2 i, kept, ← its) (kept-once-sent m p.checks c i some)
       | false ↦ λ is.
-          let other : n == k ≡ false = rw (← found-number n fs (f p) keyed2 found2) is in
-          indexed i k ∙ sym (ap (keeps i k) changed ∙ any-changed (passes_at k (λ q. is_kept i q.checks)) (change_at n f) (others-changed n k f (λ q. is_kept i q.checks) same other) (pairs_of es))
+          let other : n == k ≡ false = rw (← numbered) is in
+          indexed i k ∙ sym (ap (keeps i k) changed ∙ any-changed (passes_at k (λ q. is_kept i q.checks)) (change_at n f) (others-changed n k f (λ q. is_kept i q.checks) same other) ps)
     ] refl
+  where
+    numbered : (f p).number ≡ n
+    numbered = same p ∙ found-number n ps p found
+
+    rising2 : rises qs ≡ true
+    rising2 = ap rises changed ∙ rises-changed (change_at n f) (change-keeps (λ q. q.number) n f same) ps ∙ rising
+
+    found2 : pair_numbered n qs ≡ Some (f p)
+    found2 = ap (pair_numbered n) changed ∙ changed-found n f ps p same found
 
 -- ---- if no check is cut
 
@@ -125,22 +131,22 @@ all-of t [] h = refl
 all-of t (x ∷ xs) h = rw (h x (inl refl)) (all-of t xs (λ y has. h y (inr has)))
 
 -- each entry is spared, or current if the pair stores what it stored
-pub all-spared : (spared : List ℕ → Bool) (index : List Kept) (es : List (ℕ × PairRecord)) (n : ℕ) (p after : PairRecord) → are_keyed es ≡ true → rises (pairs_of es) ≡ true → lookup (nat_eq n) es ≡ Some p
-    → IsIndex index (pairs_of es) → after.number ≡ n → ((i : List ℕ) → is_kept i p.checks ≡ true → (spared i || is_kept i after.checks) ≡ true)
+pub all-spared : (spared : List ℕ → Bool) (index : List Kept) (ps : List PairRecord) (n : ℕ) (p after : PairRecord) → rises ps ≡ true → pair_numbered n ps ≡ Some p
+    → IsIndex index ps → after.number ≡ n → ((i : List ℕ) → is_kept i p.checks ≡ true → (spared i || is_kept i after.checks) ≡ true)
     → list_all (λ (k : Kept). spared k.id.0 || is_current after k) index ≡ true
-all-spared spared index es n p after keyed rising found indexed number more =
+all-spared spared index ps n p after rising found indexed number more =
     all-of (λ (k : Kept). spared k.id.0 || is_current after k) index (λ k has.
     elim (k.number == after.number) as (λ b. k.number == after.number ≡ b → (spared k.id.0 || (not b || is_kept k.id.0 after.checks)) ≡ true) [
       | true ↦ λ here.
           let at : k.number == n ≡ true = rw (← number) here in
           let named = has-any (names k.id.0 n) index k has (rw at ((bytes_eq-Decides k.id.0 k.id.0).1 refl)) in
-          more k.id.0 (sym (keeps-one es keyed rising n p found k.id.0) ∙ sym (indexed k.id.0 n) ∙ named)
+          more k.id.0 (sym (keeps-one ps rising n p found k.id.0) ∙ sym (indexed k.id.0 n) ∙ named)
       | false ↦ λ _. or-true (spared k.id.0)
     ] refl) where
       or-true : (a : Bool) → a || true ≡ true
       or-true true = refl
       or-true false = refl
 
-pub all-current : (index : List Kept) (es : List (ℕ × PairRecord)) (n : ℕ) (p after : PairRecord) → are_keyed es ≡ true → rises (pairs_of es) ≡ true → lookup (nat_eq n) es ≡ Some p
-    → IsIndex index (pairs_of es) → after.number ≡ n → ((i : List ℕ) → is_kept i p.checks ≡ true → is_kept i after.checks ≡ true) → list_all (is_current after) index ≡ true
-all-current index es n p after keyed rising found indexed number more = all-spared (λ _. false) index es n p after keyed rising found indexed number more
+pub all-current : (index : List Kept) (ps : List PairRecord) (n : ℕ) (p after : PairRecord) → rises ps ≡ true → pair_numbered n ps ≡ Some p
+    → IsIndex index ps → after.number ≡ n → ((i : List ℕ) → is_kept i p.checks ≡ true → is_kept i after.checks ≡ true) → list_all (is_current after) index ≡ true
+all-current index ps n p after rising found indexed number more = all-spared (λ _. false) index ps n p after rising found indexed number more

@@ -1,18 +1,17 @@
 -- The index of a checklist after one check was cut.
-use Rattle.std.proofs.Common.{if◌then◌else◌, ◌≡◌, ℕ, ◌<◌, ◌-◌, zero, suc, ◌||◌, Bool, true, false, not, List, [], ◌∷◌, ◌++◌, length, drop, filter, get_or, remove, nat_eq, bytes_eq, slice_get, Some, refl, sym, ap, ◌∙◌, arith}
+use Rattle.std.proofs.Common.{if◌then◌else◌, ◌≡◌, ℕ, ◌<◌, ◌-◌, zero, suc, ◌||◌, Bool, true, false, not, List, [], ◌∷◌, ◌++◌, length, drop, filter, get_or, remove, bytes_eq, slice_get, Some, refl, sym, ap, ◌∙◌, arith}
 use Rattle.std.proofs.lemmas.List.{length-append}
 use Rattle.std.proofs.lemmas.List.Folds.{list_any-append}
 use Rattle.std.proofs.lemmas.Slice.Eq.{bytes_eq-Decides}
 use Rattle.std.specs.List.{list_all}
-use Rattle.std.specs.Map.{lookup}
 use Rattle.is_pair.specs.declared.pair.cut.Cut.{Cut}
 use Rattle.is_pair.specs.declared.pair.cut.Cut.TheVariants.{Nothing, Oldest, Several}
 use Rattle.is_pair.specs.declared.checklist.entries.Kept.{Kept}
 use Rattle.is_pair.specs.Checks.{Check, has_id, is_kept, last_checks}
 use Rattle.is_pair.specs.Pairs.{PairRecord}
-use Rattle.is_pair.specs.Multiset.{rises}
+use Rattle.is_pair.specs.Multiset.{pair_numbered, rises}
 use Rattle.is_pair.specs.Cutting.{CutsByNext, LeavesCurrent}
-use Rattle.is_pair.specs.Entries.{pairs_of, are_keyed, is_before, is_current, IsIndex}
+use Rattle.is_pair.specs.Entries.{is_before, is_current, IsIndex}
 use Rattle.is_pair.proofs.PairEntries.ChangedEntry.{both, filter-whole}
 use Rattle.is_pair.proofs.ChecklistIndex.SortedById.{IsEnd, IsPoint, is-following, not-before, other-id}
 use Rattle.is_pair.proofs.ChecklistIndex.IndexAfterCheck.{all-current, all-spared, kept-uncut}
@@ -78,10 +77,10 @@ kept-but-oldest m (d ∷ ds) oldest c id i full first its kept =
       or-true false = refl
 
 -- what a check leaves of the entries
-pub leaves : (m : ℕ) (index : List Kept) (es : List (ℕ × PairRecord)) (n : ℕ) (p after : PairRecord) (c : Check) (cut : Cut) → are_keyed es ≡ true → rises (pairs_of es) ≡ true → lookup (nat_eq n) es ≡ Some p
-    → IsIndex index (pairs_of es) → after.number ≡ n → after.checks ≡ last_checks m (p.checks ++ c ∷ []) → CutsByNext m p.checks cut → LeavesCurrent after index cut
-leaves m index es n p after c Nothing keyed rising found indexed number kept few =
-    all-current index es n p after keyed rising found indexed number (λ i was. rw kept (kept-uncut m p.checks c i few was))
-leaves m index es n p after c (Oldest id) keyed rising found indexed number kept (full, oldest, first, its) =
-    all-spared (λ i. bytes_eq i id.0) index es n p after keyed rising found indexed number (λ i was. rw kept (kept-but-oldest m p.checks oldest c id.0 i full first its was))
-leaves m index es n p after c Several keyed rising found indexed number kept cut = tt
+pub leaves : (m : ℕ) (index : List Kept) (ps : List PairRecord) (n : ℕ) (p after : PairRecord) (c : Check) (cut : Cut) → rises ps ≡ true → pair_numbered n ps ≡ Some p
+    → IsIndex index ps → after.number ≡ n → after.checks ≡ last_checks m (p.checks ++ c ∷ []) → CutsByNext m p.checks cut → LeavesCurrent after index cut
+leaves m index ps n p after c Nothing rising found indexed number kept few =
+    all-current index ps n p after rising found indexed number (λ i was. rw kept (kept-uncut m p.checks c i few was))
+leaves m index ps n p after c (Oldest id) rising found indexed number kept (full, oldest, first, its) =
+    all-spared (λ i. bytes_eq i id.0) index ps n p after rising found indexed number (λ i was. rw kept (kept-but-oldest m p.checks oldest c id.0 i full first its was))
+leaves m index ps n p after c Several rising found indexed number kept cut = tt

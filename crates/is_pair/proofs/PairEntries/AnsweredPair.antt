@@ -5,7 +5,7 @@ use Rattle.std.specs.List.{list_any}
 use Rattle.is_pair.specs.Checks.{has_id, is_kept, answered_at}
 use Rattle.is_pair.specs.Pairs.{PairRecord, TakesAnswer}
 
-any-set : {X : Type 0} (t : X → Bool) (xs : List X) (k : ℕ) (x y : X) → slice_get xs k ≡ Some x → t y ≡ t x → list_any t (slice_set xs k y) ≡ list_any t xs
+pub any-set : {X : Type 0} (t : X → Bool) (xs : List X) (k : ℕ) (x y : X) → slice_get xs k ≡ Some x → t y ≡ t x → list_any t (slice_set xs k y) ≡ list_any t xs
 any-set t [] k x y at same = absurd (cc)
 any-set t (z ∷ zs) zero x y at same = let is : z ≡ x = cc in ap (λ b. b || list_any t zs) (same ∙ ap t (sym is))
 any-set t (z ∷ zs) (suc k) x y at same = ap (λ b. t z || b) (any-set t zs k x y at same)

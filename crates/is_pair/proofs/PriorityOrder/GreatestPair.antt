@@ -1,16 +1,15 @@
 -- The pair of greatest priority, found from the end of the order.
-use Rattle.std.proofs.Common.{if◌then◌else◌, ◌≡◌, ◌==◌, ℕ, ◌≤◌, ◌||◌, Bool, true, false, cond, List, [], ◌∷◌, filter, find, reverse, nat_eq, nat_le, Some, None, unwrap_or, inl, inr, refl, sym, ap, subst, ◌∙◌, arith}
+use Rattle.std.proofs.Common.{if◌then◌else◌, ◌≡◌, ◌==◌, ℕ, ◌≤◌, ◌||◌, Bool, true, false, List, [], ◌∷◌, filter, find, reverse, nat_le, Some, None, unwrap_or, inl, inr, refl, sym, ap, subst, ◌∙◌, arith}
 use Rattle.std.proofs.lemmas.Bool.{eq-eqb, eqb-true}
 use Rattle.std.proofs.lemmas.List.{reverse-append}
 use Rattle.std.proofs.lemmas.List.Folds.{find-append}
 use Rattle.std.specs.List.{list_any, list_all}
-use Rattle.std.specs.Map.{lookup}
 use Rattle.std.specs.Option.{option_or}
 use Rattle.is_proto.specs.Lists.{Has}
 use Rattle.is_pair.specs.declared.checklist.entries.Rank.{Rank}
 use Rattle.is_pair.specs.Pairs.{PairRecord}
-use Rattle.is_pair.specs.Multiset.{passes_at, rises, IsGreatest}
-use Rattle.is_pair.specs.Entries.{pairs_of, are_keyed, are_ordered, is_rank, has_passing, IsRanking}
+use Rattle.is_pair.specs.Multiset.{is_numbered, pair_numbered, passes_at, rises, IsGreatest}
+use Rattle.is_pair.specs.Entries.{are_ordered, is_rank, has_passing, IsRanking}
 use Rattle.is_pair.proofs.PairEntries.ChangedEntry.{both, none-passes, one-passes}
 use Rattle.is_pair.proofs.PriorityOrder.OrderedPairs.{le-from}
 
@@ -54,13 +53,17 @@ filter-none t (x ∷ xs) none =
       | false ↦ λ is. filter-none t xs (λ y h. none y (inr h))
     ] refl
 
-pub found-has : (n : ℕ) (es : List (ℕ × PairRecord)) (v : PairRecord) → lookup (nat_eq n) es ≡ Some v → Has (pairs_of es) v
-found-has n [] v found = absurd (cc)
-found-has n (e ∷ es) v found =
-    elim (nat_eq n e.0) as (λ b. cond b (Some e.1) (lookup (nat_eq n) es) ≡ Some v → Has (e.1 ∷ pairs_of es) v) [
-      | true ↦ λ h. inl (ap (λ o. unwrap_or o e.1) h)
-      | false ↦ λ h. inr (found-has n es v h)
-    ] found
+-- what is found is there, and passes
+pub find-has : {X : Type 0} (t : X → Bool) (xs : List X) (x : X) → find t xs ≡ Some x → Has xs x × (t x ≡ true)
+find-has t [] x found = absurd (cc)
+find-has t (y ∷ ys) x found =
+    elim (t y) as (λ b. t y ≡ b → (if b then Some y else find t ys) ≡ Some x → Has (y ∷ ys) x × (t x ≡ true)) [
+      | true ↦ λ is h. let same : y ≡ x = ap (λ o. unwrap_or o y) h in (inl same, ap t (sym same) ∙ is)
+      | false ↦ λ is h. let rest = find-has t ys x h in (inr rest.0, rest.1)
+    ] refl found
+
+pub found-has : (n : ℕ) (ps : List PairRecord) (v : PairRecord) → pair_numbered n ps ≡ Some v → Has ps v
+found-has n ps v found = (find-has (is_numbered n) ps v found).0
 
 -- ---- the last that passes
 
@@ -110,44 +113,44 @@ last-found t (x ∷ rs) r ordered found =
 
 -- ---- its pair
 
-module _ (es : List (ℕ × PairRecord)) (rs : List Rank) (test : PairRecord → Bool) (keyed : are_keyed es ≡ true) (rising : rises (pairs_of es) ≡ true) (ranked : IsRanking rs (pairs_of es)) where
+module _ (ps : List PairRecord) (rs : List Rank) (test : PairRecord → Bool) (rising : rises ps ≡ true) (ranked : IsRanking rs ps) where
   -- each pair that passes has its rank
-  pub has-rank : (q : PairRecord) → Has (pairs_of es) q → test q ≡ true → (s : Rank) × Has rs s × (has_passing test (pairs_of es) s ≡ true) × (s.priority ≡ q.priority)
+  pub has-rank : (q : PairRecord) → Has ps q → test q ≡ true → (s : Rank) × Has rs s × (has_passing test ps s ≡ true) × (s.priority ≡ q.priority)
   has-rank q has is =
-      let own = has-any (passes_at q.number (λ p. p.priority == q.priority)) (pairs_of es) q has (rw (eq-eqb q.number q.number refl) (eq-eqb q.priority q.priority refl)) in
+      let own = has-any (passes_at q.number (λ p. p.priority == q.priority)) ps q has (rw (eq-eqb q.number q.number refl) (eq-eqb q.priority q.priority refl)) in
       let found = any-has (is_rank q.priority q.number) rs (ranked q.priority q.number ∙ own) in
       let b = both (found.0.number == q.number) (found.0.priority == q.priority) found.2 in
       let number = eqb-true found.0.number q.number b.0 in (
         found.0,
         found.1,
-        has-any (passes_at found.0.number test) (pairs_of es) q has (rw (eq-eqb q.number found.0.number (sym number)) is),
+        has-any (passes_at found.0.number test) ps q has (rw (eq-eqb q.number found.0.number (sym number)) is),
         eqb-true found.0.priority q.priority b.1,
       )
 
   -- the pair has the priority of its rank
-  pub rank-priority : (r : Rank) (p : PairRecord) → Has rs r → lookup (nat_eq r.number) es ≡ Some p → p.priority ≡ r.priority
+  pub rank-priority : (r : Rank) (p : PairRecord) → Has rs r → pair_numbered r.number ps ≡ Some p → p.priority ≡ r.priority
   rank-priority r p has found =
       let own = has-any (is_rank r.priority r.number) rs r has (rw (eq-eqb r.number r.number refl) (eq-eqb r.priority r.priority refl)) in
-      eqb-true p.priority r.priority (sym (one-passes r.number (λ q. q.priority == r.priority) es p keyed rising found) ∙ sym (ranked r.priority r.number) ∙ own)
+      eqb-true p.priority r.priority (sym (one-passes r.number (λ q. q.priority == r.priority) ps p rising found) ∙ sym (ranked r.priority r.number) ∙ own)
 
-  greatest-at : (r : Rank) (p : PairRecord) → IsLast (has_passing test (pairs_of es)) rs r → lookup (nat_eq r.number) es ≡ Some p → IsGreatest test (pairs_of es) (Some p)
+  greatest-at : (r : Rank) (p : PairRecord) → IsLast (has_passing test ps) rs r → pair_numbered r.number ps ≡ Some p → IsGreatest test ps (Some p)
   greatest-at r p last found =
       let priority = rank-priority r p last.0 found in (
-        found-has r.number es p found,
-        sym (one-passes r.number test es p keyed rising found) ∙ last.1,
+        found-has r.number ps p found,
+        sym (one-passes r.number test ps p rising found) ∙ last.1,
         λ q has is.
             let s = has-rank q has is in
             let below = last.2 s.0 s.1 s.2 in
             omega (arith, below, s.3, priority),
       )
 
-  pub greatest-found : (r : Rank) → are_ordered rs ≡ true → find (has_passing test (pairs_of es)) (reverse rs) ≡ Some r → IsGreatest test (pairs_of es) (lookup (nat_eq r.number) es)
+  pub greatest-found : (r : Rank) → are_ordered rs ≡ true → find (has_passing test ps) (reverse rs) ≡ Some r → IsGreatest test ps (pair_numbered r.number ps)
   greatest-found r ordered is =
-      let last = last-found (has_passing test (pairs_of es)) rs r ordered is in
-      elim (lookup (nat_eq r.number) es) as (λ o. lookup (nat_eq r.number) es ≡ o → IsGreatest test (pairs_of es) o) [
+      let last = last-found (has_passing test ps) rs r ordered is in
+      elim (pair_numbered r.number ps) as (λ o. pair_numbered r.number ps ≡ o → IsGreatest test ps o) [
         | Some p ↦ λ found. greatest-at r p last found
-        | None ↦ λ none. let fails = none-passes r.number test es keyed none in absurd (cc)
+        | None ↦ λ none. let fails = none-passes r.number test ps none in absurd (cc)
       ] refl
 
-  pub none-greatest : find (has_passing test (pairs_of es)) (reverse rs) ≡ None → IsGreatest test (pairs_of es) None
-  none-greatest none = filter-none test (pairs_of es) (λ q has is. let s = has-rank q has is in none-last (has_passing test (pairs_of es)) rs s.0 none s.1 s.2)
+  pub none-greatest : find (has_passing test ps) (reverse rs) ≡ None → IsGreatest test ps None
+  none-greatest none = filter-none test ps (λ q has is. let s = has-rank q has is in none-last (has_passing test ps) rs s.0 none s.1 s.2)

@@ -1,14 +1,13 @@
 -- The pair of least priority, found at the front of the order.
-use Rattle.std.proofs.Common.{if◌then◌else◌, ◌≡◌, ◌==◌, ℕ, suc, ◌<◌, ◌≤◌, true, false, not, length, List, [], ◌∷◌, nat_eq, nat_le, slice_get, Some, None, inl, inr, refl, sym, ap, subst, ◌∙◌, arith}
+use Rattle.std.proofs.Common.{if◌then◌else◌, ◌≡◌, ◌==◌, ℕ, suc, ◌<◌, ◌≤◌, true, false, not, length, List, [], ◌∷◌, nat_le, slice_get, Some, None, inl, inr, refl, sym, ap, subst, ◌∙◌, arith}
 use Rattle.std.proofs.lemmas.Bool.{eq-eqb}
 use Rattle.std.proofs.lemmas.List.Sums.{length-filter, count_by-le-length}
 use Rattle.std.specs.List.{list_all}
-use Rattle.std.specs.Map.{lookup}
 use Rattle.is_proto.specs.Lists.{Has}
 use Rattle.is_pair.specs.declared.checklist.entries.Rank.{Rank}
 use Rattle.is_pair.specs.Pairs.{PairRecord}
-use Rattle.is_pair.specs.Multiset.{is_numbered, rises, without, IsLeast, IsLowest}
-use Rattle.is_pair.specs.Entries.{pairs_of, are_keyed, are_ordered, is_rank, IsRanking}
+use Rattle.is_pair.specs.Multiset.{is_numbered, pair_numbered, rises, without, IsLeast, IsLowest}
+use Rattle.is_pair.specs.Entries.{are_ordered, is_rank, IsRanking}
 use Rattle.is_pair.proofs.PairEntries.ChangedEntry.{both, none-passes}
 use Rattle.is_pair.proofs.PriorityOrder.GreatestPair.{all-has, found-has, has-any, has-rank, rank-priority}
 use Rattle.is_pair.proofs.PriorityOrder.OrderedPairs.{le-from}
@@ -38,32 +37,32 @@ no-first (r ∷ rs) none = absurd (cc)
 none-in : (rs : List Rank) → rs ≡ [] → (s : Rank) → Has rs s → ⊥
 none-in rs none s has = elim (subst (λ (xs : List Rank). Has xs s) none has) [ ]
 
-module _ (es : List (ℕ × PairRecord)) (rs : List Rank) (keyed : are_keyed es ≡ true) (rising : rises (pairs_of es) ≡ true) (ranked : IsRanking rs (pairs_of es)) where
-  least-at : (r : Rank) (p : PairRecord) → IsFirst rs r → lookup (nat_eq r.number) es ≡ Some p → IsLeast (pairs_of es) p
+module _ (ps : List PairRecord) (rs : List Rank) (rising : rises ps ≡ true) (ranked : IsRanking rs ps) where
+  least-at : (r : Rank) (p : PairRecord) → IsFirst rs r → pair_numbered r.number ps ≡ Some p → IsLeast ps p
   least-at r p first found =
-      let priority = rank-priority es rs (λ _. true) keyed rising ranked r p first.0 found in (
-        found-has r.number es p found,
+      let priority = rank-priority ps rs (λ _. true) rising ranked r p first.0 found in (
+        found-has r.number ps p found,
         λ q has.
-            let s = has-rank es rs (λ _. true) keyed rising ranked q has refl in
+            let s = has-rank ps rs (λ _. true) rising ranked q has refl in
             let low = first.1 s.0 s.1 in
             omega (arith, low, s.3, priority),
       )
 
-  pub least-found : (r : Rank) → are_ordered rs ≡ true → slice_get rs 0 ≡ Some r → IsLowest (pairs_of es) (lookup (nat_eq r.number) es)
+  pub least-found : (r : Rank) → are_ordered rs ≡ true → slice_get rs 0 ≡ Some r → IsLowest ps (pair_numbered r.number ps)
   least-found r ordered at =
       let first = first-least rs r ordered at in
-      elim (lookup (nat_eq r.number) es) as (λ o. lookup (nat_eq r.number) es ≡ o → IsLowest (pairs_of es) o) [
+      elim (pair_numbered r.number ps) as (λ o. pair_numbered r.number ps ≡ o → IsLowest ps o) [
         | Some p ↦ λ found. least-at r p first found
         | None ↦ λ none.
             let own = has-any (is_rank r.priority r.number) rs r first.0 (rw (eq-eqb r.number r.number refl) (eq-eqb r.priority r.priority refl)) in
             let stored = ranked r.priority r.number in
-            let fails = none-passes r.number (λ q. q.priority == r.priority) es keyed none in
+            let fails = none-passes r.number (λ q. q.priority == r.priority) ps none in
             absurd (cc)
       ] refl
 
-  pub none-least : slice_get rs 0 ≡ None → pairs_of es ≡ []
-  none-least none = empty-of (pairs_of es) (λ q has.
-      let s = has-rank es rs (λ _. true) keyed rising ranked q has refl in
+  pub none-least : slice_get rs 0 ≡ None → ps ≡ []
+  none-least none = empty-of ps (λ q has.
+      let s = has-rank ps rs (λ _. true) rising ranked q has refl in
       none-in rs (no-first rs none) s.0 s.1)
 
 -- a multiset gets shorter if one of its pairs is removed

@@ -5,8 +5,9 @@ ghost use Rattle.is_pair.specs.Multiset.{are_below, change_pair, with_priority, 
 ghost use Rattle.is_pair.specs.Pairs.{heard, undue};
 ghost use Rattle.is_pair.specs.Due.{asked};
 ghost use Rattle.is_pair.specs.Checklists.{multiset_of, HasRoom, HasCheckRoom};
+ghost use Rattle.is_pair.specs.Removed.{removed_of};
 
-use super::{Checklist, PairChange, PairPriority, mapped, ranks};
+use super::{Checklist, PairChange, PairPriority, listed, ranks};
 use crate::pair::CandidatePair;
 use crate::reset_next_binding_attempt;
 use is_proto::Instant;
@@ -69,8 +70,9 @@ impl Checklist {
         ensures room { (n : ℕ) → HasRoom n self.old → HasRoom n self.new }
         ensures check_room { HasCheckRoom self.old → HasCheckRoom self.new }
         ensures below { (n : ℕ) → are_below n (multiset_of self.old) ≡ true → are_below n (multiset_of self.new) ≡ true }
+        ensures removed { removed_of self.new ≡ removed_of self.old }
     {
-        mapped::change(&mut self.pairs, number, change);
+        listed::change(&mut self.pairs, number, change);
     }
 
     /// Changes all pairs.
@@ -80,8 +82,9 @@ impl Checklist {
         ensures room { (n : ℕ) → HasRoom n self.old → HasRoom n self.new }
         ensures check_room { HasCheckRoom self.old → HasCheckRoom self.new }
         ensures below { (n : ℕ) → are_below n (multiset_of self.old) ≡ true → are_below n (multiset_of self.new) ≡ true }
+        ensures removed { removed_of self.new ≡ removed_of self.old }
     {
-        mapped::change_all(&mut self.pairs, change);
+        listed::change_all(&mut self.pairs, change);
     }
 
     /// Computes the due times of the next checks of all pairs, and fixes them.
@@ -90,6 +93,7 @@ impl Checklist {
         ensures room { (n : ℕ) → HasRoom n self.old → HasRoom n self.new }
         ensures check_room { HasCheckRoom self.old → HasCheckRoom self.new }
         ensures below { (n : ℕ) → are_below n (multiset_of self.old) ≡ true → are_below n (multiset_of self.new) ≡ true }
+        ensures removed { removed_of self.new ≡ removed_of self.old }
     {
         self.change_all(&Asked { now, timing });
     }
@@ -100,6 +104,7 @@ impl Checklist {
         ensures room { (n : ℕ) → HasRoom n self.old → HasRoom n self.new }
         ensures check_room { HasCheckRoom self.old → HasCheckRoom self.new }
         ensures below { (n : ℕ) → are_below n (multiset_of self.old) ≡ true → are_below n (multiset_of self.new) ≡ true }
+        ensures removed { removed_of self.new ≡ removed_of self.old }
     {
         self.change_all(&Undue);
     }
@@ -111,6 +116,7 @@ impl Checklist {
         ensures room { (n : ℕ) → HasRoom n self.old → HasRoom n self.new }
         ensures check_room { HasCheckRoom self.old → HasCheckRoom self.new }
         ensures below { (n : ℕ) → are_below n (multiset_of self.old) ≡ true → are_below n (multiset_of self.new) ≡ true }
+        ensures removed { removed_of self.new ≡ removed_of self.old }
     {
         self.change_all(&Heard { now });
     }
@@ -121,8 +127,9 @@ impl Checklist {
         ensures room { (n : ℕ) → HasRoom n self.old → HasRoom n self.new }
         ensures check_room { HasCheckRoom self.old → HasCheckRoom self.new }
         ensures below { (n : ℕ) → are_below n (multiset_of self.old) ≡ true → are_below n (multiset_of self.new) ≡ true }
+        ensures removed { removed_of self.new ≡ removed_of self.old }
     {
-        mapped::set_priorities(&mut self.pairs, rule);
+        listed::set_priorities(&mut self.pairs, rule);
         ranks::rebuild_order(&mut self.ranks, &self.pairs);
     }
 }

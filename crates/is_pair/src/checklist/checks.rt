@@ -7,8 +7,9 @@ ghost use Rattle.rand_core.specs.Stream.{fill_bytes};
 ghost use Rattle.is_pair.specs.Multiset.{are_below, change_pair, has_number, is_awaiting, keeps, IsAwaiting, RecordsAnswer};
 ghost use Rattle.is_pair.specs.Pairs.{checked};
 ghost use Rattle.is_pair.specs.Checklists.{multiset_of, HasRoom, HasCheckRoom};
+ghost use Rattle.is_pair.specs.Removed.{removed_of};
 
-use super::{Checklist, PairTest, index, mapped};
+use super::{Checklist, PairTest, index, listed};
 use crate::pair::CandidatePair;
 use is_proto::Instant;
 use is_stun::stun::{StunTiming, TransId};
@@ -23,9 +24,10 @@ impl Checklist {
         ensures multiset { multiset_of self.new ≡ multiset_of self.old }
         ensures reserved { OnOk result (HasCheckRoom self.new) }
         ensures room { (n : ℕ) → HasRoom n self.old → HasRoom n self.new }
+        ensures removed { removed_of self.new ≡ removed_of self.old }
     {
         self.index.reserve(1)?;
-        mapped::reserve_beyond_all(&mut self.spare, &self.pairs)
+        listed::reserve_beyond_all(&mut self.spare, &self.pairs)
     }
 
     /// Sends a check on the pair with the number, which must be in the checklist: stores the check, and returns its
@@ -45,9 +47,11 @@ impl Checklist {
         ensures drawn { (result.0, R.stream rng.new) ≡ fill_bytes 12 (R.stream rng.old) }
         ensures room { (n : ℕ) → HasRoom n self.old → HasRoom n self.new }
         ensures below { (n : ℕ) → are_below n (multiset_of self.old) ≡ true → are_below n (multiset_of self.new) ≡ true }
+        ensures removed { removed_of self.new ≡ removed_of self.old }
     {
-        match self.pairs.get_mut(&number) {
-            Some(pair) => {
+        match listed::place_of(&self.pairs, number) {
+            Some(place) => {
+                let pair = &mut self.pairs[place];
                 let cut = pair.cut_by_next(timing_config);
                 let id = pair.new_attempt_reserved(
                     now,
@@ -69,7 +73,7 @@ impl Checklist {
         ensures kept { IfSome (option_copied result) (λ p. keeps trans_id.0 p.number (multiset_of self.now) ≡ true) }
     {
         match index::awaiting(&self.index, &self.pairs, trans_id, test) {
-            Some(kept) => self.pairs.get(&kept.number),
+            Some(kept) => listed::get(&self.pairs, kept.number),
             None => None,
         }
     }
@@ -88,9 +92,10 @@ impl Checklist {
         ensures room { (n : ℕ) → HasRoom n self.old → HasRoom n self.new }
         ensures check_room { HasCheckRoom self.old → HasCheckRoom self.new }
         ensures below { (n : ℕ) → are_below n (multiset_of self.old) ≡ true → are_below n (multiset_of self.new) ≡ true }
+        ensures removed { removed_of self.new ≡ removed_of self.old }
     {
-        match self.pairs.get_mut(&number) {
-            Some(pair) => pair.record_binding_response(now, trans_id, 0),
+        match listed::place_of(&self.pairs, number) {
+            Some(place) => self.pairs[place].record_binding_response(now, trans_id, 0),
             None => unreachable!(),
         }
     }

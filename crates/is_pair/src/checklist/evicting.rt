@@ -4,8 +4,10 @@ ghost use Rattle.std.specs.Prelude.{◌≡◌, ℕ, true};
 ghost use Rattle.std.specs.Option.{option_copied};
 ghost use Rattle.is_pair.specs.Multiset.{are_below, Evicts, IsLowest};
 ghost use Rattle.is_pair.specs.Checklists.{multiset_of, HasRoom, HasCheckRoom};
+ghost use Rattle.is_pair.specs.Removed.{removed_of, AreRemoved};
+ghost use Rattle.is_pair.specs.declared.checklist.removed.Removal.TheVariants.{Evicted};
 
-use super::Checklist;
+use super::{Checklist, Removal, listed};
 use crate::pair::CandidatePair;
 
 impl Checklist {
@@ -14,7 +16,7 @@ impl Checklist {
         ensures { IsLowest (multiset_of self.now) (option_copied result) }
     {
         match self.ranks.first() {
-            Some(rank) => self.pairs.get(&rank.number),
+            Some(rank) => listed::get(&self.pairs, rank.number),
             None => None,
         }
     }
@@ -25,13 +27,14 @@ impl Checklist {
         ensures room { (n : ℕ) → HasRoom n self.old → HasRoom n self.new }
         ensures check_room { HasCheckRoom self.old → HasCheckRoom self.new }
         ensures below { (n : ℕ) → are_below n (multiset_of self.old) ≡ true → are_below n (multiset_of self.new) ≡ true }
+        ensures removed { AreRemoved (λ p. true) (λ p. Evicted) (multiset_of self.old) (removed_of self.old) (removed_of self.new) }
     {
         while self.len() > limit {
             match self.least() {
                 None => return,
                 Some(least) => {
                     let number = least.id().0;
-                    self.remove(number);
+                    self.remove(number, Removal::Evicted);
                 }
             }
         }

@@ -2,8 +2,8 @@
 
 ghost use Rattle.std.specs.Prelude.{◌<◌};
 
-use super::PairTest;
-use crate::pair::CandidatePair;
+use super::{PairRemoval, PairTest, Removal};
+use crate::pair::{CandidatePair, CheckState};
 use is_proto::Instant;
 use is_stun::stun::StunTiming;
 
@@ -25,5 +25,21 @@ impl PairTest for Expired<'_> {
 
     fn passes(&self, pair: &CandidatePair) -> bool {
         !pair.stays(self.lite, self.now, self.timing)
+    }
+}
+
+impl PairRemoval for Expired<'_> {
+    ghost use Rattle.is_pair.specs.Removed.{expired_reason};
+
+    ghost reason = { λ t p. expired_reason t.lite p };
+
+    fn removal(&self, pair: &CandidatePair) -> Removal {
+        if self.lite {
+            Removal::PeerSilent
+        } else if pair.state() == CheckState::Succeeded {
+            Removal::ConsentLost
+        } else {
+            Removal::NoResponse
+        }
     }
 }

@@ -5,17 +5,16 @@ ghost use Rattle.std.specs.Prelude.{length, remove, vec_len, vec_capacity};
 ghost use Rattle.std.specs.List.{list_any};
 ghost use Rattle.std.specs.List.Sorted.{IsPartitionPoint};
 ghost use Rattle.is_pair.specs.Multiset.{has_number, rises};
-ghost use Rattle.is_pair.specs.Entries.{is_before, ids_rise, names_passing, pairs_of, are_keyed, is_named, is_current, named_after};
+ghost use Rattle.is_pair.specs.Entries.{is_before, ids_rise, names_passing, is_named, is_current, named_after};
 ghost use Rattle.is_pair.specs.Cutting.{LeavesCurrent};
 ghost use Rattle.is_pair.specs.declared.checklist.entries.Kept.{Kept};
 ghost use Rattle.is_pair.specs.declared.pair.cut.Cut.TheVariants.{Oldest};
 
 use super::entries::Kept;
-use super::mapped::passes;
+use super::listed;
 use super::pair_test::PairTest;
 use crate::pair::CandidatePair;
 use crate::pair::cut::Cut;
-use indexmap::IndexMap;
 use is_stun::stun::TransId;
 
 /// Whether an entry names a pair other than this one, or a transaction ID that this one stores.
@@ -125,42 +124,34 @@ fn put(index: &mut Vec<Kept>, kept: Kept)
 /// Returns the first entry of the ID whose pair passes the test.
 pub(crate) fn awaiting<T: PairTest>(
     index: &[Kept],
-    pairs: &IndexMap<u64, CandidatePair>,
+    pairs: &[CandidatePair],
     id: TransId,
     test: &T,
 ) -> Option<Kept>
     requires rising { ids_rise index.now ≡ true }
-    requires keyed { are_keyed pairs.now.entries ≡ true }
-    requires numbers { rises (pairs_of pairs.now.entries) ≡ true }
-    ensures { result ≡ find (names_passing id.0 (T.passes test.now) (pairs_of pairs.now.entries)) index.now }
+    requires numbers { rises pairs.now ≡ true }
+    ensures { result ≡ find (names_passing id.0 (T.passes test.now) pairs.now) index.now }
 {
     let following = &index[count_before(index, id)..];
     let many = count_through(following, id);
     first_awaiting(&following[..many], pairs, id, test)
 }
 
-fn names_passing<T: PairTest>(
-    kept: Kept,
-    pairs: &IndexMap<u64, CandidatePair>,
-    id: TransId,
-    test: &T,
-) -> bool
-    requires keyed { are_keyed pairs.now.entries ≡ true }
-    requires numbers { rises (pairs_of pairs.now.entries) ≡ true }
-    ensures { result ≡ names_passing id.0 (T.passes test.now) (pairs_of pairs.now.entries) kept }
+fn names_passing<T: PairTest>(kept: Kept, pairs: &[CandidatePair], id: TransId, test: &T) -> bool
+    requires numbers { rises pairs.now ≡ true }
+    ensures { result ≡ names_passing id.0 (T.passes test.now) pairs.now kept }
 {
-    kept.id == id && passes(pairs, kept.number, test)
+    kept.id == id && listed::passes(pairs, kept.number, test)
 }
 
 fn first_awaiting<T: PairTest>(
     index: &[Kept],
-    pairs: &IndexMap<u64, CandidatePair>,
+    pairs: &[CandidatePair],
     id: TransId,
     test: &T,
 ) -> Option<Kept>
-    requires keyed { are_keyed pairs.now.entries ≡ true }
-    requires numbers { rises (pairs_of pairs.now.entries) ≡ true }
-    ensures { result ≡ find (names_passing id.0 (T.passes test.now) (pairs_of pairs.now.entries)) index.now }
+    requires numbers { rises pairs.now ≡ true }
+    ensures { result ≡ find (names_passing id.0 (T.passes test.now) pairs.now) index.now }
 {
     index
         .iter()
@@ -182,13 +173,13 @@ pub(crate) fn follow(index: &mut Vec<Kept>, pair: &CandidatePair, id: TransId, c
 }
 
 /// Removes the entries of pairs that no longer exist.
-pub(crate) fn keep_known(index: &mut Vec<Kept>, pairs: &IndexMap<u64, CandidatePair>)
-    requires keyed { are_keyed pairs.now.entries ≡ true }
+pub(crate) fn keep_known(index: &mut Vec<Kept>, pairs: &[CandidatePair])
+    requires numbers { rises pairs.now ≡ true }
     ensures within { vec_len index.new ≤ vec_len index.old }
     ensures capacity { vec_capacity index.new ≡ vec_capacity index.old }
-    ensures items { index.new.items ≡ filter (λ k. has_number k.number (pairs_of pairs.now.entries)) index.old.items }
+    ensures items { index.new.items ≡ filter (λ k. has_number k.number pairs.now) index.old.items }
 {
-    index.retain(|kept| pairs.contains_key(&kept.number));
+    index.retain(|kept| listed::has(pairs, kept.number));
 }
 
 /// Removes the entries of the number.

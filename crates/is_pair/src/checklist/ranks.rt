@@ -3,14 +3,13 @@
 ghost use Rattle.std.specs.Prelude.{◌≡◌, ◌<◌, ◌≤◌, ◌==◌, ◌+◌, not, true, Bool, ◌||◌, filter, find, map, reverse, vec_len, vec_capacity};
 ghost use Rattle.std.specs.List.{list_any};
 ghost use Rattle.is_pair.specs.Multiset.{has_number, rises};
-ghost use Rattle.is_pair.specs.Entries.{pairs_of, are_keyed, are_ordered, has_passing, rank_now};
+ghost use Rattle.is_pair.specs.Entries.{are_ordered, has_passing, rank_now};
 ghost use Rattle.is_pair.specs.declared.checklist.entries.Rank.{Rank};
 
 use super::entries::Rank;
-use super::mapped::passes;
+use super::listed;
 use super::pair_test::PairTest;
 use crate::pair::CandidatePair;
-use indexmap::IndexMap;
 
 /// Inserts one more, after those of no greater priority.
 pub(crate) fn put(ranks: &mut Vec<Rank>, rank: Rank)
@@ -28,13 +27,13 @@ pub(crate) fn put(ranks: &mut Vec<Rank>, rank: Rank)
 }
 
 /// Removes those of pairs that no longer exist.
-pub(crate) fn keep_known(ranks: &mut Vec<Rank>, pairs: &IndexMap<u64, CandidatePair>)
-    requires keyed { are_keyed pairs.now.entries ≡ true }
-    ensures items { ranks.new.items ≡ filter (λ r. has_number r.number (pairs_of pairs.now.entries)) ranks.old.items }
+pub(crate) fn keep_known(ranks: &mut Vec<Rank>, pairs: &[CandidatePair])
+    requires rising { rises pairs.now ≡ true }
+    ensures items { ranks.new.items ≡ filter (λ r. has_number r.number pairs.now) ranks.old.items }
     ensures within { vec_len ranks.new ≤ vec_len ranks.old }
     ensures capacity { vec_capacity ranks.new ≡ vec_capacity ranks.old }
 {
-    ranks.retain(|rank| pairs.contains_key(&rank.number));
+    ranks.retain(|rank| listed::has(pairs, rank.number));
 }
 
 /// Removes those of the number.
@@ -49,41 +48,43 @@ pub(crate) fn drop_number(ranks: &mut Vec<Rank>, number: u64)
 /// Returns the last one whose pair passes the test.
 pub(crate) fn last_passing<T: PairTest>(
     ranks: &[Rank],
-    pairs: &IndexMap<u64, CandidatePair>,
+    pairs: &[CandidatePair],
     test: &T,
 ) -> Option<Rank>
-    requires keyed { are_keyed pairs.now.entries ≡ true }
-    requires rising { rises (pairs_of pairs.now.entries) ≡ true }
-    ensures { result ≡ find (has_passing (T.passes test.now) (pairs_of pairs.now.entries)) (reverse ranks.now) }
+    requires rising { rises pairs.now ≡ true }
+    ensures { result ≡ find (has_passing (T.passes test.now) pairs.now) (reverse ranks.now) }
 {
     ranks
         .iter()
         .rev()
-        .find(|rank| passes(pairs, rank.number, test))
+        .find(|rank| listed::passes(pairs, rank.number, test))
         .copied()
 }
 
 /// Gives each the current priority of its pair.
-fn follow_each(ranks: &mut [Rank], pairs: &IndexMap<u64, CandidatePair>)
-    ensures { ranks.new ≡ map (rank_now pairs.now.entries) ranks.old }
+fn follow_each(ranks: &mut [Rank], pairs: &[CandidatePair])
+    requires rising { rises pairs.now ≡ true }
+    ensures { ranks.new ≡ map (rank_now pairs.now) ranks.old }
 {
     for place in 0..ranks.len() {
         ranks[place] = rank_now(ranks[place], pairs);
     }
 }
 
-fn follow_pairs(ranks: &mut Vec<Rank>, pairs: &IndexMap<u64, CandidatePair>)
-    ensures items { ranks.new.items ≡ map (rank_now pairs.now.entries) ranks.old.items }
+fn follow_pairs(ranks: &mut Vec<Rank>, pairs: &[CandidatePair])
+    requires rising { rises pairs.now ≡ true }
+    ensures items { ranks.new.items ≡ map (rank_now pairs.now) ranks.old.items }
     ensures len { vec_len ranks.new ≡ vec_len ranks.old }
     ensures capacity { vec_capacity ranks.new ≡ vec_capacity ranks.old }
 {
     follow_each(ranks, pairs);
 }
 
-fn rank_now(rank: Rank, pairs: &IndexMap<u64, CandidatePair>) -> Rank
-    ensures { result ≡ rank_now pairs.now.entries rank }
+fn rank_now(rank: Rank, pairs: &[CandidatePair]) -> Rank
+    requires rising { rises pairs.now ≡ true }
+    ensures { result ≡ rank_now pairs.now rank }
 {
-    match pairs.get(&rank.number) {
+    match listed::get(pairs, rank.number) {
         Some(pair) => Rank {
             priority: pair.prio(),
             ..rank
@@ -93,8 +94,9 @@ fn rank_now(rank: Rank, pairs: &IndexMap<u64, CandidatePair>) -> Rank
 }
 
 /// Sorts all by the current priorities of their pairs.
-pub(crate) fn rebuild_order(ranks: &mut Vec<Rank>, pairs: &IndexMap<u64, CandidatePair>)
-    ensures any { (test : Rank → Bool) → list_any test ranks.new.items ≡ list_any test (map (rank_now pairs.now.entries) ranks.old.items) }
+pub(crate) fn rebuild_order(ranks: &mut Vec<Rank>, pairs: &[CandidatePair])
+    requires rising { rises pairs.now ≡ true }
+    ensures any { (test : Rank → Bool) → list_any test ranks.new.items ≡ list_any test (map (rank_now pairs.now) ranks.old.items) }
     ensures ordered { are_ordered ranks.new.items ≡ true }
     ensures len { vec_len ranks.new ≡ vec_len ranks.old }
     ensures capacity { vec_capacity ranks.new ≡ vec_capacity ranks.old }

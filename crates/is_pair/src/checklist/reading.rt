@@ -2,47 +2,44 @@
 
 ghost use Rattle.std.specs.Prelude.{◌≡◌, ◌<◌, true, IfSome, find, fold, map, min};
 ghost use Rattle.std.specs.List.{list_any};
-ghost use Rattle.std.specs.Map.Iter.{ShowsInOrder, deref};
 ghost use Rattle.std.specs.Option.{option_copied};
 ghost use Rattle.is_proto.specs.Times.{MAX};
 ghost use Rattle.is_pair.specs.Multiset.{has_number, passes_at, IsGreatest};
 ghost use Rattle.is_pair.specs.Due.{call_time_of, IsNextDue};
 ghost use Rattle.is_pair.specs.Checklists.{multiset_of};
 
-use super::{Checklist, PairTest, mapped, ranks};
+use super::{Checklist, PairTest, listed, ranks};
 use crate::pair::CandidatePair;
-use indexmap::map::Values;
 use is_proto::Instant;
 use is_stun::stun::StunTiming;
 
 impl Checklist {
     /// Returns the pairs, in the order of their numbers.
-    pub fn iter(&self) -> Values<'_, u64, CandidatePair>
-        ensures rest { result ≡ multiset_of self.now }
-        ensures runs { ShowsInOrder (deref {X = CandidatePair}) }
+    pub fn as_slice(&self) -> &[CandidatePair]
+        ensures { result.now ≡ multiset_of self.now }
     {
-        self.pairs.values()
+        &self.pairs
     }
 
     /// Whether any pair passes the test.
     pub fn any<T: PairTest>(&self, test: &T) -> bool
         ensures { result ≡ list_any (T.passes test.now) (multiset_of self.now) }
     {
-        mapped::any(&self.pairs, test)
+        listed::any(&self.pairs, test)
     }
 
     /// Whether there is a pair with the number, and it passes the test.
     pub fn passes<T: PairTest>(&self, number: u64, test: &T) -> bool
         ensures { result ≡ list_any (passes_at number (T.passes test.now)) (multiset_of self.now) }
     {
-        mapped::passes(&self.pairs, number, test)
+        listed::passes(&self.pairs, number, test)
     }
 
     /// Returns the pair with the smallest number among those that pass the test.
     pub fn first<T: PairTest>(&self, test: &T) -> Option<&CandidatePair>
         ensures { option_copied result ≡ find (T.passes test.now) (multiset_of self.now) }
     {
-        mapped::first(&self.pairs, test)
+        listed::first(&self.pairs, test)
     }
 
     /// Returns a pair of greatest priority among those that pass the test.
@@ -54,7 +51,7 @@ impl Checklist {
             return None;
         }
         match ranks::last_passing(&self.ranks, &self.pairs, test) {
-            Some(rank) => self.pairs.get(&rank.number),
+            Some(rank) => listed::get(&self.pairs, rank.number),
             None => None,
         }
     }
@@ -65,7 +62,7 @@ impl Checklist {
         ensures next { IsNextDue now.0 timing.now (multiset_of self.now) (option_copied result) }
         ensures has { IfSome (option_copied result) (λ p. has_number p.number (multiset_of self.now) ≡ true) }
     {
-        let first = mapped::earliest(&self.pairs, now, timing)?;
+        let first = listed::earliest(&self.pairs, now, timing)?;
         if first.due_time_of(now, timing) <= now {
             Some(first)
         } else {
@@ -78,6 +75,6 @@ impl Checklist {
     pub fn earliest_call(&self, now: Instant, timing: &StunTiming) -> Instant
         ensures { result.0 ≡ fold min MAX (map (call_time_of now.0 timing.now) (multiset_of self.now)) }
     {
-        mapped::earliest_call(&self.pairs, now, timing)
+        listed::earliest_call(&self.pairs, now, timing)
     }
 }

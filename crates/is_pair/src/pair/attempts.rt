@@ -105,7 +105,7 @@ pub(crate) fn reserve_beyond(
 {
     spare.clear();
     match most.checked_add(1) {
-        Some(len) => spare.reserve(len),
+        Some(len) => spare.reserve_exact(len),
         None => Err(AllocError),
     }
 }

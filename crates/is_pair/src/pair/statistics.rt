@@ -29,6 +29,18 @@ impl CandidatePair {
         self.remote_binding_requests
     }
 
+    /// Returns the code of the last error response to a check of the pair, if one arrived.
+    pub fn last_error(&self) -> Option<u16> {
+        self.last_error
+    }
+
+    /// Notes the code of an error response.
+    pub(crate) fn note_error(&mut self, code: u16)
+        ensures { self.new ≡ self.old }
+    {
+        self.last_error = Some(code);
+    }
+
     /// Returns how many responses arrived, including repeated ones.
     pub fn responses_received(&self) -> u64
         ensures { result ≡ self.now.answers }

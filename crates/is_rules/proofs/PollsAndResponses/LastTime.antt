@@ -1,6 +1,6 @@
--- By the rule `timeout_after_requests`, the time of each successful `handle_timeout` call is the last time.
-use Rattle.std.proofs.Common.{◌≡◌, ℕ, ◌&&◌, Bool, true, false, List, length, Option, Some, None, refl, ap, ◌∙◌, arith}
-use Rattle.std.specs.Prelude.{MatchOption}
+-- By the rule `timeout_after_requests` there is a last time after each successful `handle_timeout` call.
+use Rattle.std.proofs.Common.{◌≡◌, ℕ, ◌&&◌, Bool, true, false, List, length, Option, Some, None, Ok, refl, ap, subst, ◌∙◌, arith}
+use Rattle.std.specs.Prelude.{MatchOption, is_some}
 use Rattle.std.specs.List.{list_any}
 use Rattle.rand_core.specs.Stream.{Stream}
 use Rattle.is_candidate.specs.Candidates.{candidate_at}
@@ -25,7 +25,8 @@ use Rattle.is_rules.specs.Roles.{conflict_of, switched}
 use Rattle.is_rules.specs.Serving.{is_misled, names_another, pair_served, request_counted, selects_at_requests, with_sender, with_sender_at, Drops}
 use Rattle.is_rules.specs.Serving.{AddsUnknownSender, CountsAndServes, FindsOrAddsPair, RecordsAndResponds, ResolvesRoleConflict, ResolvesRoleConflictBy, Serves}
 use Rattle.is_rules.specs.TimeoutTimes.{CallsAreFollowed, CallsAreNoted}
-use Rattle.is_rules.specs.Timeouts.{at_request, at_timeout, expired_gone, is_expired, timeout_begun, MaintainsPairs, RemovesExpired}
+use Rattle.is_rules.specs.Timeouts.{at_request, at_timeout, expired_gone, is_expired, timeout_begun, MaintainsPairs, RemovesExpired, ServesQueued, TimesOut}
+use Rattle.is_rules.specs.Polls.{NextTimeoutFrom}
 use Rattle.is_rules.proofs.PollsAndResponses.NextTimeout.{either, paced, paced-from}
 
 either-request : (o : Option RequestRecord) {A R : Type 0} {B : RequestRecord → Type 0} → MatchOption o A B → (A → R) → ((q : RequestRecord) → B q → R) → R
@@ -53,11 +54,11 @@ module _ {H P : Type 0} where
   removes : (now : ℕ) (old new : AgentRecord H P) (path : Option Path) → RemovesExpired now old path new → Keeps old new
   removes now old new path h = either (list_any (is_expired now old) old.pairs) h
       (λ _ k. ap (λ (a : AgentRecord H P). a.last_time) k.2 ∙ nominates (expired_gone now old) k.0 path k.1)
-      (λ _ k. same old new k.1)
+      (λ _ k. ap (λ (a : AgentRecord H P). a.last_time) k.1)
 
   -- ---- by the rule, the time is noted before an early request is served
 
-  noted : (now : ℕ) (a : AgentRecord H P) → a.rules.timeout_after_requests ≡ true → (at_request now a).last_time ≡ Some now
+  noted : (now : ℕ) (a : AgentRecord H P) → a.rules.timeout_after_requests ≡ true → is_some (at_request now a).last_time ≡ true
   noted now a on = grind (arith, on)
 
   module _ (mac : H → List ℕ → List ℕ → List ℕ) where
@@ -115,18 +116,24 @@ module _ {H P : Type 0} where
         let at_last = checks now kept.remote_creds kept new s t issued sends in
         cc
 
+    last-is-now : (old new : AgentRecord H P) (now : ℕ) (s t : Stream) (emitted : Emitted) → request_at now old ≡ None
+        → TimesOut mac now old s (Ok tt) emitted new t → new.last_time ≡ Some now
+    last-is-now old new now s t emitted none call = maintains now (timeout_begun now old) new s t emitted
+        (subst (λ o. MatchOption o (MaintainsPairs mac now (timeout_begun now old) s emitted new t)
+        (λ q. ServesQueued mac q (at_request now (timeout_begun now old)) s emitted new t)) none call)
+
     pub calls-noted : CallsAreNoted P mac
     calls-noted old new now s t emitted noting =
         either-request (request_at now old) noting.call
-        (λ h. maintains now (timeout_begun now old) new s t emitted h)
-        (λ q h. (
-        let stays = serves q _ new emitted h.0 in
-        let on = noting.by_rule in
-        let at = noted now (timeout_begun now old) in
-        grind (arith, stays, on, at)))
+        (λ h. ap (λ o. is_some o) (maintains now (timeout_begun now old) new s t emitted h))
+        (λ q h. ap (λ o. is_some o) (serves q _ new emitted h.0) ∙ noted now (timeout_begun now old) noting.by_rule)
 
     pub calls-followed : CallsAreFollowed P mac
-    calls-followed old new polled now s t emitted noting None h = paced-from new polled now None (calls-noted old new now s t emitted noting) h
-    calls-followed old new polled now s t emitted noting (Some at) h =
-        let low = paced new polled now at (paced-from new polled now (Some at) (calls-noted old new now s t emitted noting) h) in
+    calls-followed old new polled now s t emitted noting None h = from new.last_time (calls-noted old new now s t emitted noting) h where
+      from : (last : Option ℕ) → is_some last ≡ true → NextTimeoutFrom last new None polled → ⊥
+      from None given k = grind (arith, given)
+      from (Some last) given k = k
+    calls-followed old new polled now s t emitted noting (Some at) h = λ none.
+        let last = last-is-now old new now s t emitted none noting.call in
+        let low = paced new polled now at (paced-from new polled now (Some at) last h) in
         omega (arith, low)

@@ -1,25 +1,29 @@
 -- The effects of changed candidates on pairs, and forming with these candidates.
-use Rattle.std.proofs.Common.{not, ◌≡◌, ℕ, zero, suc, ◌+◌, ◌<◌, ◌==◌, ◌&&◌, Bool, true, false, List, [], ◌∷◌, ◌++◌, map, length, Option, Some, None, Ok, inl, refl, ap, sym, ◌∙◌, subst, arith, if◌then◌else◌}
+use Rattle.std.proofs.Common.{not, ◌≡◌, ℕ, zero, suc, ◌+◌, ◌<◌, ◌==◌, ◌&&◌, ◌||◌, Bool, true, false, List, [], ◌∷◌, ◌++◌, map, length, Option, Some, None, Result, Ok, Err, inl, refl, ap, sym, ◌∙◌, subst, arith, if◌then◌else◌}
 use Rattle.std.specs.Prelude.{slice_set}
 use Rattle.std.proofs.lemmas.List.{length-append}
 use Rattle.is_proto.specs.Lists.{Has}
+use Rattle.is_proto.specs.declared.error.IceError.{IceError}
 use Rattle.is_candidate.specs.Candidates.{CandidateRecord, base_of, candidate_at}
 use Rattle.is_pair.specs.Pairs.{PairRecord, undue}
 use Rattle.is_rules.specs.declared.emitted.Path.{Path}
 use Rattle.is_rules.specs.Agent.{AgentRecord}
 use Rattle.is_rules.specs.Forming.{Combination, live_places, is_alive, local_combinations, remote_combinations, live_combinations, sides_of, formed_of, FormsAll}
-use Rattle.is_rules.specs.Discarding.{discarded, change_place, is_local_at, is_remote_at, local_discarded, remote_discarded, InvalidatesAt}
+use Rattle.is_rules.specs.Discarding.{discarded, change_place, is_local_at, is_remote_at, local_discarded, remote_discarded, local_to_discard, remote_to_discard, Invalidates, InvalidatesAt}
 use Rattle.is_rules.specs.Local.{AddsLocal, appended, enabled, enabled_again}
 use Rattle.is_rules.specs.Remote.{AddsRemote, as_remote, with_remote}
 use Rattle.is_rules.specs.Restarting.{Recreates, emptied, restarted, kept_local}
 use Rattle.is_rules.specs.Settings.{numbers_skipped, with_rtos}
+use Rattle.is_rules.specs.Settling.{Reselects}
 use Rattle.is_rules.specs.Polls.{PollsTimeout}
 use Rattle.is_pair.specs.Due.{asked}
 use Rattle.is_rules.specs.declared.credentials.IceCreds.{IceCreds}
 use Rattle.is_theorems.proofs.CallEffects.AddedCandidates.{by_adding_local, by_adding_remote, by_waking}
 use Rattle.is_rules.proofs.PairLists.CombinationsInLists.{in_places, own_places, their_places, all_places}
 use Rattle.is_theorems.proofs.RuleEffects.EarlierAndNewPairs.{Parts, path_in, Fit, Onward, here, stays, onward, thinned, forms}
-use Rattle.is_theorems.proofs.RuleEffects.ChangedPairs.{Changed, mapped, parts_of}
+use Rattle.is_theorems.proofs.RuleEffects.ChangedPairs.{Changed, mapped, nominates, parts_of}
+use Rattle.is_theorems.proofs.RuleEffects.SelectedPaths.{Evaluates, evaluates_none}
+use Rattle.is_theorems.proofs.CallEffects.FailedCallsAndNewAgents.{enrolment_kept, storing_kept}
 use Rattle.is_theorems.proofs.CallEffects.ChecksAndResponses.{local_joins, asked_changes}
 use Rattle.is_theorems.proofs.CallEffects.ServedRequests.{remote_joins}
 
@@ -191,6 +195,39 @@ module _ (asks : Path → ℕ → Type 0) (met : Path → Type 0) (sent : Path �
         (forms_on (with_remote (as_remote c) (Some k) old) new (remote_combinations (as_remote c) k old.local)
         (λ at has. (let o = their_places (as_remote c) k old.local at has in
         (o.0, subst (λ r. r < length (slice_set old.remote k (as_remote c))) o.1 (subst (λ n. k < n) (sym (length-slice_set old.remote k (as_remote c))) lt)))) first.fit f)))
+
+    -- these calls, with any result
+    pub local_goes : (answers : P → CandidateRecord → ℕ → ℕ → Type 0) (old new : AgentRecord H P) (c : CandidateRecord) (r : Result (Option ℕ) IceError)
+        → Fit (parts_of asks met sent old) → AddsLocal answers old c r new → Goes old new
+    local_goes answers old new c (Ok place) fit h = adds_local_goes answers old new c place fit h
+    local_goes answers old new c (Err error) fit h = same_goes old new fit (enrolment_kept answers old new c error h)
+
+    pub remote_goes : (old new : AgentRecord H P) (c : CandidateRecord) (r : Result (Unit {0}) IceError)
+        → Fit (parts_of asks met sent old) → AddsRemote old c r new → Goes old new
+    remote_goes old new c (Ok _) fit h = adds_remote_goes old new c fit h
+    remote_goes old new c (Err error) fit h = same_goes old new fit (storing_kept old new c error h)
+
+    pub without_goes : (old new : AgentRecord H P) (c : CandidateRecord) (r : Result Bool IceError)
+        → Fit (parts_of asks met sent old) → Invalidates old c r new → Goes old new
+    without_goes old new c (Ok found) fit h = invalidates_goes old new (local_to_discard c old) (remote_to_discard c old) found fit h
+    without_goes old new c (Err error) fit h = same_goes old new fit h.1
+
+    -- another path may be selected after that
+    pub reselects_goes : (loses : Bool) (old new : AgentRecord H P) (path : Option Path)
+        → ((old.controlling || old.lite) ≡ true → (p : Path) (m : ℕ) → asks p m)
+        → Fit (parts_of asks met sent old) → Reselects loses old path new
+        → Goes old new × Evaluates asks met sent (parts_of asks met sent old) (parts_of asks met sent new) old.selected_pair new.selected_pair path
+    reselects_goes true old new path free fit (named, naming, made) =
+        let k = nominates asks met sent old named path free fit naming in (
+          subst (λ (a : AgentRecord H P). Goes old a) (sym made) k.0,
+          subst (λ (a : AgentRecord H P). Evaluates asks met sent (parts_of asks met sent old) (parts_of asks met sent a) old.selected_pair a.selected_pair path)
+              (sym made) k.1,
+        )
+    reselects_goes false old new path free fit (none, made) = (
+      same_goes old new fit made,
+      evaluates_none asks met sent (parts_of asks met sent old) (parts_of asks met sent new) old.selected_pair new.selected_pair path none
+          (ap (λ (a : AgentRecord H P). a.selected_pair) made),
+    )
 
     -- pairs are formed again, or all are removed
     pub recreates_goes : (old new : AgentRecord H P) → Fit (parts_of asks met sent old) → Recreates old (Ok _) new → Goes old new

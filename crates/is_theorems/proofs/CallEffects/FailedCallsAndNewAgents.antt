@@ -1,5 +1,5 @@
 -- A call that fails keeps the abstract state and the stream, and a newly created agent is sound.
-use Rattle.std.proofs.Common.{◌≡◌, ℕ, ◌==◌, Bool, true, false, List, Option, Some, None, Result, Ok, Err, inl, inr, refl, ap, sym, ◌∙◌, arith}
+use Rattle.std.proofs.Common.{◌≡◌, ℕ, ◌==◌, ◌&&◌, not, Bool, true, false, List, Option, Some, None, Result, Ok, Err, inl, inr, refl, ap, sym, subst, ◌∙◌, arith}
 use Rattle.std.specs.Prelude.{MatchBool, nat_lt, position, length}
 use Rattle.rand_core.specs.Stream.{Stream}
 use Rattle.is_proto.specs.declared.error.IceError.{IceError}
@@ -7,20 +7,22 @@ use Rattle.is_proto.specs.declared.error.IceError.TheVariants.{BadCandidate, Out
 use Rattle.is_candidate.specs.Candidates.{CandidateRecord}
 use Rattle.is_rules.specs.declared.credentials.IceCreds.{IceCreds}
 use Rattle.is_rules.specs.declared.emitted.Path.{Path}
-use Rattle.is_rules.specs.Steps.{Answer, Done, Flag, Polled, Happened, NextTimeout, NotCalled, Entry, quiet, added, is_rejection}
+use Rattle.is_rules.specs.Emitted.{nothing_emitted, selected_only}
+use Rattle.is_rules.specs.Steps.{Answer, Done, Flag, Polled, Happened, NextTimeout, NotCalled, Entry, quiet, done, added, is_rejection}
 use Rattle.is_rules.specs.Agent.{AgentRecord}
 use Rattle.is_rules.specs.Settings.{SetsControlling, SetsMtu, with_retransmits}
 use Rattle.is_rules.specs.Credentials.{SetsLocal, SetsRemote}
 use Rattle.is_rules.specs.Remote.{as_remote, is_ignored, JoinsRemote, AddsRemote}
 use Rattle.is_rules.specs.Restarting.{Restarts, Recreates}
-use Rattle.is_rules.specs.Steps.{Call, SetMtu, SetControlTieBreaker, SetMaxCandidatePairs, SetMaxDiscovered, SetIceLite, SetRenomination, SetRules, SetTimingAdvance, SetInitialStunRto, SetMaxStunRto, SetMaxStunRetransmits, SetLiteTimeout, SetLocalPreference, SetControlling, SetLocalCredentials, SetRemoteCredentials, SkipPairIds, AddLocalCandidate, AddRemoteCandidate, InvalidateCandidate, RestartIce, RecreateCandidatePairs, ReceivePacket, HandleTimeout, PollTransmit, PollTimeout, PollEvent, Becomes, MayDo, Receives, Step}
+use Rattle.is_rules.specs.Steps.{Call, SetMtu, SetControlTieBreaker, SetMaxCandidatePairs, SetMaxDiscovered, SetIceLite, SetRenomination, SetRules, SetTimingAdvance, SetInitialStunRto, SetMaxStunRto, SetMaxStunRetransmits, SetLiteTimeout, SetLocalPreference, SetControlling, SetLocalCredentials, SetRemoteCredentials, SkipPairIds, AddLocalCandidate, AddRemoteCandidate, InvalidateCandidate, RestartIce, RecreateCandidatePairs, ReceivePacket, HandleTimeout, PollTransmit, PollTimeout, PollEvent, Becomes, MayDo, MaySelect, Receives, Step}
 use Rattle.is_rules.specs.Sound.{FreshIsSound}
 use Rattle.is_rules.specs.Effects.{RejectionKeeps}
 use Rattle.is_candidate.specs.Candidates.{candidate_at}
 use Rattle.is_candidate.specs.Priorities.{candidate_priority}
 use Rattle.is_candidate.specs.Equality.{is_same_place}
-use Rattle.is_rules.specs.Discarding.{local_discarded}
+use Rattle.is_rules.specs.Discarding.{local_discarded, Invalidates}
 use Rattle.is_rules.specs.Local.{is_too_high, is_unwanted, comes_again, enabled, enabled_again, appended, as_own, preferred, Enters, EnrolsAt, AddsLocal}
+use Rattle.is_rules.specs.Settling.{settles, has_selected, loses_selected, Reselects}
 use Rattle.is_theorems.proofs.RuleEffects.UnchangedSettings.{either}
 
 never : {A : Type 0} → false ≡ true → A
@@ -126,6 +128,22 @@ module _ {H P : Type 0} where
   pub storing_kept : (old new : AgentRecord H P) (c : CandidateRecord) (error : IceError) → AddsRemote old c (Err error) new → new ≡ old
   storing_kept old new c error h = either (is_ignored old c) h (λ _ k. absurd k) (λ _ k. joining_kept old new (as_remote c) error k)
 
+  pub discard_kept : (old new : AgentRecord H P) (c : CandidateRecord) (error : IceError) → Invalidates old c (Err error) new → new ≡ old
+  discard_kept old new c error h = h.1
+
+  -- a call that changes nothing selects no path
+  loses-none : (a : AgentRecord H P) → loses_selected a a ≡ false
+  loses-none a = by (settles a) (has_selected a) where
+    by : (rule has : Bool) → (rule && has && not has) ≡ false
+    by true true = refl
+    by true false = refl
+    by false has = refl
+
+  stays_same : (old mid new : AgentRecord H P) (path : Option Path) → mid ≡ old → Reselects (loses_selected old mid) mid path new → (path ≡ None) × (new ≡ old)
+  stays_same old mid new path same h =
+      let none : loses_selected old mid ≡ false = ap (λ (a : AgentRecord H P). loses_selected old a) same ∙ loses-none old in
+      let k = subst (λ b. Reselects b mid path new) none h in (k.0, k.1 ∙ same)
+
   module _ (mac : H → List ℕ → List ℕ → List ℕ) (answers : P → CandidateRecord → ℕ → ℕ → Type 0) (old new : AgentRecord H P) (s t : Stream) (e : Entry) where
     abbrev Kept : Type 0
     Kept = (new ≡ old) × (t ≡ s)
@@ -137,6 +155,27 @@ module _ {H P : Type 0} where
         → MayDo Does s e new t → is_rejection e.answer ≡ true → Kept
     does Does kept (Ok done, is, h, same) r = silent Done is refl r
     does Does kept (Err error, is, h, same) r = (kept error h, same)
+
+    -- a call that may select another path
+    pub selects : {A : Type 0} (to_answer : A → Answer) (Does : Result A IceError → AgentRecord H P → Type 0) → ((x : A) → is_rejection (to_answer x) ≡ false)
+        → ((mid : AgentRecord H P) (error : IceError) → Does (Err error) mid → mid ≡ old)
+        → MaySelect to_answer Does old s e new t → is_rejection e.answer ≡ true → Kept × (e.emitted ≡ nothing_emitted)
+    selects to_answer Does isnt kept (Ok x, emitted, is, h, same) r = no_rejection e (to_answer x) (ap (λ (y : Entry). y.answer) is) (isnt x) r
+    selects to_answer Does isnt kept (Err error, emitted, is, (path, mid, h, again, out), same) r =
+        let k = stays_same old mid new path (kept mid error h) again in
+        ((k.1, same), ap (λ (y : Entry). y.emitted) is ∙ out ∙ ap selected_only k.0)
+
+    pub selects_local : (c : CandidateRecord) → Step mac answers old s (AddLocalCandidate c) e new t
+        → is_rejection e.answer ≡ true → Kept × (e.emitted ≡ nothing_emitted)
+    selects_local c h r = selects added (AddsLocal answers old c) added-no (λ mid error k. enrolment_kept answers old mid c error k) h r
+
+    pub selects_remote : (c : CandidateRecord) → Step mac answers old s (AddRemoteCandidate c) e new t
+        → is_rejection e.answer ≡ true → Kept × (e.emitted ≡ nothing_emitted)
+    selects_remote c h r = selects done (AddsRemote old c) (λ u. refl) (λ mid error k. storing_kept old mid c error k) h r
+
+    pub selects_without : (c : CandidateRecord) → Step mac answers old s (InvalidateCandidate c) e new t
+        → is_rejection e.answer ≡ true → Kept × (e.emitted ≡ nothing_emitted)
+    selects_without c h r = selects Flag (Invalidates old c) (λ b. refl) (λ mid error k. discard_kept old mid c error k) h r
 
     receives : (now : ℕ) (path : Path) (bytes : List ℕ) → Receives mac answers now old path bytes e new → is_rejection e.answer ≡ true → new ≡ old
     receives now path bytes (inl (fault, has, is, same)) r = same
@@ -166,10 +205,9 @@ module _ {H P : Type 0} where
     kept (SetLocalCredentials creds) h r = does (SetsLocal old creds) (local_kept old new creds) h r
     kept (SetRemoteCredentials creds) h r = does (SetsRemote old creds) (remote_kept old new creds) h r
     kept (SkipPairIds n) h r = silent Done h.0 refl r
-    kept (AddLocalCandidate c) (Ok place, is, h, same) r = silent (added place) is (added-no place) r
-    kept (AddLocalCandidate c) (Err error, is, h, same) r = (enrolment_kept answers old new c error h, same)
-    kept (AddRemoteCandidate c) h r = does (AddsRemote old c) (storing_kept old new c) h r
-    kept (InvalidateCandidate c) h r = silent (Flag h.0) h.1 refl r
+    kept (AddLocalCandidate c) h r = (selects_local c h r).0
+    kept (AddRemoteCandidate c) h r = (selects_remote c h r).0
+    kept (InvalidateCandidate c) h r = (selects_without c h r).0
     kept (RestartIce creds keep) h r = does (Restarts old creds keep) (restart_kept old new creds keep) h r
     kept RecreateCandidatePairs h r = does (Recreates old) (recreation_kept old new) h r
     kept (ReceivePacket now path bytes) h r = (receives now path bytes h.0 r, h.1)

@@ -20,7 +20,7 @@ use Rattle.is_rules.specs.declared.emitted.Path.{Path}
 use Rattle.is_rules.specs.declared.emitted.Emitted.{Emitted}
 use Rattle.is_rules.specs.Request.{RequestRecord, request_in}
 use Rattle.is_rules.specs.Steps.{Answer, Done, Flag, Polled, Happened, NextTimeout, NotCalled, Rejected, Entry, quiet, added, done, answer_by}
-use Rattle.is_rules.specs.Emitted.{nothing_emitted, issued_as, reversed}
+use Rattle.is_rules.specs.Emitted.{nothing_emitted, issued_as, reversed, selected_in, selected_only}
 use Rattle.is_stun.specs.Checks.{binding_reply, binding_role_conflict_reply}
 use Rattle.is_stun.specs.Writing.{written}
 use Rattle.is_rules.specs.declared.roles.Conflict.TheVariants.{Send487}
@@ -29,7 +29,9 @@ use Rattle.is_rules.specs.Sending.{path_of, carried}
 use Rattle.is_rules.specs.Roles.{conflict_by, conflict_of, switched, keeps_role}
 use Rattle.is_rules.specs.Settings.{SetsControlling, SetsMtu, with_retransmits}
 use Rattle.is_rules.specs.Credentials.{SetsLocal, SetsRemote}
-use Rattle.is_rules.specs.Discarding.{place_to_discard}
+use Rattle.is_rules.specs.Discarding.{Invalidates}
+use Rattle.is_rules.specs.Local.{AddsLocal}
+use Rattle.is_rules.specs.Settling.{loses_selected}
 use Rattle.is_rules.specs.Remote.{AddsRemote}
 use Rattle.is_rules.specs.Restarting.{Restarts, Recreates}
 use Rattle.is_rules.specs.Serving.{Drops, Serves, as_taken}
@@ -38,20 +40,21 @@ use Rattle.is_pair.specs.Multiset.{keeps_check}
 use Rattle.is_rules.specs.Answers.{keeps_check_on, goes_back, is_role_conflict, TakesSuccess, TakesFailure, LeavesRole}
 use Rattle.is_rules.specs.Accepting.{Takes, IsAcceptedAs, IsAcceptedOn, discovered_emitted}
 use Rattle.is_rules.specs.Timeouts.{at_request, timeout_begun, MaintainsPairs, ServesQueued, TimesOut}
-use Rattle.is_rules.specs.Steps.{Call, SetMtu, SetControlTieBreaker, SetMaxCandidatePairs, SetMaxDiscovered, SetIceLite, SetRenomination, SetRules, SetTimingAdvance, SetInitialStunRto, SetMaxStunRto, SetMaxStunRetransmits, SetLiteTimeout, SetLocalPreference, SetControlling, SetLocalCredentials, SetRemoteCredentials, SkipPairIds, AddLocalCandidate, AddRemoteCandidate, InvalidateCandidate, RestartIce, RecreateCandidatePairs, ReceivePacket, HandleTimeout, PollTransmit, PollTimeout, PollEvent, Becomes, MayDo, Receives, Step}
+use Rattle.is_rules.specs.Steps.{Call, SetMtu, SetControlTieBreaker, SetMaxCandidatePairs, SetMaxDiscovered, SetIceLite, SetRenomination, SetRules, SetTimingAdvance, SetInitialStunRto, SetMaxStunRto, SetMaxStunRetransmits, SetLiteTimeout, SetLocalPreference, SetControlling, SetLocalCredentials, SetRemoteCredentials, SkipPairIds, AddLocalCandidate, AddRemoteCandidate, InvalidateCandidate, RestartIce, RecreateCandidatePairs, ReceivePacket, HandleTimeout, PollTransmit, PollTimeout, PollEvent, Becomes, MayDo, MaySelect, Receives, Step}
 use Rattle.is_rules.specs.Sound.{IsSound}
 use Rattle.is_rules.specs.Brought.{Brings, IsServing, IsAnswered}
 use Rattle.is_theorems.specs.Numbered.{IsNumberedByPeer, given}
-use Rattle.is_theorems.proofs.CallEffects.FailedCallsAndNewAgents.{mtu_kept, controlling_kept, local_kept, remote_kept, restart_kept, recreation_kept, enrolment_kept, storing_kept}
+use Rattle.is_theorems.proofs.CallEffects.FailedCallsAndNewAgents.{mtu_kept, controlling_kept, local_kept, remote_kept, restart_kept, recreation_kept}
 use Rattle.is_theorems.proofs.RuleEffects.UnchangedSettings.{Frame, frame_of, packet_along, either}
 use Rattle.is_theorems.proofs.CallEffects.SettingsRoleAndQueues as frames
-use Rattle.is_theorems.proofs.RuleEffects.EarlierAndNewPairs.{Parts, Fit, IsNominatedIn, Onward, here}
+use Rattle.is_theorems.proofs.RuleEffects.EarlierAndNewPairs.{Parts, Fit, IsNominatedIn, Onward, here, onward}
 use Rattle.is_theorems.proofs.RuleEffects.ChangedPairs.{parts_of}
-use Rattle.is_theorems.proofs.RuleEffects.SelectedPaths.{Returns, returns_none}
-use Rattle.is_theorems.proofs.CallEffects.CallsThatEmitNothing.{Calm, calm, is_calm}
-use Rattle.is_theorems.proofs.CallEffects.TimeoutsAndSuccesses.{CheckOut, maintains_pairs, succeeds}
+use Rattle.is_theorems.proofs.RuleEffects.SelectedPaths.{Returns, returns_none, returns_one, returns_after}
+use Rattle.is_theorems.proofs.CallEffects.CallsThatEmitNothing.{Silent, is_calm, is_of_candidate}
+use Rattle.is_theorems.proofs.CallEffects.CallsThatEmitNothing as calls
+use Rattle.is_theorems.proofs.CallEffects.TimeoutsAndSuccesses.{CheckOut, maintains_pairs, only_pair, succeeds}
 use Rattle.is_theorems.proofs.CallEffects.ServedRequests.{Replied, ConflictSent, AcceptedNominations, serves_does, switches}
-use Rattle.is_theorems.proofs.CallEffects.ChangedCandidates.{adds_local_goes, adds_remote_goes, invalidates_goes, recreates_goes, restarts_goes, skips_goes, rtos_goes, polls_goes}
+use Rattle.is_theorems.proofs.CallEffects.ChangedCandidates.{local_goes, remote_goes, without_goes, reselects_goes, recreates_goes, restarts_goes, skips_goes, rtos_goes, polls_goes}
 use Rattle.is_rules.specs.Nominating.{numbers}
 
 or_true : (a b : Bool) → (a || b) ≡ true → (a ≡ true) ⊎ (b ≡ true)
@@ -109,22 +112,49 @@ module _ {H P : Type 0} (mac : H → List ℕ → List ℕ → List ℕ) (answer
       inl (ap (λ (x : Emitted). x.issued) (is ∙ nothing)),
     )
 
-    quietly : (answer : Answer) → e ≡ quiet answer → Calm call old e new → Moves call new → PairEffect call
+    quietly : (answer : Answer) → e ≡ quiet answer → Silent call old e new → Moves call new → PairEffect call
     quietly answer is calm moves = silent nothing_emitted (ap (λ (x : Entry). x.emitted) is) refl calm.selected_paths moves
 
     unmoved : new ≡ old → Moves call new
     unmoved made = subst (λ (a : AgentRecord H P). Moves call a) (sym made) (here (Asks call) (Met call) Sent (parts_of (Asks call) (Met call) Sent old) fit)
 
-    becomes : (needed : AgentRecord H P) → Moves call needed → Calm call old e new → Becomes needed s e new t → PairEffect call
+    becomes : (needed : AgentRecord H P) → Moves call needed → Silent call old e new → Becomes needed s e new t → PairEffect call
     becomes needed moves calm (is, made, drawn) = quietly Done is calm (subst (λ (a : AgentRecord H P). Moves call a) (sym made) moves)
 
     resting : Moves call old
     resting = here (Asks call) (Met call) Sent (parts_of (Asks call) (Met call) Sent old) fit
 
     done_or : (Does : Result (Unit {0}) IceError → AgentRecord H P → Type 0) → (Does (Ok _) new → Moves call new)
-        → ((error : IceError) → Does (Err error) new → new ≡ old) → Calm call old e new → MayDo Does s e new t → PairEffect call
+        → ((error : IceError) → Does (Err error) new → new ≡ old) → Silent call old e new → MayDo Does s e new t → PairEffect call
     done_or Does goes kept calm (Ok _, is, h, drawn) = quietly Done is calm (goes h)
     done_or Does goes kept calm (Err error, is, h, drawn) = quietly (Rejected error) is calm (unmoved (kept error h))
+
+    -- a candidate is added or invalidated, and then another path may be selected
+    selects : {A : Type 0} (to_answer : A → Answer) (Does : Result A IceError → AgentRecord H P → Type 0)
+        → ((mid : AgentRecord H P) (r : Result A IceError) → Does r mid → (frame_of mid ≡ frame_of old) × (mid.packets ≡ old.packets))
+        → ((mid : AgentRecord H P) (r : Result A IceError) → Does r mid → Moves call mid)
+        → ((mid : AgentRecord H P) (r : Result A IceError) → Does r mid → mid.selected_pair ≡ old.selected_pair)
+        → MaySelect to_answer Does old s e new t → PairEffect call
+    selects to_answer Does frames goes number (r, emitted, is, (path, mid, h, again, out), drawn) =
+        let frame = (frames mid r h).0 in
+        let first = goes mid r h in
+        let x : Parts = parts_of (Asks call) (Met call) Sent old in
+        let y : Parts = parts_of (Asks call) (Met call) Sent mid in
+        let z : Parts = parts_of (Asks call) (Met call) Sent new in
+        let emitted_is : e.emitted ≡ selected_only path = ap (λ (k : Entry). k.emitted) is ∙ out in
+        let second = reselects_goes (Asks call) (Met call) Sent (loses_selected old mid) mid new path
+        (λ allowed p m. elim (or_true mid.controlling mid.lite allowed) [
+          | inl c ↦ inr (inr (inl (sym (ap (λ (f : Frame H). f.controlling) frame) ∙ c)))
+          | inr l ↦ inr (inl (sym (ap (λ (f : Frame H). f.lite) frame) ∙ l))
+        ]) first.fit again in
+        let one = returns_one (Asks call) (Met call) Sent y z mid.selected_pair new.selected_pair path second.1 in
+        let all = returns_after (Asks call) (Met call) Sent x y z mid.selected_pair new.selected_pair (selected_in path None) first one in (
+          onward (Asks call) (Met call) Sent x y z first second.0,
+          subst (λ (ps : List (Option Path)). Returns (Asks call) (Met call) Sent x z old.selected_pair new.selected_pair ps)
+              (sym (ap (λ (k : Emitted). k.selected_paths) emitted_is ∙ only_pair path))
+              (subst (λ n. Returns (Asks call) (Met call) Sent x z n new.selected_pair (selected_in path None)) (number mid r h) all),
+          inl (ap (λ (k : Emitted). k.issued) emitted_is),
+        )
 
     sends_487_of : (a : AgentRecord H P) → a.tie_breaker ≡ old.tie_breaker → a.controlling ≡ old.controlling → keeps_role a ≡ keeps_role old → (q : RequestRecord) → conflict_of a q ≡ Send487 → conflict_of old q ≡ Send487
     sends_487_of a tie role keeps q is =
@@ -233,7 +263,7 @@ module _ {H P : Type 0} (mac : H → List ℕ → List ℕ → List ℕ) (answer
 
   module _ (now : ℕ) (via : Path) (bytes : List ℕ) (m : Message) (mid : AgentRecord H P) (emitted : Emitted) (sound : IsSound old)
       (fit : Fit (parts_of (Asks (ReceivePacket now via bytes)) (Met (ReceivePacket now via bytes)) Sent old))
-      (reads : Reads bytes m) (accepted : IsAcceptedOn mac old via m) (e_is : e ≡ record { answer = Flag true; emitted = emitted }) (made : new ≡ discovered_emitted via mid) where
+      (reads : Reads bytes m) (accepted : IsAcceptedOn mac old via m) (e_is : e ≡ record { answer = Flag true; emitted = emitted }) (made : new ≡ discovered_emitted m.class emitted via mid) where
     abbrev packet : Call P
     packet = ReceivePacket now via bytes
 
@@ -325,15 +355,16 @@ module _ {H P : Type 0} (mac : H → List ℕ → List ℕ → List ℕ) (answer
       silent (HandleTimeout now) fit emitted (ap (λ (x : Entry). x.emitted) is) nothing (ap (λ (x : AgentRecord H P). x.selected_pair) made) (unmoved (HandleTimeout now) fit made)
 
   retransmits : (b : Bool) (n : ℕ) (fit : Fit (parts_of (Asks (SetMaxStunRetransmits n)) (Met (SetMaxStunRetransmits n)) Sent old))
-      → Calm (SetMaxStunRetransmits n) old e new → MatchBool b ((e ≡ quiet NotCalled) × (new ≡ old) × (t ≡ s)) (Becomes (with_retransmits n old) s e new t) → PairEffect (SetMaxStunRetransmits n)
+      → Silent (SetMaxStunRetransmits n) old e new → MatchBool b ((e ≡ quiet NotCalled) × (new ≡ old) × (t ≡ s)) (Becomes (with_retransmits n old) s e new t) → PairEffect (SetMaxStunRetransmits n)
   retransmits true n fit calm (is, made, drawn) = quietly (SetMaxStunRetransmits n) fit NotCalled is calm (unmoved (SetMaxStunRetransmits n) fit made)
   retransmits false n fit calm h = becomes (SetMaxStunRetransmits n) fit (with_retransmits n old) (resting (SetMaxStunRetransmits n) fit) calm h
 
   fits : (call : Call P) → IsSound old → Fit (parts_of (Asks call) (Met call) Sent old)
   fits call sound = record { placed = sound.placed; rising = rising-each old.pairs sound.rising; below = below-each old.next_number old.pairs sound.below; started = λ p has c keeps. sound.started p c has keeps; consented = sound.consented }
 
-  abbrev calms : (call : Call P) → is_calm call ≡ true → Step mac answers old s call e new t → Calm call old e new
-  calms call is h = calm mac answers old new s t e call is h
+  -- no path is selected
+  abbrev calms : (call : Call P) → is_calm call ≡ true → is_of_candidate call ≡ false → Step mac answers old s call e new t → Silent call old e new
+  calms call is other h = calls.silent mac answers old new s t e call is other h
 
   abbrev as_it_was : (call : Call P) → IsSound old → Moves call old
   as_it_was call sound = resting call (fits call sound)
@@ -341,58 +372,58 @@ module _ {H P : Type 0} (mac : H → List ℕ → List ℕ → List ℕ) (answer
   -- each call
   pub paired : (call : Call P) (sound : IsSound old) → Step mac answers old s call e new t → PairEffect call
   paired (SetMtu target warn) sound h = done_or (SetMtu target warn) (fits (SetMtu target warn) sound) (SetsMtu old target warn)
-      (λ k. subst (λ (a : AgentRecord H P). Moves (SetMtu target warn) a) (sym k.1) (as_it_was (SetMtu target warn) sound)) (λ error k. mtu_kept old new target warn error k) (calms (SetMtu target warn) refl h) h
-  paired (SetControlTieBreaker tie) sound h = becomes (SetControlTieBreaker tie) (fits (SetControlTieBreaker tie) sound) _ (as_it_was (SetControlTieBreaker tie) sound) (calms (SetControlTieBreaker tie) refl h) h
-  paired (SetMaxCandidatePairs n) sound h = becomes (SetMaxCandidatePairs n) (fits (SetMaxCandidatePairs n) sound) _ (as_it_was (SetMaxCandidatePairs n) sound) (calms (SetMaxCandidatePairs n) refl h) h
-  paired (SetMaxDiscovered n) sound h = becomes (SetMaxDiscovered n) (fits (SetMaxDiscovered n) sound) _ (as_it_was (SetMaxDiscovered n) sound) (calms (SetMaxDiscovered n) refl h) h
-  paired (SetIceLite lite) sound h = becomes (SetIceLite lite) (fits (SetIceLite lite) sound) _ (as_it_was (SetIceLite lite) sound) (calms (SetIceLite lite) refl h) h
-  paired (SetRenomination on) sound h = becomes (SetRenomination on) (fits (SetRenomination on) sound) _ (as_it_was (SetRenomination on) sound) (calms (SetRenomination on) refl h) h
-  paired (SetRules rules) sound h = becomes (SetRules rules) (fits (SetRules rules) sound) _ (as_it_was (SetRules rules) sound) (calms (SetRules rules) refl h) h
-  paired (SetTimingAdvance by) sound h = becomes (SetTimingAdvance by) (fits (SetTimingAdvance by) sound) _ (as_it_was (SetTimingAdvance by) sound) (calms (SetTimingAdvance by) refl h) h
+      (λ k. subst (λ (a : AgentRecord H P). Moves (SetMtu target warn) a) (sym k.1) (as_it_was (SetMtu target warn) sound)) (λ error k. mtu_kept old new target warn error k) (calms (SetMtu target warn) refl refl h) h
+  paired (SetControlTieBreaker tie) sound h = becomes (SetControlTieBreaker tie) (fits (SetControlTieBreaker tie) sound) _ (as_it_was (SetControlTieBreaker tie) sound) (calms (SetControlTieBreaker tie) refl refl h) h
+  paired (SetMaxCandidatePairs n) sound h = becomes (SetMaxCandidatePairs n) (fits (SetMaxCandidatePairs n) sound) _ (as_it_was (SetMaxCandidatePairs n) sound) (calms (SetMaxCandidatePairs n) refl refl h) h
+  paired (SetMaxDiscovered n) sound h = becomes (SetMaxDiscovered n) (fits (SetMaxDiscovered n) sound) _ (as_it_was (SetMaxDiscovered n) sound) (calms (SetMaxDiscovered n) refl refl h) h
+  paired (SetIceLite lite) sound h = becomes (SetIceLite lite) (fits (SetIceLite lite) sound) _ (as_it_was (SetIceLite lite) sound) (calms (SetIceLite lite) refl refl h) h
+  paired (SetRenomination on) sound h = becomes (SetRenomination on) (fits (SetRenomination on) sound) _ (as_it_was (SetRenomination on) sound) (calms (SetRenomination on) refl refl h) h
+  paired (SetRules rules) sound h = becomes (SetRules rules) (fits (SetRules rules) sound) _ (as_it_was (SetRules rules) sound) (calms (SetRules rules) refl refl h) h
+  paired (SetTimingAdvance by) sound h = becomes (SetTimingAdvance by) (fits (SetTimingAdvance by) sound) _ (as_it_was (SetTimingAdvance by) sound) (calms (SetTimingAdvance by) refl refl h) h
   paired (SetInitialStunRto rto) sound h =
       let call : Call P = SetInitialStunRto rto in
-      becomes call (fits call sound) _ (rtos_goes (Asks call) (Met call) Sent old rto old.timing.max_rto.0 (fits call sound)) (calms (SetInitialStunRto rto) refl h) h
+      becomes call (fits call sound) _ (rtos_goes (Asks call) (Met call) Sent old rto old.timing.max_rto.0 (fits call sound)) (calms (SetInitialStunRto rto) refl refl h) h
   paired (SetMaxStunRto rto) sound h =
       let call : Call P = SetMaxStunRto rto in
-      becomes call (fits call sound) _ (rtos_goes (Asks call) (Met call) Sent old old.timing.initial_rto.0 rto (fits call sound)) (calms (SetMaxStunRto rto) refl h) h
-  paired (SetMaxStunRetransmits n) sound h = retransmits (n == 0) n (fits (SetMaxStunRetransmits n) sound) (calms (SetMaxStunRetransmits n) refl h) h
-  paired (SetLiteTimeout by) sound h = becomes (SetLiteTimeout by) (fits (SetLiteTimeout by) sound) _ (as_it_was (SetLiteTimeout by) sound) (calms (SetLiteTimeout by) refl h) h
-  paired (SetLocalPreference object) sound h = becomes (SetLocalPreference object) (fits (SetLocalPreference object) sound) _ (as_it_was (SetLocalPreference object) sound) (calms (SetLocalPreference object) refl h) h
+      becomes call (fits call sound) _ (rtos_goes (Asks call) (Met call) Sent old old.timing.initial_rto.0 rto (fits call sound)) (calms (SetMaxStunRto rto) refl refl h) h
+  paired (SetMaxStunRetransmits n) sound h = retransmits (n == 0) n (fits (SetMaxStunRetransmits n) sound) (calms (SetMaxStunRetransmits n) refl refl h) h
+  paired (SetLiteTimeout by) sound h = becomes (SetLiteTimeout by) (fits (SetLiteTimeout by) sound) _ (as_it_was (SetLiteTimeout by) sound) (calms (SetLiteTimeout by) refl refl h) h
+  paired (SetLocalPreference object) sound h = becomes (SetLocalPreference object) (fits (SetLocalPreference object) sound) _ (as_it_was (SetLocalPreference object) sound) (calms (SetLocalPreference object) refl refl h) h
   paired (SetControlling controlling) sound h = done_or (SetControlling controlling) (fits (SetControlling controlling) sound) (SetsControlling old controlling)
-      (λ k. subst (λ (a : AgentRecord H P). Moves (SetControlling controlling) a) (sym k.1) (as_it_was (SetControlling controlling) sound)) (λ error k. controlling_kept old new controlling error k) (calms (SetControlling controlling) refl h) h
+      (λ k. subst (λ (a : AgentRecord H P). Moves (SetControlling controlling) a) (sym k.1) (as_it_was (SetControlling controlling) sound)) (λ error k. controlling_kept old new controlling error k) (calms (SetControlling controlling) refl refl h) h
   paired (SetLocalCredentials creds) sound h = done_or (SetLocalCredentials creds) (fits (SetLocalCredentials creds) sound) (SetsLocal old creds)
-      (λ k. subst (λ (a : AgentRecord H P). Moves (SetLocalCredentials creds) a) (sym k.1) (as_it_was (SetLocalCredentials creds) sound)) (λ error k. local_kept old new creds error k) (calms (SetLocalCredentials creds) refl h) h
+      (λ k. subst (λ (a : AgentRecord H P). Moves (SetLocalCredentials creds) a) (sym k.1) (as_it_was (SetLocalCredentials creds) sound)) (λ error k. local_kept old new creds error k) (calms (SetLocalCredentials creds) refl refl h) h
   paired (SetRemoteCredentials creds) sound h = done_or (SetRemoteCredentials creds) (fits (SetRemoteCredentials creds) sound) (SetsRemote old creds)
-      (λ k. subst (λ (a : AgentRecord H P). Moves (SetRemoteCredentials creds) a) (sym k.1) (as_it_was (SetRemoteCredentials creds) sound)) (λ error k. remote_kept old new creds error k) (calms (SetRemoteCredentials creds) refl h) h
+      (λ k. subst (λ (a : AgentRecord H P). Moves (SetRemoteCredentials creds) a) (sym k.1) (as_it_was (SetRemoteCredentials creds) sound)) (λ error k. remote_kept old new creds error k) (calms (SetRemoteCredentials creds) refl refl h) h
   paired (SkipPairIds n) sound h =
       let call : Call P = SkipPairIds n in
-      becomes call (fits call sound) _ (skips_goes (Asks call) (Met call) Sent old n (fits call sound)) (calms (SkipPairIds n) refl h) h
-  paired (AddLocalCandidate c) sound (Ok place, is, h, drawn) =
+      becomes call (fits call sound) _ (skips_goes (Asks call) (Met call) Sent old n (fits call sound)) (calms (SkipPairIds n) refl refl h) h
+  paired (AddLocalCandidate c) sound h =
       let call : Call P = AddLocalCandidate c in
-      quietly call (fits call sound) (added place) is (calms (AddLocalCandidate c) refl (Ok place, is, h, drawn)) (adds_local_goes (Asks call) (Met call) Sent answers old new c place (fits call sound) h)
-  paired (AddLocalCandidate c) sound (Err error, is, h, drawn) =
-      let call : Call P = AddLocalCandidate c in
-      quietly call (fits call sound) (Rejected error) is (calms (AddLocalCandidate c) refl (Err error, is, h, drawn)) (unmoved call (fits call sound) (enrolment_kept answers old new c error h))
+      selects call (fits call sound) added (AddsLocal answers old c) (λ mid r k. frames.adds_local answers old mid c r k)
+      (λ mid r k. local_goes (Asks call) (Met call) Sent answers old mid c r (fits call sound) k)
+      (λ mid r k. (calls.adds_local answers old mid c r k).selected_paths) h
   paired (AddRemoteCandidate c) sound h =
       let call : Call P = AddRemoteCandidate c in
-      done_or call (fits call sound) (AddsRemote old c) (λ k. adds_remote_goes (Asks call) (Met call) Sent old new c (fits call sound) k) (λ error k. storing_kept old new c error k) (calms (AddRemoteCandidate c) refl h) h
-  paired (InvalidateCandidate c) sound (found, is, h, drawn) =
+      selects call (fits call sound) done (AddsRemote old c) (λ mid r k. frames.adds_remote old mid c r k)
+      (λ mid r k. remote_goes (Asks call) (Met call) Sent old mid c r (fits call sound) k) (λ mid r k. (calls.adds_remote old mid c r k).selected_paths) h
+  paired (InvalidateCandidate c) sound h =
       let call : Call P = InvalidateCandidate c in
-      quietly call (fits call sound) (Flag found) is (calms (InvalidateCandidate c) refl (found, is, h, drawn))
-      (invalidates_goes (Asks call) (Met call) Sent old new (place_to_discard c old.local) (place_to_discard c old.remote) found (fits call sound) h)
+      selects call (fits call sound) Flag (Invalidates old c) (λ mid r k. frames.invalidates old mid c r k)
+      (λ mid r k. without_goes (Asks call) (Met call) Sent old mid c r (fits call sound) k) (λ mid r k. (calls.invalidates old mid c r k).selected_paths) h
   paired (RestartIce creds keep) sound h =
       let call : Call P = RestartIce creds keep in
       done_or call (fits call sound) (Restarts old creds keep) (λ k. restarts_goes (Asks call) (Met call) Sent old new creds keep k.1)
-      (λ error k. restart_kept old new creds keep error k) (calms (RestartIce creds keep) refl h) h
+      (λ error k. restart_kept old new creds keep error k) (calms (RestartIce creds keep) refl refl h) h
   paired RecreateCandidatePairs sound h =
       let call : Call P = RecreateCandidatePairs in
       done_or call (fits call sound) (Recreates old) (λ k. recreates_goes (Asks call) (Met call) Sent old new (fits call sound) k)
-      (λ error k. recreation_kept old new error k) (calms RecreateCandidatePairs refl h) h
+      (λ error k. recreation_kept old new error k) (calms RecreateCandidatePairs refl refl h) h
   paired (ReceivePacket now via bytes) sound h = receives now via bytes sound (fits (ReceivePacket now via bytes) sound) h.0
   paired (HandleTimeout now) sound (r, emitted, is, h) = timeouts now sound (fits (HandleTimeout now) sound) r emitted is h
-  paired PollTransmit sound (given, is, (polled, made), drawn) = quietly PollTransmit (fits PollTransmit sound) (Polled given) is (calms PollTransmit refl (given, is, (polled, made), drawn))
+  paired PollTransmit sound (given, is, (polled, made), drawn) = quietly PollTransmit (fits PollTransmit sound) (Polled given) is (calms PollTransmit refl refl (given, is, (polled, made), drawn))
       (subst (λ (a : AgentRecord H P). Moves PollTransmit a) (sym made) (as_it_was PollTransmit sound))
-  paired PollTimeout sound (deadline, is, h, drawn) = quietly PollTimeout (fits PollTimeout sound) (NextTimeout deadline) is (calms PollTimeout refl (deadline, is, h, drawn))
+  paired PollTimeout sound (deadline, is, h, drawn) = quietly PollTimeout (fits PollTimeout sound) (NextTimeout deadline) is (calms PollTimeout refl refl (deadline, is, h, drawn))
       (polls_goes (Asks PollTimeout) (Met PollTimeout) Sent old new deadline (fits PollTimeout sound) h)
-  paired PollEvent sound (given, is, (polled, made), drawn) = quietly PollEvent (fits PollEvent sound) (Happened given) is (calms PollEvent refl (given, is, (polled, made), drawn))
+  paired PollEvent sound (given, is, (polled, made), drawn) = quietly PollEvent (fits PollEvent sound) (Happened given) is (calms PollEvent refl refl (given, is, (polled, made), drawn))
       (subst (λ (a : AgentRecord H P). Moves PollEvent a) (sym made) (as_it_was PollEvent sound))

@@ -20,7 +20,7 @@ use Rattle.is_rules.specs.Emitted.{nothing_emitted}
 use Rattle.is_rules.specs.Agent.{AgentRecord}
 use Rattle.is_rules.specs.Queue.{next_request, queue_left, QUEUE_LIMIT, queued_last, request_at}
 use Rattle.is_rules.specs.Accepting.{IsAcceptedOn}
-use Rattle.is_rules.specs.Steps.{Call, RestartIce, RecreateCandidatePairs, ReceivePacket, HandleTimeout, Step}
+use Rattle.is_rules.specs.Steps.{Call, AddLocalCandidate, AddRemoteCandidate, InvalidateCandidate, RestartIce, RecreateCandidatePairs, ReceivePacket, HandleTimeout, Step}
 use Rattle.is_rules.specs.Brought.{Brings, IsBrought, IsServing}
 use Rattle.is_rules.specs.Issuing.{WaitsPast, WaitsWith, Waits}
 use Rattle.is_rules.specs.Owed.{Transaction, one_if, count, requested_as, request_of, reply_of, transaction_of, owed}
@@ -31,7 +31,8 @@ use Rattle.is_theorems.proofs.RuleEffects.SelectedPaths.{some_is}
 use Rattle.is_theorems.proofs.CallEffects.SettingsRoleAndQueues.{left_after}
 use Rattle.is_theorems.proofs.RuleEffects.EarlierAndNewPairs.{Has-push}
 use Rattle.is_theorems.proofs.CallEffects.ChecksAndResponses.{Has-drop}
-use Rattle.is_theorems.proofs.CallEffects.CallsThatEmitNothing.{calm}
+use Rattle.is_theorems.proofs.CallEffects.FailedCallsAndNewAgents.{selects_local, selects_remote, selects_without}
+use Rattle.is_theorems.proofs.CallEffects.CallsThatEmitNothing.{silent}
 use Rattle.is_theorems.proofs.CallEffects.ChangedCandidates.{recreates_goes}
 use Rattle.is_theorems.proofs.CallEffects.PairsAndSelectedPaths.{Posted}
 
@@ -71,7 +72,10 @@ module _ {H P : Type 0} (mac : H → List ℕ → List ℕ → List ℕ) (answer
   rejects (ReceivePacket now path bytes) (inr (n, reads_n, (Err error, emitted, is, (may, nothing, made))), drawn) r = ap (λ (x : Entry). x.emitted) is ∙ nothing
   rejects (HandleTimeout now) (Ok u, emitted, is, h) r = absurd (let no : false ≡ true = sym (ap (λ (x : Entry). is_rejection x.answer) is) ∙ r in cc)
   rejects (HandleTimeout now) (Err error, emitted, is, (may, nothing, made, drawn)) r = ap (λ (x : Entry). x.emitted) is ∙ nothing
-  rejects call h r = (calm mac answers old new s t e call refl h).emitted
+  rejects (AddLocalCandidate c) h r = (selects_local mac answers old new s t e c h r).1
+  rejects (AddRemoteCandidate c) h r = (selects_remote mac answers old new s t e c h r).1
+  rejects (InvalidateCandidate c) h r = (selects_without mac answers old new s t e c h r).1
+  rejects call h r = (silent mac answers old new s t e call refl refl h).emitted
 
   -- ---- early requests that are stored
 
@@ -269,6 +273,6 @@ module _ {H P : Type 0} (mac : H → List ℕ → List ℕ → List ℕ) (answer
   clears_pairs call h clear p has = absurd (let no : false ≡ true = clear in cc)
 
   pub clears_quiet : (call : Call P) → Step mac answers old s call e new t → clears call e.answer ≡ true → e.emitted ≡ nothing_emitted
-  clears_quiet (RestartIce creds keep) h clear = (calm mac answers old new s t e (RestartIce creds keep) refl h).emitted
-  clears_quiet RecreateCandidatePairs h clear = (calm mac answers old new s t e RecreateCandidatePairs refl h).emitted
+  clears_quiet (RestartIce creds keep) h clear = (silent mac answers old new s t e (RestartIce creds keep) refl refl h).emitted
+  clears_quiet RecreateCandidatePairs h clear = (silent mac answers old new s t e RecreateCandidatePairs refl refl h).emitted
   clears_quiet call h clear = absurd (let no : false ≡ true = clear in cc)

@@ -19,8 +19,8 @@ use Rattle.is_rules.specs.declared.emitted.Path.{Path}
 use Rattle.is_rules.specs.declared.emitted.Emitted.{Emitted}
 use Rattle.is_rules.specs.declared.emitted.Issued.{Issued}
 use Rattle.is_rules.specs.Request.{RequestRecord, request_in}
-use Rattle.is_rules.specs.Steps.{Answer, Done, Added, NotAdded, Flag, NextTimeout, Unparsed, NotCalled, Rejected, Entry, quiet, done, answer_by}
-use Rattle.is_rules.specs.Emitted.{nothing_emitted}
+use Rattle.is_rules.specs.Steps.{Answer, Done, Flag, NextTimeout, Unparsed, NotCalled, Rejected, Entry, quiet, done, added, answer_by, is_done}
+use Rattle.is_rules.specs.Emitted.{nothing_emitted, selected_only}
 use Rattle.is_rules.specs.Agent.{AgentRecord}
 use Rattle.is_rules.specs.Sending.{path_of}
 use Rattle.is_rules.specs.Forming.{Combination, FormsAll}
@@ -28,10 +28,11 @@ use Rattle.is_rules.specs.declared.roles.Conflict.TheVariants.{Absent, Send487, 
 use Rattle.is_rules.specs.Roles.{conflict_by, conflict_of, keeps_role, rival, switched}
 use Rattle.is_rules.specs.Settings.{SetsControlling, SetsMtu, with_retransmits, with_rtos}
 use Rattle.is_rules.specs.Credentials.{SetsLocal, SetsRemote}
-use Rattle.is_rules.specs.Discarding.{InvalidatesAt, place_to_discard}
+use Rattle.is_rules.specs.Discarding.{InvalidatesAt, Invalidates, local_to_discard, remote_to_discard}
 use Rattle.is_rules.specs.Discarding.{local_discarded, remote_discarded}
 use Rattle.is_rules.specs.Local.{AddsLocal, appended, enabled_again}
 use Rattle.is_rules.specs.Remote.{AddsRemote, as_remote, with_remote}
+use Rattle.is_rules.specs.Settling.{loses_selected, Reselects}
 use Rattle.is_rules.specs.Restarting.{Restarts, Recreates, restarted, emptied}
 use Rattle.is_rules.specs.Serving.{Drops, Serves}
 use Rattle.is_rules.specs.Queue.{queue_left, next_request, first_taken, request_at, queued, is_outdated}
@@ -39,7 +40,7 @@ use Rattle.is_rules.specs.Answers.{TakesFailure, LeavesRole, is_role_conflict}
 use Rattle.is_rules.specs.Accepting.{Takes, discovered_emitted}
 use Rattle.is_rules.specs.Checking.{all_asked, MayCheck, ChecksTop, check_message}
 use Rattle.is_rules.specs.Timeouts.{at_request, timeout_begun, at_timeout, MaintainsPairs, ServesQueued, TimesOut}
-use Rattle.is_rules.specs.Steps.{Call, SetMtu, SetControlTieBreaker, SetMaxCandidatePairs, SetMaxDiscovered, SetIceLite, SetRenomination, SetRules, SetTimingAdvance, SetInitialStunRto, SetMaxStunRto, SetMaxStunRetransmits, SetLiteTimeout, SetLocalPreference, SetControlling, SetLocalCredentials, SetRemoteCredentials, SkipPairIds, AddLocalCandidate, AddRemoteCandidate, InvalidateCandidate, RestartIce, RecreateCandidatePairs, ReceivePacket, HandleTimeout, PollTransmit, PollTimeout, PollEvent, Becomes, MayDo, Receives, Step}
+use Rattle.is_rules.specs.Steps.{Call, SetMtu, SetControlTieBreaker, SetMaxCandidatePairs, SetMaxDiscovered, SetIceLite, SetRenomination, SetRules, SetTimingAdvance, SetInitialStunRto, SetMaxStunRto, SetMaxStunRetransmits, SetLiteTimeout, SetLocalPreference, SetControlling, SetLocalCredentials, SetRemoteCredentials, SkipPairIds, AddLocalCandidate, AddRemoteCandidate, InvalidateCandidate, RestartIce, RecreateCandidatePairs, ReceivePacket, HandleTimeout, PollTransmit, PollTimeout, PollEvent, Becomes, MayDo, MaySelect, Receives, Step}
 use Rattle.is_rules.specs.Brought.{Brings, IsServing, IsServedPastTests, SwitchesRoleFor, IsRejectedBy, IsRoleSet, role_once}
 use Rattle.is_rules.specs.Issuing.{QueuesPackets, Waits, WaitsPast, IsQueued}
 use Rattle.is_rules.specs.Effects.{tie_set_by, lite_set_by, keeping_set_by, local_after, remote_after}
@@ -92,6 +93,14 @@ and-false false = refl
 and-true : (b : Bool) → b && not false ≡ b
 and-true true = refl
 and-true false = refl
+
+same-either : {X : Type 0} (b : Bool) (x : X) → (if b then x else x) ≡ x
+same-either true x = refl
+same-either false x = refl
+
+-- the entry of a call that issues nothing, and may select this path
+abbrev choosing : Answer → Option Path → Entry
+choosing answer path = record { answer = answer; emitted = selected_only path }
 
 -- an agent that keeps its role does not switch it
 never-switches : (keeps : Bool) (own : ℕ) (o : Option ℕ) → keeps ≡ true → conflict_by keeps own o ≡ SwitchRole → ⊥
@@ -155,15 +164,16 @@ module _ {H P : Type 0} where
   forms_alike old new all (f, forms, made) = (ap (λ (a : AgentRecord H P). frame_of a) made, ap (λ (a : AgentRecord H P). a.packets) made)
 
   -- a call that leaves the queues, keeps settings and credentials, and receives nothing
-  alike : (old new : AgentRecord H P) (call : Call P) (answer : Answer) → Alike old new
+  alike : (old new : AgentRecord H P) (call : Call P) (answer : Answer) (path : Option Path) → Alike old new
       → tie_set_by call old.tie_breaker ≡ old.tie_breaker → lite_set_by call old.lite ≡ old.lite → keeping_set_by call old.rules.lite_keeps_role ≡ old.rules.lite_keeps_role
       → local_after call answer old.local_creds ≡ old.local_creds → remote_after call answer old.remote_creds ≡ old.remote_creds
-      → (new.packets ≡ old.packets → QueuesPackets call (quiet answer) old.packets new.packets)
-      → (new.queue ≡ old.queue → Waits old call (quiet answer) new)
-      → ((q : RequestRecord) → IsServing old call (quiet answer) q → ⊥) → ((at : ℕ) (by : Path) (m : Message) → Brings call (quiet answer) at by m → ⊥)
-      → FrameEffect old call (quiet answer) new
-  alike old new call answer (frame, packets) tie lite keeping local remote queues waits serving brings =
-      plain old new call (quiet answer) (ap (λ (f : Frame H). f.provider) frame) (ap (λ (f : Frame H). f.tie_breaker) frame ∙ sym tie)
+      → (new.packets ≡ old.packets → QueuesPackets call (choosing answer path) old.packets new.packets)
+      → (new.queue ≡ old.queue → Waits old call (choosing answer path) new)
+      → ((q : RequestRecord) → IsServing old call (choosing answer path) q → ⊥)
+      → ((at : ℕ) (by : Path) (m : Message) → Brings call (choosing answer path) at by m → ⊥)
+      → FrameEffect old call (choosing answer path) new
+  alike old new call answer path (frame, packets) tie lite keeping local remote queues waits serving brings =
+      plain old new call (choosing answer path) (ap (λ (f : Frame H). f.provider) frame) (ap (λ (f : Frame H). f.tie_breaker) frame ∙ sym tie)
       (ap (λ (f : Frame H). f.lite) frame ∙ sym lite) (ap (λ (f : Frame H). f.keeping) frame ∙ sym keeping) (ap (λ (f : Frame H). f.local_creds) frame ∙ sym local)
       (ap (λ (f : Frame H). f.remote_creds) frame ∙ sym remote) (queues packets) (waits (ap (λ (f : Frame H). f.queue) frame))
       (inl (ap (λ (f : Frame H). f.controlling) frame)) serving brings
@@ -173,24 +183,38 @@ module _ {H P : Type 0} where
   same_record : (old new : AgentRecord H P) → new ≡ old → Alike old new
   same_record old new made = (ap (λ (a : AgentRecord H P). frame_of a) made, ap (λ (a : AgentRecord H P). a.packets) made)
 
-  adds_local : (answers : P → CandidateRecord → ℕ → ℕ → Type 0) (old new : AgentRecord H P) (c : CandidateRecord) (place : Option ℕ)
-      → AddsLocal answers old c (Ok place) new → Alike old new
-  adds_local answers old new c place h = by_adding_local old new answers c place h
+  pub adds_local : (answers : P → CandidateRecord → ℕ → ℕ → Type 0) (old new : AgentRecord H P) (c : CandidateRecord) (r : Result (Option ℕ) IceError)
+      → AddsLocal answers old c r new → Alike old new
+  adds_local answers old new c (Err error) h = same_record old new (enrolment_kept answers old new c error h)
+  adds_local answers old new c (Ok place) h = by_adding_local old new answers c place h
       (λ made. same_record old new made)
       (λ x own f. forms_alike (appended x old) new _ f)
       (λ k lt f. forms_alike (enabled_again k old) new _ f)
       (λ x own k f. forms_alike (appended x (local_discarded k old)) new _ f)
 
-  adds_remote : (old new : AgentRecord H P) (c : CandidateRecord) → AddsRemote old c (Ok _) new → Alike old new
-  adds_remote old new c h = by_adding_remote old new c h
+  pub adds_remote : (old new : AgentRecord H P) (c : CandidateRecord) (r : Result (Unit {0}) IceError) → AddsRemote old c r new → Alike old new
+  adds_remote old new c (Err error) h = same_record old new (storing_kept old new c error h)
+  adds_remote old new c (Ok _) h = by_adding_remote old new c h
       (λ made. same_record old new made)
       (λ f. forms_alike (with_remote (as_remote c) None old) new _ f)
       (λ k lt addr f. forms_alike (with_remote (as_remote c) (Some k) old) new _ f)
 
-  invalidates : (old new : AgentRecord H P) (l r : Option ℕ) (found : Bool) → InvalidatesAt l r old found new → Alike old new
-  invalidates old new (Some place) r found h = same_record (local_discarded place old) new h.1
-  invalidates old new None (Some place) found h = same_record (remote_discarded place old) new h.1
-  invalidates old new None None found h = same_record old new h.1
+  invalidates_at : (old new : AgentRecord H P) (l r : Option ℕ) (found : Bool) → InvalidatesAt l r old found new → Alike old new
+  invalidates_at old new (Some place) r found h = same_record (local_discarded place old) new h.1
+  invalidates_at old new None (Some place) found h = same_record (remote_discarded place old) new h.1
+  invalidates_at old new None None found h = same_record old new h.1
+
+  pub invalidates : (old new : AgentRecord H P) (c : CandidateRecord) (r : Result Bool IceError) → Invalidates old c r new → Alike old new
+  invalidates old new c (Ok found) h = invalidates_at old new (local_to_discard c old) (remote_to_discard c old) found h
+  invalidates old new c (Err error) h = same_record old new h.1
+
+  -- another path may be selected after the call
+  reselects : (loses : Bool) (old mid new : AgentRecord H P) (path : Option Path) → Alike old mid → Reselects loses mid path new → Alike old new
+  reselects true old mid new path (frame, packets) (named, nominates, made) =
+      let k = nominates_frame mid named path nominates in
+      (ap (λ (a : AgentRecord H P). frame_of a) made ∙ (k.0 ∙ frame), ap (λ (a : AgentRecord H P). a.packets) made ∙ (k.1 ∙ packets))
+  reselects false old mid new path (frame, packets) h =
+      (ap (λ (a : AgentRecord H P). frame_of a) h.1 ∙ frame, ap (λ (a : AgentRecord H P). a.packets) h.1 ∙ packets)
 
   -- ---- early requests
 
@@ -303,7 +327,7 @@ module _ {H P : Type 0} where
       entry = record { answer = Flag true; emitted = emitted }
 
       abbrev new : AgentRecord H P
-      new = discovered_emitted path mid
+      new = discovered_emitted m.class emitted path mid
 
       abbrev q : RequestRecord
       q = request_in now path m
@@ -481,6 +505,16 @@ module _ {H P : Type 0} where
     done_or Does call done kept rejected (Ok _, is, h, drawn) = subst (λ (x : Entry). FrameEffect old call x new) (sym is) (done h)
     done_or Does call done kept rejected (Err error, is, h, drawn) = unmoved call (quiet (Rejected error)) is (kept error h) (rejected error)
 
+    -- a call that may select another path
+    chosen : {A : Type 0} (to_answer : A → Answer) (Does : Result A IceError → AgentRecord H P → Type 0) (call : Call P)
+        → ((mid : AgentRecord H P) (r : Result A IceError) → Does r mid → Alike old mid)
+        → ((answer : Answer) (path : Option Path) → Alike old new → FrameEffect old call (choosing answer path) new)
+        → MaySelect to_answer Does old s e new t → FrameEffect old call e new
+    chosen to_answer Does call does effect (r, emitted, is, (path, mid, h, again, out), drawn) =
+        subst (λ (x : Entry). FrameEffect old call x new)
+        (sym (is ∙ ap (λ (x : Emitted). let f : Entry = record { answer = answer_by to_answer r; emitted = x } in f) out))
+        (effect (answer_by to_answer r) path (reselects (loses_selected old mid) old mid new path (does mid r h) again))
+
     alike_done : (call : Call P) (answer : Answer) → e ≡ quiet answer → FrameEffect old call (quiet answer) new → FrameEffect old call e new
     alike_done call answer is h = subst (λ (x : Entry). FrameEffect old call x new) (sym is) h
 
@@ -498,7 +532,7 @@ module _ {H P : Type 0} where
         unmoved _ (quiet (Flag false)) (is ∙ ap (λ (x : Emitted). let f : Entry = record { answer = Flag false; emitted = x } in f) emitted_is) made
         (plain old old _ _ refl refl refl refl refl refl refl (inl refl) (inl refl) (λ q h. (let no : Flag false ≡ Flag true = h.3.3 in cc)) (λ at by n h. (let no : Flag false ≡ Flag true = h.3 in cc)))
     receives now path bytes (inr (m, reads, (Ok true, emitted, is, (accepted, (mid, takes, made))))) =
-        moved old new (discovered_emitted path mid) _ e _ is made (taken mac now old mid path bytes m emitted reads m.class refl takes)
+        moved old new (discovered_emitted m.class emitted path mid) _ e _ is made (taken mac now old mid path bytes m emitted reads m.class refl takes)
     receives now path bytes (inr (m, reads, (Err error, emitted, is, (may, emitted_is, made)))) =
         unmoved _ (quiet (Rejected error)) (is ∙ ap (λ (x : Emitted). let f : Entry = record { answer = Rejected error; emitted = x } in f) emitted_is) made
         (plain old old _ _ refl refl refl refl refl refl refl (inl refl) (inl refl) (λ q h. (let no : Rejected error ≡ Flag true = h.3.3 in cc)) (λ at by n h. (let no : Rejected error ≡ Flag true = h.3 in cc)))
@@ -557,18 +591,18 @@ module _ {H P : Type 0} where
         (λ error k. remote_kept old new creds error k)
         (λ error. plain old old _ _ refl refl refl refl refl refl refl (inl refl) (inl refl) (λ q h. absurd h.3) (λ at by m h. absurd h)) h
     framed (SkipPairIds n) (is, made, drawn) = moved old new _ _ e _ is made (plain old _ _ _ refl refl refl refl refl refl refl (inl refl) (inl refl) (λ q h. absurd h.3) (λ at by m h. absurd h))
-    framed (AddLocalCandidate c) (Ok None, is, h, drawn) = alike_done _ NotAdded is
-        (alike old new _ NotAdded (adds_local answers old new c None h) refl refl refl refl refl (λ k. k) (λ k. inl k) (λ q h. absurd h.3) (λ at by m h. absurd h))
-    framed (AddLocalCandidate c) (Ok (Some place), is, h, drawn) = alike_done _ Added is
-        (alike old new _ Added (adds_local answers old new c (Some place) h) refl refl refl refl refl (λ k. k) (λ k. inl k) (λ q h. absurd h.3) (λ at by m h. absurd h))
-    framed (AddLocalCandidate c) (Err error, is, h, drawn) = unmoved _ (quiet (Rejected error)) is (enrolment_kept answers old new c error h)
-        (plain old old _ _ refl refl refl refl refl refl refl (inl refl) (inl refl) (λ q h. absurd h.3) (λ at by m h. absurd h))
-    framed (AddRemoteCandidate c) h = done_or (AddsRemote old c) (AddRemoteCandidate c)
-        (λ k. alike old new _ Done (adds_remote old new c k) refl refl refl refl refl (λ k. k) (λ k. inl k) (λ q h. absurd h.3) (λ at by m h. absurd h))
-        (λ error k. storing_kept old new c error k)
-        (λ error. plain old old _ _ refl refl refl refl refl refl refl (inl refl) (inl refl) (λ q h. absurd h.3) (λ at by m h. absurd h)) h
-    framed (InvalidateCandidate c) (found, is, h, drawn) = alike_done _ (Flag found) is
-        (alike old new _ (Flag found) (invalidates old new (place_to_discard c old.local) (place_to_discard c old.remote) found h) refl refl refl refl refl (λ k. k) (λ k. inl k) (λ q h. absurd h.3) (λ at by m h. absurd h))
+    framed (AddLocalCandidate c) h = chosen added (AddsLocal answers old c) (AddLocalCandidate c) (λ mid r k. adds_local answers old mid c r k)
+        (λ answer path k. alike old new _ answer path k refl refl refl
+        (same-either (is_done answer) old.local_creds) (same-either (is_done answer) old.remote_creds)
+        (λ k. k) (λ k. inl k) (λ q h. absurd h.3) (λ at by m h. absurd h)) h
+    framed (AddRemoteCandidate c) h = chosen done (AddsRemote old c) (AddRemoteCandidate c) (λ mid r k. adds_remote old mid c r k)
+        (λ answer path k. alike old new _ answer path k refl refl refl
+        (same-either (is_done answer) old.local_creds) (same-either (is_done answer) old.remote_creds)
+        (λ k. k) (λ k. inl k) (λ q h. absurd h.3) (λ at by m h. absurd h)) h
+    framed (InvalidateCandidate c) h = chosen Flag (Invalidates old c) (InvalidateCandidate c) (λ mid r k. invalidates old mid c r k)
+        (λ answer path k. alike old new _ answer path k refl refl refl
+        (same-either (is_done answer) old.local_creds) (same-either (is_done answer) old.remote_creds)
+        (λ k. k) (λ k. inl k) (λ q h. absurd h.3) (λ at by m h. absurd h)) h
     framed (RestartIce creds keep) h = done_or (Restarts old creds keep) (RestartIce creds keep)
         (λ k. moved old new (restarted creds keep old) _ _ _ refl k.1 (plain old (restarted creds keep old) _ _ refl refl refl refl refl refl (refl, refl) (inl refl) (inl refl) (λ q h. absurd h.3) (λ at by m h. absurd h)))
         (λ error k. restart_kept old new creds keep error k)
@@ -579,13 +613,14 @@ module _ {H P : Type 0} where
         (λ error. plain old old _ _ refl refl refl refl refl refl refl (inl refl) (inl refl) (λ q h. absurd h.3) (λ at by m h. absurd h)) h where
           recreated : Recreates old (Ok _) new → FrameEffect old RecreateCandidatePairs (quiet Done) new
           recreated (enough, forms) =
-              alike old new _ Done (forms_alike (emptied old) new _ forms) refl refl refl refl refl (λ k. k) (λ k. inl k) (λ q h. absurd h.3) (λ at by m h. absurd h)
+              alike old new _ Done None (forms_alike (emptied old) new _ forms)
+              refl refl refl refl refl (λ k. k) (λ k. inl k) (λ q h. absurd h.3) (λ at by m h. absurd h)
     framed (ReceivePacket now path bytes) h = receives now path bytes h.0
     framed (HandleTimeout now) (r, emitted, is, h) = timeouts now r emitted is h
     framed PollTransmit (given, is, (polled, made), drawn) = moved old new (record old { packets = new.packets }) _ e _ is made
         (plain old (record old { packets = new.packets }) _ _ refl refl refl refl refl refl (given, refl, polled) (inl refl) (inl refl) (λ q h. absurd h.3) (λ at by m h. absurd h))
     framed PollTimeout (deadline, is, h, drawn) = alike_done _ (NextTimeout deadline) is
-        (alike old new _ (NextTimeout deadline) (by_waking old new deadline h
+        (alike old new _ (NextTimeout deadline) None (by_waking old new deadline h
         (λ made. same_record old new made)
         (λ at made. same_record (record old { pairs = map (asked at old.timing) old.pairs }) new made)) refl refl refl refl refl (λ k. k) (λ k. inl k) (λ q h. absurd h.3) (λ at by m h. absurd h))
     framed PollEvent (given, is, (polled, made), drawn) = moved old new (record old { events = new.events }) _ e _ is made

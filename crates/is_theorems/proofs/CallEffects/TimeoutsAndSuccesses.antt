@@ -46,7 +46,7 @@ selected_are (Some p) second path (inl e) = inl e
 selected_are (Some p) second path (inr (inl e)) = inr e
 selected_are (Some p) second path (inr (inr h)) = absurd h
 
-only_pair : (path : Option Path) → (selected_only path).selected_paths ≡ selected_in path None
+pub only_pair : (path : Option Path) → (selected_only path).selected_paths ≡ selected_in path None
 only_pair None = refl
 only_pair (Some path) = refl
 

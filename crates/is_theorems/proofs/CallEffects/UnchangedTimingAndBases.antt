@@ -23,6 +23,7 @@ use Rattle.is_rules.specs.Forming.{formed, with_pair}
 use Rattle.is_rules.specs.Nominating.{Nominates, NominatesWhere, with_selection, nominated_emitted}
 use Rattle.is_rules.specs.Roles.{conflict_of, switched}
 use Rattle.is_rules.specs.Serving.{selects_at_requests, Drops, is_misled, names_another, pair_served, request_counted, with_sender, with_sender_at, RecordsAndResponds, FindsOrAddsPair, AddsUnknownSender, CountsAndServes, ResolvesRoleConflictBy, ResolvesRoleConflict, Serves}
+use Rattle.is_rules.specs.Settling.{Reselects}
 use Rattle.is_rules.specs.Checking.{all_asked, ChecksTop, MayCheck}
 use Rattle.is_rules.specs.Timeouts.{is_expired, expired_gone, RemovesExpired, at_timeout, MaintainsPairs}
 use Rattle.is_theorems.proofs.RuleEffects.UnchangedSettings.{either}
@@ -54,7 +55,11 @@ module _ {H P : Type 0} where
   pub removes_expired_rest : (now : ℕ) (old new : AgentRecord H P) (path : Option Path) → RemovesExpired now old path new → Rests old new
   removes_expired_rest now old new path h = either (list_any (is_expired now old) old.pairs) h
       (λ _ k. ap (λ (a : AgentRecord H P). rest_of a) k.2 ∙ nominates_rest (expired_gone now old) k.0 path k.1)
-      (λ _ k. same old new k.1)
+      (λ _ k. ap (λ (a : AgentRecord H P). rest_of a) k.1)
+
+  pub reselects_rest : (loses : Bool) (old new : AgentRecord H P) (path : Option Path) → Reselects loses old path new → Rests old new
+  reselects_rest true old new path (named, nominates, made) = ap (λ (a : AgentRecord H P). rest_of a) made ∙ nominates_rest old named path nominates
+  reselects_rest false old new path h = same old new h.1
 
   check_rest : (mac : H → List ℕ → List ℕ → List ℕ) (now : ℕ) (remote : Option IceCreds) (old new : AgentRecord H P) (s t : Stream) (issued : Option Issued)
       → MayCheck mac now remote old s issued new t → Rests old new

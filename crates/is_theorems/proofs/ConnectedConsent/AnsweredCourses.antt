@@ -8,23 +8,51 @@ use Rattle.is_pair.specs.Pairs.{is_valid}
 use Rattle.is_rules.specs.Agent.{AgentRecord}
 use Rattle.is_rules.specs.Credentials.{SetsLocal, SetsRemote}
 use Rattle.is_rules.specs.declared.credentials.IceCreds.{IceCreds}
-use Rattle.is_rules.specs.Discarding.{InvalidatesAt, is_local_at, is_remote_at, local_discarded, place_to_discard, remote_discarded}
+use Rattle.is_rules.specs.Discarding.{Invalidates, InvalidatesAt, is_local_at, is_remote_at, local_discarded, local_to_discard, remote_to_discard, remote_discarded}
 use Rattle.is_rules.specs.Effects.{lite_set_by}
 use Rattle.is_rules.specs.Local.{AddsLocal}
 use Rattle.is_rules.specs.Remote.{AddsRemote}
 use Rattle.is_rules.specs.Restarting.{emptied, Recreates, Restarts}
 use Rattle.is_rules.specs.Settings.{SetsControlling, SetsMtu}
-use Rattle.is_rules.specs.Steps.{Call, SetMtu, SetControlTieBreaker, SetMaxCandidatePairs, SetMaxDiscovered, SetIceLite, SetRenomination, SetRules, SetTimingAdvance, SetInitialStunRto, SetMaxStunRto, SetMaxStunRetransmits, SetLiteTimeout, SetLocalPreference, SetControlling, SetLocalCredentials, SetRemoteCredentials, SkipPairIds, AddLocalCandidate, AddRemoteCandidate, InvalidateCandidate, RestartIce, RecreateCandidatePairs, ReceivePacket, HandleTimeout, PollTransmit, PollTimeout, PollEvent, Entry, Step, MayDo}
+use Rattle.is_rules.specs.Settling.{loses_selected}
+use Rattle.is_rules.specs.Steps.{Call, SetMtu, SetControlTieBreaker, SetMaxCandidatePairs, SetMaxDiscovered, SetIceLite, SetRenomination, SetRules, SetTimingAdvance, SetInitialStunRto, SetMaxStunRto, SetMaxStunRetransmits, SetLiteTimeout, SetLocalPreference, SetControlling, SetLocalCredentials, SetRemoteCredentials, SkipPairIds, AddLocalCandidate, AddRemoteCandidate, InvalidateCandidate, RestartIce, RecreateCandidatePairs, ReceivePacket, HandleTimeout, PollTransmit, PollTimeout, PollEvent, Answer, Flag, added, done, Entry, Step, MayDo, MaySelect}
 use Rattle.is_theorems.specs.ConsentCourses.{AreNeverLite, ValidHaveConsented}
 use Rattle.is_theorems.specs.Exchange.{Course}
 use Rattle.is_theorems.specs.Runs.{IsFresh}
 use Rattle.is_theorems.proofs.CallEffects.AddedCandidates.{by_adding_local, by_adding_remote, by_waking}
 use Rattle.is_theorems.proofs.CallEffects.FailedCallsAndNewAgents.{mtu_kept, controlling_kept, local_kept, remote_kept, restart_kept, recreation_kept, enrolment_kept, storing_kept}
-use Rattle.is_theorems.proofs.ConnectedConsent.AnsweredPairs.{AreAnswered, answered-filter, answered-map, forms-firm, IsFirm, made-firm, received-firm, timed-firm, unless-answered}
+use Rattle.is_theorems.proofs.ConnectedConsent.AnsweredPairs.{AreAnswered, answered-filter, answered-map, forms-firm, IsFirm, made-firm, received-firm, reselects-firm, timed-firm, unless-answered}
 use Rattle.is_theorems.proofs.RuleEffects.UnchangedSettings.{either}
 
 module _ {H P : Type 0} (mac : H → List ℕ → List ℕ → List ℕ) (answers : P → CandidateRecord → ℕ → ℕ → Type 0) where
   -- ---- calls
+
+  -- a candidate is added or invalidated
+  discards : (old new : AgentRecord H P) (l r : Option ℕ) (found : Bool) → InvalidatesAt l r old found new → IsFirm old → IsFirm new
+  discards old new (Some place) r found (is, made) f =
+      made-firm (local_discarded place old) new made (f.0, answered-filter (λ p. not (is_local_at place p)) old.pairs f.1)
+  discards old new None (Some place) found (is, made) f =
+      made-firm (remote_discarded place old) new made (f.0, answered-filter (λ p. not (is_remote_at place p)) old.pairs f.1)
+  discards old new None None found (is, made) f = made-firm old new made f
+
+  invalidates : (old new : AgentRecord H P) (c : CandidateRecord) (r : Result Bool IceError) → Invalidates old c r new → IsFirm old → IsFirm new
+  invalidates old new c (Ok found) h f = discards old new (local_to_discard c old) (remote_to_discard c old) found h f
+  invalidates old new c (Err error) h f = made-firm old new h.1 f
+
+  signals : (old new : AgentRecord H P) (c : CandidateRecord) (r : Result (Unit {0}) IceError) → AddsRemote old c r new → IsFirm old → IsFirm new
+  signals old new c (Ok _) h f = by_adding_remote old new c h
+      (λ made. made-firm old new made f)
+      (λ formed. forms-firm _ new _ formed f)
+      (λ k lt addr formed. forms-firm _ new _ formed f)
+  signals old new c (Err error) h f = made-firm old new (storing_kept old new c error h) f
+
+  adds-local : (old new : AgentRecord H P) (c : CandidateRecord) (r : Result (Option ℕ) IceError) → AddsLocal answers old c r new → IsFirm old → IsFirm new
+  adds-local old new c (Ok place) h f = by_adding_local old new answers c place h
+      (λ made. made-firm old new made f)
+      (λ x based formed. forms-firm _ new _ formed f)
+      (λ k lt formed. forms-firm _ new _ formed f)
+      (λ x based k formed. forms-firm _ new _ formed (f.0, answered-filter (λ p. not (is_local_at k p)) old.pairs f.1))
+  adds-local old new c (Err error) h f = made-firm old new (enrolment_kept answers old new c error h) f
 
   module _ (old new : AgentRecord H P) (s t : Stream) (e : Entry) (f : IsFirm old) where
     kept : new ≡ old → IsFirm new
@@ -38,31 +66,13 @@ module _ {H P : Type 0} (mac : H → List ℕ → List ℕ → List ℕ) (answer
     restarts creds keep (Ok _, is, (fits, made), drawn) = subst (λ (a : AgentRecord H P). IsFirm a) (sym made) (f.0, λ p has. absurd has)
     restarts creds keep (Err error, is, h, drawn) = kept (restart_kept old new creds keep error h)
 
-    discards : (l r : Option ℕ) (found : Bool) → InvalidatesAt l r old found new → IsFirm new
-    discards (Some place) r found (is, made) =
-        made-firm (local_discarded place old) new made (f.0, answered-filter (λ p. not (is_local_at place p)) old.pairs f.1)
-    discards None (Some place) found (is, made) =
-        made-firm (remote_discarded place old) new made (f.0, answered-filter (λ p. not (is_remote_at place p)) old.pairs f.1)
-    discards None None found (is, made) = kept made
-
-    signals : (c : CandidateRecord) → MayDo (AddsRemote old c) s e new t → IsFirm new
-    signals c (Ok _, is, h, drawn) = by_adding_remote old new c h
-        (λ made. kept made)
-        (λ formed. forms-firm _ new _ formed f)
-        (λ k lt addr formed. forms-firm _ new _ formed f)
-    signals c (Err error, is, h, drawn) = kept (storing_kept old new c error h)
-
     recreates : MayDo (Recreates old) s e new t → IsFirm new
     recreates (Ok _, is, (enough, formed), drawn) = forms-firm (emptied old) new _ formed (f.0, λ p has. absurd has)
     recreates (Err error, is, h, drawn) = kept (recreation_kept old new error h)
 
-    adds-local : (c : CandidateRecord) (r : Result (Option ℕ) IceError) → AddsLocal answers old c r new → IsFirm new
-    adds-local c (Ok place) h = by_adding_local old new answers c place h
-        (λ made. kept made)
-        (λ x based formed. forms-firm _ new _ formed f)
-        (λ k lt formed. forms-firm _ new _ formed f)
-        (λ x based k formed. forms-firm _ new _ formed (f.0, answered-filter (λ p. not (is_local_at k p)) old.pairs f.1))
-    adds-local c (Err error) h = kept (enrolment_kept answers old new c error h)
+    selects : {A : Type 0} (to_answer : A → Answer) (Does : Result A IceError → AgentRecord H P → Type 0)
+        → ((mid : AgentRecord H P) (r : Result A IceError) → Does r mid → IsFirm mid) → MaySelect to_answer Does old s e new t → IsFirm new
+    selects to_answer Does does (r, emitted, is, (path, mid, h, again, out), drawn) = reselects-firm (loses_selected old mid) mid new path again (does mid r h)
 
     asks : (at : ℕ) → AreAnswered (map (asked at old.timing) old.pairs)
     asks at = answered-map (asked at old.timing) old.pairs (λ p a. a) f.1
@@ -87,9 +97,9 @@ module _ {H P : Type 0} (mac : H → List ℕ → List ℕ → List ℕ) (answer
     steps (SetLocalCredentials creds) full h = may (SetsLocal old creds) (λ k. subst (λ (a : AgentRecord H P). IsFirm a) (sym k.1) f) (local_kept old new creds) h
     steps (SetRemoteCredentials creds) full h = may (SetsRemote old creds) (λ k. subst (λ (a : AgentRecord H P). IsFirm a) (sym k.1) f) (remote_kept old new creds) h
     steps (SkipPairIds k) full (is, made, drawn) = subst (λ (a : AgentRecord H P). IsFirm a) (sym made) f
-    steps (AddLocalCandidate c) full (r, is, h, drawn) = adds-local c r h
-    steps (AddRemoteCandidate c) full h = signals c h
-    steps (InvalidateCandidate c) full (found, is, h, drawn) = discards (place_to_discard c old.local) (place_to_discard c old.remote) found h
+    steps (AddLocalCandidate c) full h = selects added (AddsLocal answers old c) (λ mid r k. adds-local old mid c r k f) h
+    steps (AddRemoteCandidate c) full h = selects done (AddsRemote old c) (λ mid r k. signals old mid c r k f) h
+    steps (InvalidateCandidate c) full h = selects Flag (Invalidates old c) (λ mid r k. invalidates old mid c r k f) h
     steps (RestartIce creds keep) full h = restarts creds keep h
     steps RecreateCandidatePairs full h = recreates h
     steps (ReceivePacket now via bytes) full (h, drawn) = received-firm mac answers now old new via bytes e h f

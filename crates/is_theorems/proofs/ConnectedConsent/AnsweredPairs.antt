@@ -1,6 +1,6 @@
 -- While the agent is full, each valid pair has a check that got a response.
 use Rattle.std.proofs.Common.{◌≡◌, ℕ, ◌&&◌, ◌||◌, Bool, true, false, not, List, [], ◌∷◌, ◌++◌, map, filter, nat_lt, is_some, Option, Some, None, Result, Ok, Err, inl, inr, refl, sym, subst, if◌then◌else◌}
-use Rattle.std.specs.Prelude.{MatchOption, slice_set}
+use Rattle.std.specs.Prelude.{MatchOption, slice_set, unwrap_or}
 use Rattle.std.specs.List.{list_any}
 use Rattle.rand_core.specs.Stream.{Stream}
 use Rattle.is_proto.specs.declared.error.IceError.{IceError}
@@ -39,6 +39,7 @@ use Rattle.is_rules.specs.Roles.{conflict_of, switched, switched_sides, with_pri
 use Rattle.is_rules.specs.Serving.{after_request, AddsUnknownSender, CountsAndServes, Drops, FindsOrAddsPair, is_misled, names_another, pair_served, Queues, RecordsAndResponds, request_counted, ResolvesRoleConflict, ResolvesRoleConflictBy, selects_at_requests, served, Serves, with_sender, with_sender_at, as_taken, nominated_by_peer}
 use Rattle.is_rules.specs.States.{evaluated}
 use Rattle.is_rules.specs.Steps.{Entry, Receives}
+use Rattle.is_rules.specs.Settling.{settled, Reselects}
 use Rattle.is_rules.specs.Timeouts.{at_request, at_timeout, expired_gone, is_expired, MaintainsPairs, RemovesExpired, timeout_begun, TimesOut}
 use Rattle.is_rules.proofs.PairLists.RemovedInTurn.{removes, RemovesInTurn}
 use Rattle.is_theorems.proofs.CallEffects.ChecksAndResponses.{Has-set}
@@ -180,7 +181,12 @@ module _ {H P : Type 0} where
   gives-up-firm now old new path h f = either (list_any (is_expired now old) old.pairs) h
       (λ _ k. made-firm (evaluated now k.0) new k.2
       (nominates-firm (expired_gone now old) k.0 path k.1 (f.0, answered-filter (λ p. not (is_expired now old p)) old.pairs f.1)))
-      (λ _ k. made-firm old new k.1 f)
+      (λ _ k. made-firm (settled true now old) new k.1 f)
+
+  pub reselects-firm : (loses : Bool) (old new : AgentRecord H P) (path : Option Path) → Reselects loses old path new → Keeps old new
+  reselects-firm true old new path (named, nominates, made) f =
+      made-firm (evaluated (unwrap_or old.last_time 0) named) new made (nominates-firm old named path nominates f)
+  reselects-firm false old new path (none, made) f = made-firm old new made f
 
   -- ---- checks
 
@@ -288,7 +294,7 @@ module _ {H P : Type 0} where
     handled : (now : ℕ) (old new : AgentRecord H P) (via : Path) (m : Message) (r : Result Bool IceError) (emitted : Emitted) → HandlesPacket mac now old via m r emitted new → Keeps old new
     handled now old new via m (Ok false) emitted (rejected, is, made) f = made-firm old new made f
     handled now old new via m (Ok true) emitted (accepted, (mid, takes_it, made)) f =
-        made-firm (discovered_emitted via mid) new made (by-class m.class now old mid via m emitted takes_it f)
+        made-firm (discovered_emitted m.class emitted via mid) new made (by-class m.class now old mid via m emitted takes_it f)
     handled now old new via m (Err error) emitted (may, is, made) f = made-firm old new made f
 
     pub received-firm : (answers : P → CandidateRecord → ℕ → ℕ → Type 0) (now : ℕ) (old new : AgentRecord H P) (via : Path) (bytes : List ℕ) (e : Entry)

@@ -5,7 +5,7 @@ use Rattle.rand_core.specs.Stream.{Stream}
 use Rattle.is_proto.specs.Lists.{Has}
 use Rattle.is_pair.specs.Due.{asked}
 use Rattle.is_pair.specs.Multiset.{change_at, is_numbered, change_pair}
-use Rattle.is_pair.specs.Pairs.{PairRecord, checked, heard, is_nominated, is_valid, nominated, renominated}
+use Rattle.is_pair.specs.Pairs.{PairRecord, heard, is_nominated, is_valid, nominated, renominated}
 use Rattle.is_rules.specs.Agent.{AgentRecord}
 use Rattle.is_rules.specs.Checking.{all_asked, ChecksTop, MayCheck}
 use Rattle.is_rules.specs.Connecting.{is_connected}
@@ -15,13 +15,14 @@ use Rattle.is_rules.specs.declared.emitted.Issued.{Issued}
 use Rattle.is_rules.specs.declared.emitted.Path.{Path}
 use Rattle.is_rules.specs.declared.event.IceConnectionState.{IceConnectionState}
 use Rattle.is_rules.specs.declared.event.IceConnectionState.TheVariants.{New, Checking, Connected, Completed, Disconnected}
-use Rattle.is_rules.specs.Nominating.{followed, nominated_by_self, Nominates, remains, selection_of, nominates_at_once}
-use Rattle.is_rules.specs.States.{evaluated, has_nominated, has_possible, is_nominated_and_valid, next_state}
+use Rattle.is_rules.specs.Nominating.{followed, nominated_by_self, nominated_emitted, with_selection, Nominates, remains, selection_of, nominates_at_once}
+use Rattle.is_rules.specs.Settling.{settled, settles, state_at}
+use Rattle.is_rules.specs.States.{evaluated, has_nominated, has_possible, is_nominated_and_valid, next_state, same_state}
 use Rattle.is_rules.specs.Timeouts.{at_timeout, is_expired, MaintainsPairs, RemovesExpired, timeout_begun}
 use Rattle.is_theorems.proofs.BasicLemmas.EqualAddresses.{both}
 use Rattle.is_theorems.proofs.CallEffects.ChecksAndResponses.{again_nominated}
 use Rattle.is_theorems.proofs.CallEffects.ServedRequests.{Has-mapped}
-use Rattle.is_theorems.proofs.PathSelection.NominationPoints.{Alike, alike_if, checked_alike, heard_alike}
+use Rattle.is_theorems.proofs.PathSelection.NominationPoints.{Alike, checked_alike, heard_alike}
 use Rattle.is_theorems.proofs.RuleEffects.NominatedPairs.{SelectsPath, selects_path}
 use Rattle.is_theorems.proofs.RuleEffects.UnchangedSettings.{either}
 use Rattle.is_theorems.proofs.BasicLemmas.PairsInTurn.{by-begins, sent-pairs, sent_at}
@@ -101,6 +102,12 @@ module _ {H P : Type 0} where
   evaluated-backed now a connected =
       any-found is_nominated_and_valid a.pairs (connected-selected a.state (has_nominated a) (has_possible now a) a.lite connected)
 
+  settled-backs : (now : ℕ) (a : AgentRecord H P) → Backs a (settled true now a)
+  settled-backs now a b = by (settles a) where
+    by : (evaluates : Bool) → is_connected (if evaluates then state_at now a else a.state) ≡ true → HasNominated a.pairs
+    by true connected = evaluated-backed now a connected
+    by false connected = b connected
+
   -- ---- changes of pairs
 
   nominates-backs : (old new : AgentRecord H P) (path : Option Path) → Nominates old path new → Backs old new
@@ -116,7 +123,20 @@ module _ {H P : Type 0} where
   gives-up-backs : (now : ℕ) (old new : AgentRecord H P) (path : Option Path) → RemovesExpired now old path new → Backs old new
   gives-up-backs now old new path h b = either (list_any (is_expired now old) old.pairs) h
       (λ _ k. subst (λ (a : AgentRecord H P). IsBacked a) (sym k.2) (evaluated-backed now k.0))
-      (λ _ k. same-backs old new k.1 b)
+      (λ _ k. same-backs (settled true now old) new k.1 (settled-backs now old b))
+
+  -- by the rule the state is evaluated in any case
+  gives-up-settled : (now : ℕ) (old new : AgentRecord H P) (path : Option Path) → settles old ≡ true → RemovesExpired now old path new → IsBacked new
+  gives-up-settled now old new path on h = either (list_any (is_expired now old) old.pairs) h
+      (λ _ k. subst (λ (a : AgentRecord H P). IsBacked a) (sym k.2) (evaluated-backed now k.0))
+      (λ _ k. subst (λ (a : AgentRecord H P). IsBacked a) (sym k.1) (λ connected.
+      evaluated-backed now old (subst (λ (b : Bool). is_connected (if b then state_at now old else old.state) ≡ true) on connected)))
+
+  settles-named : (old new : AgentRecord H P) (path : Option Path) → Nominates old path new → settles new ≡ settles old
+  settles-named old new path (chosen, names, made) = ap (λ (a : AgentRecord H P). settles a) made ∙ emits path (with_selection chosen old) where
+    emits : (path : Option Path) (a : AgentRecord H P) → settles (nominated_emitted path a) ≡ settles a
+    emits None a = refl
+    emits (Some path) a = refl
 
   module _ (mac : H → List ℕ → List ℕ → List ℕ) where
     checks-backs : (now : ℕ) (remote : Option IceCreds) (old new : AgentRecord H P) (s t : Stream) (issued : Option Issued)
@@ -141,7 +161,16 @@ module _ {H P : Type 0} where
     pub maintained-backed : (now : ℕ) (old new : AgentRecord H P) (s t : Stream) (emitted : Emitted)
         → MaintainsPairs mac now (timeout_begun now old) s emitted new t → IsBacked new
     maintained-backed now old new s t emitted (first, second, issued, named, kept, nominating, giving, checking, is) =
-        let a = nominates-backs (at_timeout now (timeout_begun now old)) named first nominating (begun) in
-        checks-backs now kept.remote_creds kept new s t issued checking (gives-up-backs now named kept second giving a) where
-          begun : IsBacked (at_timeout now (timeout_begun now old))
-          begun connected = evaluated-backed now old connected
+        checks-backs now kept.remote_creds kept new s t issued checking (by (settles old) refl) where
+          base : AgentRecord H P
+          base = at_timeout now (timeout_begun now old)
+
+          state-is : (b : Bool) → settles old ≡ b → base.state ≡ (if b then old.state else state_at now old)
+          state-is b is = ap (λ (c : Bool). if c then old.state else state_at now old) is
+
+          by : (b : Bool) → settles old ≡ b → IsBacked kept
+          by true is =
+              let on = ap (λ (state : IceConnectionState). old.rules.state_after_nomination && not (same_state state New)) (state-is true is) ∙ is in
+              gives-up-settled now named kept second (settles-named base named first nominating ∙ on) giving
+          by false is = gives-up-backs now named kept second giving (nominates-backs base named first nominating (λ connected.
+              evaluated-backed now old (subst (λ (state : IceConnectionState). is_connected state ≡ true) (state-is false is) connected)))

@@ -273,7 +273,7 @@ module _ {H P : Type 0} where
       let b : Thins by (expired_gone now old) k.0 = nominates-thins by (expired_gone now old) k.0 path k.1 in
       let c : Thins by k.0 new = subst (λ (a : AgentRecord H P). Thins by k.0 a) (sym k.2) (refl, thinned-same by k.0.pairs) in
       thins-on by old k.0 new (thins-on by old (expired_gone now old) k.0 a b) c))
-      (λ _ k. thins-same by old new k.1)
+      (λ _ k. subst (λ (a : AgentRecord H P). Thins by old a) (sym k.1) (refl, thinned-same by old.pairs))
 
   -- ---- a pair that was checked less often than the limit stays
 

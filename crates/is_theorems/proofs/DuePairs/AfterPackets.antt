@@ -36,6 +36,7 @@ use Rattle.is_rules.specs.Sending.{path_between}
 use Rattle.is_rules.specs.Forming.{formed, with_pair, priority_between}
 use Rattle.is_rules.specs.Nominating.{numbers, NominatesWhere}
 use Rattle.is_rules.specs.Roles.{conflict_of, keeps_role, switched}
+use Rattle.is_rules.specs.Settling.{settled}
 use Rattle.is_rules.specs.Serving.{as_taken, after_request, served, selects_at_requests, trigger_time, is_misled, names_another, pair_served, request_counted, with_sender, with_sender_at, sender_candidate, replied, Drops, Queues, RecordsAndResponds, FindsOrAddsPair, AddsUnknownSender, CountsAndServes, ResolvesRoleConflictBy, ResolvesRoleConflict, Serves}
 use Rattle.is_rules.specs.Answers.{is_role_conflict, LeavesRole, TakesFailure}
 use Rattle.rand_core.specs.Stream.{Stream}
@@ -358,7 +359,7 @@ module _ {H P : Type 0} where
       pair l r number s new emitted role full none (path, mid, nominates, (values, is, made)) =
           let k : (path ≡ None) × (mid ≡ pair_served q number s) =
           subst (λ b. NominatesWhere b (pair_served q number s) path mid) (and-false (selects_at_requests s) (is_valid_at number s.pairs) (none-passes number s.pairs none)) nominates in
-          subst (λ (a : AgentRecord H P). Rests s a) (sym (made ∙ ap (λ (a : AgentRecord H P). replied mac q (path_between s l r) a) k.1)) (
+          subst (λ (a : AgentRecord H P). Rests s a) (sym (made ∙ ap (λ (a : AgentRecord H P). replied mac q (path_between s l r) (settled (is_some path) (trigger_time q s) a)) k.1)) (
             refl,
             refl,
             spares-map by (last_time_of s) at s.timing s.next_number (change_at number (after_request q s)) s.pairs

@@ -1,6 +1,6 @@
 -- An agent without a valid pair selects no path, so no nomination becomes due. If none is to be sent at once, none will be until a
 -- success response is accepted, in whichever role the agent is.
-use Rattle.std.proofs.Common.{◌≡◌, ℕ, ◌<◌, ◌&&◌, ◌||◌, Bool, true, false, not, List, ◌∷◌, ◌++◌, [], Option, Some, None, is_some, Ok, Err, inl, inr, ◌⊎◌, refl, ap, sym, ◌∙◌, subst, arith}
+use Rattle.std.proofs.Common.{◌≡◌, ℕ, ◌<◌, ◌&&◌, ◌||◌, Bool, true, false, not, List, ◌∷◌, ◌++◌, [], Option, Some, None, is_some, unwrap_or, Ok, Err, inl, inr, ◌⊎◌, refl, ap, sym, ◌∙◌, subst, arith}
 use Rattle.std.specs.List.{list_any}
 use Rattle.std.specs.Prelude.{MatchOption}
 use Rattle.std.proofs.lemmas.Bool.{eqb-true}
@@ -33,7 +33,8 @@ use Rattle.is_rules.specs.Queue.{first_taken, request_at}
 use Rattle.is_rules.specs.Request.{RequestRecord, request_in}
 use Rattle.is_rules.specs.Roles.{conflict_of, switched, switched_sides, with_priority_in, keeps_role}
 use Rattle.is_rules.specs.Sending.{path_of, path_between}
-use Rattle.is_rules.specs.Serving.{is_misled, names_another, pair_served, replied, request_counted, selects_at_requests, with_sender, with_sender_at, Drops, Queues, RecordsAndResponds, FindsOrAddsPair, AddsUnknownSender, CountsAndServes, ResolvesRoleConflictBy, ResolvesRoleConflict, Serves}
+use Rattle.is_rules.specs.Serving.{is_misled, names_another, pair_served, replied, request_counted, selects_at_requests, trigger_time, with_sender, with_sender_at, Drops, Queues, RecordsAndResponds, FindsOrAddsPair, AddsUnknownSender, CountsAndServes, ResolvesRoleConflictBy, ResolvesRoleConflict, Serves}
+use Rattle.is_rules.specs.Settling.{loses_selected, settled, Reselects}
 use Rattle.is_rules.specs.Sound.{IsSound, IsBelow, GivesBased}
 use Rattle.is_rules.specs.States.{evaluated}
 use Rattle.is_rules.specs.Steps.{Call, SetMtu, SetControlTieBreaker, SetMaxCandidatePairs, SetMaxDiscovered, SetIceLite, SetRenomination, SetTimingAdvance, SetLocalPreference, SetControlling, SetLocalCredentials, AddLocalCandidate, AddRemoteCandidate, ReceivePacket, HandleTimeout, PollTransmit, PollTimeout, PollEvent, Entry, Receives, Step}
@@ -44,12 +45,14 @@ use Rattle.is_theorems.specs.Courses.{AcceptsSuccess}
 use Rattle.is_theorems.specs.Progress.{IsGone}
 use Rattle.is_theorems.specs.Reached.{is_in_round}
 use Rattle.is_theorems.proofs.CallEffects.AddedCandidates.{by_adding_local, by_adding_remote, by_waking}
+use Rattle.is_theorems.proofs.CallEffects.ChangedCandidates.{adds_local_goes, adds_remote_goes}
 use Rattle.is_theorems.proofs.CallEffects.FailedCallsAndNewAgents.{mtu_kept, controlling_kept, local_kept, enrolment_kept, storing_kept}
 use Rattle.is_theorems.proofs.CallEffects.PathAndTradeEffects.{path_theorem}
 use Rattle.is_theorems.proofs.DuePairs.AfterPackets.{NoneValid, none-passes, and-false}
 use Rattle.is_theorems.proofs.DuePairs.FirstDuePair.{NoneAtOnce}
-use Rattle.is_theorems.proofs.RuleEffects.ChangedPairs.{Has-map}
-use Rattle.is_theorems.proofs.RuleEffects.EarlierAndNewPairs.{Has-filter, Has-push}
+use Rattle.is_theorems.proofs.PathSelection.NominationPoints.{All3, AllNumbers, fit_of}
+use Rattle.is_theorems.proofs.RuleEffects.ChangedPairs.{Has-map, parts_of}
+use Rattle.is_theorems.proofs.RuleEffects.EarlierAndNewPairs.{Has-filter, Has-push, Onward}
 use Rattle.is_theorems.proofs.RuleEffects.NominatedPairs.{SelectsPath, selects_path}
 use Rattle.is_theorems.proofs.RuleEffects.UnchangedSettings.{either}
 
@@ -89,6 +92,10 @@ all-off true true true true true (inr (inr is)) = is
 pub lite_stays : {P : Type 0} (c : Call P) (l : Bool) → is_in_round c ≡ true → lite_set_by c l ≡ l
 lite_stays (SetIceLite lite) l is = no-case is
 lite_stays _ l is = refl
+
+-- no path is answered
+abbrev NeverMet : Path → Type 0
+NeverMet path = ⊥
 
 selected-none : (selected : Option ℕ) (ps : List PairRecord) → ((n : ℕ) → selected ≡ Some n → IsGone n ps) → is_some (pair_selected selected ps) ≡ false
 selected-none None ps gone = refl
@@ -170,6 +177,32 @@ module _ {H P : Type 0} where
       ((λ is. is, λ is. is, refl), λ p has. Has-filter (λ q. not (is_expired now old q)) old.pairs p has)))
       (λ _ k. subst (λ (a : AgentRecord H P). Calmer old a × ((p : PairRecord) → Has a.pairs p → Has old.pairs p)) (sym k.1) ((λ is. is, λ is. is, refl), λ p has. has))
 
+  -- ---- a candidate is added, and then a path may be selected
+
+  -- no pair becomes valid unless a path is answered
+  none-onward : (old new : AgentRecord H P) → Onward AllNumbers NeverMet All3 (parts_of AllNumbers NeverMet All3 old) (parts_of AllNumbers NeverMet All3 new)
+      → NoneValid old.pairs → NoneValid new.pairs
+  none-onward old new o none p has = by (is_valid p) refl where
+    by : (b : Bool) → is_valid p ≡ b → is_valid p ≡ false
+    by false is = is
+    by true is = elim (o.pairs p has) [
+      | inl k ↦ elim (k.valid is) [ inl was ↦ no-case (sym (none k.was k.there) ∙ was) | inr never ↦ absurd never ]
+      | inr k ↦ elim (k.valid is) [ inl (q, there, valid, on) ↦ no-case (sym (none q there) ∙ valid) | inr never ↦ absurd never ]
+    ]
+
+  reselected : (old mid new : AgentRecord H P) (path : Option Path) → Reselects (loses_selected old mid) mid path new → NoneValid mid.pairs → Calmer old mid
+      → Calmer old new
+  reselected old mid new path again none c = calmer-on old mid new c (either (loses_selected old mid) again
+      (λ _ k. (
+      let kept : k.0 ≡ mid = nominates-nothing mid k.0 path none k.1 in
+      calmer-as mid _ new (λ is. is, λ is. is, refl) (k.2 ∙ ap (λ (a : AgentRecord H P). evaluated (unwrap_or mid.last_time 0) a) kept)))
+      (λ _ k. calmer-same mid new k.1))
+
+  reselected-same : (old mid new : AgentRecord H P) (path : Option Path) → Reselects (loses_selected old mid) mid path new → NoneValid old.pairs → mid ≡ old
+      → Calmer old new
+  reselected-same old mid new path again none same =
+      reselected old mid new path again (subst (λ (a : AgentRecord H P). NoneValid a.pairs) (sym same) none) (calmer-same old mid same)
+
   module _ (mac : H → List ℕ → List ℕ → List ℕ) where
     -- ---- requests
 
@@ -178,7 +211,8 @@ module _ {H P : Type 0} where
       pair l r number s new emitted none (path, mid, nominates, (values, is, made)) =
           let k : (path ≡ None) × (mid ≡ pair_served q number s) =
           subst (λ b. NominatesWhere b (pair_served q number s) path mid) (and-false (selects_at_requests s) (is_valid_at number s.pairs) (none-passes number s.pairs none)) nominates in
-          calmer-as s _ new (λ is. is, λ is. is, refl) (made ∙ ap (λ (a : AgentRecord H P). replied mac q (path_between s l r) a) k.1)
+          calmer-as s _ new (λ is. is, λ is. is, refl) (
+          made ∙ ap (λ (a : AgentRecord H P). replied mac q (path_between s l r) (settled (is_some path) (trigger_time q s) a)) k.1)
 
       takes : (l r : ℕ) (number : Option ℕ) (s new : AgentRecord H P) (emitted : Emitted) → NoneValid s.pairs → FindsOrAddsPair mac q l r number s emitted new → Calmer s new
       takes l r (Some number) s new emitted none h = pair l r number s new emitted none h
@@ -292,33 +326,40 @@ module _ {H P : Type 0} where
     forms mid new all (f, each, made) = calmer-as mid _ new (λ is. is, λ is. is, refl) made
 
     module _ (answers : P → CandidateRecord → ℕ → ℕ → Type 0) where
-      pub calls-calmer : (call : Call P) (e : Entry) (old new : AgentRecord H P) (s t : Stream) → is_in_round call ≡ true → NoneValid old.pairs → Step mac answers old s call e new t
-          → AcceptsSuccess call e ⊎ Calmer old new
-      calls-calmer (ReceivePacket at via bytes) e old new s t is none (h, drawn) = receives answers at old new via bytes e none h
-      calls-calmer PollTransmit e old new s t is none (given, reported, (polled, made), drawn) = inr (calmer-as old _ new (λ is. is, λ is. is, refl) made)
-      calls-calmer PollTimeout e old new s t is none (deadline, reported, h, drawn) = inr (by_waking old new deadline h (λ made. calmer-same old new made) (λ at made. calmer-as old _ new (λ is. is, λ is. is, refl) made))
-      calls-calmer PollEvent e old new s t is none (given, reported, (polled, made), drawn) = inr (calmer-as old _ new (λ is. is, λ is. is, refl) made)
-      calls-calmer (AddLocalCandidate c) e old new s t is none (Ok place, reported, h, drawn) = inr (by_adding_local old new answers c place h
-          (λ made. calmer-same old new made)
-          (λ x _ f. (let k = forms _ new _ f in (k.0, k.1, k.2))) (λ i _ f. (let k = forms _ new _ f in (k.0, k.1, k.2))) (λ x _ i f. (let k = forms _ new _ f in (k.0, k.1, k.2))))
-      calls-calmer (AddLocalCandidate c) e old new s t is none (Err error, reported, h, drawn) = inr (calmer-same old new (enrolment_kept answers old new c error h))
-      calls-calmer (AddRemoteCandidate c) e old new s t is none (Ok _, reported, h, drawn) = inr (by_adding_remote old new c h
-          (λ made. calmer-same old new made) (λ f. (let k = forms _ new _ f in (k.0, k.1, k.2))) (λ i _ addr f. (let k = forms _ new _ f in (k.0, k.1, k.2))))
-      calls-calmer (AddRemoteCandidate c) e old new s t is none (Err error, reported, h, drawn) = inr (calmer-same old new (storing_kept old new c error h))
-      calls-calmer (SetMtu target warn) e old new s t is none (Ok _, reported, h, drawn) = inr (calmer-as old _ new (λ is. is, λ is. is, refl) h.1)
-      calls-calmer (SetMtu target warn) e old new s t is none (Err error, reported, h, drawn) = inr (calmer-same old new (mtu_kept old new target warn error h))
-      calls-calmer (SetLocalCredentials creds) e old new s t is none (Ok _, reported, h, drawn) = inr (calmer-as old _ new (λ is. is, λ is. is, refl) h.1)
-      calls-calmer (SetLocalCredentials creds) e old new s t is none (Err error, reported, h, drawn) = inr (calmer-same old new (local_kept old new creds error h))
-      calls-calmer (SetControlTieBreaker tie) e old new s t is none h = inr (calmer-as old _ new (λ is. is, λ is. is, refl) h.1)
-      calls-calmer (SetMaxCandidatePairs k) e old new s t is none h = inr (calmer-as old _ new (λ is. is, λ is. is, refl) h.1)
-      calls-calmer (SetMaxDiscovered limit) e old new s t is none h = inr (calmer-as old _ new (λ is. is, λ is. is, refl) h.1)
-      calls-calmer (SetRenomination true) e old new s t is none h = no-case is
-      calls-calmer (SetRenomination false) e old new s t is none h = inr (calmer-as old _ new (λ is. refl, λ is. is, refl) h.1)
-      calls-calmer (SetTimingAdvance by) e old new s t is none h = inr (calmer-as old _ new (λ is. is, λ is. is, refl) h.1)
-      calls-calmer (SetLocalPreference object) e old new s t is none h = inr (calmer-as old _ new (λ is. is, λ is. is, refl) h.1)
-      calls-calmer (SetControlling controlling) e old new s t is none (Ok _, reported, h, drawn) = inr (calmer-as old _ new (λ is. is, λ is. is, refl) h.1)
-      calls-calmer (SetControlling controlling) e old new s t is none (Err error, reported, h, drawn) = inr (calmer-same old new (controlling_kept old new controlling error h))
-      calls-calmer _ e old new s t is none step = no-case is
+      pub calls-calmer : (call : Call P) (e : Entry) (old new : AgentRecord H P) (s t : Stream) → is_in_round call ≡ true → IsSound old → NoneValid old.pairs
+          → Step mac answers old s call e new t → AcceptsSuccess call e ⊎ Calmer old new
+      calls-calmer (ReceivePacket at via bytes) e old new s t is sound none (h, drawn) = receives answers at old new via bytes e none h
+      calls-calmer PollTransmit e old new s t is sound none (given, reported, (polled, made), drawn) = inr (calmer-as old _ new (λ is. is, λ is. is, refl) made)
+      calls-calmer PollTimeout e old new s t is sound none (deadline, reported, h, drawn) = inr (by_waking old new deadline h (λ made. calmer-same old new made) (λ at made. calmer-as old _ new (λ is. is, λ is. is, refl) made))
+      calls-calmer PollEvent e old new s t is sound none (given, reported, (polled, made), drawn) = inr (calmer-as old _ new (λ is. is, λ is. is, refl) made)
+      calls-calmer (AddLocalCandidate c) e old new s t is sound none (Ok place, emitted, reported, (path, mid, h, again, emits), drawn) =
+          let none_mid = none-onward old mid (adds_local_goes AllNumbers NeverMet All3 answers old mid c place (fit_of old sound) h) none in
+          inr (reselected old mid new path again none_mid (by_adding_local old mid answers c place h
+          (λ made. calmer-same old mid made)
+          (λ x _ f. (let k = forms _ mid _ f in (k.0, k.1, k.2))) (λ i _ f. (let k = forms _ mid _ f in (k.0, k.1, k.2)))
+          (λ x _ i f. (let k = forms _ mid _ f in (k.0, k.1, k.2)))))
+      calls-calmer (AddLocalCandidate c) e old new s t is sound none (Err error, emitted, reported, (path, mid, h, again, emits), drawn) =
+          inr (reselected-same old mid new path again none (enrolment_kept answers old mid c error h))
+      calls-calmer (AddRemoteCandidate c) e old new s t is sound none (Ok _, emitted, reported, (path, mid, h, again, emits), drawn) =
+          let none_mid = none-onward old mid (adds_remote_goes AllNumbers NeverMet All3 old mid c (fit_of old sound) h) none in
+          inr (reselected old mid new path again none_mid (by_adding_remote old mid c h
+          (λ made. calmer-same old mid made) (λ f. (let k = forms _ mid _ f in (k.0, k.1, k.2))) (λ i _ addr f. (let k = forms _ mid _ f in (k.0, k.1, k.2)))))
+      calls-calmer (AddRemoteCandidate c) e old new s t is sound none (Err error, emitted, reported, (path, mid, h, again, emits), drawn) =
+          inr (reselected-same old mid new path again none (storing_kept old mid c error h))
+      calls-calmer (SetMtu target warn) e old new s t is sound none (Ok _, reported, h, drawn) = inr (calmer-as old _ new (λ is. is, λ is. is, refl) h.1)
+      calls-calmer (SetMtu target warn) e old new s t is sound none (Err error, reported, h, drawn) = inr (calmer-same old new (mtu_kept old new target warn error h))
+      calls-calmer (SetLocalCredentials creds) e old new s t is sound none (Ok _, reported, h, drawn) = inr (calmer-as old _ new (λ is. is, λ is. is, refl) h.1)
+      calls-calmer (SetLocalCredentials creds) e old new s t is sound none (Err error, reported, h, drawn) = inr (calmer-same old new (local_kept old new creds error h))
+      calls-calmer (SetControlTieBreaker tie) e old new s t is sound none h = inr (calmer-as old _ new (λ is. is, λ is. is, refl) h.1)
+      calls-calmer (SetMaxCandidatePairs k) e old new s t is sound none h = inr (calmer-as old _ new (λ is. is, λ is. is, refl) h.1)
+      calls-calmer (SetMaxDiscovered limit) e old new s t is sound none h = inr (calmer-as old _ new (λ is. is, λ is. is, refl) h.1)
+      calls-calmer (SetRenomination true) e old new s t is sound none h = no-case is
+      calls-calmer (SetRenomination false) e old new s t is sound none h = inr (calmer-as old _ new (λ is. refl, λ is. is, refl) h.1)
+      calls-calmer (SetTimingAdvance by) e old new s t is sound none h = inr (calmer-as old _ new (λ is. is, λ is. is, refl) h.1)
+      calls-calmer (SetLocalPreference object) e old new s t is sound none h = inr (calmer-as old _ new (λ is. is, λ is. is, refl) h.1)
+      calls-calmer (SetControlling controlling) e old new s t is sound none (Ok _, reported, h, drawn) = inr (calmer-as old _ new (λ is. is, λ is. is, refl) h.1)
+      calls-calmer (SetControlling controlling) e old new s t is sound none (Err error, reported, h, drawn) = inr (calmer-same old new (controlling_kept old new controlling error h))
+      calls-calmer _ e old new s t is sound none step = no-case is
 
       pub timeouts-calmer : (now : ℕ) (e : Entry) (old new : AgentRecord H P) (s t : Stream) → NoneValid old.pairs → Step mac answers old s (HandleTimeout now) e new t → Calmer old new
       timeouts-calmer now e old new s t none (Ok _, emitted, reported, h) = (let c = times-out now (request_at now old) (timeout_begun now old) new s t emitted none h in (c.0, c.1, c.2))
@@ -356,7 +397,7 @@ module _ {H P : Type 0} where
           → AcceptsSuccess call e ⊎ Quiet new
       quiet-call call e old new s t is sound given q step =
           let f = (path_theorem mac answers old new s t call e sound given step).0 in
-          elim (calls-calmer call e old new s t is q.invalid step) [
+          elim (calls-calmer call e old new s t is sound q.invalid step) [
             | inl success ↦ inl success
             | inr calmer ↦ quiet-after call e old new sound f (f.lite ∙ (lite_stays call old.lite is ∙ q.full)) calmer q
           ]

@@ -25,7 +25,7 @@ use Rattle.is_rules.specs.declared.emitted.Emitted.{Emitted}
 use Rattle.is_rules.specs.declared.emitted.Issued.{Issued}
 use Rattle.is_rules.specs.declared.emitted.Path.{Path}
 use Rattle.is_rules.specs.Effects.{last_of}
-use Rattle.is_rules.specs.Emitted.{selected_in}
+use Rattle.is_rules.specs.Emitted.{selected_in, selected_only}
 use Rattle.is_rules.specs.Forming.{formed, with_pair, Combination, FormsAll}
 use Rattle.is_rules.specs.Nominating.{followed, remains, selection_of, Nominates, nominates_at_once, numbers, pair_selected}
 use Rattle.is_rules.specs.Owed.{one_if}
@@ -34,8 +34,9 @@ use Rattle.is_rules.specs.Queue.{first_taken, request_at}
 use Rattle.is_rules.specs.Request.{RequestRecord, request_in}
 use Rattle.is_rules.specs.Roles.{conflict_of, switched, keeps_role}
 use Rattle.is_rules.specs.Sending.{path_between}
-use Rattle.is_rules.specs.Serving.{is_misled, names_another, pair_served, replied, request_counted, selects_at_requests, with_sender, with_sender_at, Drops, Queues, RecordsAndResponds, FindsOrAddsPair, AddsUnknownSender, CountsAndServes, ResolvesRoleConflictBy, ResolvesRoleConflict, Serves}
-use Rattle.is_rules.specs.Steps.{Call, SetMtu, SetControlTieBreaker, SetMaxCandidatePairs, SetMaxDiscovered, SetRenomination, SetTimingAdvance, SetLocalPreference, SetControlling, SetLocalCredentials, AddLocalCandidate, AddRemoteCandidate, ReceivePacket, HandleTimeout, PollTransmit, PollTimeout, PollEvent, Entry, Receives, Step}
+use Rattle.is_rules.specs.Serving.{is_misled, names_another, pair_served, replied, request_counted, selects_at_requests, trigger_time, with_sender, with_sender_at, Drops, Queues, RecordsAndResponds, FindsOrAddsPair, AddsUnknownSender, CountsAndServes, ResolvesRoleConflictBy, ResolvesRoleConflict, Serves}
+use Rattle.is_rules.specs.Settling.{loses_selected, settled, Reselects}
+use Rattle.is_rules.specs.Steps.{Answer, Call, SetMtu, SetControlTieBreaker, SetMaxCandidatePairs, SetMaxDiscovered, SetRenomination, SetTimingAdvance, SetLocalPreference, SetControlling, SetLocalCredentials, AddLocalCandidate, AddRemoteCandidate, ReceivePacket, HandleTimeout, PollTransmit, PollTimeout, PollEvent, Entry, Receives, Step}
 use Rattle.is_rules.specs.Timeouts.{at_request, at_timeout, is_expired, expired_gone, timeout_begun, RemovesExpired, MaintainsPairs, ServesQueued}
 use Rattle.is_rules.proofs.PairLists.ChosenPair.{found-in}
 use Rattle.is_theorems.specs.Reached.{is_in_round, selects}
@@ -128,7 +129,19 @@ module _ {H P : Type 0} where
   removes-dues : (now : ℕ) (old new : AgentRecord H P) (path : Option Path) → RemovesExpired now old path new → Dues (is_some path) old new
   removes-dues now old new path h = either (list_any (is_expired now old) old.pairs) h
       (λ _ k. (let d = nominates-dues (expired_gone now old) k.0 path k.1 in dues-as (is_some path) old _ new (d.0, d.1) k.2))
+      (λ _ k. dues-as (is_some path) old _ new (λ is. is, λ is. inl is) k.1)
+
+  reselects-dues : (loses : Bool) (old new : AgentRecord H P) (path : Option Path) → Reselects loses old path new → Dues (is_some path) old new
+  reselects-dues loses old new path h = either loses h
+      (λ _ k. (let d = nominates-dues old k.0 path k.1 in dues-as (is_some path) old _ new (d.0, d.1) k.2))
       (λ _ k. dues-same (is_some path) old new k.1)
+
+  -- a candidate is added, and then a path may be selected
+  reselected : (e : Entry) (answer : Answer) (emitted : Emitted) (path : Option Path) (old mid new : AgentRecord H P)
+      → e ≡ record { answer = answer; emitted = emitted } → emitted ≡ selected_only path → Reselects (loses_selected old mid) mid path new → Dues (selects e) old mid → Dues (selects e) old new
+  reselected e answer emitted path old mid new reported is again d =
+      dues-on (selects e) (is_some path) (selects e) old mid new d (reselects-dues (loses_selected old mid) mid new path again) (λ some. some)
+      (λ some. ap (λ (x : Entry). selects x) reported ∙ (ap (λ (x : Emitted). selected x) is ∙ selects-only path some))
 
   -- ---- responses
 
@@ -165,7 +178,8 @@ module _ {H P : Type 0} where
               | inr some ↦ inr (ap (λ (x : Emitted). selected x) is ∙ selects-first path None some)
             ],
           ) made))
-          (λ _ k. dues-as (selected emitted) s _ new (λ is. is, λ is. inl is) (made ∙ ap (λ (a : AgentRecord H P). replied mac q (path_between s l r) a) k.1))
+          (λ _ k. dues-as (selected emitted) s _ new (λ is. is, λ is. inl is) (
+          made ∙ ap (λ (a : AgentRecord H P). replied mac q (path_between s l r) (settled (is_some path) (trigger_time q s) a)) k.1))
 
       takes : (l r : ℕ) (number : Option ℕ) (s new : AgentRecord H P) (emitted : Emitted) → FindsOrAddsPair mac q l r number s emitted new → Dues (selected emitted) s new
       takes l r (Some number) s new emitted h = pair l r number s new emitted h
@@ -306,13 +320,18 @@ module _ {H P : Type 0} where
       calls-due PollTimeout e old new s t is (deadline, reported, h, drawn) =
           by_waking old new deadline h (λ made. dues-same (selects e) old new made) (λ at made. dues-as (selects e) old _ new (λ is. is, λ is. inl is) made)
       calls-due PollEvent e old new s t is (given, reported, (polled, made), drawn) = dues-as (selects e) old _ new (λ is. is, λ is. inl is) made
-      calls-due (AddLocalCandidate c) e old new s t is (Ok place, reported, h, drawn) = by_adding_local old new answers c place h
-          (λ made. dues-same (selects e) old new made)
-          (λ x _ f. (let d = forms (selects e) _ new _ f in (d.0, d.1))) (λ i _ f. (let d = forms (selects e) _ new _ f in (d.0, d.1))) (λ x _ i f. (let d = forms (selects e) _ new _ f in (d.0, d.1)))
-      calls-due (AddLocalCandidate c) e old new s t is (Err error, reported, h, drawn) = dues-same (selects e) old new (enrolment_kept answers old new c error h)
-      calls-due (AddRemoteCandidate c) e old new s t is (Ok _, reported, h, drawn) = by_adding_remote old new c h
-          (λ made. dues-same (selects e) old new made) (λ f. (let d = forms (selects e) _ new _ f in (d.0, d.1))) (λ i _ addr f. (let d = forms (selects e) _ new _ f in (d.0, d.1)))
-      calls-due (AddRemoteCandidate c) e old new s t is (Err error, reported, h, drawn) = dues-same (selects e) old new (storing_kept old new c error h)
+      calls-due (AddLocalCandidate c) e old new s t is (Ok place, emitted, reported, (path, mid, h, again, out), drawn) =
+          reselected e _ emitted path old mid new reported out again (by_adding_local old mid answers c place h
+          (λ made. dues-same (selects e) old mid made)
+          (λ x _ f. (let d = forms (selects e) _ mid _ f in (d.0, d.1))) (λ i _ f. (let d = forms (selects e) _ mid _ f in (d.0, d.1)))
+          (λ x _ i f. (let d = forms (selects e) _ mid _ f in (d.0, d.1))))
+      calls-due (AddLocalCandidate c) e old new s t is (Err error, emitted, reported, (path, mid, h, again, out), drawn) =
+          reselected e _ emitted path old mid new reported out again (dues-same (selects e) old mid (enrolment_kept answers old mid c error h))
+      calls-due (AddRemoteCandidate c) e old new s t is (Ok _, emitted, reported, (path, mid, h, again, out), drawn) =
+          reselected e _ emitted path old mid new reported out again (by_adding_remote old mid c h (λ made. dues-same (selects e) old mid made)
+          (λ f. (let d = forms (selects e) _ mid _ f in (d.0, d.1))) (λ i _ addr f. (let d = forms (selects e) _ mid _ f in (d.0, d.1))))
+      calls-due (AddRemoteCandidate c) e old new s t is (Err error, emitted, reported, (path, mid, h, again, out), drawn) =
+          reselected e _ emitted path old mid new reported out again (dues-same (selects e) old mid (storing_kept old mid c error h))
       calls-due (SetMtu target warn) e old new s t is (Ok _, reported, h, drawn) = dues-as (selects e) old _ new (λ is. is, λ is. inl is) h.1
       calls-due (SetMtu target warn) e old new s t is (Err error, reported, h, drawn) = dues-same (selects e) old new (mtu_kept old new target warn error h)
       calls-due (SetLocalCredentials creds) e old new s t is (Ok _, reported, h, drawn) = dues-as (selects e) old _ new (λ is. is, λ is. inl is) h.1

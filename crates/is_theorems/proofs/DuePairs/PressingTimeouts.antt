@@ -1,5 +1,5 @@
 -- A `handle_timeout` call while a path is to be selected or nominated at once: a check is sent, a pair is removed, or a path is selected.
-use Rattle.std.proofs.Common.{◌≡◌, ℕ, ◌==◌, ◌&&◌, ◌||◌, Bool, true, false, not, List, [], ◌∷◌, find, map, filter, Option, Some, None, is_some, inl, inr, ◌⊎◌, refl, ap, sym, ◌∙◌, subst, if◌then◌else◌}
+use Rattle.std.proofs.Common.{◌≡◌, ℕ, ◌==◌, ◌&&◌, ◌||◌, Bool, true, false, not, List, [], ◌∷◌, find, map, Option, Some, None, is_some, inl, inr, ◌⊎◌, refl, ap, sym, ◌∙◌, subst, if◌then◌else◌}
 use Rattle.std.specs.List.{list_any}
 use Rattle.std.proofs.lemmas.Bool.{eq-eqb}
 use Rattle.std.specs.Option.{option_map_or}
@@ -20,6 +20,7 @@ use Rattle.is_rules.specs.Checking.{all_asked, IsNextToCheck, ChecksTop, MayChec
 use Rattle.is_rules.specs.Emitted.{issued_as, selected_in}
 use Rattle.is_rules.specs.Nominating.{followed, is_eligible, is_pressing, nominates_at_once, numbers, pair_selected, remains, selection_of}
 use Rattle.is_rules.specs.Sending.{path_of}
+use Rattle.is_rules.specs.Settling.{settled}
 use Rattle.is_rules.specs.Timeouts.{at_timeout, is_expired, expired_gone, MaintainsPairs, RemovesExpired}
 use Rattle.is_theorems.specs.Progress.{ChecksOn, IsGone}
 use Rattle.is_theorems.proofs.DuePairs.AfterNominationAndRemoval.{Base, Distinct, Thins, base_of, nominates-thins, passed}
@@ -111,8 +112,8 @@ module _ {H P : Type 0} where
         ⊎ ((path : Path) × Has emitted.selected_paths (Some path))
 
     -- no path is selected, and no pair is removed: a check is sent
-    sends : (kept : AgentRecord H P) (issued : Option Issued) → kept ≡ at_timeout now old → SelectsPath (at_timeout now old) None kept → emitted.issued ≡ issued
-        → (peer : IceCreds) (next : Option PairRecord) → IsNextToCheck now (all_asked now kept) next → ChecksTop mac now peer next (all_asked now kept) s issued new t → OfUse
+    sends : (kept : AgentRecord H P) (issued : Option Issued) → kept ≡ settled true now (at_timeout now old) → SelectsPath (at_timeout now old) None (at_timeout now old)
+        → emitted.issued ≡ issued → (peer : IceCreds) (next : Option PairRecord) → IsNextToCheck now (all_asked now kept) next → ChecksTop mac now peer next (all_asked now kept) s issued new t → OfUse
     sends kept issued same named out peer (Some q) chosen (id, drawn, values, is, made) =
         let has : Has (map (asked now kept.timing) kept.pairs) q = next-has now (all_asked now kept) q chosen in
         let o = Has-map (asked now kept.timing) kept.pairs q has in
@@ -126,7 +127,7 @@ module _ {H P : Type 0} where
           | inl due ↦ none-once (subst (λ (a : AgentRecord H P). nominates_at_once (all_asked now a) ≡ true) (sym same)
               (all-facts old.controlling old.lite (numbers old) old.nomination_due (is_some (pair_selected old.selected_pair old.pairs))
               (is_some (pair_selected old.selected_pair (map (asked now old.timing) old.pairs))) (asked-selected old.selected_pair now old.timing old.pairs) due))
-          | inr (gone, able) ↦ selects-some (at_timeout now old) kept named gone able
+          | inr (gone, able) ↦ selects-some (at_timeout now old) (at_timeout now old) named gone able
         ]) where
           none-once : nominates_at_once (all_asked now kept) ≡ true → ⊥
           none-once due = none-to-send now (all_asked now kept) chosen due
@@ -140,9 +141,9 @@ module _ {H P : Type 0} where
         (λ some k. removed same k.0 (ap (λ (a : AgentRecord H P). a.pairs) k.2) (nominates-thins 0 (expired_gone now named) k.0 second k.1) (passes-any (is_expired now named) named.pairs some)
         (ap (λ (a : AgentRecord H P). base_of a) k.2))
         (λ _ k. (
-        let stays : kept ≡ at_timeout now old = k.1 ∙ same in
+        let stays : kept ≡ settled true now (at_timeout now old) = k.1 ∙ ap (λ (a : AgentRecord H P). settled true now a) same in
         let n = next-check mac now kept.remote_creds kept new s t issued (ap (λ (a : AgentRecord H P). is_some a.remote_creds) stays ∙ known) (ap (λ (a : AgentRecord H P). a.lite) stays ∙ full) checking in
-        sends kept issued stays (subst (λ (a : AgentRecord H P). SelectsPath (at_timeout now old) None a) (sym k.1) named_none) out n.0 n.1 n.2 n.3)) where
+        sends kept issued stays (subst (λ (a : AgentRecord H P). SelectsPath (at_timeout now old) None a) same named_none) out n.0 n.1 n.2 n.3)) where
           removed : named ≡ at_timeout now old → (mid : AgentRecord H P) → kept.pairs ≡ mid.pairs → Thins 0 (expired_gone now named) mid
               → (p : PairRecord) × Has named.pairs p × (is_expired now named p ≡ true) → base_of kept ≡ base_of mid → OfUse
           removed same mid pairs thins (p, has, is) base =

@@ -214,7 +214,7 @@ module _ {H P : Type 0} where
       receives-goes answers now old new via path bytes e known on (inr (m, reads, (Ok true, emitted, is, (accepted, (mid, takes_it, made))))) =
           elim (by-class m.class now old mid via path m emitted known on takes_it) [
             | inl (success_came, back) ↦ inl (m, reads, ap (λ (x : Entry). x.answer) is, success_came, back)
-            | inr k ↦ inr (goes-to old (discovered_emitted via mid) new (k.0, k.1) made)
+            | inr k ↦ inr (goes-to old (discovered_emitted m.class emitted via mid) new (k.0, k.1) made)
           ]
       receives-goes answers now old new via path bytes e known on (inr (m, reads, (Ok false, emitted, is, (no_one, nothing, made)))) = inr (goes-same old new made)
       receives-goes answers now old new via path bytes e known on (inr (m, reads, (Err error, emitted, is, (may, nothing, made)))) = inr (goes-same old new made)

@@ -1,5 +1,5 @@
 -- Events are appended, in the order in which they happen.
-use Rattle.std.proofs.Common.{◌≡◌, ℕ, ◌==◌, Bool, true, false, List, [], ◌∷◌, ◌++◌, length, Option, Some, None, Result, Ok, Err, inl, inr, refl, ap, sym, ◌∙◌, subst, append_assoc, if◌then◌else◌, not}
+use Rattle.std.proofs.Common.{is_some, ◌≡◌, ℕ, ◌==◌, Bool, true, false, List, [], ◌∷◌, ◌++◌, length, Option, Some, None, Result, Ok, Err, inl, inr, refl, ap, sym, ◌∙◌, subst, append_assoc, if◌then◌else◌, not}
 use Rattle.std.specs.Prelude.{MatchBool, MatchOption, ◌&&◌}
 use Rattle.std.specs.List.{list_any}
 use Rattle.std.proofs.lemmas.List.{append-nil}
@@ -30,20 +30,22 @@ use Rattle.is_pair.specs.Multiset.{is_valid_at}
 use Rattle.is_rules.specs.Forming.{Combination, FormsAll, formed, with_pair}
 use Rattle.is_rules.specs.Roles.{conflict_of, switched, keeps_role}
 use Rattle.is_rules.specs.Settings.{with_retransmits, with_rtos, numbers_skipped}
-use Rattle.is_rules.specs.Discarding.{InvalidatesAt, place_to_discard, local_discarded}
+use Rattle.is_rules.specs.Discarding.{InvalidatesAt, local_to_discard, remote_to_discard, local_discarded}
 use Rattle.is_rules.specs.Local.{AddsLocal, appended, enabled_again}
 use Rattle.is_rules.specs.Remote.{AddsRemote, as_remote, with_remote}
 use Rattle.is_rules.specs.Restarting.{restarted, emptied}
 use Rattle.is_rules.specs.States.{same_state, with_state, evaluated}
 use Rattle.is_rules.specs.Nominating.{with_selection, nominated_emitted, Nominates, NominatesWhere}
-use Rattle.is_rules.specs.Serving.{selects_at_requests, pair_served, request_counted, with_sender, with_sender_at, is_misled, names_another, RecordsAndResponds, FindsOrAddsPair, AddsUnknownSender, CountsAndServes, ResolvesRoleConflictBy, ResolvesRoleConflict, Drops, Serves}
+use Rattle.is_rules.specs.Serving.{trigger_time, selects_at_requests, pair_served, request_counted, with_sender, with_sender_at, is_misled, names_another, RecordsAndResponds, FindsOrAddsPair, AddsUnknownSender, CountsAndServes, ResolvesRoleConflictBy, ResolvesRoleConflict, Drops, Serves}
 use Rattle.is_rules.specs.Queue.{first_taken, request_at, queued}
 use Rattle.is_rules.specs.Answers.{TakesSuccess, TakesFailure, LeavesRole, is_role_conflict}
 use Rattle.is_rules.specs.Accepting.{Takes, discovered_emitted, is_passed_over, HandlesPacket}
 use Rattle.is_rules.specs.Checking.{all_asked, MayCheck, ChecksTop}
+use Rattle.is_rules.specs.Settling.{settled, loses_selected, Reselects}
 use Rattle.is_rules.specs.Timeouts.{at_request, timeout_begun, start_emitted, at_timeout, is_expired, expired_gone, RemovesExpired, MaintainsPairs, ServesQueued, TimesOut}
 use Rattle.is_rules.specs.Steps.{Call, SetMtu, SetControlTieBreaker, SetMaxCandidatePairs, SetMaxDiscovered, SetIceLite, SetRenomination, SetRules, SetTimingAdvance, SetInitialStunRto, SetMaxStunRto, SetMaxStunRetransmits, SetLiteTimeout, SetLocalPreference, SetControlling, SetLocalCredentials, SetRemoteCredentials, SkipPairIds, AddLocalCandidate, AddRemoteCandidate, InvalidateCandidate, RestartIce, RecreateCandidatePairs, ReceivePacket, HandleTimeout, PollTransmit, PollTimeout, PollEvent, Done, NotCalled, Entry, quiet, Becomes, Receives, Step}
 use Rattle.is_theorems.specs.Reporting.{Extends, Begins, Reports, QueuesTheorem}
+use Rattle.is_theorems.proofs.RuleEffects.Reselection.{by-reselecting}
 use Rattle.is_theorems.proofs.RuleEffects.UnchangedSettings.{either}
 use Rattle.is_theorems.proofs.CallEffects.FailedCallsAndNewAgents.{mtu_kept, controlling_kept, local_kept, remote_kept, restart_kept, recreation_kept, enrolment_kept, storing_kept}
 use Rattle.is_theorems.proofs.CallEffects.SettingsRoleAndQueues.{FrameEffect, framed}
@@ -95,6 +97,10 @@ module _ {H P : Type 0} where
   nominates_grows : (old new : AgentRecord H P) (path : Option Path) → Nominates old path new → Grows old new
   nominates_grows old new path (chosen, names, made) = grown old (nominated_emitted path (with_selection chosen old)) new made (emitted_grows path (with_selection chosen old))
 
+  reselects_grows : (loses : Bool) (old new : AgentRecord H P) (path : Option Path) → Reselects loses old path new → Grows old new
+  reselects_grows loses old new path h = by-reselecting (λ (a : AgentRecord H P). Grows old a) loses old new path h (kept old.events old.events refl)
+      (λ mid nominates. both old mid (evaluated _ mid) (nominates_grows old mid path nominates) (state_grows _ mid))
+
   where_grows : (evaluates : Bool) (old new : AgentRecord H P) (path : Option Path) → NominatesWhere evaluates old path new → Grows old new
   where_grows true old new path h = nominates_grows old new path h
   where_grows false old new path h = stays old new h.1
@@ -111,7 +117,8 @@ module _ {H P : Type 0} where
     pair_grows : (l r number : ℕ) (s new : AgentRecord H P) (emitted : Emitted) → RecordsAndResponds mac q l r number s emitted new → Grows s new
     pair_grows l r number s new emitted (path, mid, nominates, (put, is, made)) =
         let k : Grows s mid = where_grows (selects_at_requests s && is_valid_at number s.pairs) (pair_served q number s) mid path nominates in
-        both s mid new k (same_events mid new (ap (λ (a : AgentRecord H P). a.events) made))
+        let at : AgentRecord H P = settled (is_some path) (trigger_time q s) mid in
+        both s mid new k (both mid at new (state_grows _ mid) (same_events at new (ap (λ (a : AgentRecord H P). a.events) made)))
 
     takes_grows : (l r : ℕ) (number : Option ℕ) (s new : AgentRecord H P) (emitted : Emitted) → FindsOrAddsPair mac q l r number s emitted new → Grows s new
     takes_grows l r (Some number) s new emitted h = pair_grows l r number s new emitted h
@@ -181,7 +188,7 @@ module _ {H P : Type 0} where
       (λ _ k. (
       let a : Grows old k.0 = nominates_grows (expired_gone now old) k.0 path k.1 in
       both old k.0 new a (grown k.0 (evaluated now k.0) new k.2 (state_grows _ k.0))))
-      (λ _ k. stays old new k.1)
+      (λ _ k. grown old (settled true now old) new k.1 (state_grows _ old))
 
   check_grows : (mac : H → List ℕ → List ℕ → List ℕ) (now : ℕ) (remote : Option IceCreds) (old new : AgentRecord H P) (s t : Stream) (issued : Option Issued)
       → MayCheck mac now remote old s issued new t → Grows old new
@@ -234,13 +241,13 @@ module _ {H P : Type 0} where
     by true = inl refl
     by false = inr refl
 
-  source_grows : (via : Path) (a : AgentRecord H P) → Grows a (discovered_emitted via a)
-  source_grows via a = one_more (is_passed_over via a) a.events _
+  source_grows : (c : Class) (emitted : Emitted) (via : Path) (a : AgentRecord H P) → Grows a (discovered_emitted c emitted via a)
+  source_grows c emitted via a = one_more (is_passed_over c emitted via a) a.events _
 
   handles_grows : (mac : H → List ℕ → List ℕ → List ℕ) (now : ℕ) (old new : AgentRecord H P) (via : Path) (m : Message) (r : Result Bool IceError) (emitted : Emitted)
       → HandlesPacket mac now old via m r emitted new → Grows old new
   handles_grows mac now old new via m (Ok true) emitted (accepted, (mid, takes, made)) =
-      both old mid new (taken_grows mac m.class now old mid via m emitted takes) (grown mid (discovered_emitted via mid) new made (source_grows via mid))
+      both old mid new (taken_grows mac m.class now old mid via m emitted takes) (grown mid (discovered_emitted m.class emitted via mid) new made (source_grows m.class emitted via mid))
   handles_grows mac now old new via m (Ok false) emitted (unaccepted, is, made) = stays old new made
   handles_grows mac now old new via m (Err error) emitted (may, is, made) = stays old new made
 
@@ -262,6 +269,10 @@ module _ {H P : Type 0} where
     receives : (now : ℕ) (via : Path) (bytes : List ℕ) → Receives mac answers now old via bytes e new → Grows old new
     receives now via bytes (inl (fault, has, is, made)) = stays old new made
     receives now via bytes (inr (m, reads, (r, emitted, is, h))) = handles_grows mac now old new via m r emitted h
+
+    -- a path may be selected after it
+    selects : (mid : AgentRecord H P) (path : Option Path) → Reselects (loses_selected old mid) mid path new → Grows old mid → Grows old new
+    selects mid path h k = both old mid new k (reselects_grows (loses_selected old mid) mid new path h)
 
     reports : (call : Call P) → Step mac answers old s call e new t → Reports call e old.events new.events
     reports (SetMtu target warn) (Ok _, is, h, drawn) = same_events old new (ap (λ (a : AgentRecord H P). a.events) h.1)
@@ -285,11 +296,15 @@ module _ {H P : Type 0} where
     reports (SetRemoteCredentials creds) (Ok _, is, h, drawn) = same_events old new (ap (λ (a : AgentRecord H P). a.events) h.1)
     reports (SetRemoteCredentials creds) (Err error, is, h, drawn) = stays old new (remote_kept old new creds error h)
     reports (SkipPairIds n) h = becomes (numbers_skipped n old) refl h
-    reports (AddLocalCandidate c) (Ok place, is, h, drawn) = local_grows answers old new c place h
-    reports (AddLocalCandidate c) (Err error, is, h, drawn) = stays old new (enrolment_kept answers old new c error h)
-    reports (AddRemoteCandidate c) (Ok _, is, h, drawn) = remote_grows old new c h
-    reports (AddRemoteCandidate c) (Err error, is, h, drawn) = stays old new (storing_kept old new c error h)
-    reports (InvalidateCandidate c) (found, is, h, drawn) = invalidates_grows old new (place_to_discard c old.local) (place_to_discard c old.remote) found h
+    reports (AddLocalCandidate c) (Ok place, emitted, is, (path, mid, h, again, emits), drawn) = selects mid path again (local_grows answers old mid c place h)
+    reports (AddLocalCandidate c) (Err error, emitted, is, (path, mid, h, again, emits), drawn) =
+        selects mid path again (stays old mid (enrolment_kept answers old mid c error h))
+    reports (AddRemoteCandidate c) (Ok _, emitted, is, (path, mid, h, again, emits), drawn) = selects mid path again (remote_grows old mid c h)
+    reports (AddRemoteCandidate c) (Err error, emitted, is, (path, mid, h, again, emits), drawn) =
+        selects mid path again (stays old mid (storing_kept old mid c error h))
+    reports (InvalidateCandidate c) (Ok found, emitted, is, (path, mid, h, again, emits), drawn) =
+        selects mid path again (invalidates_grows old mid (local_to_discard c old) (remote_to_discard c old) found h)
+    reports (InvalidateCandidate c) (Err error, emitted, is, (path, mid, h, again, emits), drawn) = selects mid path again (stays old mid h.1)
     reports (RestartIce creds keep) (Ok _, is, h, drawn) =
         subst (λ (x : Entry). Begins x.answer creds old.events new.events) (sym is)
         (subst (λ (a : AgentRecord H P). Begins Done creds old.events a.events) (sym h.1) (begins creds keep old))

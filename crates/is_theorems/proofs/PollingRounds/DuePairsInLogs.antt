@@ -28,6 +28,7 @@ use Rattle.is_theorems.specs.Runs.{IsFresh, Run, IsTopPath}
 use Rattle.is_rules.specs.Sending.{path_of}
 use Rattle.is_rules.specs.Sound.{IsSound}
 use Rattle.is_theorems.specs.Staying.{MayEnd, Stays}
+use Rattle.is_rules.specs.Settling.{loses_selected, Reselects}
 use Rattle.is_rules.specs.Steps.{Call, SetMtu, SetControlTieBreaker, SetMaxCandidatePairs, SetMaxDiscovered, SetRenomination, SetTimingAdvance, SetLocalPreference, SetControlling, SetLocalCredentials, AddLocalCandidate, AddRemoteCandidate, Entry, ReceivePacket, HandleTimeout, PollTransmit, PollTimeout, PollEvent, Done, Step}
 use Rattle.is_rules.specs.Timeouts.{timeout_begun, MaintainsPairs}
 use Rattle.is_rules.specs.Emitted.{issued_as}
@@ -39,7 +40,7 @@ use Rattle.is_theorems.proofs.ExecutionLogs.LogTheorems.{runs_sound}
 use Rattle.is_theorems.proofs.ExecutionLogs.LogSegments.{no-case, run-on, passed as passed-at}
 use Rattle.is_theorems.proofs.ExecutionLogs.SegmentsAsExecutions.{split-ended, split-run}
 use Rattle.is_theorems.proofs.EarlierChecks.ChangedPairs.{onward-same}
-use Rattle.is_theorems.proofs.EarlierChecks.BetweenTimeouts.{Ground, Goes, goes-to, goes-same, receives-goes}
+use Rattle.is_theorems.proofs.EarlierChecks.BetweenTimeouts.{Ground, Goes, goes-to, goes-same, goes-on, nominates-goes, receives-goes}
 use Rattle.is_theorems.proofs.DuePairs.FirstDuePair.{due-at, timeout-follows}
 use Rattle.is_theorems.proofs.DuePairs.ChecksAhead.{times, calls_left, Falls, calls-added, calls-at-once, calls-in-turn, calls-over}
 use Rattle.is_theorems.proofs.EarlierChecks.OneCheckFewer.{Ready, timeout-goes}
@@ -113,6 +114,13 @@ module _ {H P : Type 0} where
     some (Some w) k = either (is_waiting old) k
         (λ _ l. goes-same n by old new l.1)
         (λ _ l. either (is_idle old) l (λ _ i. goes-same n by old new i.1) (λ _ i. fixed i.1))
+
+  -- a candidate is added, and then a path may be selected
+  pub reselected-goes : (n by : ℕ) (old mid new : AgentRecord H P) (path : Option Path) → Reselects (loses_selected old mid) mid path new → Goes n by old mid
+      → Goes n by old new
+  reselected-goes n by old mid new path again g = goes-on n by old mid new g (either (loses_selected old mid) again
+      (λ _ k. goes-to n by mid _ new (let l = nominates-goes n by mid k.0 path k.1 in (l.0, l.1)) k.2)
+      (λ _ k. goes-same n by mid new k.1))
 
   -- ---- a pair that waits for its check
 
@@ -219,17 +227,22 @@ module _ {H P : Type 0} where
     between-goes at following early x PollTransmit called old new s t known last p sound has number on is (given, emitted, (polled, made), drawn) = inr (inr (goes-to n by old _ new (refl, onward-same n by (last_time_of old) old.pairs old.next_number) made))
     between-goes at following early x PollTimeout called old new s t known last p sound has number on is (deadline, emitted, timed_out, drawn) = inr (inr (asks-goes n by at following early old new deadline last timed_out))
     between-goes at following early x PollEvent called old new s t known last p sound has number on is (given, emitted, (polled, made), drawn) = inr (inr (goes-to n by old _ new (refl, onward-same n by (last_time_of old) old.pairs old.next_number) made))
-    between-goes at following early x (AddLocalCandidate c) called old new s t known last p sound has number on is (Ok (Some place), reported, h, drawn) = elim (local-goes n by answers old new c place p sound has number h) [
-      | inl ends ↦ inr (inl (ap (λ (e : Entry). e.answer) reported, ends))
-      | inr k ↦ inr (inr k)
-    ]
-    between-goes at following early x (AddLocalCandidate c) called old new s t known last p sound has number on is (Ok None, reported, h, drawn) = inr (inr (goes-same n by old new (none-entered answers old new c h)))
-    between-goes at following early x (AddLocalCandidate c) called old new s t known last p sound has number on is (Err error, reported, h, drawn) = inr (inr (goes-same n by old new (enrolment_kept answers old new c error h)))
-    between-goes at following early x (AddRemoteCandidate c) called old new s t known last p sound has number on is (Ok _, reported, h, drawn) = elim (remote-goes n by old new c p sound has number h) [
-      | inl ends ↦ inr (inl (ap (λ (e : Entry). e.answer) reported, ends))
-      | inr k ↦ inr (inr k)
-    ]
-    between-goes at following early x (AddRemoteCandidate c) called old new s t known last p sound has number on is (Err error, reported, h, drawn) = inr (inr (goes-same n by old new (storing_kept old new c error h)))
+    between-goes at following early x (AddLocalCandidate c) called old new s t known last p sound has number on is (Ok (Some place), emitted, reported, (named, mid, h, again, emits), drawn) =
+        elim (local-goes n by answers old mid c place p sound has number h) [
+          | inl ends ↦ inr (inl (ap (λ (e : Entry). e.answer) reported, ends))
+          | inr k ↦ inr (inr (reselected-goes n by old mid new named again k))
+        ]
+    between-goes at following early x (AddLocalCandidate c) called old new s t known last p sound has number on is (Ok None, emitted, reported, (named, mid, h, again, emits), drawn) =
+        inr (inr (reselected-goes n by old mid new named again (goes-same n by old mid (none-entered answers old mid c h))))
+    between-goes at following early x (AddLocalCandidate c) called old new s t known last p sound has number on is (Err error, emitted, reported, (named, mid, h, again, emits), drawn) =
+        inr (inr (reselected-goes n by old mid new named again (goes-same n by old mid (enrolment_kept answers old mid c error h))))
+    between-goes at following early x (AddRemoteCandidate c) called old new s t known last p sound has number on is (Ok _, emitted, reported, (named, mid, h, again, emits), drawn) =
+        elim (remote-goes n by old mid c p sound has number h) [
+          | inl ends ↦ inr (inl (ap (λ (e : Entry). e.answer) reported, ends))
+          | inr k ↦ inr (inr (reselected-goes n by old mid new named again k))
+        ]
+    between-goes at following early x (AddRemoteCandidate c) called old new s t known last p sound has number on is (Err error, emitted, reported, (named, mid, h, again, emits), drawn) =
+        inr (inr (reselected-goes n by old mid new named again (goes-same n by old mid (storing_kept old mid c error h))))
     between-goes at following early x (SetMtu target warn) called old new s t known last p sound has number on is (Ok _, reported, h, drawn) = inr (inr (goes-to n by old _ new (refl, onward-same n by (last_time_of old) old.pairs old.next_number) h.1))
     between-goes at following early x (SetMtu target warn) called old new s t known last p sound has number on is (Err error, reported, h, drawn) = inr (inr (goes-same n by old new (mtu_kept old new target warn error h)))
     between-goes at following early x (SetLocalCredentials creds) called old new s t known last p sound has number on is (Ok _, reported, h, drawn) = inr (inr (goes-to n by old _ new (refl, onward-same n by (last_time_of old) old.pairs old.next_number) h.1))

@@ -34,7 +34,7 @@ use Rattle.is_theorems.proofs.CallEffects.PathAndTradeEffects.{path_theorem}
 use Rattle.is_theorems.proofs.RuleEffects.UnchangedSettings.{either}
 use Rattle.is_theorems.proofs.ExecutionLogs.LogTheorems.{runs_sound}
 use Rattle.is_theorems.proofs.ExecutionLogs.LogSegments.{no-case, run-on, passed as passed-at}
-use Rattle.is_theorems.proofs.EarlierChecks.BetweenTimeouts.{Ground, Goes, ground_of, receives-goes}
+use Rattle.is_theorems.proofs.EarlierChecks.BetweenTimeouts.{Ground, Goes, goes-same, ground_of, receives-goes}
 use Rattle.is_theorems.proofs.EarlierChecks.ChangedPairs.{Fixed}
 use Rattle.is_theorems.proofs.DuePairs.FirstDuePair.{due-at, timeout-follows}
 use Rattle.is_theorems.proofs.DuePairs.ChecksAhead.{times, none-suffices}
@@ -50,7 +50,7 @@ use Rattle.is_theorems.proofs.EarlierChecks.AddedCandidates.{local-goes, remote-
 use Rattle.is_theorems.specs.FirstTimeouts.{IsReachedIn, PairsAreReachedFromDue, SufficesFromDue}
 use Rattle.is_theorems.proofs.EarlierChecks.FirstTimeout.{Other, timeout-goes}
 use Rattle.is_theorems.proofs.ExecutionLogs.PerAgentExecutions.{either_has}
-use Rattle.is_theorems.proofs.PollingRounds.DuePairsInLogs.{reached-unless}
+use Rattle.is_theorems.proofs.PollingRounds.DuePairsInLogs.{reached-unless, reselected-goes}
 use Rattle.is_theorems.proofs.PollingRounds.InTurnAlong.{InTurn, IsNumbered, IsOfRound, Lined, Never, OffIn, lined, numbered-in-turn, turn-along}
 use Rattle.is_theorems.proofs.PollingRounds.CountedSelections.{paid, paid-within}
 
@@ -203,17 +203,22 @@ module _ {H P : Type 0} where
     between-keeps PollTransmit e old new s t known last p sound has number on is (given, emitted, (polled, made), drawn) = inr (inr (keeps-to n old _ new (refl, λ d cs le f. f) made))
     between-keeps PollTimeout e old new s t known last p sound has number on is (deadline, emitted, timed_out, drawn) = inr (inr (asks-keeps n at old new deadline last timed_out))
     between-keeps PollEvent e old new s t known last p sound has number on is (given, emitted, (polled, made), drawn) = inr (inr (keeps-to n old _ new (refl, λ d cs le f. f) made))
-    between-keeps (AddLocalCandidate c) e old new s t known last p sound has number on is (Ok (Some place), reported, h, drawn) = elim (local-goes n 0 answers old new c place p sound has number h) [
-      | inl ends ↦ inr (inl (ap (λ (x : Entry). x.answer) reported, ends))
-      | inr k ↦ inr (inr (keeps-from n old new k))
-    ]
-    between-keeps (AddLocalCandidate c) e old new s t known last p sound has number on is (Ok None, reported, h, drawn) = inr (inr (keeps-same n old new (none-entered answers old new c h)))
-    between-keeps (AddLocalCandidate c) e old new s t known last p sound has number on is (Err error, reported, h, drawn) = inr (inr (keeps-same n old new (enrolment_kept answers old new c error h)))
-    between-keeps (AddRemoteCandidate c) e old new s t known last p sound has number on is (Ok _, reported, h, drawn) = elim (remote-goes n 0 old new c p sound has number h) [
-      | inl ends ↦ inr (inl (ap (λ (x : Entry). x.answer) reported, ends))
-      | inr k ↦ inr (inr (keeps-from n old new k))
-    ]
-    between-keeps (AddRemoteCandidate c) e old new s t known last p sound has number on is (Err error, reported, h, drawn) = inr (inr (keeps-same n old new (storing_kept old new c error h)))
+    between-keeps (AddLocalCandidate c) e old new s t known last p sound has number on is (Ok (Some place), emitted, reported, (named, mid, h, again, emits), drawn) =
+        elim (local-goes n 0 answers old mid c place p sound has number h) [
+          | inl ends ↦ inr (inl (ap (λ (x : Entry). x.answer) reported, ends))
+          | inr k ↦ inr (inr (keeps-from n old new (reselected-goes n 0 old mid new named again k)))
+        ]
+    between-keeps (AddLocalCandidate c) e old new s t known last p sound has number on is (Ok None, emitted, reported, (named, mid, h, again, emits), drawn) =
+        inr (inr (keeps-from n old new (reselected-goes n 0 old mid new named again (goes-same n 0 old mid (none-entered answers old mid c h)))))
+    between-keeps (AddLocalCandidate c) e old new s t known last p sound has number on is (Err error, emitted, reported, (named, mid, h, again, emits), drawn) =
+        inr (inr (keeps-from n old new (reselected-goes n 0 old mid new named again (goes-same n 0 old mid (enrolment_kept answers old mid c error h)))))
+    between-keeps (AddRemoteCandidate c) e old new s t known last p sound has number on is (Ok _, emitted, reported, (named, mid, h, again, emits), drawn) =
+        elim (remote-goes n 0 old mid c p sound has number h) [
+          | inl ends ↦ inr (inl (ap (λ (x : Entry). x.answer) reported, ends))
+          | inr k ↦ inr (inr (keeps-from n old new (reselected-goes n 0 old mid new named again k)))
+        ]
+    between-keeps (AddRemoteCandidate c) e old new s t known last p sound has number on is (Err error, emitted, reported, (named, mid, h, again, emits), drawn) =
+        inr (inr (keeps-from n old new (reselected-goes n 0 old mid new named again (goes-same n 0 old mid (storing_kept old mid c error h)))))
     between-keeps (SetMtu target warn) e old new s t known last p sound has number on is (Ok _, reported, h, drawn) = inr (inr (keeps-to n old _ new (refl, λ d cs le f. f) h.1))
     between-keeps (SetMtu target warn) e old new s t known last p sound has number on is (Err error, reported, h, drawn) = inr (inr (keeps-same n old new (mtu_kept old new target warn error h)))
     between-keeps (SetLocalCredentials creds) e old new s t known last p sound has number on is (Ok _, reported, h, drawn) = inr (inr (keeps-to n old _ new (refl, λ d cs le f. f) h.1))

@@ -10,12 +10,14 @@ use Rattle.is_stun.specs.declared.timing.Consent.{Consent}
 use Rattle.is_pair.proofs.ConsentTimes.EndOfConsent.{calls-at-end}
 use Rattle.is_rules.specs.Agent.{AgentRecord}
 use Rattle.is_rules.specs.declared.emitted.Emitted.{Emitted}
+use Rattle.is_rules.specs.declared.emitted.Path.{Path}
 use Rattle.is_rules.specs.Forming.{Combination, FormsAll}
 use Rattle.is_rules.specs.Polls.{PollsTimeout, soon}
 use Rattle.is_rules.specs.Queue.{request_at}
 use Rattle.is_rules.specs.Steps.{Call, SetMtu, SetControlTieBreaker, SetMaxCandidatePairs, SetMaxDiscovered, SetRenomination, SetTimingAdvance, SetLocalPreference, SetControlling, SetLocalCredentials, AddLocalCandidate, AddRemoteCandidate, ReceivePacket, PollTransmit, PollTimeout, PollEvent, NextTimeout, Entry, Step}
+use Rattle.is_rules.specs.Settling.{loses_selected, Reselects}
 use Rattle.is_rules.specs.Timeouts.{at_request, timeout_begun, MaintainsPairs, ServesQueued, TimesOut}
-use Rattle.is_theorems.specs.Consent.{ConsentEndsInTime, ConsentHolds, IsMaintained, IsPolledIn}
+use Rattle.is_theorems.specs.Consent.{ConsentEndsInTime, ConsentHolds, IsPolledIn}
 use Rattle.is_theorems.specs.Exchange.{Course}
 use Rattle.is_theorems.specs.FirstTimeouts.{AreInRound}
 use Rattle.is_theorems.specs.InTime.{KeepsPace}
@@ -26,7 +28,7 @@ use Rattle.is_theorems.proofs.CallEffects.FailedCallsAndNewAgents.{mtu_kept, con
 use Rattle.is_theorems.proofs.ExecutionLogs.LogSegments.{no-case}
 use Rattle.is_theorems.proofs.DuePairs.ConsentAfterTimeouts.{maintains-consents}
 use Rattle.is_theorems.proofs.PunctualTimeouts.ChecksInTime.{stays-slow}
-use Rattle.is_theorems.proofs.PunctualTimeouts.UnchangedPacing.{Clock, Pace, clock_of, maintains, pacing-is-set, receives}
+use Rattle.is_theorems.proofs.PunctualTimeouts.UnchangedPacing.{Clock, Pace, clock_of, maintains, pacing-is-set, receives, reselects-same}
 
 module _ {H P : Type 0} where
   clocked : (old new : AgentRecord H P) → new ≡ old → clock_of new ≡ clock_of old
@@ -34,6 +36,10 @@ module _ {H P : Type 0} where
 
   forms-clocked : (mid new : AgentRecord H P) (all : List Combination) → FormsAll mid all new → clock_of new ≡ clock_of mid
   forms-clocked mid new all (f, each, made) = clocked _ new made
+
+  reselects-clocked : (old mid new : AgentRecord H P) (path : Option Path) → Reselects (loses_selected old mid) mid path new → clock_of mid ≡ clock_of old
+      → clock_of new ≡ clock_of old
+  reselects-clocked old mid new path again clocked = ap (λ (p : Pace). p.clock) (reselects-same (loses_selected old mid) mid new path again) ∙ clocked
 
   module _ (mac : H → List ℕ → List ℕ → List ℕ) (answers : P → CandidateRecord → ℕ → ℕ → Type 0) where
     -- ---- what comes between two `handle_timeout` calls
@@ -43,12 +49,16 @@ module _ {H P : Type 0} where
     round-clock PollTransmit e old new s t is (given, reported, (polled, made), drawn) = clocked _ new made
     round-clock PollTimeout e old new s t is (deadline, reported, h, drawn) = by_waking old new deadline h (λ made. clocked old new made) (λ at made. clocked _ new made)
     round-clock PollEvent e old new s t is (given, reported, (polled, made), drawn) = clocked _ new made
-    round-clock (AddLocalCandidate c) e old new s t is (Ok place, reported, h, drawn) = by_adding_local old new answers c place h
-        (λ made. clocked old new made) (λ x _ f. forms-clocked _ new _ f) (λ k _ f. forms-clocked _ new _ f) (λ x _ k f. forms-clocked _ new _ f)
-    round-clock (AddLocalCandidate c) e old new s t is (Err error, reported, h, drawn) = clocked old new (enrolment_kept answers old new c error h)
-    round-clock (AddRemoteCandidate c) e old new s t is (Ok _, reported, h, drawn) = by_adding_remote old new c h
-        (λ made. clocked old new made) (λ f. forms-clocked _ new _ f) (λ k _ addr f. forms-clocked _ new _ f)
-    round-clock (AddRemoteCandidate c) e old new s t is (Err error, reported, h, drawn) = clocked old new (storing_kept old new c error h)
+    round-clock (AddLocalCandidate c) e old new s t is (Ok place, emitted, reported, (path, mid, h, again, emits), drawn) =
+        reselects-clocked old mid new path again (by_adding_local old mid answers c place h
+        (λ made. clocked old mid made) (λ x _ f. forms-clocked _ mid _ f) (λ k _ f. forms-clocked _ mid _ f) (λ x _ k f. forms-clocked _ mid _ f))
+    round-clock (AddLocalCandidate c) e old new s t is (Err error, emitted, reported, (path, mid, h, again, emits), drawn) =
+        reselects-clocked old mid new path again (clocked old mid (enrolment_kept answers old mid c error h))
+    round-clock (AddRemoteCandidate c) e old new s t is (Ok _, emitted, reported, (path, mid, h, again, emits), drawn) =
+        reselects-clocked old mid new path again (by_adding_remote old mid c h
+        (λ made. clocked old mid made) (λ f. forms-clocked _ mid _ f) (λ k _ addr f. forms-clocked _ mid _ f))
+    round-clock (AddRemoteCandidate c) e old new s t is (Err error, emitted, reported, (path, mid, h, again, emits), drawn) =
+        reselects-clocked old mid new path again (clocked old mid (storing_kept old mid c error h))
     round-clock (SetMtu target warn) e old new s t is (Ok _, reported, h, drawn) = clocked _ new h.1
     round-clock (SetMtu target warn) e old new s t is (Err error, reported, h, drawn) = clocked old new (mtu_kept old new target warn error h)
     round-clock (SetLocalCredentials creds) e old new s t is (Ok _, reported, h, drawn) = clocked _ new h.1

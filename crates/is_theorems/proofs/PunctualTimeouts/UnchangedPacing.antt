@@ -23,12 +23,13 @@ use Rattle.is_rules.specs.declared.roles.Conflict.TheVariants.{Absent, Send487, 
 use Rattle.is_rules.specs.declared.emitted.Emitted.{Emitted}
 use Rattle.is_rules.specs.declared.emitted.Issued.{Issued}
 use Rattle.is_rules.specs.declared.emitted.Path.{Path}
-use Rattle.is_rules.specs.Discarding.{place_to_discard, InvalidatesAt}
+use Rattle.is_rules.specs.Discarding.{local_to_discard, remote_to_discard, InvalidatesAt}
 use Rattle.is_rules.specs.Forming.{formed, with_pair, Combination, FormsAll}
 use Rattle.is_rules.specs.Nominating.{followed, remains, selection_of, Nominates}
 use Rattle.is_rules.specs.Places.{local_place}
 use Rattle.is_rules.specs.Request.{RequestRecord, request_in}
 use Rattle.is_rules.specs.Roles.{conflict_of, switched, keeps_role}
+use Rattle.is_rules.specs.Settling.{loses_selected, Reselects}
 use Rattle.is_rules.specs.Serving.{is_misled, names_another, pair_served, request_counted, selects_at_requests, with_sender, with_sender_at, Drops, Queues, RecordsAndResponds, FindsOrAddsPair, AddsUnknownSender, CountsAndServes, ResolvesRoleConflictBy, ResolvesRoleConflict, Serves}
 use Rattle.is_rules.specs.Steps.{SetMtu, SetControlTieBreaker, SetMaxCandidatePairs, SetMaxDiscovered, SetIceLite, SetRenomination, SetRules, SetTimingAdvance, SetInitialStunRto, SetMaxStunRto, SetMaxStunRetransmits, SetLiteTimeout, SetLocalPreference, SetControlling, SetLocalCredentials, SetRemoteCredentials, SkipPairIds, AddLocalCandidate, AddRemoteCandidate, InvalidateCandidate, RestartIce, RecreateCandidatePairs, ReceivePacket, HandleTimeout, PollTransmit, PollTimeout, PollEvent, Entry, Becomes, Receives, NotCalled, quiet}
 use Rattle.is_rules.specs.Settings.{with_retransmits}
@@ -76,6 +77,11 @@ module _ {H P : Type 0} where
   gives-up-same : (now : ℕ) (old new : AgentRecord H P) (path : Option Path) → RemovesExpired now old path new → Same old new
   gives-up-same now old new path h = either (list_any (is_expired now old) old.pairs) h
       (λ _ k. made-of _ new k.2 ∙ nominates-same (expired_gone now old) k.0 path k.1)
+      (λ _ k. made-of _ new k.1)
+
+  pub reselects-same : (loses : Bool) (old new : AgentRecord H P) (path : Option Path) → Reselects loses old path new → Same old new
+  reselects-same loses old new path h = either loses h
+      (λ _ k. made-of _ new k.2 ∙ nominates-same old k.0 path k.1)
       (λ _ k. made-of old new k.1)
 
   -- ---- responses
@@ -181,6 +187,10 @@ module _ {H P : Type 0} where
   paced-of : (old new : AgentRecord H P) → new ≡ old → new.timing_advance ≡ old.timing_advance
   paced-of old new made = ap (λ (a : AgentRecord H P). a.timing_advance) made
 
+  reselected : (old mid new : AgentRecord H P) (path : Option Path) → Reselects (loses_selected old mid) mid path new
+      → mid.timing_advance ≡ old.timing_advance → new.timing_advance ≡ old.timing_advance
+  reselected old mid new path again set = ap (λ (p : Pace). p.timing_advance) (reselects-same (loses_selected old mid) mid new path again) ∙ set
+
   forms : (mid new : AgentRecord H P) (all : List Combination) → FormsAll mid all new → new.timing_advance ≡ mid.timing_advance
   forms mid new all (f, each, made) = paced-of _ new made
 
@@ -217,13 +227,20 @@ module _ {H P : Type 0} where
     pacing-is-set old new s t (SetRemoteCredentials creds) e (Ok _, reported, h, drawn) = paced-of _ new h.1
     pacing-is-set old new s t (SetRemoteCredentials creds) e (Err error, reported, h, drawn) = paced-of old new (remote_kept old new creds error h)
     pacing-is-set old new s t (SkipPairIds n) e h = paced-of _ new h.1
-    pacing-is-set old new s t (AddLocalCandidate c) e (Ok place, reported, h, drawn) = by_adding_local old new answers c place h
-        (λ made. paced-of old new made) (λ x _ f. forms _ new _ f) (λ k _ f. forms _ new _ f) (λ x _ k f. forms _ new _ f)
-    pacing-is-set old new s t (AddLocalCandidate c) e (Err error, reported, h, drawn) = paced-of old new (enrolment_kept answers old new c error h)
-    pacing-is-set old new s t (AddRemoteCandidate c) e (Ok _, reported, h, drawn) = by_adding_remote old new c h
-        (λ made. paced-of old new made) (λ f. forms _ new _ f) (λ k _ addr f. forms _ new _ f)
-    pacing-is-set old new s t (AddRemoteCandidate c) e (Err error, reported, h, drawn) = paced-of old new (storing_kept old new c error h)
-    pacing-is-set old new s t (InvalidateCandidate c) e (found, reported, h, drawn) = invalidates old new (place_to_discard c old.local) (place_to_discard c old.remote) found h
+    pacing-is-set old new s t (AddLocalCandidate c) e (Ok place, emitted, reported, (path, mid, h, again, is), drawn) =
+        reselected old mid new path again (by_adding_local old mid answers c place h
+        (λ made. paced-of old mid made) (λ x _ f. forms _ mid _ f) (λ k _ f. forms _ mid _ f) (λ x _ k f. forms _ mid _ f))
+    pacing-is-set old new s t (AddLocalCandidate c) e (Err error, emitted, reported, (path, mid, h, again, is), drawn) =
+        reselected old mid new path again (paced-of old mid (enrolment_kept answers old mid c error h))
+    pacing-is-set old new s t (AddRemoteCandidate c) e (Ok _, emitted, reported, (path, mid, h, again, is), drawn) =
+        reselected old mid new path again (by_adding_remote old mid c h
+        (λ made. paced-of old mid made) (λ f. forms _ mid _ f) (λ k _ addr f. forms _ mid _ f))
+    pacing-is-set old new s t (AddRemoteCandidate c) e (Err error, emitted, reported, (path, mid, h, again, is), drawn) =
+        reselected old mid new path again (paced-of old mid (storing_kept old mid c error h))
+    pacing-is-set old new s t (InvalidateCandidate c) e (Ok found, emitted, reported, (path, mid, h, again, is), drawn) =
+        reselected old mid new path again (invalidates old mid (local_to_discard c old) (remote_to_discard c old) found h)
+    pacing-is-set old new s t (InvalidateCandidate c) e (Err error, emitted, reported, (path, mid, h, again, is), drawn) =
+        reselected old mid new path again (paced-of old mid h.1)
     pacing-is-set old new s t (RestartIce creds keep) e (Ok _, reported, h, drawn) = paced-of _ new h.1
     pacing-is-set old new s t (RestartIce creds keep) e (Err error, reported, h, drawn) = paced-of old new (restart_kept old new creds keep error h)
     pacing-is-set old new s t RecreateCandidatePairs e (Ok _, reported, (some, h), drawn) = forms _ new _ h

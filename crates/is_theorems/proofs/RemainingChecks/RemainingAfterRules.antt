@@ -41,6 +41,7 @@ use Rattle.is_rules.specs.Serving.{selects_at_requests, after_request, validated
 use Rattle.is_rules.specs.States.{evaluated}
 use Rattle.is_rules.specs.Steps.{Entry, Receives}
 use Rattle.is_theorems.specs.NotStarved.{HaveConsent}
+use Rattle.is_rules.specs.Settling.{settled}
 use Rattle.is_rules.specs.Timeouts.{at_request, at_timeout, expired_gone, is_expired, timeout_begun, RemovesExpired, MaintainsPairs, TimesOut}
 use Rattle.is_theorems.proofs.DuePairs.AfterNominationAndRemoval.{Base, Thins, consent-same, nominates-thins}
 use Rattle.is_theorems.proofs.RuleEffects.UnchangedSettings.{either}
@@ -242,7 +243,7 @@ module _ {H P : Type 0} where
           → Receives mac answers now old via bytes e new → Spends 0 old new
       receives-spends answers now old new via bytes e (inl (fault, has_fault, is, made)) = spends-none old new made
       receives-spends answers now old new via bytes e (inr (message, reads, (Ok true, emitted, is, (accepted, (mid, takes_it, made))))) =
-          spends-to 0 old (discovered_emitted via mid) new (let k = by-class message.class now old mid via message emitted takes_it in (k.0, k.1, k.2)) made
+          spends-to 0 old (discovered_emitted message.class emitted via mid) new (let k = by-class message.class now old mid via message emitted takes_it in (k.0, k.1, k.2)) made
       receives-spends answers now old new via bytes e (inr (message, reads, (Ok false, emitted, is, (no_one, nothing, made)))) = spends-none old new made
       receives-spends answers now old new via bytes e (inr (message, reads, (Err error, emitted, is, (may, nothing, made)))) = spends-none old new made
 
@@ -258,7 +259,7 @@ module _ {H P : Type 0} where
             spends-to 0 old (evaluated now k.0) new (named.0, named.1, named.2) k.2,
             λ rising. ap (λ (a : AgentRecord H P). rises a.pairs) k.2 ∙ (nominates-rises (expired_gone now old) k.0 path k.1 ∙ rises-filter (λ p. not (is_expired now old p)) old.pairs rising),
           )))
-          (λ _ k. (spends-none old new k.1, λ rising. ap (λ (a : AgentRecord H P). rises a.pairs) k.1 ∙ rising))
+          (λ _ k. (spends-to 0 old (settled true now old) new (refl, omega arith, omega arith) k.1, λ rising. ap (λ (a : AgentRecord H P). rises a.pairs) k.1 ∙ rising))
 
       check : (now : ℕ) (remote : Option IceCreds) (old new : AgentRecord H P) (s t : Stream) (issued : Option Issued) → old.lite ≡ false → rises old.pairs ≡ true
           → MayCheck mac now remote old s issued new t → Spends 1 old new

@@ -10,7 +10,7 @@ use Rattle.is_proto.specs.Lists.{Has, same}
 use Rattle.is_proto.specs.declared.error.IceError.{IceError}
 use Rattle.is_candidate.specs.Candidates.{CandidateRecord, candidate_at}
 use Rattle.is_pair.specs.Pairs.{PairRecord, is_nominated, is_valid}
-use Rattle.is_pair.specs.Multiset.{is_valid_at, IsPairBetween}
+use Rattle.is_pair.specs.Multiset.{is_valid_at}
 use Rattle.is_stun.specs.declared.header.Class.{Class}
 use Rattle.is_stun.specs.declared.header.Class.TheVariants as class
 use Rattle.is_stun.specs.Message.{Message}
@@ -25,20 +25,24 @@ use Rattle.is_rules.specs.Accepting.{Takes}
 use Rattle.is_rules.specs.Agent.{AgentRecord}
 use Rattle.is_rules.specs.Answers.{is_role_conflict, LeavesRole, TakesFailure}
 use Rattle.is_rules.specs.Effects.{last_of}
-use Rattle.is_rules.specs.Emitted.{nothing_emitted, selected_in}
-use Rattle.is_rules.specs.Forming.{formed, with_pair}
+use Rattle.is_rules.specs.Discarding.{local_to_discard, remote_to_discard, InvalidatesAt, Invalidates}
+use Rattle.is_rules.specs.Emitted.{nothing_emitted, selected_in, selected_only}
+use Rattle.is_rules.specs.Forming.{Combination, FormsAll, formed, with_pair}
 use Rattle.is_rules.specs.Limit.{IsSenderPlace}
+use Rattle.is_rules.specs.Local.{AddsLocal}
 use Rattle.is_rules.specs.Nominating.{eligible_numbered, first_numbered, followed, followed_by_number, if_eligible, is_eligible, number_of, numbers}
 use Rattle.is_rules.specs.Places.{local_place}
 use Rattle.is_rules.specs.Points.{IsTopSelected}
 use Rattle.is_rules.specs.Queue.{request_at, first_taken, queued}
+use Rattle.is_rules.specs.Remote.{AddsRemote}
 use Rattle.is_rules.specs.Request.{RequestRecord, request_in}
 use Rattle.is_rules.specs.Roles.{conflict_of, keeps_role, switched}
 use Rattle.is_rules.specs.Serving.{after_request, pair_served, selects_at_requests, with_sender, with_sender_at, sender_candidate, request_counted, is_misled, names_another}
 use Rattle.is_rules.specs.Serving.{Drops, RecordsAndResponds, FindsOrAddsPair, AddsUnknownSender, CountsAndServes, ResolvesRoleConflictBy, ResolvesRoleConflict, Serves}
 use Rattle.is_rules.specs.Sound.{IsSound}
 use Rattle.is_rules.specs.Sending.{path_of}
-use Rattle.is_rules.specs.Steps.{Answer, Done, Flag, answer_by, done, Call, ReceivePacket, HandleTimeout, Entry, Receives, Step}
+use Rattle.is_rules.specs.Settling.{loses_selected, Reselects}
+use Rattle.is_rules.specs.Steps.{Answer, Done, Flag, answer_by, added, done, Call, AddLocalCandidate, AddRemoteCandidate, InvalidateCandidate, ReceivePacket, HandleTimeout, Entry, Receives, Step}
 use Rattle.is_rules.specs.Timeouts.{at_request, timeout_begun, TimesOut, MaintainsPairs, ServesQueued}
 use Rattle.is_theorems.specs.Logs.{Logged, clears_at, last_selected}
 use Rattle.is_theorems.specs.Numbered.{GoesByNumbers, GreatestAreKept, GreatestAreLast, GreatestAreSelected, GreatestStay, IsGreatest, IsNumberedByPeer, LeadsByNumber, LeadsWith, StaysAhead, StaysGreatest}
@@ -48,10 +52,13 @@ use Rattle.is_rules.proofs.PairLists.ChosenPair.{numbered-able}
 use Rattle.is_rules.proofs.PairLists.PairsByNumber.{numbered-found}
 use Rattle.is_theorems.proofs.BasicLemmas.EqualAddresses.{both}
 use Rattle.is_theorems.proofs.BasicLemmas.VacantIndices.{known-in, vacant-at, length-put}
-use Rattle.is_theorems.proofs.CallEffects.CallsThatEmitNothing.{calm, is_calm}
+use Rattle.is_theorems.proofs.CallEffects.AddedCandidates.{by_adding_local, by_adding_remote}
+use Rattle.is_theorems.proofs.CallEffects.CallsThatEmitNothing.{is_calm, is_of_candidate, silent}
+use Rattle.is_theorems.proofs.CallEffects.ChangedCandidates.{adds_local_goes, adds_remote_goes, invalidates_goes}
+use Rattle.is_theorems.proofs.CallEffects.FailedCallsAndNewAgents.{enrolment_kept, storing_kept}
 use Rattle.is_theorems.proofs.CallEffects.PairsAndSelectedPaths.{Asks, Met, Sent, paired}
 use Rattle.is_theorems.proofs.CallEffects.PathAndTradeEffects.{path_theorem}
-use Rattle.is_theorems.proofs.CallEffects.ServedRequests.{is_at_places, known_at, reached, remote_joins, remote_puts, request_changes, switches}
+use Rattle.is_theorems.proofs.CallEffects.ServedRequests.{known_at, reached, remote_joins, remote_puts, request_changes, switches}
 use Rattle.is_theorems.proofs.ExecutionLogs.LogSegments.{run-on}
 use Rattle.is_theorems.proofs.ExecutionLogs.LogTheorems.{holds, runs_sound}
 use Rattle.is_theorems.proofs.PathSelection.FirstNumbered.{first-in, first-most, first-there}
@@ -234,13 +241,74 @@ module _ {H P : Type 0} where
     timeout-settles now (Ok _) emitted h = timeout-by now emitted (request_at now old) h
     timeout-settles now (Err error) emitted (may, nothing, made, drawn) = settles-same old new emitted nothing made
 
-    calm-settles : (call : Call P) → is_calm call ≡ true → Step mac answers old s call e new t → Settles old e.emitted new
-    calm-settles call is h = let k = calm mac answers old new s t e call is h in inl (k.selected_paths, ap (λ (x : Emitted). last_of x.selected_paths) k.emitted)
+    calm-settles : (call : Call P) → is_calm call ≡ true → is_of_candidate call ≡ false → Step mac answers old s call e new t → Settles old e.emitted new
+    calm-settles call is other h =
+        let k = silent mac answers old new s t e call is other h in inl (k.selected_paths, ap (λ (x : Emitted). last_of x.selected_paths) k.emitted)
+
+    -- ---- candidates
+
+    -- the pairs still rise, and the selected pair stays
+    abbrev Leaves : AgentRecord H P → Type 0
+    Leaves mid = FitOf mid × (mid.selected_pair ≡ old.selected_pair)
+
+    leaves-same : (mid : AgentRecord H P) → mid ≡ old → Leaves mid
+    leaves-same mid made = (subst (λ (a : AgentRecord H P). FitOf a) (sym made) fit, ap (λ (a : AgentRecord H P). a.selected_pair) made)
+
+    forms-selected : (a mid : AgentRecord H P) (all : List Combination) → FormsAll a all mid → mid.selected_pair ≡ a.selected_pair
+    forms-selected a mid all (f, forms, made) = ap (λ (x : AgentRecord H P). x.selected_pair) made
+
+    adds-local : (c : CandidateRecord) (r : Result (Option ℕ) IceError) (mid : AgentRecord H P) → AddsLocal answers old c r mid → Leaves mid
+    adds-local c (Ok place) mid h = (
+      (adds_local_goes AllNumbers All1 All3 answers old mid c place fit h).fit,
+      by_adding_local old mid answers c place h
+          (λ made. ap (λ (a : AgentRecord H P). a.selected_pair) made)
+          (λ x based f. forms-selected _ mid _ f) (λ k lt f. forms-selected _ mid _ f) (λ x based k f. forms-selected _ mid _ f),
+    )
+    adds-local c (Err error) mid h = leaves-same mid (enrolment_kept answers old mid c error h)
+
+    adds-remote : (c : CandidateRecord) (r : Result (Unit {0}) IceError) (mid : AgentRecord H P) → AddsRemote old c r mid → Leaves mid
+    adds-remote c (Ok _) mid h = (
+      (adds_remote_goes AllNumbers All1 All3 old mid c fit h).fit,
+      by_adding_remote old mid c h
+          (λ made. ap (λ (a : AgentRecord H P). a.selected_pair) made)
+          (λ f. forms-selected _ mid _ f) (λ k lt addr f. forms-selected _ mid _ f),
+    )
+    adds-remote c (Err error) mid h = leaves-same mid (storing_kept old mid c error h)
+
+    discards : (l r : Option ℕ) (found : Bool) (mid : AgentRecord H P) → InvalidatesAt l r old found mid → Leaves mid
+    discards l r found mid h = ((invalidates_goes AllNumbers All1 All3 old mid l r found fit h).fit, by l r h) where
+      by : (l r : Option ℕ) → InvalidatesAt l r old found mid → mid.selected_pair ≡ old.selected_pair
+      by (Some place) r h = ap (λ (a : AgentRecord H P). a.selected_pair) h.1
+      by None (Some place) h = ap (λ (a : AgentRecord H P). a.selected_pair) h.1
+      by None None h = ap (λ (a : AgentRecord H P). a.selected_pair) h.1
+
+    invalidates : (c : CandidateRecord) (r : Result Bool IceError) (mid : AgentRecord H P) → Invalidates old c r mid → Leaves mid
+    invalidates c (Ok found) mid h = discards (local_to_discard c old) (remote_to_discard c old) found mid h
+    invalidates c (Err error) mid h = leaves-same mid h.1
+
+    selects-settles : (loses : Bool) (mid : AgentRecord H P) (path : Option Path) → Leaves mid → Reselects loses mid path new
+        → Settles old (selected_only path) new
+    selects-settles true mid path leaves (named, nominating, made) =
+        inr (subst (λ (a : AgentRecord H P). IsTopSelected a) (sym made) (nominates_top mid named path leaves.0.rising nominating))
+    selects-settles false mid path leaves (none, made) =
+        inl (ap (λ (a : AgentRecord H P). a.selected_pair) made ∙ leaves.1, none)
+
+    -- a candidate is added or invalidated
+    candidate-settles : (answer : Answer) (emitted : Emitted) → e ≡ record { answer = answer; emitted = emitted } → (path : Option Path) (mid : AgentRecord H P)
+        → Leaves mid → Reselects (loses_selected old mid) mid path new → emitted ≡ selected_only path → Settles old e.emitted new
+    candidate-settles answer emitted is path mid leaves again emits =
+        by-entry answer emitted is (subst (λ (x : Emitted). Settles old x new) (sym emits) (selects-settles (loses_selected old mid) mid path leaves again))
 
     pub settles : (call : Call P) → Step mac answers old s call e new t → Settles old e.emitted new
+    settles (AddLocalCandidate c) (r, emitted, is, (path, mid, h, again, emits), drawn) =
+        candidate-settles (answer_by added r) emitted is path mid (adds-local c r mid h) again emits
+    settles (AddRemoteCandidate c) (r, emitted, is, (path, mid, h, again, emits), drawn) =
+        candidate-settles (answer_by done r) emitted is path mid (adds-remote c r mid h) again emits
+    settles (InvalidateCandidate c) (r, emitted, is, (path, mid, h, again, emits), drawn) =
+        candidate-settles (answer_by Flag r) emitted is path mid (invalidates c r mid h) again emits
     settles (ReceivePacket now via bytes) h = packet-settles now via bytes h.0
     settles (HandleTimeout now) (r, emitted, is, h) = by-entry (answer_by done r) emitted is (timeout-settles now r emitted h)
-    settles call h = calm-settles call refl h
+    settles call h = calm-settles call refl refl h
 
   -- ---- executions
 

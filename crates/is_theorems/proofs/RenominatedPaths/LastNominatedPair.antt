@@ -37,7 +37,8 @@ use Rattle.is_rules.specs.Queue.{first_taken, queued, request_at}
 use Rattle.is_rules.specs.Request.{RequestRecord, request_in}
 use Rattle.is_rules.specs.Roles.{conflict_of, switched, keeps_role}
 use Rattle.is_rules.specs.Sending.{path_between, path_of}
-use Rattle.is_rules.specs.Serving.{nominates, selects_at_requests, after_request, Drops, is_misled, names_another, nominated_last, pair_served, replied, request_counted, sender_candidate, served, validated_by_peer, with_sender, with_sender_at, RecordsAndResponds, FindsOrAddsPair, AddsUnknownSender, CountsAndServes, ResolvesRoleConflictBy, ResolvesRoleConflict, Serves, as_taken, nominated_by_peer}
+use Rattle.is_rules.specs.Serving.{nominates, trigger_time, selects_at_requests, after_request, Drops, is_misled, names_another, nominated_last, pair_served, replied, request_counted, sender_candidate, served, validated_by_peer, with_sender, with_sender_at, RecordsAndResponds, FindsOrAddsPair, AddsUnknownSender, CountsAndServes, ResolvesRoleConflictBy, ResolvesRoleConflict, Serves, as_taken, nominated_by_peer}
+use Rattle.is_rules.specs.Settling.{settled}
 use Rattle.is_rules.specs.Sound.{IsSound}
 use Rattle.is_rules.specs.Steps.{Call, Entry, ReceivePacket, HandleTimeout, Done, Flag, answer_by, done, Receives, Step}
 use Rattle.is_rules.specs.Timeouts.{at_request, at_timeout, expired_gone, is_expired, timeout_begun, RemovesExpired, MaintainsPairs, ServesQueued, TimesOut}
@@ -158,7 +159,8 @@ module _ {H P : Type 0} where
     module _ (l r number : ℕ) (s new : AgentRecord H P) (emitted : Emitted) (via : path_between s l r ≡ reversed q.path) (there : IsThere s l r number)
         (path : Option Path) (mid : AgentRecord H P)
         (nominating : NominatesWhere (selects_at_requests s && is_valid_at number s.pairs) (pair_served q number s) path mid)
-        (out : emitted.issued ≡ Some (issued_as (path_between s l r) class.Success q.id)) (made : new ≡ replied mac q (path_between s l r) mid) where
+        (out : emitted.issued ≡ Some (issued_as (path_between s l r) class.Success q.id))
+        (made : new ≡ replied mac q (path_between s l r) (settled (is_some path) (trigger_time q s) mid)) where
       record-is : new.last_nominated ≡ nominated_last s.controlling (as_taken (numbers s) q) number s.last_nominated
       record-is = ap (λ (a : AgentRecord H P). a.last_nominated) made ∙ where-last (selects_at_requests s && is_valid_at number s.pairs) (pair_served q number s) mid path nominating
 
@@ -307,7 +309,7 @@ module _ {H P : Type 0} where
     -- ---- packets and timeouts
 
     module _ (now : ℕ) (via : Path) (bytes : List ℕ) (comes : x.call ≡ ReceivePacket now via bytes) (m : Message) (mid : AgentRecord H P) (emitted : Emitted)
-        (e_is : x.entry ≡ record { answer = Flag true; emitted = emitted }) (reads : Reads bytes m) (made : new ≡ discovered_emitted via mid) where
+        (e_is : x.entry ≡ record { answer = Flag true; emitted = emitted }) (reads : Reads bytes m) (made : new ≡ discovered_emitted m.class emitted via mid) where
       emitted-is : x.entry.emitted ≡ emitted
       emitted-is = ap (λ (y : Entry). y.emitted) e_is
 
@@ -324,7 +326,7 @@ module _ {H P : Type 0} where
       request None none is (nothing, same_is) =
           silent (last-by (ap (λ (a : AgentRecord H P). a.last_nominated) same_is)) (ap (λ (y : Emitted). y.issued) (emitted-is ∙ nothing))
       request (Some peer) known is h =
-          by-serving (request_in now via m) old (discovered_emitted via mid) emitted (serving-now peer known is) emitted-is refl refl made
+          by-serving (request_in now via m) old (discovered_emitted m.class emitted via mid) emitted (serving-now peer known is) emitted-is refl refl made
           (serves mac (request_in now via m) old mid emitted sound.based h)
 
       failure-silent : TakesFailure old via m emitted mid → emitted.issued ≡ None

@@ -170,11 +170,11 @@ module _ {H P : Type 0} where
       by_class class.Indication now old mid via m emitted h = absurd h
       by_class class.Unknown now old mid via m emitted h = absurd h
 
-      discovered : (via : Path) (a : AgentRecord H P) → IsWithin most a.max_discovered → Stays a (discovered_emitted via a)
-      discovered via a limit within = record {
+      discovered : (c : Class) (emitted : Emitted) (via : Path) (a : AgentRecord H P) → IsWithin most a.max_discovered → Stays a (discovered_emitted c emitted via a)
+      discovered c emitted via a limit within = record {
         local = within.local;
         remote = within.remote;
-        sources = by (is_passed_over via a);
+        sources = by (is_passed_over c emitted via a);
       } where
         more : List Source
         more = a.discovered_sources ++ record { proto = via.proto; address = via.source } ∷ []
@@ -188,7 +188,7 @@ module _ {H P : Type 0} where
       handled now old new via m (Ok false) emitted limit (rejected, is, made) = by_same old new (same old new made)
       handled now old new via m (Ok true) emitted limit (accepted, (mid, takes_it, made)) =
           let k = by_class m.class now old mid via m emitted takes_it in
-          λ within. by_same (discovered_emitted via mid) new (ap (λ (a : AgentRecord H P). lists_of a) made) (discovered via mid (subst (λ o. IsWithin most o) (sym k.0) limit) (k.1 limit within))
+          λ within. by_same (discovered_emitted m.class emitted via mid) new (ap (λ (a : AgentRecord H P). lists_of a) made) (discovered m.class emitted via mid (subst (λ o. IsWithin most o) (sym k.0) limit) (k.1 limit within))
       handled now old new via m (Err error) emitted limit (may, is, made) = by_same old new (same old new made)
 
       pub received : (answers : P → CandidateRecord → ℕ → ℕ → Type 0) (now : ℕ) (old new : AgentRecord H P) (via : Path) (bytes : List ℕ) (e : Entry) → IsWithin most old.max_discovered

@@ -6,9 +6,10 @@ use Rattle.is_proto.specs.declared.error.IceError.{IceError}
 use Rattle.is_candidate.specs.Candidates.{CandidateRecord, candidate_at}
 use Rattle.is_rules.specs.declared.accepting.Source.{Source}
 use Rattle.is_rules.specs.declared.credentials.IceCreds.{IceCreds}
+use Rattle.is_rules.specs.declared.emitted.Path.{Path}
 use Rattle.is_rules.specs.Agent.{AgentRecord}
 use Rattle.is_theorems.specs.Bounds.{gathered_count, is_gathered, may_serve, is_signal, signal_count, is_signaled, IsLimited, IsWithin, LimitsBound}
-use Rattle.is_rules.specs.Discarding.{discarded, local_discarded, place_to_discard, remote_discarded, InvalidatesAt}
+use Rattle.is_rules.specs.Discarding.{discarded, local_discarded, local_to_discard, remote_to_discard, remote_discarded, InvalidatesAt}
 use Rattle.is_rules.specs.Forming.{Combination, FormsAll}
 use Rattle.is_rules.specs.Local.{appended, enabled, enabled_again, AddsLocal}
 use Rattle.is_theorems.specs.Logs.{Logged}
@@ -16,6 +17,7 @@ use Rattle.is_rules.specs.Remote.{AddsRemote, as_remote, with_remote}
 use Rattle.is_rules.specs.Restarting.{Restarts, Recreates, emptied, kept_local, restarted, with_ufrag}
 use Rattle.is_rules.specs.Credentials.{SetsLocal, SetsRemote}
 use Rattle.is_rules.specs.Settings.{SetsControlling, SetsMtu}
+use Rattle.is_rules.specs.Settling.{loses_selected, Reselects}
 use Rattle.is_theorems.specs.Runs.{IsFresh, Run, run_to}
 use Rattle.is_rules.specs.Steps.{Call, SetMtu, SetControlTieBreaker, SetMaxCandidatePairs, SetMaxDiscovered, SetIceLite, SetRenomination, SetRules, SetTimingAdvance, SetInitialStunRto, SetMaxStunRto, SetMaxStunRetransmits, SetLiteTimeout, SetLocalPreference, SetControlling, SetLocalCredentials, SetRemoteCredentials, SkipPairIds, AddLocalCandidate, AddRemoteCandidate, InvalidateCandidate, RestartIce, RecreateCandidatePairs, ReceivePacket, HandleTimeout, PollTransmit, PollTimeout, PollEvent, Entry, Step, MayDo}
 use Rattle.is_theorems.proofs.CallEffects.AddedCandidates.{by_adding_local, by_adding_remote, by_waking}
@@ -23,26 +25,90 @@ use Rattle.is_theorems.proofs.RuleEffects.UnchangedSettings.{either}
 use Rattle.is_theorems.proofs.CallEffects.FailedCallsAndNewAgents.{mtu_kept, controlling_kept, local_kept, remote_kept, restart_kept, recreation_kept, enrolment_kept, storing_kept}
 use Rattle.is_theorems.proofs.ExecutionLogs.PointsOfSegments.{deeper, later_point}
 use Rattle.is_theorems.proofs.StorageBounds.BoundedLists.{Fits, Lists, Within, fits-added, fits-changed, fits-mapped, fits-more, fits-none, fits-replaced, is_own}
-use Rattle.is_theorems.proofs.StorageBounds.UnchangedLists.{lists_of, Same, same, forms_same}
+use Rattle.is_theorems.proofs.StorageBounds.UnchangedLists.{lists_of, Same, same, forms_same, reselects_same}
 use Rattle.is_theorems.proofs.StorageBounds.ListsAfterRules.{Stays, by_same, received, timed}
 
+-- the caller's candidates may be fewer than it added
+wider : (most g n k j : ℕ) (l : Lists) → Within most g n l → Within most (k + g) (j + n) l
+wider most g n k j l within = record {
+  local = fits-more is_own most k g l.local within.local;
+  remote = fits-more is_signaled most j n l.remote within.remote;
+  sources = within.sources;
+}
+
 module _ {H P : Type 0} where
+  -- ---- candidates
+
+  module _ (most g n : ℕ) where
+    -- the lists are these afterwards
+    moved : (k j : ℕ) (mid new : AgentRecord H P) → Same mid new → Within most (k + g) (j + n) (lists_of mid) → Within most (k + g) (j + n) (lists_of new)
+    moved k j mid new is l = subst (λ (x : Lists). Within most (k + g) (j + n) x) (sym is) l
+
+    module _ (old new : AgentRecord H P) where
+      discards : (l r : Option ℕ) (found : Bool) → InvalidatesAt l r old found new → Within most g n (lists_of old) → Within most (0 + g) (0 + n) (lists_of new)
+      discards (Some place) r found (is, made) =
+          λ within. moved 0 0 (local_discarded place old) new (same (local_discarded place old) new made)
+          (wider most g n 0 0 (lists_of (local_discarded place old)) (record {
+            local = fits-changed is_own most g old.local place (discarded (candidate_at old.local place)) refl within.local;
+            remote = within.remote;
+            sources = within.sources;
+          }))
+      discards None (Some place) found (is, made) =
+          λ within. moved 0 0 (remote_discarded place old) new (same (remote_discarded place old) new made)
+          (wider most g n 0 0 (lists_of (remote_discarded place old)) (record {
+            local = within.local;
+            remote = fits-changed is_signaled most n old.remote place (discarded (candidate_at old.remote place)) refl within.remote;
+            sources = within.sources;
+          }))
+      discards None None found (is, made) = λ within. wider most g n 0 0 (lists_of new) (by_same most g n old new (same old new made) within)
+
+      -- a remote candidate that the caller added
+      signals : (c : CandidateRecord) (r : Result (Unit {0}) IceError) → AddsRemote old c r new → Within most g n (lists_of old)
+          → Within most (0 + g) (1 + n) (lists_of new)
+      signals c (Ok _) h within = by_adding_remote old new c h
+          (λ made. wider most g n 0 1 (lists_of new) (by_same most g n old new (same old new made) within))
+          (λ f. moved 0 1 (with_remote (as_remote c) None old) new (forms_same (with_remote (as_remote c) None old) new _ f) (record {
+            local = fits-more is_own most 0 g old.local within.local;
+            remote = fits-added is_signaled most n old.remote (as_remote c) within.remote;
+            sources = within.sources;
+          }))
+          (λ k lt addr f. moved 0 1 (with_remote (as_remote c) (Some k) old) new (forms_same (with_remote (as_remote c) (Some k) old) new _ f) (record {
+            local = fits-more is_own most 0 g old.local within.local;
+            remote = fits-replaced is_signaled most n old.remote k (as_remote c) within.remote;
+            sources = within.sources;
+          }))
+      signals c (Err error) h within = wider most g n 0 1 (lists_of new) (by_same most g n old new (same old new (storing_kept old new c error h)) within)
+
+      -- a local candidate that the caller added
+      entered : (mid : AgentRecord H P) (all : List Combination) → FormsAll mid all new → Fits is_own most (1 + g) mid.local → mid.remote ≡ old.remote
+          → mid.discovered_sources ≡ old.discovered_sources
+          → Within most g n (lists_of old) → Within most (1 + g) (0 + n) (lists_of new)
+      entered mid all f local remote sources within = moved 1 0 mid new (forms_same mid new all f) (record {
+        local = local;
+        remote = subst (λ cs. Fits is_signaled most (0 + n) cs) (sym remote) (fits-more is_signaled most 0 n old.remote within.remote);
+        sources = subst (λ (xs : List Source). length xs ≤ most) (sym sources) within.sources;
+      })
+
+      adds_local : (answers : P → CandidateRecord → ℕ → ℕ → Type 0) (c : CandidateRecord) (r : Result (Option ℕ) IceError) → AddsLocal answers old c r new
+          → Within most g n (lists_of old) → Within most (1 + g) (0 + n) (lists_of new)
+      adds_local answers c (Ok place) h within = by_adding_local old new answers c place h
+          (λ made. wider most g n 1 0 (lists_of new) (by_same most g n old new (same old new made) within))
+          (λ x based f. entered (appended x old) _ f (fits-added is_own most g old.local x within.local) refl refl within)
+          (λ k lt f. entered (enabled_again k old) _ f
+          (fits-more is_own most 1 g _ (fits-changed is_own most g old.local k (enabled (candidate_at old.local k)) refl within.local)) refl refl within)
+          (λ x based k f. entered (appended x (local_discarded k old)) _ f
+          (fits-added is_own most g _ x (fits-changed is_own most g old.local k (discarded (candidate_at old.local k)) refl within.local)) refl refl within)
+      adds_local answers c (Err error) h within =
+          wider most g n 1 0 (lists_of new) (by_same most g n old new (same old new (enrolment_kept answers old new c error h)) within)
+
   -- ---- calls
 
   module _ (most g n : ℕ) (mac : H → List ℕ → List ℕ → List ℕ) (answers : P → CandidateRecord → ℕ → ℕ → Type 0) (old new : AgentRecord H P) (s t : Stream) (e : Entry) where
     abbrev Keeps : Type 0
     Keeps = Within most g n (lists_of old) → Within most (0 + g) (0 + n) (lists_of new)
 
-    -- the caller's candidates may be fewer than it added
-    wider : (k j : ℕ) (l : Lists) → Within most g n l → Within most (k + g) (j + n) l
-    wider k j l within = record {
-      local = fits-more is_own most k g l.local within.local;
-      remote = fits-more is_signaled most j n l.remote within.remote;
-      sources = within.sources;
-    }
-
     lifted : Stays most g n old new → Keeps
-    lifted h within = wider 0 0 (lists_of new) (h within)
+    lifted h within = wider most g n 0 0 (lists_of new) (h within)
 
     kept : Same old new → Keeps
     kept is = lifted (by_same most g n old new is)
@@ -51,76 +117,28 @@ module _ {H P : Type 0} where
     may Does done failed (Ok _, is, h, drawn) = done h
     may Does done failed (Err error, is, h, drawn) = same old new (failed error h)
 
-    -- the lists are these afterwards
-    moved : (k j : ℕ) (mid : AgentRecord H P) → Same mid new → Within most (k + g) (j + n) (lists_of mid) → Within most (k + g) (j + n) (lists_of new)
-    moved k j mid is l = subst (λ (x : Lists). Within most (k + g) (j + n) x) (sym is) l
-
     kept_fits : (keep : Bool) (ufrag : List ℕ) → Fits is_own most g old.local → Fits is_own most g (kept_local keep ufrag old.local)
     kept_fits true ufrag f = fits-mapped is_own most g (with_ufrag ufrag) (λ c. refl) old.local f
     kept_fits false ufrag f = fits-none is_own most g
 
     restarts : (creds : IceCreds) (keep : Bool) → MayDo (Restarts old creds keep) s e new t → Keeps
     restarts creds keep (Ok _, is, (fits, made), drawn) =
-        λ within. moved 0 0 (restarted creds keep old) (same (restarted creds keep old) new made) (wider 0 0 (lists_of (restarted creds keep old)) (record {
+        λ within. moved most g n 0 0 (restarted creds keep old) new (same (restarted creds keep old) new made)
+        (wider most g n 0 0 (lists_of (restarted creds keep old)) (record {
           local = kept_fits keep creds.ufrag within.local;
           remote = fits-none is_signaled most n;
           sources = omega arith;
         }))
     restarts creds keep (Err error, is, h, drawn) = kept (same old new (restart_kept old new creds keep error h))
 
-    discards : (l r : Option ℕ) (found : Bool) → InvalidatesAt l r old found new → Keeps
-    discards (Some place) r found (is, made) =
-        λ within. moved 0 0 (local_discarded place old) (same (local_discarded place old) new made) (wider 0 0 (lists_of (local_discarded place old)) (record {
-          local = fits-changed is_own most g old.local place (discarded (candidate_at old.local place)) refl within.local;
-          remote = within.remote;
-          sources = within.sources;
-        }))
-    discards None (Some place) found (is, made) =
-        λ within. moved 0 0 (remote_discarded place old) (same (remote_discarded place old) new made) (wider 0 0 (lists_of (remote_discarded place old)) (record {
-          local = within.local;
-          remote = fits-changed is_signaled most n old.remote place (discarded (candidate_at old.remote place)) refl within.remote;
-          sources = within.sources;
-        }))
-    discards None None found (is, made) = kept (same old new made)
-
-    -- a remote candidate that the caller added
-    signals : (c : CandidateRecord) → MayDo (AddsRemote old c) s e new t → Within most g n (lists_of old) → Within most (0 + g) (1 + n) (lists_of new)
-    signals c (Ok _, is, h, drawn) within = by_adding_remote old new c h
-        (λ made. wider 0 1 (lists_of new) (by_same most g n old new (same old new made) within))
-        (λ f. moved 0 1 (with_remote (as_remote c) None old) (forms_same (with_remote (as_remote c) None old) new _ f) (record {
-          local = fits-more is_own most 0 g old.local within.local;
-          remote = fits-added is_signaled most n old.remote (as_remote c) within.remote;
-          sources = within.sources;
-        }))
-        (λ k lt addr f. moved 0 1 (with_remote (as_remote c) (Some k) old) (forms_same (with_remote (as_remote c) (Some k) old) new _ f) (record {
-          local = fits-more is_own most 0 g old.local within.local;
-          remote = fits-replaced is_signaled most n old.remote k (as_remote c) within.remote;
-          sources = within.sources;
-        }))
-    signals c (Err error, is, h, drawn) within = wider 0 1 (lists_of new) (by_same most g n old new (same old new (storing_kept old new c error h)) within)
-
     recreates : MayDo (Recreates old) s e new t → Same old new
     recreates (Ok _, is, (enough, f), drawn) = forms_same (emptied old) new _ f
     recreates (Err error, is, h, drawn) = same old new (recreation_kept old new error h)
 
-    -- a local candidate that the caller added
-    entered : (mid : AgentRecord H P) (all : List Combination) → FormsAll mid all new → Fits is_own most (1 + g) mid.local → mid.remote ≡ old.remote → mid.discovered_sources ≡ old.discovered_sources
-        → Within most g n (lists_of old) → Within most (1 + g) (0 + n) (lists_of new)
-    entered mid all f local remote sources within = moved 1 0 mid (forms_same mid new all f) (record {
-      local = local;
-      remote = subst (λ cs. Fits is_signaled most (0 + n) cs) (sym remote) (fits-more is_signaled most 0 n old.remote within.remote);
-      sources = subst (λ (xs : List Source). length xs ≤ most) (sym sources) within.sources;
-    })
-
-    adds_local : (c : CandidateRecord) (r : Result (Option ℕ) IceError) → AddsLocal answers old c r new → Within most g n (lists_of old) → Within most (1 + g) (0 + n) (lists_of new)
-    adds_local c (Ok place) h within = by_adding_local old new answers c place h
-        (λ made. wider 1 0 (lists_of new) (by_same most g n old new (same old new made) within))
-        (λ x based f. entered (appended x old) _ f (fits-added is_own most g old.local x within.local) refl refl within)
-        (λ k lt f. entered (enabled_again k old) _ f
-        (fits-more is_own most 1 g _ (fits-changed is_own most g old.local k (enabled (candidate_at old.local k)) refl within.local)) refl refl within)
-        (λ x based k f. entered (appended x (local_discarded k old)) _ f
-        (fits-added is_own most g _ x (fits-changed is_own most g old.local k (discarded (candidate_at old.local k)) refl within.local)) refl refl within)
-    adds_local c (Err error) h within = wider 1 0 (lists_of new) (by_same most g n old new (same old new (enrolment_kept answers old new c error h)) within)
+    -- a path may be selected after it
+    selects : (k j : ℕ) (mid : AgentRecord H P) (path : Option Path) → Reselects (loses_selected old mid) mid path new
+        → Within most (k + g) (j + n) (lists_of mid) → Within most (k + g) (j + n) (lists_of new)
+    selects k j mid path h l = moved most g n k j mid new (reselects_same (loses_selected old mid) mid new path h) l
 
     -- the limit may be set to anything between packets
     abbrev Bounds : Call P → Type 0
@@ -129,8 +147,8 @@ module _ {H P : Type 0} where
 
     relimited : (limit : Option ℕ) → new ≡ record old { max_discovered = limit } → Keeps
     relimited limit made within =
-        subst (λ (x : AgentRecord H P). Within most (0 + g) (0 + n) (lists_of x)) (sym made) (wider 0 0 (lists_of (record old { max_discovered = limit }))
-        (record { local = within.local; remote = within.remote; sources = within.sources }))
+        subst (λ (x : AgentRecord H P). Within most (0 + g) (0 + n) (lists_of x)) (sym made)
+        (wider most g n 0 0 (lists_of (record old { max_discovered = limit })) (record { local = within.local; remote = within.remote; sources = within.sources }))
 
     pub bounds : (call : Call P) → Bounds call
     bounds (SetMtu target warn) _ h = kept (may (SetsMtu old target warn) (λ k. ap (λ (a : AgentRecord H P). lists_of a) k.1) (mtu_kept old new target warn) h)
@@ -150,9 +168,14 @@ module _ {H P : Type 0} where
     bounds (SetLocalCredentials creds) _ h = kept (may (SetsLocal old creds) (λ k. ap (λ (a : AgentRecord H P). lists_of a) k.1) (local_kept old new creds) h)
     bounds (SetRemoteCredentials creds) _ h = kept (may (SetsRemote old creds) (λ k. ap (λ (a : AgentRecord H P). lists_of a) k.1) (remote_kept old new creds) h)
     bounds (SkipPairIds k) _ (is, made, drawn) = kept (ap (λ (a : AgentRecord H P). lists_of a) made)
-    bounds (AddLocalCandidate c) _ (r, is, h, drawn) = adds_local c r h
-    bounds (AddRemoteCandidate c) _ h = signals c h
-    bounds (InvalidateCandidate c) _ (found, is, h, drawn) = discards (place_to_discard c old.local) (place_to_discard c old.remote) found h
+    bounds (AddLocalCandidate c) _ (r, emitted, is, (path, mid, h, again, emits), drawn) =
+        λ within. selects 1 0 mid path again (adds_local most g n old mid answers c r h within)
+    bounds (AddRemoteCandidate c) _ (r, emitted, is, (path, mid, h, again, emits), drawn) =
+        λ within. selects 0 1 mid path again (signals most g n old mid c r h within)
+    bounds (InvalidateCandidate c) _ (Ok found, emitted, is, (path, mid, h, again, emits), drawn) =
+        λ within. selects 0 0 mid path again (discards most g n old mid (local_to_discard c old) (remote_to_discard c old) found h within)
+    bounds (InvalidateCandidate c) _ (Err error, emitted, is, (path, mid, h, again, emits), drawn) =
+        λ within. selects 0 0 mid path again (wider most g n 0 0 (lists_of mid) (by_same most g n old mid (same old mid h.1) within))
     bounds (RestartIce creds keep) _ h = restarts creds keep h
     bounds RecreateCandidatePairs _ h = kept (recreates h)
     bounds (ReceivePacket now via bytes) limit (h, drawn) = lifted (received most g n mac answers now old new via bytes e (limit (cc)) h)

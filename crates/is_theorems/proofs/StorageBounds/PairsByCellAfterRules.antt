@@ -7,7 +7,7 @@ use Rattle.std.specs.Option.{option_or}
 use Rattle.std.specs.declared.net.socket_addr.SocketAddr.{SocketAddr}
 use Rattle.rand_core.specs.Stream.{Stream}
 use Rattle.is_proto.specs.declared.error.IceError.{IceError}
-use Rattle.is_proto.specs.Lists.{Has, NonePass}
+use Rattle.is_proto.specs.Lists.{Has}
 use Rattle.is_proto.specs.Lists as role
 use Rattle.is_candidate.specs.declared.candidate.kind.CandidateKind.{CandidateKind}
 use Rattle.is_candidate.specs.declared.candidate.kind.CandidateKind.TheVariants.{Host, PeerReflexive, ServerReflexive, Relayed}
@@ -15,7 +15,7 @@ use Rattle.is_candidate.specs.Candidates.{CandidateRecord, candidate_at}
 use Rattle.is_candidate.specs.Kinds.{is_direct, same_kind}
 use Rattle.is_pair.specs.Multiset.{change_at, is_between, is_numbered, is_valid_at, without, IsPairBetween}
 use Rattle.is_pair.specs.Due.{asked}
-use Rattle.is_pair.specs.Pairs.{PairRecord, checked, heard, heard_at, is_nominated, nominated, validated, with_request}
+use Rattle.is_pair.specs.Pairs.{PairRecord, heard, heard_at, is_nominated, nominated, validated, with_request}
 use Rattle.is_stun.specs.declared.header.Class.{Class}
 use Rattle.is_stun.specs.declared.header.Class.TheVariants as class
 use Rattle.is_stun.specs.Message.{Message}
@@ -40,10 +40,12 @@ use Rattle.is_rules.specs.Roles.{conflict_of, switched, switched_sides, with_pri
 use Rattle.is_rules.specs.Serving.{selects_at_requests, after_request, is_misled, names_another, pair_served, request_counted, served, validated_by_peer, with_sender, with_sender_at, Drops, Queues, RecordsAndResponds, FindsOrAddsPair, AddsUnknownSender, CountsAndServes, ResolvesRoleConflictBy, ResolvesRoleConflict, Serves, as_taken, nominated_by_peer}
 use Rattle.is_rules.specs.States.{evaluated}
 use Rattle.is_rules.specs.Steps.{Entry, Receives}
+use Rattle.is_rules.specs.Settling.{settled, Reselects}
 use Rattle.is_rules.specs.Timeouts.{at_request, RemovesExpired, MaintainsPairs, TimesOut, at_timeout, expired_gone, is_expired, timeout_begun}
 use Rattle.is_theorems.proofs.BasicLemmas.EqualAddresses.{both}
 use Rattle.is_theorems.proofs.StorageBounds.BoundedLists.{is_own}
 use Rattle.is_theorems.proofs.StorageBounds.PairsByCell.{cell_of, cells, cells-map, cells-set, extras, extras-agree, extras-filter, extras-new, is_cell}
+use Rattle.is_theorems.proofs.RuleEffects.Reselection.{by-reselecting}
 use Rattle.is_theorems.proofs.RuleEffects.UnchangedSettings.{either}
 use Rattle.is_theorems.proofs.RuleEffects.ChangedPairs.{Has-map}
 use Rattle.is_theorems.proofs.BasicLemmas.UsernamesAndFirstMatches.{neither}
@@ -177,13 +179,20 @@ module _ {H P : Type 0} where
 
   -- ---- nomination and removal
 
-  nominates_fewer : (old new : AgentRecord H P) (path : Option Path) → Nominates old path new → Fewer old new
-  nominates_fewer old new path (chosen, (top, greatest, names), made) =
-      alike old new (ap (λ (a : AgentRecord H P). grid_of a) made
-      ∙ (emitted path (with_selection chosen old) ∙ recast old chosen.pairs (names-cells (sides_of old) (followed old) top (selection_of old) path chosen names))) where
+  nominates_alike : (old new : AgentRecord H P) (path : Option Path) → Nominates old path new → grid_of new ≡ grid_of old
+  nominates_alike old new path (chosen, (top, greatest, names), made) =
+      ap (λ (a : AgentRecord H P). grid_of a) made
+      ∙ (emitted path (with_selection chosen old) ∙ recast old chosen.pairs (names-cells (sides_of old) (followed old) top (selection_of old) path chosen names)) where
         emitted : (path : Option Path) (a : AgentRecord H P) → grid_of (nominated_emitted path a) ≡ grid_of a
         emitted None a = refl
         emitted (Some path) a = refl
+
+  nominates_fewer : (old new : AgentRecord H P) (path : Option Path) → Nominates old path new → Fewer old new
+  nominates_fewer old new path h = alike old new (nominates_alike old new path h)
+
+  pub reselects_alike : (loses : Bool) (old new : AgentRecord H P) (path : Option Path) → Reselects loses old path new → grid_of new ≡ grid_of old
+  reselects_alike loses old new path h =
+      by-reselecting (λ (a : AgentRecord H P). grid_of a ≡ grid_of old) loses old new path h refl (λ mid nominates. nominates_alike old mid path nominates)
 
   where_fewer : (b : Bool) (old new : AgentRecord H P) (path : Option Path) → NominatesWhere b old path new → Fewer old new
   where_fewer true old new path h = nominates_fewer old new path h
@@ -196,7 +205,7 @@ module _ {H P : Type 0} where
   removes_expired_fewer now old new path h = either (list_any (is_expired now old) old.pairs) h
       (λ _ k. evaluated_fewer now old k.0 new k.2
       (on old (expired_gone now old) k.0 (extras-filter (own_at old.local) (λ p. not (is_expired now old p)) old.pairs) (nominates_fewer (expired_gone now old) k.0 path k.1)))
-      (λ _ k. unchanged old new k.1)
+      (λ _ k. made-as old (settled true now old) new k.1 (unchanged old old refl))
 
   -- ---- checks
 
@@ -322,7 +331,7 @@ module _ {H P : Type 0} where
     handled : (now : ℕ) (old new : AgentRecord H P) (via : Path) (m : Message) (r : Result Bool IceError) (emitted : Emitted) → ((q : PairRecord) → Has old.pairs q → q.local < length old.local) → HandlesPacket mac now old via m r emitted new → Fewer old new
     handled now old new via m (Ok false) emitted inside (rejected, is, made) = unchanged old new made
     handled now old new via m (Ok true) emitted inside (accepted, (mid, takes_it, made)) =
-        made-as old (discovered_emitted via mid) new made (by_class m.class now old mid via m emitted inside takes_it)
+        made-as old (discovered_emitted m.class emitted via mid) new made (by_class m.class now old mid via m emitted inside takes_it)
     handled now old new via m (Err error) emitted inside (may, is, made) = unchanged old new made
 
     pub received : (answers : P → CandidateRecord → ℕ → ℕ → Type 0) (now : ℕ) (old new : AgentRecord H P) (via : Path) (bytes : List ℕ) (e : Entry)

@@ -13,9 +13,10 @@ use Rattle.is_candidate.specs.Kinds.{same_kind}
 use Rattle.is_pair.specs.Due.{asked}
 use Rattle.is_pair.specs.Pairs.{PairRecord, undue}
 use Rattle.is_rules.specs.declared.credentials.IceCreds.{IceCreds}
+use Rattle.is_rules.specs.declared.emitted.Path.{Path}
 use Rattle.is_rules.specs.Agent.{AgentRecord}
 use Rattle.is_theorems.specs.Bounds.{may_form, FormsFew, LimitsPairs}
-use Rattle.is_rules.specs.Discarding.{discarded, is_local_at, is_remote_at, local_discarded, place_to_discard, remote_discarded, InvalidatesAt}
+use Rattle.is_rules.specs.Discarding.{discarded, is_local_at, is_remote_at, local_discarded, local_to_discard, remote_to_discard, remote_discarded, InvalidatesAt}
 use Rattle.is_rules.specs.Forming.{Combination}
 use Rattle.is_rules.specs.Local.{AddsLocal}
 use Rattle.is_theorems.specs.Logs.{Logged}
@@ -23,12 +24,13 @@ use Rattle.is_rules.specs.Remote.{AddsRemote}
 use Rattle.is_rules.specs.Restarting.{Restarts, Recreates, emptied}
 use Rattle.is_rules.specs.Credentials.{SetsLocal, SetsRemote}
 use Rattle.is_rules.specs.Settings.{SetsControlling, SetsMtu}
+use Rattle.is_rules.specs.Settling.{loses_selected, Reselects}
 use Rattle.is_theorems.specs.Runs.{IsFresh, Run, run_to}
 use Rattle.is_rules.specs.Sound.{IsSound}
 use Rattle.is_rules.specs.Steps.{Call, SetMtu, SetControlTieBreaker, SetMaxCandidatePairs, SetMaxDiscovered, SetIceLite, SetRenomination, SetRules, SetTimingAdvance, SetInitialStunRto, SetMaxStunRto, SetMaxStunRetransmits, SetLiteTimeout, SetLocalPreference, SetControlling, SetLocalCredentials, SetRemoteCredentials, SkipPairIds, AddLocalCandidate, AddRemoteCandidate, InvalidateCandidate, RestartIce, RecreateCandidatePairs, ReceivePacket, HandleTimeout, PollTransmit, PollTimeout, PollEvent, Entry, Step, MayDo}
 use Rattle.is_theorems.proofs.StorageBounds.BoundedLists.{is_own}
 use Rattle.is_theorems.proofs.StorageBounds.PairsByCell.{cell_of, cells, cells-map, extras, extras-agree, extras-filter, extras-length, owned, pairs-in-grid, total-first}
-use Rattle.is_theorems.proofs.StorageBounds.PairsByCellAfterRules.{Fewer, alike, forms_few, grid_of, made-as, own_at, recast, received, surplus, timed, unchanged}
+use Rattle.is_theorems.proofs.StorageBounds.PairsByCellAfterRules.{Fewer, alike, forms_few, grid_of, made-as, on, own_at, recast, received, reselects_alike, surplus, timed, unchanged}
 use Rattle.is_theorems.proofs.CallEffects.PathAndTradeEffects.{path_theorem}
 use Rattle.is_theorems.proofs.CallEffects.AddedCandidates.{by_adding_local, by_adding_remote, by_waking}
 use Rattle.is_theorems.proofs.RuleEffects.UnchangedSettings.{either}
@@ -70,6 +72,36 @@ module _ {H P : Type 0} where
   abbrev pub Stays : Call P → AgentRecord H P → AgentRecord H P → Type 0
   Stays call old new = Fewer old new ⊎ ((may_form call ≡ true) × (length new.pairs ≤ old.max_pairs))
 
+  -- ---- candidates
+
+  module _ (old new : AgentRecord H P) where
+    discards : (l r : Option ℕ) (found : Bool) → InvalidatesAt l r old found new → Fewer old new
+    discards (Some place) r found (is, made) =
+        made-as old (local_discarded place old) new made (
+        let gone = extras-filter (own_at (local_discarded place old).local) (λ p. not (is_local_at place p)) old.pairs in
+        let same = extras-agree (own_at (local_discarded place old).local) (own_at old.local) (cells old.pairs)
+        (λ c has. ap (λ (kind : CandidateKind). not (same_kind kind PeerReflexive)) (kinds-put old.local place c.0 (discarded (candidate_at old.local place)) refl)) in
+        omega (arith, gone, same))
+    discards None (Some place) found (is, made) =
+        made-as old (remote_discarded place old) new made (extras-filter (own_at old.local) (λ p. not (is_remote_at place p)) old.pairs)
+    discards None None found (is, made) = unchanged old new made
+
+    signals : (c : CandidateRecord) (r : Result (Unit {0}) IceError) → AddsRemote old c r new → Stays (AddRemoteCandidate c) old new
+    signals c (Ok _) h = by_adding_remote old new c h
+        (λ made. inl (unchanged old new made))
+        (λ f. inr (refl, forms_few _ new _ f))
+        (λ k lt addr f. inr (refl, forms_few _ new _ f))
+    signals c (Err error) h = inl (unchanged old new (storing_kept old new c error h))
+
+    adds_local : (answers : P → CandidateRecord → ℕ → ℕ → Type 0) (c : CandidateRecord) (r : Result (Option ℕ) IceError) → AddsLocal answers old c r new
+        → Stays (AddLocalCandidate c) old new
+    adds_local answers c (Ok place) h = by_adding_local old new answers c place h
+        (λ made. inl (unchanged old new made))
+        (λ x based f. inr (refl, forms_few _ new _ f))
+        (λ k lt f. inr (refl, forms_few _ new _ f))
+        (λ x based k f. inr (refl, forms_few _ new _ f))
+    adds_local answers c (Err error) h = inl (unchanged old new (enrolment_kept answers old new c error h))
+
   -- ---- calls
 
   module _ (mac : H → List ℕ → List ℕ → List ℕ) (answers : P → CandidateRecord → ℕ → ℕ → Type 0) (old new : AgentRecord H P) (s t : Stream) (e : Entry) where
@@ -92,35 +124,20 @@ module _ {H P : Type 0} where
         subst (λ (cs : List Combination). extras (own_at new.local) cs ≤ surplus old) (sym none) (omega arith)
     restarts creds keep (Err error, is, h, drawn) = kept (restart_kept old new creds keep error h)
 
-    discards : (l r : Option ℕ) (found : Bool) → InvalidatesAt l r old found new → Fewer old new
-    discards (Some place) r found (is, made) =
-        made-as old (local_discarded place old) new made (
-        let gone = extras-filter (own_at (local_discarded place old).local) (λ p. not (is_local_at place p)) old.pairs in
-        let same = extras-agree (own_at (local_discarded place old).local) (own_at old.local) (cells old.pairs)
-        (λ c has. ap (λ (kind : CandidateKind). not (same_kind kind PeerReflexive)) (kinds-put old.local place c.0 (discarded (candidate_at old.local place)) refl)) in
-        omega (arith, gone, same))
-    discards None (Some place) found (is, made) =
-        made-as old (remote_discarded place old) new made (extras-filter (own_at old.local) (λ p. not (is_remote_at place p)) old.pairs)
-    discards None None found (is, made) = kept made
-
-    signals : (c : CandidateRecord) → MayDo (AddsRemote old c) s e new t → Stays (AddRemoteCandidate c) old new
-    signals c (Ok _, is, h, drawn) = by_adding_remote old new c h
-        (λ made. inl (kept made))
-        (λ f. inr (refl, forms_few _ new _ f))
-        (λ k lt addr f. inr (refl, forms_few _ new _ f))
-    signals c (Err error, is, h, drawn) = inl (kept (storing_kept old new c error h))
-
     recreates : MayDo (Recreates old) s e new t → Stays RecreateCandidatePairs old new
     recreates (Ok _, is, (enough, f), drawn) = let forms : may_form {P = P} RecreateCandidatePairs ≡ true = cc in inr (forms, forms_few (emptied old) new _ f)
     recreates (Err error, is, h, drawn) = inl (kept (recreation_kept old new error h))
 
-    adds_local : (c : CandidateRecord) (r : Result (Option ℕ) IceError) → AddsLocal answers old c r new → Stays (AddLocalCandidate c) old new
-    adds_local c (Ok place) h = by_adding_local old new answers c place h
-        (λ made. inl (kept made))
-        (λ x based f. inr (refl, forms_few _ new _ f))
-        (λ k lt f. inr (refl, forms_few _ new _ f))
-        (λ x based k f. inr (refl, forms_few _ new _ f))
-    adds_local c (Err error) h = inl (kept (enrolment_kept answers old new c error h))
+    -- a path may be selected after it
+    selects : (call : Call P) (mid : AgentRecord H P) (path : Option Path) → Reselects (loses_selected old mid) mid path new → Stays call old mid
+        → Stays call old new
+    selects call mid path h = by (reselects_alike (loses_selected old mid) mid new path h) where
+      by : grid_of new ≡ grid_of mid → Stays call old mid → Stays call old new
+      by is (inl fewer) = inl (on old mid new fewer (alike mid new is))
+      by is (inr (forms, few)) =
+          let same : length mid.pairs ≡ length new.pairs = sym (length-map mid.pairs cell_of)
+          ∙ (ap (λ (x : List CandidateRecord × List Combination). length x.1) (sym is) ∙ length-map new.pairs cell_of) in
+          inr (forms, subst (λ (n : ℕ). n ≤ old.max_pairs) same few)
 
     pub steps : IsSound old → (call : Call P) → Step mac answers old s call e new t → Stays call old new
     steps sound (SetMtu target warn) h = inl (may (SetsMtu old target warn) (λ k. placed (cells_in _ k.1)) (mtu_kept old new target warn) h)
@@ -140,9 +157,14 @@ module _ {H P : Type 0} where
     steps sound (SetLocalCredentials creds) h = inl (may (SetsLocal old creds) (λ k. placed (cells_in _ k.1)) (local_kept old new creds) h)
     steps sound (SetRemoteCredentials creds) h = inl (may (SetsRemote old creds) (λ k. placed (cells_in _ k.1)) (remote_kept old new creds) h)
     steps sound (SkipPairIds k) (is, made, drawn) = inl (placed (cells_in _ made))
-    steps sound (AddLocalCandidate c) (r, is, h, drawn) = adds_local c r h
-    steps sound (AddRemoteCandidate c) h = signals c h
-    steps sound (InvalidateCandidate c) (found, is, h, drawn) = inl (discards (place_to_discard c old.local) (place_to_discard c old.remote) found h)
+    steps sound (AddLocalCandidate c) (r, emitted, is, (path, mid, h, again, emits), drawn) =
+        selects (AddLocalCandidate c) mid path again (adds_local old mid answers c r h)
+    steps sound (AddRemoteCandidate c) (r, emitted, is, (path, mid, h, again, emits), drawn) =
+        selects (AddRemoteCandidate c) mid path again (signals old mid c r h)
+    steps sound (InvalidateCandidate c) (Ok found, emitted, is, (path, mid, h, again, emits), drawn) =
+        selects (InvalidateCandidate c) mid path again (inl (discards old mid (local_to_discard c old) (remote_to_discard c old) found h))
+    steps sound (InvalidateCandidate c) (Err error, emitted, is, (path, mid, h, again, emits), drawn) =
+        selects (InvalidateCandidate c) mid path again (inl (unchanged old mid h.1))
     steps sound (RestartIce creds keep) h = inl (restarts creds keep h)
     steps sound RecreateCandidatePairs h = recreates h
     steps sound (ReceivePacket now via bytes) (h, drawn) = inl (received mac answers now old new via bytes e (λ p has. (sound.placed p has).0) h)

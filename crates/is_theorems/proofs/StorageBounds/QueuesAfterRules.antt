@@ -1,5 +1,5 @@
 -- How the rules change the queues of packets and events.
-use Rattle.std.proofs.Common.{◌≡◌, ℕ, ◌+◌, ◌≤◌, ◌&&◌, Bool, true, false, not, List, [], ◌∷◌, ◌++◌, length, count_by, Option, Some, None, refl, sym, subst, ap, ◌∙◌, arith, cond, if◌then◌else◌}
+use Rattle.std.proofs.Common.{is_some, ◌≡◌, ℕ, ◌+◌, ◌≤◌, ◌&&◌, Bool, true, false, not, List, [], ◌∷◌, ◌++◌, length, count_by, Option, Some, None, refl, sym, subst, ap, ◌∙◌, arith, cond, if◌then◌else◌}
 use Rattle.std.specs.Prelude.{MatchOption}
 use Rattle.std.specs.List.{list_any}
 use Rattle.std.proofs.lemmas.List.{length-append}
@@ -31,9 +31,11 @@ use Rattle.is_rules.specs.Nominating.{Nominates, NominatesWhere, nominated_emitt
 use Rattle.is_rules.specs.Places.{local_place}
 use Rattle.is_rules.specs.Request.{RequestRecord}
 use Rattle.is_rules.specs.Roles.{conflict_of, switched, keeps_role}
-use Rattle.is_rules.specs.Serving.{selects_at_requests, is_misled, names_another, pair_served, request_counted, with_sender, with_sender_at, Drops, Queues, RecordsAndResponds, FindsOrAddsPair, AddsUnknownSender, CountsAndServes, ResolvesRoleConflictBy, ResolvesRoleConflict, Serves}
+use Rattle.is_rules.specs.Serving.{trigger_time, selects_at_requests, is_misled, names_another, pair_served, request_counted, with_sender, with_sender_at, Drops, Queues, RecordsAndResponds, FindsOrAddsPair, AddsUnknownSender, CountsAndServes, ResolvesRoleConflictBy, ResolvesRoleConflict, Serves}
 use Rattle.is_rules.specs.States.{evaluated, has_nominated, has_possible, next_state, same_state, with_state}
+use Rattle.is_rules.specs.Settling.{settled, started, state_at_start, state_settled, Reselects}
 use Rattle.is_rules.specs.Timeouts.{RemovesExpired, MaintainsPairs, at_timeout, expired_gone, is_expired, start_emitted, timeout_begun}
+use Rattle.is_theorems.proofs.RuleEffects.Reselection.{by-reselecting}
 use Rattle.is_theorems.proofs.RuleEffects.UnchangedSettings.{either}
 use Rattle.is_theorems.specs.Waiting.{is_discovery, discovery_count, other_count}
 
@@ -136,6 +138,9 @@ module _ {H P : Type 0} where
   evaluated_adds : (now : ℕ) (a : AgentRecord H P) → Adds 0 1 a (evaluated now a)
   evaluated_adds now a = state_adds (next_state a.state (has_nominated a) (has_possible now a) a.lite) a
 
+  settled_adds : (changes : Bool) (now : ℕ) (a : AgentRecord H P) → Adds 0 1 a (settled changes now a)
+  settled_adds changes now a = state_adds (state_settled changes now a) a
+
   emitted_adds : (path : Option Path) (a : AgentRecord H P) → Adds 0 1 a (nominated_emitted path a)
   emitted_adds None a = most 0 0 0 1 a a (omega arith) (omega arith) (same a a refl)
   emitted_adds (Some path) a = one-event (lines_of a) (NominatedSend path.proto path.source path.destination) refl
@@ -147,11 +152,17 @@ module _ {H P : Type 0} where
   where_adds true old new path h = nominates_adds old new path h
   where_adds false old new path h = most 0 0 0 1 old new (omega arith) (omega arith) (kept old new h.1)
 
+  -- a candidate that takes the selected pair away
+  pub reselects_adds : (loses : Bool) (old new : AgentRecord H P) (path : Option Path) → Reselects loses old path new → Adds 0 2 old new
+  reselects_adds loses old new path h = by-reselecting (λ (a : AgentRecord H P). Adds 0 2 old a) loses old new path h
+      (most 0 0 0 2 old old (omega arith) (omega arith) (same old old refl))
+      (λ mid nominates. more 0 1 0 1 old mid (evaluated _ mid) (nominates_adds old mid path nominates) (evaluated_adds _ mid))
+
   removes_expired_adds : (now : ℕ) (old new : AgentRecord H P) (path : Option Path) → RemovesExpired now old path new → Adds 0 2 old new
   removes_expired_adds now old new path h = either (list_any (is_expired now old) old.pairs) h
       (λ _ k. as-made 0 2 old (evaluated now k.0) new k.2
       (more 0 1 0 1 old k.0 (evaluated now k.0) (nominates_adds (expired_gone now old) k.0 path k.1) (evaluated_adds now k.0)))
-      (λ _ k. most 0 0 0 2 old new (omega arith) (omega arith) (kept old new k.1))
+      (λ _ k. most 0 1 0 2 old new (omega arith) (omega arith) (as-made 0 1 old (settled true now old) new k.1 (settled_adds true now old)))
 
   -- ---- checks and timeouts
 
@@ -167,8 +178,8 @@ module _ {H P : Type 0} where
 
   pub begun_adds : (now : ℕ) (a : AgentRecord H P) → Adds 0 2 a (timeout_begun now a)
   begun_adds now a =
-      more 0 1 0 1 a (start_emitted a) (evaluated now (start_emitted a))
-      (unless-event (same_state a.state New) (lines_of a) (IceRestart a.local_creds) refl) (evaluated_adds now (start_emitted a))
+      more 0 1 0 1 a (start_emitted a) (started now (start_emitted a))
+      (unless-event (same_state a.state New) (lines_of a) (IceRestart a.local_creds) refl) (state_adds (state_at_start now (start_emitted a)) (start_emitted a))
 
   pub maintains_adds : (mac : H → List ℕ → List ℕ → List ℕ) (now : ℕ) (old new : AgentRecord H P) (s t : Stream) (emitted : Emitted) → MaintainsPairs mac now old s emitted new t → Adds 1 3 old new
   maintains_adds mac now old new s t emitted (first, second, issued, named, kept, nominating, giving, checking, is) =
@@ -194,46 +205,47 @@ module _ {H P : Type 0} where
   pub forms_adds : (old new : AgentRecord H P) (all : List Combination) → FormsAll old all new → Adds 0 0 old new
   forms_adds old new all (f, forms, made) = same old new (ap (λ (a : AgentRecord H P). lines_of a) made)
 
-  -- ---- requests: at most one response, and one selected path
+  -- ---- requests: at most one response, one selected path and a state
 
   module _ (mac : H → List ℕ → List ℕ → List ℕ) (q : RequestRecord) where
-    none : (s new : AgentRecord H P) → Adds 0 0 s new → Adds 1 1 s new
-    none s new h = most 0 0 1 1 s new (omega arith) (omega arith) h
+    none : (s new : AgentRecord H P) → Adds 0 0 s new → Adds 1 2 s new
+    none s new h = most 0 0 1 2 s new (omega arith) (omega arith) h
 
-    pair : (l r number : ℕ) (s new : AgentRecord H P) (emitted : Emitted) → RecordsAndResponds mac q l r number s emitted new → Adds 1 1 s new
+    pair : (l r number : ℕ) (s new : AgentRecord H P) (emitted : Emitted) → RecordsAndResponds mac q l r number s emitted new → Adds 1 2 s new
     pair l r number s new emitted (path, mid, nominates, (values, is, made)) =
-        more 0 1 1 0 s mid new
+        let at : AgentRecord H P = settled (is_some path) (trigger_time q s) mid in
+        more 0 1 1 1 s mid new
         (where_adds (selects_at_requests s && is_valid_at number s.pairs) (pair_served q number s) mid path nominates)
-        (as-made 1 0 mid _ new made (one-packet (lines_of mid) _))
+        (more 0 1 1 0 mid at new (settled_adds (is_some path) (trigger_time q s) mid) (as-made 1 0 at _ new made (one-packet (lines_of at) _)))
 
-    takes : (l r : ℕ) (number : Option ℕ) (s new : AgentRecord H P) (emitted : Emitted) → FindsOrAddsPair mac q l r number s emitted new → Adds 1 1 s new
+    takes : (l r : ℕ) (number : Option ℕ) (s new : AgentRecord H P) (emitted : Emitted) → FindsOrAddsPair mac q l r number s emitted new → Adds 1 2 s new
     takes l r (Some number) s new emitted h = pair l r number s new emitted h
     takes l r None s new emitted h = either (candidate_at s.local l).discarded h
         (λ _ k. none s new (kept s new k.1))
         (λ _ k. pair l r s.next_number (with_pair (formed s l r) s) new emitted k.1)
 
-    joins : (l : ℕ) (place : RemotePlace) (s new : AgentRecord H P) (emitted : Emitted) → AddsUnknownSender mac q l place s emitted new → Adds 1 1 s new
+    joins : (l : ℕ) (place : RemotePlace) (s new : AgentRecord H P) (emitted : Emitted) → AddsUnknownSender mac q l place s emitted new → Adds 1 2 s new
     joins l (Known r) s new emitted (number, between, h) = takes l r number s new emitted h
     joins l Barred s new emitted h = none s new (kept s new h.1)
     joins l Full s new emitted h = none s new (kept s new h.1)
     joins l Unknown s new emitted (number, between, h) = takes l (length s.remote) number (with_sender q s) new emitted h
     joins l (Vacant r) s new emitted (number, between, h) = takes l r number (with_sender_at r q s) new emitted h
 
-    admitted : (l : ℕ) (s new : AgentRecord H P) (emitted : Emitted) → CountsAndServes mac q l s emitted new → Adds 1 1 s new
+    admitted : (l : ℕ) (s new : AgentRecord H P) (emitted : Emitted) → CountsAndServes mac q l s emitted new → Adds 1 2 s new
     admitted l s new emitted h = either (is_misled s.controlling q) h (λ _ k. none s new (kept s new k.1)) (λ _ k. joins l k.0 (request_counted s) new emitted k.2)
 
-    resolves : (conflict : Conflict) (l : ℕ) (s new : AgentRecord H P) (emitted : Emitted) → ResolvesRoleConflictBy mac conflict q l s emitted new → Adds 1 1 s new
+    resolves : (conflict : Conflict) (l : ℕ) (s new : AgentRecord H P) (emitted : Emitted) → ResolvesRoleConflictBy mac conflict q l s emitted new → Adds 1 2 s new
     resolves Absent l s new emitted h = admitted l s new emitted h
-    resolves Send487 l s new emitted (values, is, made) = most 1 0 1 1 s new (omega arith) (omega arith) (as-made 1 0 s _ new made (one-packet (lines_of s) _))
+    resolves Send487 l s new emitted (values, is, made) = most 1 0 1 2 s new (omega arith) (omega arith) (as-made 1 0 s _ new made (one-packet (lines_of s) _))
     resolves SwitchRole l s new emitted h = admitted l (switched s) new emitted h
 
-    here : (place : Option ℕ) (s new : AgentRecord H P) (emitted : Emitted) → MatchOption place (Drops s emitted new) (λ l. ResolvesRoleConflict mac q l s emitted new) → Adds 1 1 s new
+    here : (place : Option ℕ) (s new : AgentRecord H P) (emitted : Emitted) → MatchOption place (Drops s emitted new) (λ l. ResolvesRoleConflict mac q l s emitted new) → Adds 1 2 s new
     here None s new emitted h = none s new (kept s new h.1)
     here (Some l) s new emitted h = resolves (conflict_of s q) l s new emitted h
 
-    pub serves_adds : (s new : AgentRecord H P) (emitted : Emitted) → Serves mac q s emitted new → Adds 1 1 s new
+    pub serves_adds : (s new : AgentRecord H P) (emitted : Emitted) → Serves mac q s emitted new → Adds 1 2 s new
     serves_adds s new emitted h = either (names_another s q) h (λ _ k. none s new (kept s new k.1)) (λ _ k. here (local_place s.local q) s new emitted k)
 
-    pub requested_adds : (remote : Option IceCreds) (s new : AgentRecord H P) (emitted : Emitted) → MatchOption remote (Queues q s emitted new) (λ _. Serves mac q s emitted new) → Adds 1 1 s new
+    pub requested_adds : (remote : Option IceCreds) (s new : AgentRecord H P) (emitted : Emitted) → MatchOption remote (Queues q s emitted new) (λ _. Serves mac q s emitted new) → Adds 1 2 s new
     requested_adds None s new emitted h = none s new (same s new (ap (λ (a : AgentRecord H P). lines_of a) h.1))
     requested_adds (Some peer) s new emitted h = serves_adds s new emitted h

@@ -1,5 +1,5 @@
 -- How calls and executions change what waits in the queues.
-use Rattle.std.proofs.Common.{◌≡◌, ℕ, suc, ◌+◌, ◌≤◌, ◌<◌, ◌==◌, ◌||◌, Bool, true, false, not, List, [], ◌∷◌, ◌++◌, length, Option, Some, None, Result, Ok, Err, inl, inr, refl, sym, subst, ap, ◌∙◌, arith, cond, if◌then◌else◌}
+use Rattle.std.proofs.Common.{◌≡◌, ℕ, suc, ◌+◌, ◌≤◌, ◌<◌, ◌==◌, ◌||◌, Bool, true, false, not, List, [], ◌∷◌, ◌++◌, length, Option, Some, None, Result, Ok, Err, inl, inr, ◌⊎◌, refl, sym, subst, ap, ◌∙◌, arith, cond, if◌then◌else◌}
 use Rattle.std.specs.Prelude.{MatchOption}
 use Rattle.std.proofs.lemmas.Bool.{ltb-true}
 use Rattle.std.proofs.lemmas.List.Sums.{sum_by-cons}
@@ -16,11 +16,11 @@ use Rattle.is_rules.specs.declared.emitted.Path.{Path}
 use Rattle.is_rules.specs.declared.event.IceAgentEvent.{IceAgentEvent}
 use Rattle.is_rules.specs.declared.event.IceAgentEvent.TheVariants.{DiscoveredRecv, IceRestart}
 use Rattle.is_rules.specs.declared.event.IceConnectionState.TheVariants.{Checking}
-use Rattle.is_rules.specs.Accepting.{Takes, discovered_emitted, is_discovered, is_passed_over}
+use Rattle.is_rules.specs.Accepting.{Takes, discovered_emitted, is_discovered, is_passed_over, reports_none}
 use Rattle.is_rules.specs.Agent.{AgentRecord}
 use Rattle.is_theorems.specs.Bounds.{IsWithin, may_serve}
 use Rattle.is_rules.specs.Credentials.{SetsLocal, SetsRemote}
-use Rattle.is_rules.specs.Discarding.{place_to_discard, InvalidatesAt}
+use Rattle.is_rules.specs.Discarding.{local_to_discard, remote_to_discard, InvalidatesAt}
 use Rattle.is_rules.specs.Limit.{is_below}
 use Rattle.is_rules.specs.Local.{AddsLocal}
 use Rattle.is_theorems.specs.Logs.{Logged}
@@ -31,16 +31,19 @@ use Rattle.is_rules.specs.Request.{RequestRecord, request_in}
 use Rattle.is_rules.specs.Restarting.{Restarts, Recreates, cleared, emptied}
 use Rattle.is_rules.specs.Serving.{Serves}
 use Rattle.is_rules.specs.Settings.{SetsControlling, SetsMtu}
-use Rattle.is_rules.specs.Steps.{Call, SetMtu, SetControlTieBreaker, SetMaxCandidatePairs, SetMaxDiscovered, SetIceLite, SetRenomination, SetRules, SetTimingAdvance, SetInitialStunRto, SetMaxStunRto, SetMaxStunRetransmits, SetLiteTimeout, SetLocalPreference, SetControlling, SetLocalCredentials, SetRemoteCredentials, SkipPairIds, AddLocalCandidate, AddRemoteCandidate, InvalidateCandidate, RestartIce, RecreateCandidatePairs, ReceivePacket, HandleTimeout, PollTransmit, PollTimeout, PollEvent, Entry, Receives, Step, MayDo, Polled, Happened, answer_by, done, quiet}
+use Rattle.is_rules.specs.Settling.{loses_selected, Reselects}
+use Rattle.is_rules.specs.Steps.{Call, SetMtu, SetControlTieBreaker, SetMaxCandidatePairs, SetMaxDiscovered, SetIceLite, SetRenomination, SetRules, SetTimingAdvance, SetInitialStunRto, SetMaxStunRto, SetMaxStunRetransmits, SetLiteTimeout, SetLocalPreference, SetControlling, SetLocalCredentials, SetRemoteCredentials, SkipPairIds, AddLocalCandidate, AddRemoteCandidate, InvalidateCandidate, RestartIce, RecreateCandidatePairs, ReceivePacket, HandleTimeout, PollTransmit, PollTimeout, PollEvent, Answer, Flag, Entry, Receives, Step, MayDo, Polled, Happened, answer_by, added, done, quiet}
 use Rattle.is_rules.specs.Timeouts.{at_request, MaintainsPairs, TimesOut, timeout_begun}
 use Rattle.is_theorems.proofs.CallEffects.AddedCandidates.{by_adding_local, by_adding_remote, by_waking}
+use Rattle.is_theorems.proofs.RuleEffects.Reselection.{reselects-none}
 use Rattle.is_theorems.proofs.RuleEffects.UnchangedSettings.{either}
 use Rattle.is_theorems.proofs.CallEffects.FailedCallsAndNewAgents.{mtu_kept, controlling_kept, local_kept, remote_kept, restart_kept, recreation_kept, enrolment_kept, storing_kept}
 use Rattle.is_theorems.specs.Limited.{DiscoveriesStayFew}
 use Rattle.is_theorems.specs.Shared.{IsNewlyCreated, SharedRun}
 use Rattle.is_theorems.specs.Waiting.{is_taken, packets_of, leaves_no_packet, finds_no_packet, most_packets, is_discovery, discovery_count, other_count, events_of, leaves_no_event, finds_no_event, most_events, QueuesAreShort}
 use Rattle.is_theorems.proofs.ExecutionLogs.SharedRandomSource.{sound_run}
-use Rattle.is_theorems.proofs.StorageBounds.QueuesAfterRules.{Lines, Grows, count-more, counts-all, lines_of, Adds, same, kept, more, most, state_adds, begun_adds, maintains_adds, success_adds, failure_adds, forms_adds, serves_adds, requested_adds}
+use Rattle.is_theorems.proofs.StoredPairs.PairsThatStay.{none-entered}
+use Rattle.is_theorems.proofs.StorageBounds.QueuesAfterRules.{Lines, Grows, count-more, counts-all, lines_of, Adds, same, kept, more, most, state_adds, begun_adds, maintains_adds, success_adds, failure_adds, forms_adds, reselects_adds, serves_adds, requested_adds}
 
 -- ---- what waits
 
@@ -64,11 +67,11 @@ loose a b m n old new g w =
     let c = g.packets in let d = g.others in let e = w.packets in let f = w.others in
     record { packets = omega (arith, c, e); others = omega (arith, d, f) }
 
-below-limit : (b : Bool) (limit : Option ℕ) (most k : ℕ) → (b || not (is_below limit k)) ≡ false → IsWithin most limit → k < most
-below-limit true limit most k is limited = let no : true ≡ false = is in absurd (cc)
-below-limit false None most k is limited = absurd limited
-below-limit false (Some l) most k is limited = by (is_below (Some l) k) refl is where
-  by : (b : Bool) → is_below (Some l) k ≡ b → not b ≡ false → k < most
+below-limit : (b c : Bool) (limit : Option ℕ) (most k : ℕ) → (b || not (is_below limit k) || c) ≡ false → IsWithin most limit → k < most
+below-limit true c limit most k is limited = let no : true ≡ false = is in absurd (cc)
+below-limit false c None most k is limited = absurd limited
+below-limit false c (Some l) most k is limited = by (is_below (Some l) k) refl is where
+  by : (b : Bool) → is_below (Some l) k ≡ b → (not b || c) ≡ false → k < most
   by true e h = let lt : k < l = ltb-true k l e in omega (arith, lt, limited)
   by false e h = let no : true ≡ false = h in absurd (cc)
 
@@ -84,7 +87,7 @@ module _ {H P : Type 0} where
     -- ---- packets
 
     class_adds : (c : Class) (now : ℕ) (old mid : AgentRecord H P) (via : Path) (m : Message) (emitted : Emitted) → Takes mac c now old via m emitted mid → Adds 1 2 old mid
-    class_adds class.Request now old mid via m emitted h = most 1 1 1 2 old mid (omega arith) (omega arith) (requested_adds mac (request_in now via m) old.remote_creds old mid emitted h)
+    class_adds class.Request now old mid via m emitted h = most 1 2 1 2 old mid (omega arith) (omega arith) (requested_adds mac (request_in now via m) old.remote_creds old mid emitted h)
     class_adds class.Success now old mid via m emitted h = most 0 2 1 2 old mid (omega arith) (omega arith) (success_adds now old mid via m emitted h)
     class_adds class.Failure now old mid via m emitted h = most 0 0 1 2 old mid (omega arith) (omega arith) (failure_adds old mid via m emitted h)
     class_adds class.Indication now old mid via m emitted h = absurd h
@@ -96,11 +99,11 @@ module _ {H P : Type 0} where
       others : other_count new.events ≤ other_count old.events
       discoveries : (limit : ℕ) → IsWithin limit old.max_discovered → Holds limit old new
 
-    discovers : (via : Path) (a : AgentRecord H P) → Discovers a (discovered_emitted via a)
-    discovers via a = record {
+    discovers : (c : Class) (emitted : Emitted) (via : Path) (a : AgentRecord H P) → Discovers a (discovered_emitted c emitted via a)
+    discovers c emitted via a = record {
       packets = omega arith;
-      others = others (is_passed_over via a);
-      discoveries = λ limit limited was. found limit limited was (is_passed_over via a) refl;
+      others = others (is_passed_over c emitted via a);
+      discoveries = λ limit limited was. found limit limited was (is_passed_over c emitted via a) refl;
     } where
       e : IceAgentEvent
       e = DiscoveredRecv via.proto via.source
@@ -111,13 +114,13 @@ module _ {H P : Type 0} where
           let one : other_count (a.events ++ e ∷ []) ≡ other_count a.events + 0 = count-more (λ x. not (is_discovery x)) a.events e in
           omega (arith, one)
 
-      found : (limit : ℕ) → IsWithin limit a.max_discovered → discovery_count a.events ≤ limit → (b : Bool) → is_passed_over via a ≡ b
+      found : (limit : ℕ) → IsWithin limit a.max_discovered → discovery_count a.events ≤ limit → (b : Bool) → is_passed_over c emitted via a ≡ b
           → discovery_count (if b then a.events else a.events ++ e ∷ []) ≤ limit
       found limit limited was true is = was
       found limit limited was false is =
           let one : discovery_count (a.events ++ e ∷ []) ≡ discovery_count a.events + 1 = count-more is_discovery a.events e in
           let all = counts-all a.events in
-          let lt : length a.events < limit = below-limit (is_discovered via a) a.max_discovered limit (length a.events) is limited in
+          let lt : length a.events < limit = below-limit (is_discovered via a) (reports_none c emitted a) a.max_discovered limit (length a.events) is limited in
           omega (arith, one, all, lt)
 
     -- what a packet does to the queues
@@ -138,16 +141,54 @@ module _ {H P : Type 0} where
     received now old new via bytes e (inr (m, reads, (Err error, emitted, is, (may, none, made)))) = unmoved _ _ e old new made
     received now old new via bytes e (inr (m, reads, (Ok true, emitted, is, (accepted, (mid, takes, made))))) =
         let g : Adds 1 2 old mid = class_adds m.class now old mid via m emitted takes in
-        let d : Discovers mid (discovered_emitted via mid) = discovers via mid in
+        let d : Discovers mid (discovered_emitted m.class emitted via mid) = discovers m.class emitted via mid in
         let one : 1 ≤ packets_of {P = P} (ReceivePacket now via bytes) = omega arith in
         let two : 2 ≤ events_of {P = P} (ReceivePacket now via bytes) = omega arith in
         subst (λ (a : AgentRecord H P). Receiving (packets_of {P = P} (ReceivePacket now via bytes)) (events_of {P = P} (ReceivePacket now via bytes)) e old a) (sym made) (record {
-          waits = λ i j w. subst (λ (b : Bool). Waits (after b (packets_of {P = P} (ReceivePacket now via bytes)) false i) (after b (events_of {P = P} (ReceivePacket now via bytes)) false j) (lines_of (discovered_emitted via mid)))
+          waits = λ i j w. subst (λ (b : Bool). Waits (after b (packets_of {P = P} (ReceivePacket now via bytes)) false i) (after b (events_of {P = P} (ReceivePacket now via bytes)) false j) (lines_of (discovered_emitted m.class emitted via mid)))
               (sym (ap (λ (x : Entry). is_taken x.answer) is)) (
               let a1 = g.packets in let a2 = g.others in let b1 = d.packets in let b2 = d.others in let c1 = w.packets in let c2 = w.others in
               record { packets = omega (arith, one, a1, b1, c1); others = omega (arith, two, a2, b2, c2) });
           discoveries = λ limit limited was. d.discoveries limit (subst (λ (o : Option ℕ). IsWithin limit o) (sym g.limit) limited) (holds limit 1 2 old mid g was);
         })
+
+    -- ---- candidates
+
+    module _ (old new : AgentRecord H P) where
+      discards : (l r : Option ℕ) (found : Bool) → InvalidatesAt l r old found new → Adds 0 0 old new
+      discards (Some place) r found (is, made) = same old new (ap (λ (a : AgentRecord H P). lines_of a) made)
+      discards None (Some place) found (is, made) = same old new (ap (λ (a : AgentRecord H P). lines_of a) made)
+      discards None None found (is, made) = kept old new made
+
+      signals : (c : CandidateRecord) (r : Result (Unit {0}) IceError) → AddsRemote old c r new → Adds 0 0 old new
+      signals c (Ok _) h = by_adding_remote old new c h
+          (λ made. kept old new made)
+          (λ f. forms_adds _ new _ f)
+          (λ k lt addr f. forms_adds _ new _ f)
+      signals c (Err error) h = kept old new (storing_kept old new c error h)
+
+      adds_local : (c : CandidateRecord) (r : Result (Option ℕ) IceError) → AddsLocal answers old c r new → Adds 0 0 old new
+      adds_local c (Ok place) h = by_adding_local old new answers c place h
+          (λ made. kept old new made)
+          (λ x based f. forms_adds _ new _ f)
+          (λ k lt f. forms_adds _ new _ f)
+          (λ x based k f. forms_adds _ new _ f)
+      adds_local c (Err error) h = kept old new (enrolment_kept answers old new c error h)
+
+      -- what is ignored, or rejected, changes nothing
+      adds_none : (c : CandidateRecord) (r : Result (Option ℕ) IceError) → AddsLocal answers old c r new → (is_taken (answer_by added r) ≡ true) ⊎ (new ≡ old)
+      adds_none c (Ok (Some place)) h = inl refl
+      adds_none c (Ok None) h = inr (none-entered answers old new c h)
+      adds_none c (Err error) h = inr (enrolment_kept answers old new c error h)
+
+      signals_none : (c : CandidateRecord) (r : Result (Unit {0}) IceError) → AddsRemote old c r new → (is_taken (answer_by done r) ≡ true) ⊎ (new ≡ old)
+      signals_none c (Ok _) h = inl refl
+      signals_none c (Err error) h = inr (storing_kept old new c error h)
+
+      discards_none : (l r : Option ℕ) (found : Bool) → InvalidatesAt l r old found new → (found ≡ true) ⊎ (new ≡ old)
+      discards_none (Some place) r found (is, made) = inl is
+      discards_none None (Some place) found (is, made) = inl is
+      discards_none None None found (is, made) = inr made
 
     -- ---- calls
 
@@ -174,25 +215,26 @@ module _ {H P : Type 0} where
       may Does done failed (Ok _, is, h, drawn) = same old new (done h)
       may Does done failed (Err error, is, h, drawn) = kept old new (failed error h)
 
-      discards : (l r : Option ℕ) (found : Bool) → InvalidatesAt l r old found new → Adds 0 0 old new
-      discards (Some place) r found (is, made) = same old new (ap (λ (a : AgentRecord H P). lines_of a) made)
-      discards None (Some place) found (is, made) = same old new (ap (λ (a : AgentRecord H P). lines_of a) made)
-      discards None None found (is, made) = kept old new made
+      -- a candidate that takes the selected pair away, or leaves all
+      selects : {X : ℕ → Type 0} (mid : AgentRecord H P) (path : Option Path) → Reselects (loses_selected old mid) mid path new → Adds 0 0 old mid
+          → (is_taken e.answer ≡ true) ⊎ (mid ≡ old)
+          → ((m n : ℕ) → Waits m n (lines_of old) → Waits (after (is_taken e.answer) 0 false m) (after (is_taken e.answer) 2 false n) (lines_of new))
+          × ((limit : ℕ) → X limit → Holds limit old new)
+      selects mid path h adds (inl goes) =
+          let g : Adds 0 2 old new = more 0 0 0 2 old mid new adds (reselects_adds (loses_selected old mid) mid new path h) in (
+            λ m n w. subst (λ (b : Bool). Waits (after b 0 false m) (after b 2 false n) (lines_of new)) (sym goes)
+                (grown 0 2 0 2 m n (lines_of old) (lines_of new) (omega arith) (omega arith) g w),
+            λ limit limited. holds limit 0 2 old new g,
+          )
+      selects mid path h adds (inr same) =
+          let g : Adds 0 0 old new = kept old new ((reselects-none old mid new path same h).1 ∙ same) in
+          (λ m n w. rests g (if is_taken e.answer then 0 else 0) (if is_taken e.answer then 2 else 0) m n w, λ limit limited. holds limit 0 0 old new g)
 
-      signals : (c : CandidateRecord) → MayDo (AddsRemote old c) s e new t → Adds 0 0 old new
-      signals c (Ok _, is, h, drawn) = by_adding_remote old new c h
-          (λ made. kept old new made)
-          (λ f. forms_adds _ new _ f)
-          (λ k lt addr f. forms_adds _ new _ f)
-      signals c (Err error, is, h, drawn) = kept old new (storing_kept old new c error h)
-
-      adds_local : (c : CandidateRecord) (r : Result (Option ℕ) IceError) → AddsLocal answers old c r new → Adds 0 0 old new
-      adds_local c (Ok place) h = by_adding_local old new answers c place h
-          (λ made. kept old new made)
-          (λ x based f. forms_adds _ new _ f)
-          (λ k lt f. forms_adds _ new _ f)
-          (λ x based k f. forms_adds _ new _ f)
-      adds_local c (Err error) h = kept old new (enrolment_kept answers old new c error h)
+      taken : (answer : Answer) (emitted : Emitted) (mid : AgentRecord H P) → e ≡ record { answer = answer; emitted = emitted }
+          → (is_taken answer ≡ true) ⊎ (mid ≡ old)
+          → (is_taken e.answer ≡ true) ⊎ (mid ≡ old)
+      taken answer emitted mid is (inl goes) = inl (ap (λ (x : Entry). is_taken x.answer) is ∙ goes)
+      taken answer emitted mid is (inr same) = inr same
 
       -- the counts of a restarted agent
       restarts : (creds : IceCreds) (keep : Bool) → MayDo (Restarts old creds keep) s e new t → Moves (RestartIce creds keep)
@@ -235,8 +277,8 @@ module _ {H P : Type 0} where
             by : (q : Option RequestRecord) → MatchOption q (MaintainsPairs mac now (timeout_begun now old) s emitted new t) (λ q. Serves mac q (first_taken (at_request now (timeout_begun now old))) emitted new × (t ≡ s)) → Adds 1 5 old new
             by None k = more 0 2 1 3 old (timeout_begun now old) new (begun_adds now old) (maintains_adds mac now (timeout_begun now old) new s t emitted k)
             by (Some q) (k, drawn) =
-                most 1 3 1 5 old new (omega arith) (omega arith)
-                (more 0 2 1 1 old (timeout_begun now old) new (begun_adds now old) (serves_adds mac q (first_taken (at_request now (timeout_begun now old))) new emitted k))
+                most 1 4 1 5 old new (omega arith) (omega arith)
+                (more 0 2 1 2 old (timeout_begun now old) new (begun_adds now old) (serves_adds mac q (first_taken (at_request now (timeout_begun now old))) new emitted k))
 
       polls_packet : (given : Option Packet) → e ≡ quiet (Polled given) → IsPolled old.packets given new.packets → new ≡ record old { packets = new.packets } → Moves PollTransmit
       polls_packet None is polled made =
@@ -306,9 +348,14 @@ module _ {H P : Type 0} where
       moves (SetLocalCredentials creds) h = still (may (SetsLocal old creds) (λ k. ap (λ (a : AgentRecord H P). lines_of a) k.1) (local_kept old new creds) h)
       moves (SetRemoteCredentials creds) h = still (may (SetsRemote old creds) (λ k. ap (λ (a : AgentRecord H P). lines_of a) k.1) (remote_kept old new creds) h)
       moves (SkipPairIds k) (is, made, drawn) = still (same old new (ap (λ (a : AgentRecord H P). lines_of a) made))
-      moves (AddLocalCandidate c) (r, is, h, drawn) = still (adds_local c r h)
-      moves (AddRemoteCandidate c) h = still (signals c h)
-      moves (InvalidateCandidate c) (found, is, h, drawn) = still (discards (place_to_discard c old.local) (place_to_discard c old.remote) found h)
+      moves (AddLocalCandidate c) (r, emitted, is, (path, mid, h, again, emits), drawn) =
+          selects mid path again (adds_local old mid c r h) (taken (answer_by added r) emitted mid is (adds_none old mid c r h))
+      moves (AddRemoteCandidate c) (r, emitted, is, (path, mid, h, again, emits), drawn) =
+          selects mid path again (signals old mid c r h) (taken (answer_by done r) emitted mid is (signals_none old mid c r h))
+      moves (InvalidateCandidate c) (Ok found, emitted, is, (path, mid, h, again, emits), drawn) =
+          selects mid path again (discards old mid (local_to_discard c old) (remote_to_discard c old) found h)
+          (taken (Flag found) emitted mid is (discards_none old mid (local_to_discard c old) (remote_to_discard c old) found h))
+      moves (InvalidateCandidate c) (Err error, emitted, is, (path, mid, h, again, emits), drawn) = selects mid path again (kept old mid h.1) (inr h.1)
       moves (RestartIce creds keep) h = restarts creds keep h
       moves RecreateCandidatePairs h = recreates h
       moves (ReceivePacket now via bytes) (h, drawn) = let r = received now old new via bytes e h in (r.waits, λ limit limited. r.discoveries limit (limited refl))

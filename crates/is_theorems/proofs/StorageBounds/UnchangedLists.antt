@@ -14,7 +14,9 @@ use Rattle.is_rules.specs.Answers.{is_role_conflict, mapped_added, success_count
 use Rattle.is_rules.specs.Checking.{MayCheck, ChecksTop, all_asked}
 use Rattle.is_rules.specs.Forming.{Combination, FormsAll}
 use Rattle.is_rules.specs.Nominating.{Nominates, NominatesWhere, nominated_emitted, with_selection}
+use Rattle.is_rules.specs.Settling.{Reselects}
 use Rattle.is_rules.specs.Timeouts.{RemovesExpired, MaintainsPairs, at_timeout, expired_gone, is_expired}
+use Rattle.is_theorems.proofs.RuleEffects.Reselection.{by-reselecting}
 use Rattle.is_theorems.proofs.RuleEffects.UnchangedSettings.{either}
 use Rattle.is_theorems.proofs.StorageBounds.BoundedLists.{Lists}
 use Rattle.is_rules.specs.Roles.{keeps_role}
@@ -41,10 +43,14 @@ module _ {H P : Type 0} where
   where_same true old new path h = nominates_same old new path h
   where_same false old new path h = same old new h.1
 
+  pub reselects_same : (loses : Bool) (old new : AgentRecord H P) (path : Option Path) → Reselects loses old path new → Same old new
+  reselects_same loses old new path h =
+      by-reselecting (λ (a : AgentRecord H P). Same old a) loses old new path h refl (λ mid nominates. nominates_same old mid path nominates)
+
   pub removes_expired_same : (now : ℕ) (old new : AgentRecord H P) (path : Option Path) → RemovesExpired now old path new → Same old new
   removes_expired_same now old new path h = either (list_any (is_expired now old) old.pairs) h
       (λ _ k. ap (λ (a : AgentRecord H P). lists_of a) k.2 ∙ nominates_same (expired_gone now old) k.0 path k.1)
-      (λ _ k. same old new k.1)
+      (λ _ k. ap (λ (a : AgentRecord H P). lists_of a) k.1)
 
   check_same : (mac : H → List ℕ → List ℕ → List ℕ) (now : ℕ) (remote : Option IceCreds) (old new : AgentRecord H P) (s t : Stream) (issued : Option Issued)
       → MayCheck mac now remote old s issued new t → Same old new

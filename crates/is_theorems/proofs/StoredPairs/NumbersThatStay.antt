@@ -5,7 +5,7 @@ use Rattle.std.specs.List.{list_any}
 use Rattle.rand_core.specs.Stream.{Stream}
 use Rattle.is_proto.specs.Lists.{Has, same}
 use Rattle.is_candidate.specs.Candidates.{candidate_at}
-use Rattle.is_pair.specs.Pairs.{PairRecord, is_nominated, with_request, validated, nominated, checked, heard, heard_at}
+use Rattle.is_pair.specs.Pairs.{PairRecord, is_nominated, with_request, validated, nominated, heard, heard_at}
 use Rattle.is_pair.specs.Due as due
 use Rattle.is_pair.specs.Multiset.{is_numbered, change_at, change_pair, is_valid_at}
 use Rattle.is_stun.specs.declared.header.Class.{Class}
@@ -30,6 +30,7 @@ use Rattle.is_rules.specs.Serving.{selects_at_requests, after_request, served, i
 use Rattle.is_rules.specs.Answers.{is_role_conflict, TakesSuccess, LeavesRole, TakesFailure}
 use Rattle.is_rules.specs.Accepting.{Takes}
 use Rattle.is_rules.specs.Checking.{all_asked, ChecksTop, MayCheck}
+use Rattle.is_rules.specs.Settling.{settled, Reselects}
 use Rattle.is_rules.specs.Timeouts.{at_timeout, is_expired, expired_gone, RemovesExpired, MaintainsPairs}
 use Rattle.is_rules.specs.States.{evaluated}
 use Rattle.is_theorems.proofs.RuleEffects.UnchangedSettings.{either}
@@ -37,6 +38,7 @@ use Rattle.is_theorems.proofs.RuleEffects.NominatedPairs.{SelectsPath, selects_p
 use Rattle.is_theorems.proofs.CallEffects.ServedRequests.{Has-mapped}
 use Rattle.is_theorems.proofs.RuleEffects.SelectedPaths.{some_is}
 use Rattle.is_theorems.proofs.DuePairs.AfterNominationAndRemoval.{Base, Has-kept, nominates-thins}
+use Rattle.is_theorems.proofs.RuleEffects.Reselection.{by-reselecting}
 use Rattle.is_theorems.proofs.RuleEffects.TriggeredPairs.{triggered_by, by_trigger}
 use Rattle.is_theorems.proofs.BasicLemmas.PairsInTurn.{sent-number, sent-pairs, sent_at}
 use Rattle.is_theorems.proofs.BasicLemmas.ServedPairs.{numbered-by}
@@ -144,11 +146,15 @@ module _ {H P : Type 0} where
   keep-nominates : (old new : AgentRecord H P) (path : Option Path) → Nominates old path new → Keep old new
   keep-nominates old new path h n (p, has, is) = let k = nominates-leaves 0 old new path h p has in (k.0, k.1, k.2 ∙ is)
 
+  pub keep-reselects : (loses : Bool) (old new : AgentRecord H P) (path : Option Path) → Reselects loses old path new → Keep old new
+  keep-reselects loses old new path h =
+      by-reselecting (λ (a : AgentRecord H P). Keeps old.pairs a.pairs) loses old new path h (λ n k. k) (λ mid nominates. keep-nominates old mid path nominates)
+
   gives-up-leaves : (now : ℕ) (old new : AgentRecord H P) (path : Option Path) → RemovesExpired now old path new → (p : PairRecord) → Has old.pairs p
       → Persists p.number new.pairs ⊎ (is_expired now old p ≡ true)
   gives-up-leaves now old new path h p has = either (list_any (is_expired now old) old.pairs) h
       (λ _ k. by (is_expired now old p) refl k)
-      (λ _ k. inl (keep-same old new k.1 p.number (p, has, refl))) where
+      (λ _ k. inl (keep-as old (settled true now old) new (λ n x. x) k.1 p.number (p, has, refl))) where
         by : (b : Bool) → is_expired now old p ≡ b → (mid : AgentRecord H P) × Nominates (expired_gone now old) path mid × (new ≡ evaluated now mid)
             → Persists p.number new.pairs ⊎ (is_expired now old p ≡ true)
         by true is k = inr is

@@ -9,7 +9,7 @@ use Rattle.rand_core.specs.Stream.{Stream}
 use Rattle.is_proto.specs.Lists.{Has, same}
 use Rattle.is_candidate.specs.Candidates.{candidate_at}
 use Rattle.is_pair.specs.Checks.{Check, answered_at, last_checks}
-use Rattle.is_pair.specs.Pairs.{PairRecord, TakesAnswer, is_nominated, with_request, validated, nominated, check_of, checked, heard, heard_at, renominated}
+use Rattle.is_pair.specs.Pairs.{PairRecord, TakesAnswer, is_nominated, with_request, validated, nominated, check_of, heard, heard_at, renominated}
 use Rattle.is_pair.specs.Due as due
 use Rattle.is_pair.specs.Multiset.{is_numbered, change_at, is_valid_at, change_pair}
 use Rattle.is_stun.specs.declared.header.Class.{Class}
@@ -35,6 +35,7 @@ use Rattle.is_rules.specs.Answers.{is_role_conflict, TakesSuccess, LeavesRole, T
 use Rattle.is_rules.specs.Accepting.{Takes}
 use Rattle.is_rules.specs.Checking.{all_asked, check_sent, IsNextToCheck, ChecksTop, MayCheck}
 use Rattle.is_rules.specs.Emitted.{issued_as}
+use Rattle.is_rules.specs.Settling.{Reselects}
 use Rattle.is_rules.specs.Timeouts.{at_timeout, is_expired, expired_gone, RemovesExpired, MaintainsPairs}
 use Rattle.is_rules.specs.States.{evaluated}
 use Rattle.is_theorems.proofs.RuleEffects.UnchangedSettings.{either}
@@ -46,6 +47,7 @@ use Rattle.is_theorems.proofs.DuePairs.AfterNominationAndRemoval.{Base, Has-kept
 use Rattle.is_theorems.proofs.StoredPairs.StoredChecks.{number_same}
 use Rattle.is_theorems.specs.Pending.{as_sent, sent_of}
 use Rattle.is_rules.specs.Sending.{path_of}
+use Rattle.is_theorems.proofs.RuleEffects.Reselection.{by-reselecting}
 use Rattle.is_theorems.proofs.RuleEffects.TriggeredPairs.{triggered_by, by_trigger}
 use Rattle.is_theorems.proofs.BasicLemmas.ServedPairs.{numbered-by}
 
@@ -187,11 +189,16 @@ module _ {H P : Type 0} where
   keep-nominates : (old new : AgentRecord H P) (path : Option Path) → Nominates old path new → Keep old new
   keep-nominates old new path h p has = let k = nominates-leaves 0 old new path h p has in (k.0, k.1, k.2)
 
+  pub keep-reselects : (loses : Bool) (old new : AgentRecord H P) (path : Option Path) → Reselects loses old path new → Keep old new
+  keep-reselects loses old new path h =
+      by-reselecting (λ (a : AgentRecord H P). Keeps old.pairs a.pairs) loses old new path h (keeps-self old.pairs)
+      (λ mid nominates. keep-nominates old mid path nominates)
+
   gives-up-leaves : (now : ℕ) (old new : AgentRecord H P) (path : Option Path) → RemovesExpired now old path new → (p : PairRecord) → Has old.pairs p
       → Persists p new.pairs ⊎ (is_expired now old p ≡ true)
   gives-up-leaves now old new path h p has = either (list_any (is_expired now old) old.pairs) h
       (λ _ k. by (is_expired now old p) refl k)
-      (λ _ k. inl (keep-same old new k.1 p has)) where
+      (λ _ k. inl (subst (λ (a : AgentRecord H P). Persists p a.pairs) (sym k.1) (keep-same old old refl p has))) where
         by : (b : Bool) → is_expired now old p ≡ b → (mid : AgentRecord H P) × Nominates (expired_gone now old) path mid × (new ≡ evaluated now mid)
             → Persists p new.pairs ⊎ (is_expired now old p ≡ true)
         by true is k = inr is

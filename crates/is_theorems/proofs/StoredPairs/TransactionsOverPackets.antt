@@ -1,5 +1,5 @@
 -- Packets and polls leave each pending transaction of a pair, on its path.
-use Rattle.std.proofs.Common.{◌≡◌, ℕ, zero, suc, ◌+◌, ◌<◌, ◌&&◌, ◌||◌, Bool, true, false, not, List, [], ◌∷◌, ◌++◌, length, map, Option, Some, None, Result, Ok, Err, inl, inr, ◌⊎◌, refl, ap, sym, ◌∙◌, subst, arith, if◌then◌else◌}
+use Rattle.std.proofs.Common.{is_some, ◌≡◌, ℕ, zero, suc, ◌+◌, ◌<◌, ◌&&◌, ◌||◌, Bool, true, false, not, List, [], ◌∷◌, ◌++◌, length, map, Option, Some, None, Result, Ok, Err, inl, inr, ◌⊎◌, refl, ap, sym, ◌∙◌, subst, arith, if◌then◌else◌}
 use Rattle.std.specs.Prelude.{MatchOption, slice_get, slice_set}
 use Rattle.std.specs.List.{list_any}
 use Rattle.std.specs.declared.net.socket_addr.SocketAddr.{SocketAddr}
@@ -35,7 +35,8 @@ use Rattle.is_rules.specs.Request.{RequestRecord, request_in}
 use Rattle.is_rules.specs.Roles.{conflict_of, switched, switched_sides, with_priority_in, keeps_role}
 use Rattle.is_theorems.specs.Rounds.{is_between}
 use Rattle.is_rules.specs.Sending.{path_of, path_between}
-use Rattle.is_rules.specs.Serving.{selects_at_requests, after_request, served, validated_by_peer, is_misled, names_another, pair_served, request_counted, with_sender, with_sender_at, sender_candidate, replied, Drops, Queues, RecordsAndResponds, FindsOrAddsPair, AddsUnknownSender, CountsAndServes, ResolvesRoleConflictBy, ResolvesRoleConflict, Serves, as_taken, nominated_by_peer}
+use Rattle.is_rules.specs.Settling.{settled}
+use Rattle.is_rules.specs.Serving.{trigger_time, selects_at_requests, after_request, served, validated_by_peer, is_misled, names_another, pair_served, request_counted, with_sender, with_sender_at, sender_candidate, replied, Drops, Queues, RecordsAndResponds, FindsOrAddsPair, AddsUnknownSender, CountsAndServes, ResolvesRoleConflictBy, ResolvesRoleConflict, Serves, as_taken, nominated_by_peer}
 use Rattle.is_rules.specs.Sound.{IsSound, IsPlaced}
 use Rattle.is_rules.specs.Steps.{Call, Entry, ReceivePacket, PollTransmit, PollTimeout, PollEvent, Step}
 use Rattle.is_theorems.proofs.BasicLemmas.EqualAddresses.{both}
@@ -229,7 +230,7 @@ module _ {H P : Type 0} where
           (stays_by s (pair_served q number s) (inl refl) (inl refl)
           (mapped_pairs (change_at number (after_request q s)) s.pairs (λ p. at_alike number (after_request q s) p (request_alike q s p))))
           (stays_on (pair_served q number s) mid new (nominates_where (selects_at_requests s && is_valid_at number s.pairs) (pair_served q number s) mid path nominates)
-          (subst (λ (a : AgentRecord H P). Stays mid a) (sym made) (stays_by mid (replied mac q (path_between s l r) mid) (inl refl) (inl refl) (same_pairs mid.pairs))))
+          (subst (λ (a : AgentRecord H P). Stays mid a) (sym made) (stays_by mid (replied mac q (path_between s l r) (settled (is_some path) (trigger_time q s) mid)) (inl refl) (inl refl) (same_pairs mid.pairs))))
 
       takes_at : (l r : ℕ) (number : Option ℕ) (s new : AgentRecord H P) (emitted : Emitted) → FindsOrAddsPair mac q l r number s emitted new → Stays s new
       takes_at l r (Some number) s new emitted h = at_pair l r number s new emitted h
@@ -319,7 +320,7 @@ module _ {H P : Type 0} where
     handled now old new via m (Ok false) emitted (rejected, is, made) = stays_same old new made
     handled now old new via m (Ok true) emitted (accepted, (mid, takes, made)) =
         stays_on old mid new (by_class m.class now old mid via m emitted takes)
-        (subst (λ (a : AgentRecord H P). Stays mid a) (sym made) (stays_by mid (discovered_emitted via mid) (inl refl) (inl refl) (same_pairs mid.pairs)))
+        (subst (λ (a : AgentRecord H P). Stays mid a) (sym made) (stays_by mid (discovered_emitted m.class emitted via mid) (inl refl) (inl refl) (same_pairs mid.pairs)))
     handled now old new via m (Err error) emitted (may, is, made) = stays_same old new made
 
     -- ---- polls

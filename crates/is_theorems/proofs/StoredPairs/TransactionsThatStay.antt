@@ -15,7 +15,7 @@ use Rattle.is_pair.specs.Pairs.{PairRecord, undue, is_valid, check_of, renominat
 use Rattle.is_stun.specs.declared.header.Class.TheVariants as class
 use Rattle.is_rules.specs.Agent.{AgentRecord}
 use Rattle.is_rules.specs.Accepting.{discovered_emitted}
-use Rattle.is_rules.specs.Discarding.{is_local_at, is_remote_at, place_to_discard, local_discarded, remote_discarded, InvalidatesAt}
+use Rattle.is_rules.specs.Discarding.{is_local_at, is_remote_at, local_to_discard, remote_to_discard, local_discarded, remote_discarded, InvalidatesAt}
 use Rattle.is_rules.specs.declared.emitted.Path.{Path}
 use Rattle.is_rules.specs.declared.emitted.Emitted.{Emitted}
 use Rattle.is_rules.specs.Effects.{PathEffect}
@@ -24,6 +24,7 @@ use Rattle.is_rules.specs.Queue.{request_at, first_taken}
 use Rattle.is_rules.specs.Request.{RequestRecord}
 use Rattle.is_rules.specs.Sending.{path_of}
 use Rattle.is_rules.specs.Settings.{with_rtos}
+use Rattle.is_rules.specs.Settling.{loses_selected, Reselects}
 use Rattle.is_rules.specs.Sound.{IsSound}
 use Rattle.is_theorems.specs.Staying.{IsOfDiscarded, MayEnd}
 use Rattle.is_rules.specs.Emitted.{issued_as}
@@ -56,7 +57,7 @@ use Rattle.is_theorems.proofs.RuleEffects.UnchangedSettings.{either}
 use Rattle.is_theorems.proofs.CallEffects.FailedCallsAndNewAgents.{mtu_kept, controlling_kept, local_kept, remote_kept, restart_kept, recreation_kept, enrolment_kept, storing_kept}
 use Rattle.is_theorems.proofs.StoredPairs.PairsAfterForming.{local-leaves, remote-leaves}
 use Rattle.is_rules.proofs.PairLists.RisingNumbers.{below-each, rising-each}
-use Rattle.is_theorems.proofs.StoredPairs.TransactionsAfterRules.{Persists, Keeps, Keep, Sends, keeps-self, keeps-map, keep-same, keep-as, by-class, keep-serves, maintains_pairs, sent-last}
+use Rattle.is_theorems.proofs.StoredPairs.TransactionsAfterRules.{Persists, Keeps, Keep, Sends, keeps-self, keeps-map, keep-same, keep-as, keep-reselects, by-class, keep-serves, maintains_pairs, sent-last}
 use Rattle.is_theorems.proofs.RuleEffects.SelectedPaths.{one_pair}
 use Rattle.is_theorems.proofs.DuePairs.AfterNominationAndRemoval.{Has-kept}
 use Rattle.is_rules.specs.Nominating.{nominates_at_once}
@@ -97,20 +98,20 @@ module _ {H P : Type 0} where
   -- ---- a candidate is discarded
 
   module _ (old new : AgentRecord H P) (c : CandidateRecord) (p : PairRecord) (has : Has old.pairs p) where
-    of-local : (place : ℕ) → place_to_discard c old.local ≡ Some place → new ≡ local_discarded place old → Persists p new.pairs ⊎ IsOfDiscarded old c p
+    of-local : (place : ℕ) → local_to_discard c old ≡ Some place → new ≡ local_discarded place old → Persists p new.pairs ⊎ IsOfDiscarded old c p
     of-local place at made = by (is_local_at place p) refl where
       by : (b : Bool) → is_local_at place p ≡ b → Persists p new.pairs ⊎ IsOfDiscarded old c p
       by true is = inr (inl (at ∙ ap Some (sym (eqb-true p.local place is))))
       by false is = inl (subst (λ (a : AgentRecord H P). Persists p a.pairs) (sym made) (p, Has-kept (λ q. not (is_local_at place q)) old.pairs p has (ap not is), (refl, refl)))
 
-    of-remote : (place : ℕ) → place_to_discard c old.local ≡ None → place_to_discard c old.remote ≡ Some place → new ≡ remote_discarded place old
+    of-remote : (place : ℕ) → local_to_discard c old ≡ None → remote_to_discard c old ≡ Some place → new ≡ remote_discarded place old
         → Persists p new.pairs ⊎ IsOfDiscarded old c p
     of-remote place none at made = by (is_remote_at place p) refl where
       by : (b : Bool) → is_remote_at place p ≡ b → Persists p new.pairs ⊎ IsOfDiscarded old c p
       by true is = inr (inr (none, at ∙ ap Some (sym (eqb-true p.remote place is))))
       by false is = inl (subst (λ (a : AgentRecord H P). Persists p a.pairs) (sym made) (p, Has-kept (λ q. not (is_remote_at place q)) old.pairs p has (ap not is), (refl, refl)))
 
-    discards : (l r : Option ℕ) (found : Bool) → place_to_discard c old.local ≡ l → place_to_discard c old.remote ≡ r → InvalidatesAt l r old found new
+    discards : (l r : Option ℕ) (found : Bool) → local_to_discard c old ≡ l → remote_to_discard c old ≡ r → InvalidatesAt l r old found new
         → Persists p new.pairs ⊎ ((found ≡ true) × IsOfDiscarded old c p)
     discards (Some place) r found l_is r_is h = elim (of-local place l_is h.1) [ inl k ↦ inl k | inr gone ↦ inr (h.0, gone) ]
     discards None (Some place) found l_is r_is h = elim (of-remote place l_is r_is h.1) [ inl k ↦ inl k | inr gone ↦ inr (h.0, gone) ]
@@ -129,9 +130,17 @@ module _ {H P : Type 0} where
       becomes : (needed : AgentRecord H P) → Keep old needed → new ≡ needed → Persists p new.pairs
       becomes needed k made = kept (keep-as old needed new k made)
 
+      -- a path may be selected after it
+      selects : (mid : AgentRecord H P) (path : Option Path) → Reselects (loses_selected old mid) mid path new → Persists p mid.pairs → Persists p new.pairs
+      selects mid path h (q, there, same) =
+          let k = keep-reselects (loses_selected old mid) mid new path h q there in (k.0, k.1, (k.2.0 ∙ same.0, k.2.1 ∙ same.1))
+
+      as-before : (mid : AgentRecord H P) (path : Option Path) → Reselects (loses_selected old mid) mid path new → mid ≡ old → Persists p new.pairs
+      as-before mid path h made = selects mid path h (keep-same old mid made p has)
+
       packet : (now : ℕ) (via : Path) (bytes : List ℕ) → Receives mac answers now old via bytes e new → Persists p new.pairs
       packet now via bytes (inl (fault, has_fault, is, made)) = as-it-was made
-      packet now via bytes (inr (m, reads, (Ok true, emitted, is, (accepted, (mid, takes, made))))) = becomes (discovered_emitted via mid) (by-class mac m.class now old mid via m emitted takes) made
+      packet now via bytes (inr (m, reads, (Ok true, emitted, is, (accepted, (mid, takes, made))))) = becomes (discovered_emitted m.class emitted via mid) (by-class mac m.class now old mid via m emitted takes) made
       packet now via bytes (inr (m, reads, (Ok false, emitted, is, (no_one, nothing, made)))) = as-it-was made
       packet now via bytes (inr (m, reads, (Err error, emitted, is, (may, nothing, made)))) = as-it-was made
 
@@ -179,22 +188,27 @@ module _ {H P : Type 0} where
       lasts (SetRemoteCredentials creds) (Ok _, is, h, drawn) = inl (becomes _ (keeps-self old.pairs) h.1)
       lasts (SetRemoteCredentials creds) (Err error, is, h, drawn) = inl (as-it-was (remote_kept old new creds error h))
       lasts (SkipPairIds n) (is, made, drawn) = inl (becomes _ (keeps-self old.pairs) made)
-      lasts (AddLocalCandidate c) (Ok (Some place), is, h, drawn) = elim (local-leaves answers old new c place p sound has h) [
-        | inl there ↦ inl (p, there, (refl, refl))
+      lasts (AddLocalCandidate c) (Ok (Some place), emitted, is, (path, mid, h, again, emits), drawn) =
+          elim (local-leaves answers old mid c place p sound has h) [
+            | inl there ↦ inl (selects mid path again (p, there, (refl, refl)))
+            | inr ends ↦ inr (inr (ap (λ (x : Entry). x.answer) is, ends))
+          ]
+      lasts (AddLocalCandidate c) (Ok None, emitted, is, (path, mid, h, again, emits), drawn) =
+          inl (as-before mid path again (none-entered answers old mid c h))
+      lasts (AddLocalCandidate c) (Err error, emitted, is, (path, mid, h, again, emits), drawn) =
+          inl (as-before mid path again (enrolment_kept answers old mid c error h))
+      lasts (AddRemoteCandidate c) (Ok _, emitted, is, (path, mid, h, again, emits), drawn) = elim (remote-leaves old mid c p sound has h) [
+        | inl there ↦ inl (selects mid path again (p, there, (refl, refl)))
         | inr ends ↦ inr (inr (ap (λ (x : Entry). x.answer) is, ends))
       ]
-      lasts (AddLocalCandidate c) (Ok None, is, h, drawn) = inl (as-it-was (none-entered answers old new c h))
-      lasts (AddLocalCandidate c) (Err error, is, h, drawn) = inl (as-it-was (enrolment_kept answers old new c error h))
-      lasts (AddRemoteCandidate c) (Ok _, is, h, drawn) = elim (remote-leaves old new c p sound has h) [
-        | inl there ↦ inl (p, there, (refl, refl))
-        | inr ends ↦ inr (inr (ap (λ (x : Entry). x.answer) is, ends))
-      ]
-      lasts (AddRemoteCandidate c) (Err error, is, h, drawn) = inl (as-it-was (storing_kept old new c error h))
-      lasts (InvalidateCandidate c) (found, is, h, drawn) =
-          elim (discards old new c p has (place_to_discard c old.local) (place_to_discard c old.remote) found refl refl h) [
-            | inl k ↦ inl k
+      lasts (AddRemoteCandidate c) (Err error, emitted, is, (path, mid, h, again, emits), drawn) =
+          inl (as-before mid path again (storing_kept old mid c error h))
+      lasts (InvalidateCandidate c) (Ok found, emitted, is, (path, mid, h, again, emits), drawn) =
+          elim (discards old mid c p has (local_to_discard c old) (remote_to_discard c old) found refl refl h) [
+            | inl k ↦ inl (selects mid path again k)
             | inr gone ↦ inr (inr (ap (λ (x : Entry). x.answer) is ∙ ap Flag gone.0, gone.1))
           ]
+      lasts (InvalidateCandidate c) (Err error, emitted, is, (path, mid, h, again, emits), drawn) = inl (as-before mid path again h.1)
       lasts (RestartIce creds keep) (Ok _, is, h, drawn) = inr (inr (ap (λ (x : Entry). x.answer) is))
       lasts (RestartIce creds keep) (Err error, is, h, drawn) = inl (as-it-was (restart_kept old new creds keep error h))
       lasts RecreateCandidatePairs (Ok _, is, h, drawn) = inr (inr (ap (λ (x : Entry). x.answer) is))

@@ -52,25 +52,47 @@ zero_id = 0 ∷ 0 ∷ 0 ∷ 0 ∷ 0 ∷ 0 ∷ 0 ∷ 0 ∷ 0 ∷ 0 ∷ 0 ∷ 0 �
 
 module _ {H P : Type 0} (mac : H → List ℕ → List ℕ → List ℕ) (answers : P → CandidateRecord → ℕ → ℕ → Type 0) (provider : H) (s : Stream) where
   adds_local : Step mac answers (with_creds {P = P} mac provider) s (AddLocalCandidate host_1) (quiet Added) (with_host mac provider) s
-  adds_local =
-      (Ok (Some 0), refl, (65534, refl, (refl, omega arith, (record { pairs = []; next_number = 0 }, (record { pairs = []; next_number = 0 }, refl, ([], (omega arith, refl)), refl), refl))), refl)
+  adds_local = (
+    Ok (Some 0),
+    nothing_emitted,
+    refl,
+    (
+      None,
+      with_host mac provider,
+      (
+        65534,
+        refl,
+        (refl, omega arith, (record { pairs = []; next_number = 0 }, (record { pairs = []; next_number = 0 }, refl, ([], (omega arith, refl)), refl), refl)),
+      ),
+      (refl, refl),
+      refl,
+    ),
+    refl,
+  )
 
   adds_remote : Step mac answers (with_host {P = P} mac provider) s (AddRemoteCandidate (host_2 2130706175)) (quiet Done) (with_both mac provider) s
   adds_remote = (
     Ok _,
+    nothing_emitted,
     refl,
     (
-      omega arith,
+      None,
+      with_both mac provider,
       (
-        record { pairs = new_pair 0 0 0 9151313343271665150 ∷ []; next_number = 1 },
+        omega arith,
         (
           record { pairs = new_pair 0 0 0 9151313343271665150 ∷ []; next_number = 1 },
-          (_, (None, refl, refl), refl),
-          ([], (omega arith, refl)),
+          (
+            record { pairs = new_pair 0 0 0 9151313343271665150 ∷ []; next_number = 1 },
+            (_, (None, refl, refl), refl),
+            ([], (omega arith, refl)),
+            refl,
+          ),
           refl,
         ),
-        refl,
       ),
+      (refl, refl),
+      refl,
     ),
     refl,
   )
@@ -264,19 +286,26 @@ module _ {H P : Type 0} (mac : H → List ℕ → List ℕ → List ℕ) (answer
   unfolding nominated_pair
   overwrites = (
     Ok _,
+    nothing_emitted,
     refl,
     (
-      omega arith,
+      None,
+      emitted_of_sender mac provider zero_id,
       (
-        record { pairs = record (new_pair 1 0 0 9151313343271665150) { nomination = Nominated } ∷ []; next_number = 2 },
+        omega arith,
         (
           record { pairs = record (new_pair 1 0 0 9151313343271665150) { nomination = Nominated } ∷ []; next_number = 2 },
-          (_, (Some nominated_pair, (inl refl, refl, λ q has _. only_greatest nominated_pair q has), refl), refl),
-          ([], (omega arith, refl)),
+          (
+            record { pairs = record (new_pair 1 0 0 9151313343271665150) { nomination = Nominated } ∷ []; next_number = 2 },
+            (_, (Some nominated_pair, (inl refl, refl, λ q has _. only_greatest nominated_pair q has), refl), refl),
+            ([], (omega arith, refl)),
+            refl,
+          ),
           refl,
         ),
-        refl,
       ),
+      (refl, refl),
+      refl,
     ),
     refl,
   )

@@ -1,14 +1,13 @@
-use Rattle.std.proofs.Common.{◌≡◌, ◌==◌, ◌+◌, ◌<◌, ℕ, Bool, true, false, List, length, refl, ap, ◌∙◌, arith, slice_index}
+use Rattle.std.proofs.Common.{◌≡◌, ◌==◌, ◌+◌, ◌<◌, ℕ, Bool, true, false, List, drop, length, refl, ap, ◌∙◌, arith, slice_index}
 use Rattle.std.specs.Prelude.{slice_index_or, slice_set}
-use Rattle.std.specs.Map.Iter.{deref}
 use Rattle.std.proofs.lemmas.Bool.Decides.{nat_tests}
 use Rattle.std.proofs.lemmas.List.{get_or-set_other, get_or-set_same, length-set}
-use Rattle.std.proofs.lemmas.Map.Iter.{rest_more}
 use Rattle.is_rules.specs.Evicting.{is_of_kind, kind_count}
 use Rattle.is_rules.specs.Kinds.{kind_of}
 use Rattle.is_rules.specs.Owed.{one_if}
 use Rattle.is_rules.proofs.PairLists.CountedPairs.{count-head}
 use Rattle.is_rules.proofs.PairLists.PairsInLists.{placed-first}
+use Rattle.is_rules.proofs.PairLists.VisitedPairs.{left-more}
 use Rattle.is_rules.proofs.evicting.kind_counts.Goals as goal
 
 -- one count rises by one
@@ -21,17 +20,19 @@ raised counts k kind within = by (k == kind) refl where
 pub loop-pair-preserved : goal.loop-pair-preserved
 loop-pair-preserved c =
     let kinds = kind_of c.args.local.now c.args.remote.now in
-    let x = c.in-Some.pair.now in
-    let more = rest_more deref c.loop-pair.pair-iterator c.next.new.self c.next.result c.in-Some.pair c.in-Some.is c.next.ensures.steps in
+    let items = c.as_slice-pair-items.result.now in
+    let i = c.loop-pair.pair-index in
+    let x = c.pair-item.result in
+    let more = left-more items i x c.loop-pair-test.true c.pair-item.is in
     let long = c.loop-pair.invariant.long in
     record {
       counted = λ kind less.
           let was = c.loop-pair.invariant.counted kind less in
-          let head : kind_count kinds c.loop-pair.pair-iterator kind ≡ one_if (kinds x == kind) + kind_count kinds c.next.new.self kind =
-          ap (λ ps. kind_count kinds ps kind) more ∙ count-head (is_of_kind kinds kind) x c.next.new.self in
+          let head : kind_count kinds (drop i items) kind ≡ one_if (kinds x == kind) + kind_count kinds (drop (i + 1) items) kind =
+          ap (λ ps. kind_count kinds ps kind) more ∙ count-head (is_of_kind kinds kind) x (drop (i + 1) items) in
           let up = raised c.loop-pair.counts c.kind_of.result kind (let below = c.kind_of.ensures.within in omega (arith, below, long)) in
           let its : one_if (c.kind_of.result == kind) ≡ one_if (kinds x == kind) = ap (λ k. one_if (k == kind)) c.kind_of.ensures.kind in
           omega (arith, was, head, up, its);
       long = length-set c.loop-pair.counts c.kind_of.result (slice_index_or c.loop-pair.counts c.kind_of.result 0 + 1) ∙ long;
-      placed = (placed-first c.args.local.now c.args.remote.now x c.loop-pair.pair-iterator c.next.new.self more c.loop-pair.invariant.placed).1;
+      placed = (placed-first c.args.local.now c.args.remote.now x (drop i items) (drop (i + 1) items) more c.loop-pair.invariant.placed).1;
     }

@@ -1,4 +1,4 @@
-use Rattle.std.proofs.Common.{◌≡◌, ℕ, ◌<◌, ◌+◌, true, length, slice_index}
+use Rattle.std.proofs.Common.{◌≡◌, ℕ, ◌<◌, ◌+◌, true, drop, length, slice_index}
 use Rattle.is_pair.specs.Checklists.{multiset_of}
 use Rattle.is_rules.specs.Evicting.{kind_count}
 use Rattle.is_rules.specs.Kept.{are_placed}
@@ -9,7 +9,7 @@ use Rattle.is_rules.proofs.evicting.kind_counts.Given as goal
 abbrev pub invariant-loop-pair : goal.invariant-loop-pair
 invariant-loop-pair l = record {
   counted : (kind : ℕ) → kind < KINDS
-      → slice_index l.counts kind + kind_count (kind_of l.local l.remote) l.pair-iterator kind ≡ kind_count (kind_of l.local l.remote) (multiset_of l.pairs) kind;
+      → slice_index l.counts kind + kind_count (kind_of l.local l.remote) (drop l.pair-index l.pair-items) kind ≡ kind_count (kind_of l.local l.remote) (multiset_of l.pairs) kind;
   long : length l.counts ≡ KINDS;
-  placed : are_placed l.local l.remote l.pair-iterator ≡ true;
+  placed : are_placed l.local l.remote (drop l.pair-index l.pair-items) ≡ true;
 }

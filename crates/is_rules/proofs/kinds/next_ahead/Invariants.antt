@@ -1,4 +1,4 @@
-use Rattle.std.proofs.Common.{List}
+use Rattle.std.proofs.Common.{List, drop}
 use Rattle.std.specs.Option.{option_copied}
 use Rattle.is_pair.specs.Pairs.{PairRecord}
 use Rattle.is_pair.specs.Checklists.{multiset_of}
@@ -8,4 +8,4 @@ use Rattle.is_rules.proofs.kinds.next_ahead.Given as goal
 -- the first among the pairs visited so far
 abbrev pub invariant-loop-pair : goal.invariant-loop-pair
 invariant-loop-pair l =
-    (done : List PairRecord) × IsVisited l.local l.remote l.fn.precedence l.next l.fn.now.0 l.timing (multiset_of l.pairs) done l.pair-iterator (option_copied l.first)
+    (done : List PairRecord) × IsVisited l.local l.remote l.fn.precedence l.next l.fn.now.0 l.timing (multiset_of l.pairs) done (drop l.pair-index l.pair-items) (option_copied l.first)

@@ -6,7 +6,7 @@ ghost use Rattle.is_pair.specs.Checklists.{multiset_of};
 
 use super::at;
 use is_candidate::CandidateKind;
-use is_pair::checklist::{Checklist, PairPriority, PairTest};
+use is_pair::checklist::{Checklist, PairPriority, PairTest, Removal};
 use is_pair::pair::{CandidatePair, PairId};
 use is_proto::{Duration, IceError, Instant};
 use is_stun::stun::{Consent, StunTiming, TransId};
@@ -121,7 +121,7 @@ impl Paths {
     }
 
     fn remove(&mut self, number: u64) {
-        self.list.remove(number);
+        self.list.remove(number, Removal::Replaced);
     }
 
     fn awaiting(&self, id: TransId) -> Option<u64> {

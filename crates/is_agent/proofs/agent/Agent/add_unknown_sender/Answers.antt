@@ -14,4 +14,11 @@ pub invariant_of-self-in-Vacant-Some-clause-placed : goal.invariant_of-self-in-V
 invariant_of-self-in-Vacant-Some-clause-placed g c =
     let self = c.args.self.now in let r = c.in-Vacant-Some.r in let sender = c.in-Vacant-Some.sender in
     let long = as-long (slice_set self.remote.items r sender) self.remote.items r sender refl in
-    longer self.local.items self.remote.items self.local.items (slice_set self.remote.items r sender) (multiset_of self.pairs) (omega arith) (omega (arith, long)) self.placed
+    rw (c.forget_removed.ensures.multiset)
+    (longer self.local.items self.remote.items self.local.items (slice_set self.remote.items r sender) (multiset_of self.pairs) (omega arith) (omega (arith, long)) self.placed)
+
+pub invariant_of-self-in-Vacant-Some-clause-numbered : goal.invariant_of-self-in-Vacant-Some-clause-numbered
+invariant_of-self-in-Vacant-Some-clause-numbered g c = rw (c.forget_removed.ensures.multiset) c.args.self.now.numbered
+
+pub find_or_add_pair-requires-in-Vacant-Some-clause-pairs : goal.find_or_add_pair-requires-in-Vacant-Some-clause-pairs
+find_or_add_pair-requires-in-Vacant-Some-clause-pairs g c = c.forget_removed.ensures.room 1 c.requires.room.1

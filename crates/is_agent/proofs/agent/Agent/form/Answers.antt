@@ -4,8 +4,8 @@ use Rattle.is_agent.specs.View.{record_of}
 use Rattle.is_rules.specs.Forming.{FormsEach, formed_as, sides_of, formed_of}
 use Rattle.is_agent.proofs.agent.Agent.form.Goals as goal
 
-pub returns : goal.returns
-returns g c =
+pub returns-clause-formed : goal.returns-clause-formed
+returns-clause-formed g c =
     let self = c.args.self.now in
     let after = formed_as (multiset_of c.form_each.new.pairs) c.form_each.new.next_number in
     let forms : FormsEach (sides_of (record_of self)) self.max_pairs c.args.all.now (formed_of (record_of self)) after = rw (c.deref.ensures.value, c.deref-2.ensures.value) at c.form_each.ensures.forms in

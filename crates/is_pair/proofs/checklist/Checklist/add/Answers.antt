@@ -1,22 +1,22 @@
 use Rattle.std.proofs.Common.{◌+◌, ap, sym, ◌∙◌}
 use Rattle.is_pair.specs.Multiset.{are_below, keeps, ranks, rises}
-use Rattle.is_pair.specs.Entries.{pairs_of, is_rank}
+use Rattle.is_pair.specs.Entries.{is_rank}
 use Rattle.is_pair.proofs.PairEntries.ChangedEntry.{below-added, rises-last}
 use Rattle.is_pair.proofs.PairEntries.AddedAndRemovedPairs.{keeps-more, ranks-more}
 use Rattle.is_pair.proofs.checklist.Checklist.add.Goals as goal
 
 pub invariant_of-self-clause-rising : goal.invariant_of-self-clause-rising
-invariant_of-self-clause-rising c = ap rises c.put.ensures.put ∙ rises-last (pairs_of c.args.self.now.pairs.entries) c.args.pair c.args.self.now.rising c.requires.last
+invariant_of-self-clause-rising c = ap rises c.put.ensures.put ∙ rises-last c.args.self.now.pairs.items c.args.pair c.args.self.now.rising c.requires.last
 
 pub invariant_of-self-clause-indexed : goal.invariant_of-self-clause-indexed
 invariant_of-self-clause-indexed c = λ id n.
-    c.args.self.now.indexed id n ∙ sym (ap (keeps id n) c.put.ensures.put ∙ keeps-more (pairs_of c.args.self.now.pairs.entries) c.args.pair id n c.requires.unchecked)
+    c.args.self.now.indexed id n ∙ sym (ap (keeps id n) c.put.ensures.put ∙ keeps-more c.args.self.now.pairs.items c.args.pair id n c.requires.unchecked)
 
 pub invariant_of-self-clause-ranked : goal.invariant_of-self-clause-ranked
 invariant_of-self-clause-ranked c = λ priority n.
     c.put-2.ensures.any (is_rank priority n)
-    ∙ rw (c.prio.ensures, c.id.ensures, c.args.self.now.ranked priority n) (ranks-more (pairs_of c.args.self.now.pairs.entries) c.args.pair priority n)
+    ∙ rw (c.prio.ensures, c.id.ensures, c.args.self.now.ranked priority n) (ranks-more c.args.self.now.pairs.items c.args.pair priority n)
     ∙ sym (ap (ranks priority n) c.put.ensures.put)
 
 pub returns-clause-below : goal.returns-clause-below
-returns-clause-below c = ap (are_below (c.args.pair.number + 1)) c.put.ensures.put ∙ below-added (pairs_of c.args.self.now.pairs.entries) c.args.pair c.requires.last
+returns-clause-below c = ap (are_below (c.args.pair.number + 1)) c.put.ensures.put ∙ below-added c.args.self.now.pairs.items c.args.pair c.requires.last

@@ -1,101 +1,80 @@
-use Rattle.std.proofs.Common.{rules, ◌≡◌, ap, refl, ◌∙◌, nat_eq, Some}
-use Rattle.std.specs.Map.{lookup}
+use Rattle.std.proofs.Common.{rules, ◌≡◌, ap, refl, ◌∙◌, slice_get, Some, length}
+use Rattle.std.proofs.lemmas.Option.{slice_get_read}
 use Rattle.is_pair.specs.Pairs.{PairRecord, checked, check_of}
-use Rattle.is_pair.specs.Entries.{pairs_of, are_keyed, named_after}
-use Rattle.is_pair.proofs.PairEntries.ChangedEntry.{found-number, keyed-written, none-found, writes}
+use Rattle.is_pair.specs.Multiset.{pair_numbered}
+use Rattle.is_pair.specs.Entries.{named_after}
+use Rattle.is_pair.proofs.PairEntries.ChangedEntry.{found-number, writes}
+use Rattle.is_pair.proofs.PairEntries.PlaceOfNumber.{place-found}
 use Rattle.is_pair.proofs.ChecklistIndex.IndexAfterCut.{leaves}
 use Rattle.is_pair.proofs.ChecklistIndex.IndexAfterCheck.{issued}
-use Rattle.is_pair.proofs.PairEntries.WrittenPair.{written-below, written-found, written-ranking, written-rises}
+use Rattle.is_pair.proofs.PairEntries.WrittenPair.{written-below, written-ranking, written-rises}
 use Rattle.is_pair.proofs.checklist.Checklist.new_attempt.Goals as goal
-
-pub unreachable-requires : goal.unreachable-requires
-unreachable-requires g c =
-    let list = c.args.self.now in
-    let none = none-found c.args.number list.pairs.entries list.keyed (search rules) in
-    absurd (cc)
 
 pub follow-requires-clause-left : goal.follow-requires-clause-left
 follow-requires-clause-left g c =
     let list = c.args.self.now in
-    let es = list.pairs.entries in
-    let p = c.in-Some.pair.now in
+    let ps = list.pairs.items in
+    let p = c.index_mut-pair.result.now in
     let id = c.new_attempt_reserved-id.result.0 in
     let after = c.new_attempt_reserved-id.new.self in
     let made : after ≡ checked c.args.now.0 c.args.timing_config.now c.args.controlling id p = c.new_attempt_reserved-id.ensures.sent in
-    let found : lookup (nat_eq c.args.number) es ≡ Some p = search rules in
-    leaves c.args.timing_config.now.max_retransmits list.index.items es c.args.number p after (check_of c.args.now.0 c.args.controlling id p) c.cut_by_next-cut.result
-    list.keyed list.rising found list.indexed (ap (λ (q : PairRecord). q.number) made ∙ found-number c.args.number es p list.keyed found)
+    let at : slice_get ps c.in-Some.place ≡ Some p = slice_get_read _ _ _ _ (ap length c.deref.ensures.value) c.in-Some.ensures.within c.index_mut-pair.ensures.value in
+    let found : pair_numbered c.args.number ps ≡ Some p = place-found c.args.number ps c.in-Some.place (search rules) ∙ at in
+    leaves c.args.timing_config.now.max_retransmits list.index.items ps c.args.number p after (check_of c.args.now.0 c.args.controlling id p) c.cut_by_next-cut.result
+    list.rising found list.indexed (ap (λ (q : PairRecord). q.number) made ∙ found-number c.args.number ps p found)
     (ap (λ (q : PairRecord). q.checks) made) c.cut_by_next-cut.ensures
-
-pub invariant_of-self-clause-keyed : goal.invariant_of-self-clause-keyed
-invariant_of-self-clause-keyed g c =
-    let list = c.args.self.now in
-    let es = list.pairs.entries in
-    let p = c.in-Some.pair.now in
-    let after = c.new_attempt_reserved-id.new.self in
-    let made : after ≡ checked c.args.now.0 c.args.timing_config.now c.args.controlling c.new_attempt_reserved-id.result.0 p = c.new_attempt_reserved-id.ensures.sent in
-    let is = (c.get_mut.follows.holds after).0 in
-    let found : lookup (nat_eq c.args.number) es ≡ Some p = search rules in
-    ap are_keyed is ∙ keyed-written c.args.number es after list.keyed (ap (λ (q : PairRecord). q.number) made ∙ found-number c.args.number es p list.keyed found)
 
 pub invariant_of-self-clause-rising : goal.invariant_of-self-clause-rising
 invariant_of-self-clause-rising g c =
     let list = c.args.self.now in
-    let es = list.pairs.entries in
-    let p = c.in-Some.pair.now in
+    let p = c.index_mut-pair.result.now in
     let after = c.new_attempt_reserved-id.new.self in
     let made : after ≡ checked c.args.now.0 c.args.timing_config.now c.args.controlling c.new_attempt_reserved-id.result.0 p = c.new_attempt_reserved-id.ensures.sent in
-    let is = (c.get_mut.follows.holds after).0 in
-    let found : lookup (nat_eq c.args.number) es ≡ Some p = search rules in
-    written-rises c.args.number es _ p after found is (ap (λ (q : PairRecord). q.number) made) list.rising
+    let at : slice_get list.pairs.items c.in-Some.place ≡ Some p = slice_get_read _ _ _ _ (ap length c.deref.ensures.value) c.in-Some.ensures.within c.index_mut-pair.ensures.value in
+    written-rises c.in-Some.place list.pairs.items _ p after at refl (ap (λ (q : PairRecord). q.number) made) list.rising
 
 pub invariant_of-self-clause-indexed : goal.invariant_of-self-clause-indexed
 invariant_of-self-clause-indexed g c =
     let list = c.args.self.now in
-    let es = list.pairs.entries in
-    let p = c.in-Some.pair.now in
+    let ps = list.pairs.items in
+    let p = c.index_mut-pair.result.now in
+    let id = c.new_attempt_reserved-id.result.0 in
     let after = c.new_attempt_reserved-id.new.self in
-    let made : after ≡ checked c.args.now.0 c.args.timing_config.now c.args.controlling c.new_attempt_reserved-id.result.0 p = c.new_attempt_reserved-id.ensures.sent in
-    let is = (c.get_mut.follows.holds after).0 in
-    let found : lookup (nat_eq c.args.number) es ≡ Some p = search rules in
-    let f = checked c.args.now.0 c.args.timing_config.now c.args.controlling c.new_attempt_reserved-id.result.0 in
-    issued c.args.timing_config.now.max_retransmits es _ list.index.items c.follow.new.index.items c.args.number f p
-    c.new_attempt_reserved-id.result.0 (check_of c.args.now.0 c.args.controlling c.new_attempt_reserved-id.result.0 p)
-    c.requires.retransmits list.keyed list.rising (ap are_keyed is ∙ keyed-written c.args.number es after list.keyed (ap (λ (q : PairRecord). q.number) made ∙ found-number c.args.number es p list.keyed found))
-    list.indexed found (written-found c.args.number es _ p after found is ∙ ap (λ (q : PairRecord). Some q) made) (λ q. refl) refl refl
-    (ap pairs_of is ∙ writes c.args.number f es p after list.keyed list.rising found made)
-    (λ i k. c.follow.ensures.named i k ∙ ap (λ (q : PairRecord). named_after q c.new_attempt_reserved-id.result.0 i k list.index.items) made)
+    let f = checked c.args.now.0 c.args.timing_config.now c.args.controlling id in
+    let made : after ≡ f p = c.new_attempt_reserved-id.ensures.sent in
+    let at : slice_get ps c.in-Some.place ≡ Some p = slice_get_read _ _ _ _ (ap length c.deref.ensures.value) c.in-Some.ensures.within c.index_mut-pair.ensures.value in
+    let found : pair_numbered c.args.number ps ≡ Some p = place-found c.args.number ps c.in-Some.place (search rules) ∙ at in
+    issued c.args.timing_config.now.max_retransmits ps _ list.index.items c.follow.new.index.items c.args.number f p id (check_of c.args.now.0 c.args.controlling id p)
+    c.requires.retransmits list.rising list.indexed found (λ q. refl) refl refl
+    (writes c.args.number f ps c.in-Some.place p after list.rising at (found-number c.args.number ps p found) made)
+    (λ i k. c.follow.ensures.named i k ∙ ap (λ (q : PairRecord). named_after q id i k list.index.items) made)
 
 pub invariant_of-self-clause-ranked : goal.invariant_of-self-clause-ranked
 invariant_of-self-clause-ranked g c =
     let list = c.args.self.now in
-    let es = list.pairs.entries in
-    let p = c.in-Some.pair.now in
+    let p = c.index_mut-pair.result.now in
     let after = c.new_attempt_reserved-id.new.self in
     let made : after ≡ checked c.args.now.0 c.args.timing_config.now c.args.controlling c.new_attempt_reserved-id.result.0 p = c.new_attempt_reserved-id.ensures.sent in
-    let is = (c.get_mut.follows.holds after).0 in
-    let found : lookup (nat_eq c.args.number) es ≡ Some p = search rules in
-    written-ranking c.args.number es _ p after found is list.ranks.items (ap (λ (q : PairRecord). q.number) made) (ap (λ (q : PairRecord). q.priority) made) list.ranked
+    let at : slice_get list.pairs.items c.in-Some.place ≡ Some p = slice_get_read _ _ _ _ (ap length c.deref.ensures.value) c.in-Some.ensures.within c.index_mut-pair.ensures.value in
+    written-ranking c.in-Some.place list.pairs.items _ p after at refl list.ranks.items (ap (λ (q : PairRecord). q.number) made) (ap (λ (q : PairRecord). q.priority) made) list.ranked
 
 pub returns-clause-sent : goal.returns-clause-sent
 returns-clause-sent g c =
     let list = c.args.self.now in
-    let es = list.pairs.entries in
-    let p = c.in-Some.pair.now in
+    let ps = list.pairs.items in
+    let p = c.index_mut-pair.result.now in
     let after = c.new_attempt_reserved-id.new.self in
-    let made : after ≡ checked c.args.now.0 c.args.timing_config.now c.args.controlling c.new_attempt_reserved-id.result.0 p = c.new_attempt_reserved-id.ensures.sent in
-    let is = (c.get_mut.follows.holds after).0 in
-    let found : lookup (nat_eq c.args.number) es ≡ Some p = search rules in
     let f = checked c.args.now.0 c.args.timing_config.now c.args.controlling c.new_attempt_reserved-id.result.0 in
-    ap pairs_of is ∙ writes c.args.number f es p after list.keyed list.rising found made
+    let made : after ≡ f p = c.new_attempt_reserved-id.ensures.sent in
+    let at : slice_get ps c.in-Some.place ≡ Some p = slice_get_read _ _ _ _ (ap length c.deref.ensures.value) c.in-Some.ensures.within c.index_mut-pair.ensures.value in
+    let found : pair_numbered c.args.number ps ≡ Some p = place-found c.args.number ps c.in-Some.place (search rules) ∙ at in
+    writes c.args.number f ps c.in-Some.place p after list.rising at (found-number c.args.number ps p found) made
 
 pub returns-clause-below : goal.returns-clause-below
 returns-clause-below g c = λ n h.
     let list = c.args.self.now in
-    let es = list.pairs.entries in
-    let p = c.in-Some.pair.now in
+    let p = c.index_mut-pair.result.now in
     let after = c.new_attempt_reserved-id.new.self in
     let made : after ≡ checked c.args.now.0 c.args.timing_config.now c.args.controlling c.new_attempt_reserved-id.result.0 p = c.new_attempt_reserved-id.ensures.sent in
-    let is = (c.get_mut.follows.holds after).0 in
-    let found : lookup (nat_eq c.args.number) es ≡ Some p = search rules in
-    written-below c.args.number es _ p after found is n (ap (λ (q : PairRecord). q.number) made) h
+    let at : slice_get list.pairs.items c.in-Some.place ≡ Some p = slice_get_read _ _ _ _ (ap length c.deref.ensures.value) c.in-Some.ensures.within c.index_mut-pair.ensures.value in
+    written-below c.in-Some.place list.pairs.items _ p after at refl n (ap (λ (q : PairRecord). q.number) made) h

@@ -1,99 +1,83 @@
-use Rattle.std.proofs.Common.{rules, ◌≡◌, ap, sym, refl, ◌∙◌, nat_eq, Some}
-use Rattle.std.specs.Map.{lookup}
+use Rattle.std.proofs.Common.{rules, ◌≡◌, ap, sym, refl, ◌∙◌, slice_get, Some, length}
+use Rattle.std.proofs.lemmas.Option.{slice_get_read}
 use Rattle.is_pair.specs.Checks.{is_kept}
-use Rattle.is_pair.specs.Multiset.{change_pair}
-use Rattle.is_pair.specs.Entries.{pairs_of, are_keyed}
+use Rattle.is_pair.specs.Multiset.{change_pair, pair_numbered}
 use Rattle.is_pair.proofs.PairEntries.AnsweredPair.{answer-checks, answer-keeps, answer-number, answer-priority}
-use Rattle.is_pair.proofs.PairEntries.ChangedEntry.{found-by, found-number, keyed-written, none-passes, one-passes, writes}
+use Rattle.is_pair.proofs.PairEntries.ChangedEntry.{found-number, none-passes, one-passes, writes}
+use Rattle.is_pair.proofs.PairEntries.PlaceOfNumber.{place-found, place-none}
 use Rattle.is_pair.proofs.PairEntries.WrittenPair.{written-below, written-fewer, written-index, written-ranking, written-rises}
 use Rattle.is_pair.proofs.checklist.Checklist.record_binding_response.Goals as goal
 
 pub record_binding_response-requires : goal.record_binding_response-requires
 record_binding_response-requires c =
     let list = c.args.self.now in
-    sym (one-passes c.args.number (λ p. is_kept c.args.trans_id.0 p.checks) list.pairs.entries c.in-Some.pair.now list.keyed list.rising (search rules)) ∙ c.requires.kept
+    let ps = list.pairs.items in
+    let p = c.index_mut.result.now in
+    let at : slice_get ps c.in-Some.place ≡ Some p = slice_get_read _ _ _ _ (ap length c.deref.ensures.value) c.in-Some.ensures.within c.index_mut.ensures.value in
+    let found : pair_numbered c.args.number ps ≡ Some p = place-found c.args.number ps c.in-Some.place (search rules) ∙ at in
+    sym (one-passes c.args.number (λ q. is_kept c.args.trans_id.0 q.checks) ps p list.rising found) ∙ c.requires.kept
 
 pub unreachable-requires : goal.unreachable-requires
 unreachable-requires c =
-    let list = c.args.self.now in
-    let none = none-passes c.args.number (λ p. is_kept c.args.trans_id.0 p.checks) list.pairs.entries list.keyed (search rules) in
+    let ps = c.args.self.now.pairs.items in
+    let none = none-passes c.args.number (λ p. is_kept c.args.trans_id.0 p.checks) ps (place-none c.args.number ps (search rules)) in
     absurd (cc)
-
-pub invariant_of-self-clause-keyed : goal.invariant_of-self-clause-keyed
-invariant_of-self-clause-keyed c =
-    let list = c.args.self.now in
-    let es = list.pairs.entries in
-    let p = c.in-Some.pair.now in
-    let after = c.record_binding_response.new.self in
-    let taken = c.record_binding_response.ensures in
-    let is = (c.get_mut.follows.holds after).0 in
-    let found : lookup (nat_eq c.args.number) es ≡ Some p = search rules in
-    ap are_keyed is ∙ keyed-written c.args.number es after list.keyed (answer-number p c.args.now.0 c.args.trans_id.0 after taken ∙ found-number c.args.number es p list.keyed found)
 
 pub invariant_of-self-clause-rising : goal.invariant_of-self-clause-rising
 invariant_of-self-clause-rising c =
     let list = c.args.self.now in
-    let es = list.pairs.entries in
-    let p = c.in-Some.pair.now in
+    let p = c.index_mut.result.now in
     let after = c.record_binding_response.new.self in
     let taken = c.record_binding_response.ensures in
-    let is = (c.get_mut.follows.holds after).0 in
-    let found : lookup (nat_eq c.args.number) es ≡ Some p = search rules in
-    written-rises c.args.number es _ p after found is (answer-number p c.args.now.0 c.args.trans_id.0 after taken) list.rising
+    let at : slice_get list.pairs.items c.in-Some.place ≡ Some p = slice_get_read _ _ _ _ (ap length c.deref.ensures.value) c.in-Some.ensures.within c.index_mut.ensures.value in
+    written-rises c.in-Some.place list.pairs.items _ p after at refl (answer-number p c.args.now.0 c.args.trans_id.0 after taken) list.rising
 
 pub invariant_of-self-clause-indexed : goal.invariant_of-self-clause-indexed
 invariant_of-self-clause-indexed c =
     let list = c.args.self.now in
-    let es = list.pairs.entries in
-    let p = c.in-Some.pair.now in
+    let p = c.index_mut.result.now in
     let after = c.record_binding_response.new.self in
     let taken = c.record_binding_response.ensures in
-    let is = (c.get_mut.follows.holds after).0 in
-    let found : lookup (nat_eq c.args.number) es ≡ Some p = search rules in
-    written-index c.args.number es _ p after found is list.index.items (answer-number p c.args.now.0 c.args.trans_id.0 after taken) (answer-keeps p c.args.now.0 c.args.trans_id.0 after taken) list.indexed
+    let at : slice_get list.pairs.items c.in-Some.place ≡ Some p = slice_get_read _ _ _ _ (ap length c.deref.ensures.value) c.in-Some.ensures.within c.index_mut.ensures.value in
+    written-index c.in-Some.place list.pairs.items _ p after at refl list.index.items (answer-number p c.args.now.0 c.args.trans_id.0 after taken) (answer-keeps p c.args.now.0 c.args.trans_id.0 after taken) list.indexed
 
 pub invariant_of-self-clause-ranked : goal.invariant_of-self-clause-ranked
 invariant_of-self-clause-ranked c =
     let list = c.args.self.now in
-    let es = list.pairs.entries in
-    let p = c.in-Some.pair.now in
+    let p = c.index_mut.result.now in
     let after = c.record_binding_response.new.self in
     let taken = c.record_binding_response.ensures in
-    let is = (c.get_mut.follows.holds after).0 in
-    let found : lookup (nat_eq c.args.number) es ≡ Some p = search rules in
-    written-ranking c.args.number es _ p after found is list.ranks.items (answer-number p c.args.now.0 c.args.trans_id.0 after taken) (answer-priority p c.args.now.0 c.args.trans_id.0 after taken) list.ranked
+    let at : slice_get list.pairs.items c.in-Some.place ≡ Some p = slice_get_read _ _ _ _ (ap length c.deref.ensures.value) c.in-Some.ensures.within c.index_mut.ensures.value in
+    written-ranking c.in-Some.place list.pairs.items _ p after at refl list.ranks.items (answer-number p c.args.now.0 c.args.trans_id.0 after taken) (answer-priority p c.args.now.0 c.args.trans_id.0 after taken) list.ranked
 
 pub returns-clause-check_room : goal.returns-clause-check_room
 returns-clause-check_room c = λ h.
     let list = c.args.self.now in
-    let es = list.pairs.entries in
-    let p = c.in-Some.pair.now in
+    let p = c.index_mut.result.now in
     let after = c.record_binding_response.new.self in
     let taken = c.record_binding_response.ensures in
-    let is = (c.get_mut.follows.holds after).0 in
-    let found : lookup (nat_eq c.args.number) es ≡ Some p = search rules in
-    (h.0, h.1, written-fewer c.args.number es _ p after found is _ (answer-checks p c.args.now.0 c.args.trans_id.0 after taken) h.2)
+    let at : slice_get list.pairs.items c.in-Some.place ≡ Some p = slice_get_read _ _ _ _ (ap length c.deref.ensures.value) c.in-Some.ensures.within c.index_mut.ensures.value in
+    (h.0, h.1, written-fewer c.in-Some.place list.pairs.items _ p after at refl _ (answer-checks p c.args.now.0 c.args.trans_id.0 after taken) h.2)
 
 pub returns-clause-below : goal.returns-clause-below
 returns-clause-below c = λ n h.
     let list = c.args.self.now in
-    let es = list.pairs.entries in
-    let p = c.in-Some.pair.now in
+    let p = c.index_mut.result.now in
     let after = c.record_binding_response.new.self in
     let taken = c.record_binding_response.ensures in
-    let is = (c.get_mut.follows.holds after).0 in
-    let found : lookup (nat_eq c.args.number) es ≡ Some p = search rules in
-    written-below c.args.number es _ p after found is n (answer-number p c.args.now.0 c.args.trans_id.0 after taken) h
+    let at : slice_get list.pairs.items c.in-Some.place ≡ Some p = slice_get_read _ _ _ _ (ap length c.deref.ensures.value) c.in-Some.ensures.within c.index_mut.ensures.value in
+    written-below c.in-Some.place list.pairs.items _ p after at refl n (answer-number p c.args.now.0 c.args.trans_id.0 after taken) h
 
 pub returns-clause-answered : goal.returns-clause-answered
 returns-clause-answered c =
     let list = c.args.self.now in
-    let es = list.pairs.entries in
-    let p = c.in-Some.pair.now in
+    let ps = list.pairs.items in
+    let p = c.index_mut.result.now in
     let after = c.record_binding_response.new.self in
     let taken = c.record_binding_response.ensures in
-    let is = (c.get_mut.follows.holds after).0 in
-    let found : lookup (nat_eq c.args.number) es ≡ Some p = search rules in
-    let number = answer-number p c.args.now.0 c.args.trans_id.0 after taken ∙ found-number c.args.number es p list.keyed found in
-    let put = ap pairs_of is ∙ writes c.args.number (λ _. after) es p after list.keyed list.rising found refl in
-    (p, after, sym (found-by c.args.number es list.keyed) ∙ found, taken, put ∙ ap (λ m. change_pair m (λ _. after) (pairs_of es)) (sym number))
+    let at : slice_get ps c.in-Some.place ≡ Some p = slice_get_read _ _ _ _ (ap length c.deref.ensures.value) c.in-Some.ensures.within c.index_mut.ensures.value in
+    let found : pair_numbered c.args.number ps ≡ Some p = place-found c.args.number ps c.in-Some.place (search rules) ∙ at in
+    let numbered = found-number c.args.number ps p found in
+    let number = answer-number p c.args.now.0 c.args.trans_id.0 after taken ∙ numbered in
+    let put = writes c.args.number (λ _. after) ps c.in-Some.place p after list.rising at numbered refl in
+    (p, after, found, taken, put ∙ ap (λ m. change_pair m (λ _. after) ps) (sym number))

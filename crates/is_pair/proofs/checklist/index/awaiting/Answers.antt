@@ -2,7 +2,7 @@ use Rattle.std.proofs.Common.{ap, find, take, drop, ◌-◌, length, ◌∙◌}
 use Rattle.std.specs.List.{list_any}
 use Rattle.is_pair.specs.declared.checklist.entries.Kept.{Kept}
 use Rattle.is_pair.specs.Multiset.{passes_at}
-use Rattle.is_pair.specs.Entries.{pairs_of, ids_rise, names_passing}
+use Rattle.is_pair.specs.Entries.{ids_rise, names_passing}
 use Rattle.is_pair.proofs.ChecklistIndex.SortedById.{find-following, find-within, from-here, rising-drop}
 use Rattle.is_pair.proofs.checklist.index.awaiting.Goals as goal
 
@@ -16,7 +16,7 @@ returns g c =
     let xs = c.args.index.now in
     let from = c.count_before.result in
     let following = take (length xs - from) (drop from xs) in
-    let test = λ (k : Kept). list_any (passes_at k.number (g.T.PairTest.passes c.args.test.now)) (pairs_of c.args.pairs.now.entries) in
-    let passes = names_passing c.args.id.0 (g.T.PairTest.passes c.args.test.now) (pairs_of c.args.pairs.now.entries) in
+    let test = λ (k : Kept). list_any (passes_at k.number (g.T.PairTest.passes c.args.test.now)) c.args.pairs.now in
+    let passes = names_passing c.args.id.0 (g.T.PairTest.passes c.args.test.now) c.args.pairs.now in
     let within = find-within c.args.id.0 test following c.count_through-many.result c.count_through-many.ensures.within c.count_through-many.ensures.point in
     c.first_awaiting.ensures ∙ within ∙ ap (find passes) (from-here from xs) ∙ find-following c.args.id.0 test xs from c.count_before.ensures.within c.count_before.ensures.point

@@ -1,0 +1,10 @@
+use Rattle.std.proofs.Common.{refl, ap, ◌∙◌}
+use Rattle.is_agent.specs.View.{record_of, emitted_of}
+use Rattle.is_rules.specs.Steps.{Answer, Entry}
+use Rattle.is.proofs.steps.take_remote.Goals as goal
+
+pub returns-clause-did : goal.returns-clause-did
+returns-clause-did g c = λ s.
+    let emitted = emitted_of c.add_remote_candidate.new.self in
+    let entry : Answer → Entry = λ answer. record { answer = answer; emitted = emitted } in
+    (c.add_remote_candidate.result, emitted, c.telling.ensures.emitted ∙ ap entry c.done_or_rejected-answer.ensures, c.add_remote_candidate.ensures, refl)

@@ -1,0 +1,137 @@
+//! When the state is evaluated: at the start of a `handle_timeout` call, or after nomination.
+
+ghost use Rattle.std.specs.Prelude.{◌≡◌, ℕ, ◌&&◌, true, not, Option, unwrap_or, OnOk};
+ghost use Rattle.is_agent.specs.View.{record_of, emitted_of};
+ghost use Rattle.is_agent.specs.Room.{HasEventRoom, HasSelectionRoom, HasPacketRoom, HasServingRoom, HasCheckRoomAt, UsesNews};
+ghost use Rattle.is_rules.specs.Agent.{AgentRecord};
+ghost use Rattle.is_rules.specs.Emitted.{nothing_emitted, selected_only};
+ghost use Rattle.is_rules.specs.Nominating.{Nominates};
+ghost use Rattle.is_rules.specs.States.{evaluated};
+ghost use Rattle.is_rules.specs.declared.emitted.Path.{Path};
+ghost use Rattle.is_rules.specs.Settling.{settles, state_at_start, started, state_settled, settled, has_selected, Reselects};
+
+use crate::agent::Agent;
+use is_candidate::LocalPreference;
+use is_proto::{Instant, Sha1HmacProvider};
+use is_rules::emitted::Emitted;
+use is_rules::event::IceConnectionState;
+use is_rules::states::{emit_state, same_state};
+use std::alloc::AllocError;
+
+impl<H: Sha1HmacProvider + Drop, P: LocalPreference> Agent<H, P> {
+    /// The agent has the rule, and its session has begun.
+    fn settles(&self) -> bool
+        ensures { result ≡ settles (record_of self.now) }
+    {
+        self.rules.state_after_nomination && !same_state(self.state, IceConnectionState::New)
+    }
+
+    fn state_at_start(&self, now: Instant) -> IceConnectionState
+        ensures { result ≡ state_at_start now.0 (record_of self.now) }
+    {
+        if self.settles() {
+            self.state
+        } else {
+            self.state_at(now)
+        }
+    }
+
+    /// The state when a `handle_timeout` call starts: evaluated, unless it is after nomination.
+    pub(crate) fn start_state(&mut self, now: Instant)
+        requires room { HasEventRoom 1 self.old }
+        ensures started { record_of self.new ≡ started now.0 (record_of self.old) }
+        ensures serving { HasServingRoom self.old → HasServingRoom self.new }
+        ensures news { UsesNews 1 self.old self.new }
+        ensures checks { (t : ℕ) → HasCheckRoomAt t self.old → HasCheckRoomAt t self.new }
+    {
+        let state = self.state_at_start(now);
+        emit_state(&mut self.state, &mut self.events, state);
+    }
+
+    fn state_settled(&self, changes: bool, now: Instant) -> IceConnectionState
+        ensures { result ≡ state_settled changes now.0 (record_of self.now) }
+    {
+        if changes && self.settles() {
+            self.state_at(now)
+        } else {
+            self.state
+        }
+    }
+
+    /// The state after nomination: by the rule it is evaluated, if nomination may have changed it.
+    pub(crate) fn settle_state(&mut self, changes: bool, now: Instant)
+        requires room { HasEventRoom 1 self.old }
+        ensures settled { record_of self.new ≡ settled changes now.0 (record_of self.old) }
+        ensures packets { HasPacketRoom self.old → HasPacketRoom self.new }
+        ensures news { UsesNews 1 self.old self.new }
+        ensures checks { (t : ℕ) → HasCheckRoomAt t self.old → HasCheckRoomAt t self.new }
+    {
+        let state = self.state_settled(changes, now);
+        emit_state(&mut self.state, &mut self.events, state);
+    }
+}
+
+// ---- calls that may remove the selected pair
+
+impl<H: Sha1HmacProvider + Drop, P: LocalPreference> Agent<H, P> {
+    /// The pair that was selected last exists, and by the rule another one is selected if it is removed.
+    pub(crate) fn keeps_selected(&self) -> bool
+        ensures { result ≡ (settles (record_of self.now) && has_selected (record_of self.now)) }
+    {
+        self.settles() && self.has_selected()
+    }
+
+    /// Reserves capacity for what that emits.
+    pub(crate) fn take_selection_room(&mut self) -> Result<(), AllocError>
+        ensures record { record_of self.new ≡ record_of self.old }
+        ensures room { OnOk result (HasSelectionRoom (record_of self.old) self.new) }
+    {
+        if self.keeps_selected() {
+            self.events.reserve(2)?;
+        }
+        Ok(())
+    }
+
+    /// The time of the last `handle_timeout` call.
+    fn time_of_last(&self) -> Instant
+        ensures { result.0 ≡ unwrap_or (record_of self.now).last_time 0 }
+    {
+        match self.last_time {
+            Some(last) => last,
+            None => Instant(0),
+        }
+    }
+
+    /// Evaluates nomination and then the state, as of the last `handle_timeout` call.
+    #[inline(never)]
+    fn select_again(&mut self)
+        requires room { HasEventRoom 2 self.old }
+        ensures { (path : Option Path) × (mid : AgentRecord H P) × Nominates (record_of self.old) path mid
+            × (record_of self.new ≡ evaluated (unwrap_or (record_of self.old).last_time 0) mid) × (emitted_of self.new ≡ selected_only path) }
+    {
+        let now = self.time_of_last();
+        let path = self.evaluate_nomination();
+        self.evaluate_state(now);
+        self.emitted = Emitted::selected_only(path);
+    }
+
+    /// The selected pair was kept before the call, and is gone.
+    fn is_lost(&self, kept: bool) -> bool
+        ensures { result ≡ (kept && not (has_selected (record_of self.now))) }
+    {
+        kept && !self.has_selected()
+    }
+
+    /// Selects again if the selected pair is lost.
+    pub(crate) fn reselect(&mut self, kept: bool)
+        requires room { kept ≡ true → HasEventRoom 2 self.old }
+        ensures { (path : Option Path) × Reselects (kept && not (has_selected (record_of self.old))) (record_of self.old) path (record_of self.new)
+            × (emitted_of self.new ≡ selected_only path) }
+    {
+        if !self.is_lost(kept) {
+            self.emitted = Emitted::nothing();
+            return;
+        }
+        self.select_again();
+    }
+}

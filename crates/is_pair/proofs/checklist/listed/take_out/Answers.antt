@@ -1,0 +1,8 @@
+use Rattle.std.proofs.Common.{rules, not}
+use Rattle.std.proofs.lemmas.Fn.{filter_same}
+use Rattle.is_pair.specs.Pairs.{PairRecord}
+use Rattle.is_pair.specs.Multiset.{is_numbered}
+use Rattle.is_pair.proofs.checklist.listed.take_out.Goals as goal
+
+pub returns-clause-left : goal.returns-clause-left
+returns-clause-left c = filter_same _ (λ (p : PairRecord). not (is_numbered c.args.number p)) _ (λ x b f' h. search rules) _ _ c.retain.ensures.filtered

@@ -1,0 +1,56 @@
+-- When the state is evaluated, by the rule `state_after_nomination`: after nomination, and not before it. So the agent is Connected or
+-- Completed if and only if the path of the last `NominatedSend` is that of a live pair.
+use Rattle.std.specs.Prelude.{◌≡◌, ℕ, ◌&&◌, Bool, not, Option, None, is_some, unwrap_or, MatchBool, if◌then◌else◌}
+use Rattle.is_rules.specs.declared.event.IceConnectionState.{IceConnectionState}
+use Rattle.is_rules.specs.declared.event.IceConnectionState.TheVariants.{New}
+use Rattle.is_rules.specs.declared.emitted.Path.{Path}
+use Rattle.is_rules.specs.declared.emitted.Emitted.{Emitted}
+use Rattle.is_rules.specs.Emitted.{selected_only}
+use Rattle.is_rules.specs.Agent.{AgentRecord}
+use Rattle.is_rules.specs.Nominating.{pair_selected, Nominates}
+use Rattle.is_rules.specs.States.{same_state, next_state, has_nominated, has_possible, with_state, evaluated}
+
+module _ {H P : Type 0} where
+  -- The agent has the rule, and its session has begun.
+  abbrev pub settles : AgentRecord H P → Bool
+  settles a = a.rules.state_after_nomination && not (same_state a.state New)
+
+  -- the state as it follows from the pairs at this time
+  abbrev pub state_at : ℕ → AgentRecord H P → IceConnectionState
+  state_at now a = next_state a.state (has_nominated a) (has_possible now a) a.lite
+
+  -- when a `handle_timeout` call starts: by the rule only New changes, to Checking
+  abbrev pub state_at_start : ℕ → AgentRecord H P → IceConnectionState
+  state_at_start now a = if settles a then a.state else state_at now a
+
+  abbrev pub started : ℕ → AgentRecord H P → AgentRecord H P
+  started now a = with_state (state_at_start now a) a
+
+  -- after nomination: by the rule it is evaluated if `changes` is true
+  abbrev pub state_settled : Bool → ℕ → AgentRecord H P → IceConnectionState
+  state_settled changes now a = if changes && settles a then state_at now a else a.state
+
+  abbrev pub settled : Bool → ℕ → AgentRecord H P → AgentRecord H P
+  settled changes now a = with_state (state_settled changes now a) a
+
+  -- ---- calls that may remove the selected pair: a candidate is added or invalidated
+
+  -- The pair that was selected last exists.
+  abbrev pub has_selected : AgentRecord H P → Bool
+  has_selected a = is_some (pair_selected a.selected_pair a.pairs)
+
+  -- By the rule it matters if it exists before the call, and not after it.
+  abbrev pub loses_selected : AgentRecord H P → AgentRecord H P → Bool
+  loses_selected old new = settles old && has_selected old && not (has_selected new)
+
+  -- Then nomination is evaluated, and after it the state, as of the last `handle_timeout` call.
+  abbrev pub Reselects : Bool → AgentRecord H P → Option Path → AgentRecord H P → Type 0
+  Reselects loses old path new =
+      MatchBool loses
+      ((mid : AgentRecord H P) × Nominates old path mid × (new ≡ evaluated (unwrap_or old.last_time 0) mid))
+      ((path ≡ None) × (new ≡ old))
+
+  -- what the call does, and then that
+  abbrev pub ReselectsAfter : (AgentRecord H P → Type 0) → AgentRecord H P → Emitted → AgentRecord H P → Type 0
+  ReselectsAfter Does old emitted new =
+      (path : Option Path) × (mid : AgentRecord H P) × Does mid × Reselects (loses_selected old mid) mid path new × (emitted ≡ selected_only path)
