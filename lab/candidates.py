@@ -6,12 +6,13 @@ from collections.abc import Iterable
 from dataclasses import dataclass, replace
 from typing import Self, TypeVar
 
-from is_ice import Candidate, CandidateKind, IceConnectionState, IceCreds, line_fields
+from is_ice import Candidate, CandidateKind, IceConnectionState, IceCreds, Removal, SocketAddress, line_fields
 
 from .clock import MILLISECOND
 from .kinds import ORIGINAL, Rules, least_of_most
 from .numbers import first_numbered
 from .pairs import Pair, Path, Place, Timing, pair_priority
+from .removed import LIMIT, Removed, why_expired
 from .requests import Request
 from .states import CHECKING, NEW
 
@@ -53,6 +54,8 @@ class Candidates:
     next_kind: int = 0  # from which kind on kinds take turns
     state: IceConnectionState = NEW
     queue: tuple[Request, ...] = ()
+    sources: tuple[SocketAddress, ...] = ()  # of accepted packets, as reported since the last restart
+    removed: tuple[Removed, ...] = ()  # the pairs that were removed last, since the last restart
     last: int | None = None
 
     def with_rules(self, rules: Rules) -> Self:
@@ -91,6 +94,11 @@ class Candidates:
     def keeps_role(self) -> bool:
         """Whether it never changes its role."""
         return self.lite and self.rules.lite_keeps_role
+
+    @property
+    def settles(self) -> bool:
+        """Whether the state is evaluated after nomination, and not before it: by the rule, once the session has begun."""
+        return self.rules.state_after_nomination and self.state is not NEW
 
     @property
     def followed(self) -> int | None:
@@ -153,9 +161,16 @@ class Candidates:
         return next((i for i, c in enumerate(self.remote) if c.is_found and i not in used), None)
 
     def place_to_discard(self, candidate: Place, places: tuple[Place, ...]) -> int | None:
-        """Returns the index of the first equal candidate, if that one is live."""
-        at = next((i for i, c in enumerate(places) if c.is_same_place(candidate) and c.is_same_origin(candidate)), None)
+        """Returns the index of the first equal candidate, if that one is live; by the rule, of the first equal one that is live."""
+        passes_over = self.rules.invalidates_listed
+        at = next((i for i, c in enumerate(places) if _are_equal(c, candidate) and not (passes_over and c.is_discarded)), None)
         return None if at is None or places[at].is_discarded else at
+
+    def to_discard(self, candidate: Candidate) -> tuple[int | None, int | None]:
+        """Returns the index of the candidate that is discarded if this one is invalidated: of a local one, else of a remote one."""
+        place = local_place(candidate)
+        local = self.place_to_discard(place, self.local)
+        return local, self.place_to_discard(place, self.remote) if local is None else None
 
     def goes_first(self, pair: Pair) -> bool:
         """Whether it comes before all kinds, in turn: the selected pair, and urgent ones."""
@@ -183,14 +198,25 @@ class Candidates:
         new = self
         for local, remote in combinations:
             new = new._tried(local, remote)
-        pairs = list(new.pairs)
-        while len(pairs) > new.max_pairs:
-            pairs.remove(new._to_evict(pairs))
-        return replace(new, pairs=tuple(pairs))
+        while len(new.pairs) > new.max_pairs:
+            new = new._without({new._to_evict().number: Removal.EVICTED})
+        return new
 
-    def _to_evict(self, pairs: list[Pair]) -> Pair:
+    def _to_evict(self) -> Pair:
         """Returns the pair that goes at the limit."""
-        return least_of_most(self.local, self.remote, pairs) if self.rules.kinds_in_turn else min(pairs, key=lambda p: p.priority)
+        if self.rules.kinds_in_turn:
+            return least_of_most(self.local, self.remote, self.pairs)
+        return min(self.pairs, key=lambda p: p.priority)
+
+    def _without(self, why: dict[int, Removal]) -> Self:
+        """Returns the agent without the pairs with these numbers, which it lists as removed for these reasons."""
+        gone = tuple(Removed(p, self.path(p), why[p.number]) for p in self.pairs if p.number in why)
+        kept = tuple(p for p in self.pairs if p.number not in why)
+        return replace(self, pairs=kept, removed=(*self.removed, *gone)[-LIMIT:]) if gone else self
+
+    def without_expired(self, now: int) -> Self:
+        """Returns the agent without the pairs that do not stay."""
+        return self._without({p.number: why_expired(p, self.lite) for p in self.pairs if not p.stays(now, self.timing, self.lite)})
 
     def _tried(self, local: int, remote: int) -> Self:
         path = self.local[local].base, self.remote[remote].address
@@ -200,8 +226,8 @@ class Candidates:
             return replace(self, pairs=(*self.pairs, pair), next_number=self.next_number + 1)
         if found.priority >= pair.priority:
             return self
-        kept = tuple(p for p in self.pairs if p.number != found.number)
-        return replace(self, pairs=(*kept, pair.taking_over(found, self.lite)), next_number=self.next_number + 1)
+        new = self._without({found.number: Removal.REPLACED})
+        return replace(new, pairs=(*new.pairs, pair.taking_over(found, self.lite)), next_number=self.next_number + 1)
 
     def _partners(self, candidate: Place, places: tuple[Place, ...]) -> list[int]:
         return [i for i, c in enumerate(places) if not c.is_discarded and c.address.version == candidate.address.version]
@@ -245,18 +271,25 @@ class Candidates:
         return self if joined is None else joined[0]._formed(joined[1])
 
     def invalidate(self, candidate: Candidate) -> Self:
-        """Discards a local candidate, and its pairs."""
-        at = self.place_to_discard(local_place(candidate), self.local)
-        return self if at is None else self._without_local(at)
+        """Discards a local candidate, else a remote one, and its pairs."""
+        local, remote = self.to_discard(candidate)
+        if local is not None:
+            return self._without_local(local)
+        return self if remote is None else self._without_remote(remote)
 
     def _without_local(self, at: int) -> Self:
         places = put(self.local, at, replace(self.local[at], is_discarded=True))
-        return replace(self, local=places, pairs=tuple(p for p in self.pairs if p.local != at))
+        return replace(self, local=places)._without({p.number: Removal.INVALIDATED for p in self.pairs if p.local == at})
+
+    def _without_remote(self, at: int) -> Self:
+        places = put(self.remote, at, replace(self.remote[at], is_discarded=True))
+        return replace(self, remote=places)._without({p.number: Removal.INVALIDATED for p in self.pairs if p.remote == at})
 
     def restart(self, creds: IceCreds, keeps: bool) -> Self:
         """Makes an ICE restart."""
         local = self.local if keeps else ()
-        return replace(self, creds=creds, peer=None, local=local, remote=(), pairs=(), numbers_seen=False, state=CHECKING)
+        return replace(self, creds=creds, peer=None, local=local, remote=(), pairs=(), numbers_seen=False, sources=(), removed=(),
+                       state=CHECKING)
 
     def recreate(self) -> Self:
         """Forms the pairs again."""

@@ -33,7 +33,8 @@ def rules_by(s: AgentSettings) -> Rules:
     if s.consent_ms is not None:
         consent = Consent(nanoseconds(s.consent_ms), s.strict_consent)
         rules = replace(rules, consent=consent if s.consent_ms else None)
-    names = ("selects_at_once", "selected_first", "timeout_after_requests", "lite_keeps_role", "numbered_nominations")
+    names = ("selects_at_once", "selected_first", "timeout_after_requests", "lite_keeps_role", "numbered_nominations",
+             "discovered_if_served", "state_after_nomination", "invalidates_listed")
     own = {name: getattr(s, name) for name in names}
     return replace(rules, **{name: value for name, value in own.items() if value is not None})
 
@@ -137,6 +138,7 @@ class Endpoint:
         for socket in [s for s, i in self.sockets.items() if i is interface]:
             for candidate in self._candidates.pop(socket, []):
                 self.agent.invalidate_candidate(candidate)
+                self._report()
             del self.sockets[socket]
         self.turn()
 
@@ -187,6 +189,7 @@ class Endpoint:
     def _add(self, socket: SocketAddress, candidate: Candidate) -> None:
         self._candidates.setdefault(socket, []).append(candidate)
         line = self.agent.add_local_candidate(candidate)
+        self._report()
         if line is not None:
             self._unsignaled.append(line)
 
@@ -220,6 +223,7 @@ class Endpoint:
 
     def _take_candidate(self, line: str) -> None:
         self.agent.add_remote_candidate(line)
+        self._report()
         ip = line_fields(line).address.ip
         if ip not in self._peers:
             self._peers.add(ip)
@@ -235,11 +239,15 @@ class Endpoint:
         timeout = self.agent.poll_timeout()
         while packet := self.agent.poll_transmit():
             self._send(packet.source, packet.destination, packet.contents)
-        while event := self.agent.poll_event():
-            self._watch.told(self.side, event)
+        self._report()
         if timeout is not None and timeout != self._timeout:
             self._timeout = timeout
             self._clock.at(timeout + nanoseconds(self.settings.late_ms), self._timed_out, timeout)
+
+    def _report(self) -> None:
+        """Reports events. A call that may emit some is followed by this before the next one, so that the log shows which call did."""
+        while event := self.agent.poll_event():
+            self._watch.told(self.side, event)
 
     def _timed_out(self, timeout: int) -> None:
         if timeout == self._timeout:

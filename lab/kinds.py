@@ -31,6 +31,9 @@ class Rules:
     timeout_after_requests: bool = False
     lite_keeps_role: bool = False
     numbered_nominations: bool = False
+    discovered_if_served: bool = False
+    state_after_nomination: bool = False
+    invalidates_listed: bool = False
 
     @property
     def goes_ahead(self) -> bool:
@@ -40,7 +43,7 @@ class Rules:
 
 ORIGINAL = Rules()
 # With these an agent that the library makes begins.
-MODERN = Rules(True, 4, EarlyRto(4, 100 * MILLISECOND), True, Consent(29600 * MILLISECOND), True, True, True, True)
+MODERN = Rules(True, 4, EarlyRto(4, 100 * MILLISECOND), True, Consent(29600 * MILLISECOND), True, True, True, True, True, True, True)
 
 
 def rules_of(given: Any) -> Rules:
@@ -50,7 +53,8 @@ def rules_of(given: Any) -> Rules:
     consent = given.consent
     kept = Consent(consent.timeout, consent.strict) if consent is not None and consent.timeout else None
     return Rules(given.kinds_in_turn, given.triggered_checks or None, own, given.selects_at_once, kept, given.selected_first,
-                 given.timeout_after_requests, given.lite_keeps_role, given.numbered_nominations)
+                 given.timeout_after_requests, given.lite_keeps_role, given.numbered_nominations, given.discovered_if_served,
+                 given.state_after_nomination, given.invalidates_listed)
 
 
 def reaches_out(local: Sequence[Place], base: SocketAddress) -> bool:

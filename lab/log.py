@@ -6,7 +6,7 @@ from collections.abc import Callable
 from dataclasses import dataclass, field
 from typing import Any
 
-from is_ice import IceAgent
+from is_ice import IceAgent, RemovedPair
 
 from .clock import Clock
 from .kinds import MODERN, Rules
@@ -42,10 +42,11 @@ class Beginning:
 
 @dataclass
 class Log:
-    """The entries of a session, oldest first."""
+    """The entries of a session, oldest first. `removed`: the pairs that each side lists as removed at the end."""
 
     sides: dict[str, Beginning] = field(default_factory=dict)
     entries: list[Entry] = field(default_factory=list)
+    removed: dict[str, list[RemovedPair]] = field(default_factory=dict)
 
 
 class LoggedAgent:

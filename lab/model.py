@@ -58,6 +58,18 @@ class Agent(Candidates):
         is_possible = has_possible(self.local, self.remote, self.pairs, now, self.timing)
         return replace(self, state=next_state(self.state, has_nominated(self.pairs), is_possible, self.lite))
 
+    def _settled(self, now: int) -> Agent:
+        """Returns it after nomination: by the rule its state is evaluated."""
+        return self._evaluated(now) if self.settles else self
+
+    def reselected(self, old: Agent) -> tuple[Agent, tuple[Path, ...]]:
+        """Returns it after a call that added or invalidated a candidate of `old`, with the paths that the call selects: by the rule, if the
+        selected pair is gone, nomination is evaluated, and the state as of the last `handle_timeout`."""
+        if not (old.settles and old.has_selected and not self.has_selected):
+            return self, ()
+        new, told = self._nominate()
+        return new._evaluated(old.last or 0), told
+
     # ---- serving a request
 
     def _serve(self, q: Request) -> Result:
@@ -83,7 +95,9 @@ class Agent(Candidates):
             return self, None, ()
         new = self
         if remote == len(self.remote) or self.remote[remote].address != q.source:
-            new = replace(self, remote=put(self.remote, remote, Place("prflx", q.source, q.source, q.priority, is_found=True)))
+            removed = tuple(r for r in self.removed if r.pair.remote != remote)  # their candidate is no longer there
+            places = put(self.remote, remote, Place("prflx", q.source, q.source, q.priority, is_found=True))
+            new = replace(self, remote=places, removed=removed)
         pair = next((p for p in new.pairs if (p.local, p.remote) == (local, remote)), None)
         if pair is None:
             if new.local[local].is_discarded:
@@ -96,7 +110,12 @@ class Agent(Candidates):
         new = new._changed(pair.number, lambda p: self._served(new, p, taken))
         selects = new.controlling or new.rules.selects_at_once
         new, told = new._nominate() if selects and was_valid else (new, ())
+        new = new._settled(self.trigger_time(q)) if told else new
         return new, Issued("success", (new.local[local].base, q.source), q.id), told
+
+    def trigger_time(self, q: Request) -> int:
+        """Returns when a request triggers a check: at once, and not before the last `handle_timeout`."""
+        return max(q.time, self.last or 0)
 
     def _place_of(self, source: SocketAddress) -> int | None:
         """Returns the index of a request's sender among the remote candidates, or the one that it gets; None if it gets none."""
@@ -110,7 +129,7 @@ class Agent(Candidates):
     @staticmethod
     def _served(agent: Agent, pair: Pair, q: Request) -> Pair:
         most = agent.rules.triggered_checks
-        new = (pair if most is None else pair.triggered(most, max(q.time, agent.last or 0))).asked(q.time)
+        new = (pair if most is None else pair.triggered(most, agent.trigger_time(q))).asked(q.time)
         state = "succeeded" if agent.lite and not agent.controlling else pair.state
         asks = not agent.controlling and q.use_candidate and not pair.is_nominated
         nomination = ("success" if agent.lite else "nominated") if asks else pair.nomination
@@ -120,7 +139,22 @@ class Agent(Candidates):
     # ---- packets
 
     def packet(self, now: int, source: SocketAddress, local: SocketAddress, contents: bytes) -> Result:
-        """Takes an accepted packet."""
+        """Takes an accepted packet, and reports its source if it is new."""
+        new, issued, told = self._taken(now, source, local, contents)
+        is_dropped = message_of(contents).kind == "request" and new.peer is not None and issued is None
+        waiting = len(told) + (new.state is not self.state)  # endpoints poll all events after each call
+        passes_over = source in new.sources or not new.is_below(waiting) or (new.rules.discovered_if_served and is_dropped)
+        return new if passes_over else new._discovered(source), issued, told
+
+    def _discovered(self, source: SocketAddress) -> Agent:
+        sources = (*self.sources, source)
+        return replace(self, sources=sources if self.max_discovered is None else sources[-self.max_discovered:])
+
+    def discovered_since(self, old: Agent) -> SocketAddress | None:
+        """Returns the source that was reported, if the agent was `old` before the packet."""
+        return None if self.sources == old.sources else self.sources[-1]
+
+    def _taken(self, now: int, source: SocketAddress, local: SocketAddress, contents: bytes) -> Result:
         message = message_of(contents)
         if message.kind == "request":
             q = request_of(now, source, local, contents)
@@ -133,7 +167,8 @@ class Agent(Candidates):
         if message.kind == "failure":
             sent = next(c for c in pair.checks if c.id == message.transaction)
             is_rejected = message.code == 487 and sent.controlling == self.controlling and not self.keeps_role
-            return (self.switched() if is_rejected else self), None, ()
+            noted = self._changed(pair.number, lambda p: replace(p, error=message.code or p.error))
+            return (noted.switched() if is_rejected else noted), None, ()
         new = self._mapped(pair, contents)._changed(pair.number, lambda p: p.answered(now, message.transaction))
         chosen, told = new._nominate()
         return chosen._evaluated(now), None, told
@@ -149,17 +184,19 @@ class Agent(Candidates):
 
     def timeout(self, now: int, id: bytes, seen: Path | None = None) -> Result:
         """Takes a `handle_timeout`. `seen` is the path of the check that was sent, which decides between equal pairs."""
-        begun = self._evaluated(now)
+        begun = self if self.settles else self._evaluated(now)
         if self.peer is not None and (queue := self._current(now)) != ():
             last = now if self.rules.timeout_after_requests and self.last is None else self.last
             return replace(begun, queue=queue[1:], last=last)._serve(queue[0])
         start = replace(begun, last=now, queue=self._current(now) if self.peer is not None else self.queue)
         new, first = start._nominate()
-        kept = tuple(p for p in new.pairs if p.stays(now, new.timing, new.lite))
+        kept = new.without_expired(now)
         second: tuple[Path, ...] = ()
-        if len(kept) < len(new.pairs):
-            new, second = replace(new, pairs=kept)._nominate()
+        if kept is not new:
+            new, second = kept._nominate()
             new = new._evaluated(now)
+        else:
+            new = new._settled(now)
         new, issued = new._check(now, id, seen)
         return new, issued, first + second
 

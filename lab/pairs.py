@@ -114,8 +114,8 @@ def unanswered(checks: tuple[Check, ...]) -> int:
 @dataclass(frozen=True)
 class Pair:
     """A pair. `nomination` is none, nominated, attempt or success; `state` is waiting, progress or succeeded. `sent`, `requests` and
-    `answers` count checks, checks of the peer, and responses. `consented` is when the last check that got a response was sent, and
-    `greatest` the greatest number by which the peer nominated it."""
+    `answers` count checks, checks of the peer, and responses. `consented` is when the last check that got a response was sent,
+    `greatest` the greatest number by which the peer nominated it, and `error` the code of the last error response."""
 
     number: int
     local: int
@@ -131,6 +131,7 @@ class Pair:
     answers: int = 0
     consented: int | None = None
     greatest: int = 0
+    error: int | None = None
 
     @property
     def is_valid(self) -> bool:

@@ -2,9 +2,10 @@
 
 from __future__ import annotations
 
+from collections.abc import Iterator, Sequence
 from dataclasses import dataclass, field, replace
 
-from is_ice import IceConnectionState, IceConnectionStateChange, NominatedSend
+from is_ice import DiscoveredRecv, IceConnectionState, IceConnectionStateChange, NominatedSend, SocketAddress
 
 from .kinds import rules_of
 from .log import Entry, Log
@@ -13,9 +14,11 @@ from .pairs import Path
 from .scenario import SIDES
 from .stun import message_of
 
-# The calls that issue packets, and those that may change the connection state.
+# The calls that issue packets, those that may select a path, and those that may change the connection state.
 ISSUING = ("handle_packet", "handle_timeout")
-CHANGING = (*ISSUING, "ice_restart", "recreate_candidate_pairs")
+JOINING = ("add_local_candidate", "add_remote_candidate", "invalidate_candidate")
+SELECTING = (*ISSUING, *JOINING)
+CHANGING = (*SELECTING, "ice_restart", "recreate_candidate_pairs")
 
 
 def other(side: str) -> str:
@@ -60,7 +63,7 @@ class Replay:
 
 def replay(log: Log) -> Replay:
     """Follows both agents through the log."""
-    sent, selected = _issued(log)
+    sent, selected, found = _issued(log), _selected(log), _found(log)
     states = _states(log)
     world = {side: Agent(b.creds, b.tie_breaker, b.controlling).with_rules(b.rules) for side, b in log.sides.items()}
     assert set(world) == set(SIDES)
@@ -73,7 +76,7 @@ def replay(log: Log) -> Replay:
         waiting[entry.side] += (packet is not None) - (entry.call == "poll_transmit")
         if entry.call == "ice_restart":
             waiting[entry.side] = 0
-        actual = entry.returned if entry.call == "poll_timeout" else (seen, selected.get(at, ()))
+        actual = _shown(entry, seen, selected.get(at, ()), found.get(at))
         if foreseen is not None and foreseen != (actual,):
             told.differences.append(f"{entry.time} {entry.side} {entry.call}: {foreseen[0]}, not {actual}")
         if at in states and own.state is not states[at]:
@@ -83,6 +86,9 @@ def replay(log: Log) -> Replay:
         if entry.call == "handle_packet":
             told.arrivals.setdefault((entry.side, entry.given[3]), []).append(at)
         world = after
+    for side, listed in log.removed.items():
+        if (foreseen_pairs := [pair.listed() for pair in world[side].removed]) != listed:
+            told.differences.append(f"{side} removed_pairs: {foreseen_pairs}, not {listed}")
     return told
 
 
@@ -92,20 +98,46 @@ def _seen(packet: Entry) -> Issued:
     return Issued(message.kind, (transmit.source, transmit.destination), message.transaction)
 
 
-def _issued(log: Log) -> tuple[dict[int, Entry], dict[int, tuple[Path, ...]]]:
-    """Finds for each call the packet that it issued and the paths that it selected: those that are polled before the next one."""
-    sent: dict[int, Entry] = {}
-    selected: dict[int, tuple[Path, ...]] = {}
+def _shown(entry: Entry, seen: Issued | None, paths: tuple[Path, ...], source: SocketAddress | None) -> object:
+    """Returns what the log shows of a call, as the model foresees it."""
+    if entry.call == "poll_timeout":
+        return entry.returned
+    if entry.call == "invalidate_candidate":
+        return entry.returned, paths
+    return seen, paths, source
+
+
+def _polled(log: Log, calls: Sequence[str], poll: str) -> Iterator[tuple[int, Entry]]:
+    """Returns what is polled after these calls, each with the index of the last one of them by its side."""
     last: dict[str, int] = {}
     for at, entry in enumerate(log.entries):
-        if entry.call in ISSUING:
+        if entry.call in calls:
             last[entry.side] = at
-        elif entry.call == "poll_transmit" and entry.side in last:
-            sent.setdefault(last[entry.side], entry)
-        elif entry.call == "poll_event" and isinstance(entry.returned, NominatedSend) and entry.side in last:
-            at = last[entry.side]
+        elif entry.call == poll and entry.side in last:
+            yield last[entry.side], entry
+
+
+def _issued(log: Log) -> dict[int, Entry]:
+    """Finds for each call the packet that it issued: the one that is polled before the next one."""
+    sent: dict[int, Entry] = {}
+    for at, entry in _polled(log, ISSUING, "poll_transmit"):
+        sent.setdefault(at, entry)
+    return sent
+
+
+def _selected(log: Log) -> dict[int, tuple[Path, ...]]:
+    """Finds for each call the paths that it selected, in the same way."""
+    selected: dict[int, tuple[Path, ...]] = {}
+    for at, entry in _polled(log, SELECTING, "poll_event"):
+        if isinstance(entry.returned, NominatedSend):
             selected[at] = (*selected.get(at, ()), (entry.returned.source, entry.returned.destination))
-    return sent, selected
+    return selected
+
+
+def _found(log: Log) -> dict[int, SocketAddress]:
+    """Finds for each call the source that it reported, in the same way."""
+    events = _polled(log, SELECTING, "poll_event")
+    return {at: entry.returned.source for at, entry in events if isinstance(entry.returned, DiscoveredRecv)}
 
 
 def _states(log: Log) -> dict[int, IceConnectionState]:
@@ -136,15 +168,19 @@ def _next(agent: Agent, entry: Entry, seen: Issued | None, is_waiting: bool) -> 
         return new, (wake,)
     if call == "handle_timeout":
         new, issued, paths = agent.timeout(given[0], given[1], seen.path if seen else None)
-        return new, ((issued, paths),)
+        return new, ((issued, paths, None),)
     if call == "handle_packet":
         new, issued, paths = agent.packet(*given[:4]) if entry.returned else (agent, None, ())
-        return new, ((issued, paths),)
+        return new, ((issued, paths, new.discovered_since(agent)),)
+    if call in JOINING:
+        joined = after_setting(agent, entry)
+        new, paths = joined.reselected(agent)
+        return new, ((joined is not agent, paths) if call == "invalidate_candidate" else (None, paths, None),)
     return after_setting(agent, entry), None
 
 
 def after_setting(agent: Agent, entry: Entry) -> Agent:
-    """Returns the agent after a call that issues nothing: a setting, a candidate, a restart."""
+    """Returns the agent after a call that issues nothing: a setting, a restart, or a candidate, before another path is selected."""
     call, given = entry.call, entry.given
     if call in SETTINGS:
         return replace(agent, **{SETTINGS[call]: given[0]})

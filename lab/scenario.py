@@ -59,6 +59,9 @@ class AgentSettings:
     timeout_after_requests: bool | None = None
     lite_keeps_role: bool | None = None
     numbered_nominations: bool | None = None
+    discovered_if_served: bool | None = None
+    state_after_nomination: bool | None = None
+    invalidates_listed: bool | None = None
     shuffled: bool = False  # gathers from its interfaces in random order
     stun: bool = True  # gathers server-reflexive candidates
     relay: bool = False  # gathers relayed candidates

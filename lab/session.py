@@ -182,6 +182,8 @@ class Session:
         while clock.step(end):
             if self._is_settled():
                 break
+        if self.log is not None:
+            self.log.removed = {side: self.endpoints[side].agent.removed_pairs() for side in SIDES}
         return self._judge()
 
     def _take_first(self, signal: Signal) -> None:

@@ -49,11 +49,13 @@ def choices(x: Execution) -> Iterator[Choice]:
 
 
 def is_of_use(x: Execution, c: Choice) -> bool:
-    """Whether the call sends a check, removes a pair or shortens the queue of early requests (`IsOfUse`)."""
+    """Whether the call sends a check, removes a pair, shortens the queue of early requests, or selects a path since the selected pair was
+    gone (`IsOfUse`)."""
     start, step = x.state(c.asked, c.side), x.steps[c.moment]
     last, numbers = step.after[c.side], {p.number for p in step.after[c.side].pairs}
     is_checked = step.issued is not None and step.issued.kind == "request" and bool(start.on(step.issued.path))
-    return is_checked or any(p.number not in numbers for p in start.pairs) or len(last.queue) < len(start.queue)
+    is_selected = start.is_pressing and bool(step.selected)
+    return is_checked or is_selected or any(p.number not in numbers for p in start.pairs) or len(last.queue) < len(start.queue)
 
 
 def find(x: Execution) -> Verdict:

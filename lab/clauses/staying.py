@@ -2,7 +2,7 @@
 
 from __future__ import annotations
 
-from ..candidates import Joined, local_place
+from ..candidates import Joined
 from ..kinds import COUNT, kind_between, kind_of
 from ..model import Agent
 from ..pairs import Pair, Path
@@ -76,7 +76,7 @@ def may_end(step: Step, pair: Pair) -> bool:
     if entry.call == "add_remote_candidate":
         return may_end_by_joining(agent.with_remote(entry.given[0]), pair)
     if entry.call == "invalidate_candidate":
-        return bool(entry.returned) and agent.place_to_discard(local_place(entry.given[0]), agent.local) == pair.local
+        return bool(entry.returned) and agent.to_discard(entry.given[0]) in ((pair.local, None), (None, pair.remote))
     return entry.call in ("ice_restart", "recreate_candidate_pairs")
 
 

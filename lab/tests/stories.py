@@ -5,7 +5,7 @@ from __future__ import annotations
 from dataclasses import replace
 from typing import Any
 
-from is_ice import Candidate, IceConnectionStateChange, IceCreds, NominatedSend, Protocol, SocketAddress, Transmit
+from is_ice import Candidate, DiscoveredRecv, IceConnectionStateChange, IceCreds, NominatedSend, Protocol, SocketAddress, Transmit
 from lab.clauses.execution import Execution
 from lab.clauses.accepted_nominations import Network
 from lab.clock import BEGINNING, MILLISECOND
@@ -91,8 +91,7 @@ class Story:
 
     def local(self, side: str, candidate: Candidate, line: str, time: float = 0) -> None:
         """The side adds a local candidate."""
-        self.agents[side] = self.agents[side].add_local(candidate, line)
-        self._log(time, side, "add_local_candidate", (candidate,), line)
+        self._joins(time, side, self.agents[side].add_local(candidate, line), "add_local_candidate", candidate, line)
 
     def know(self, side: str, time: float = 0) -> None:
         """The side gets the other one's credentials and candidates."""
@@ -105,10 +104,9 @@ class Story:
         self.set(side, "set_remote_credentials", self.agents[other(side)].creds, time)
 
     def invalidate(self, side: str, candidate: Candidate, time: float = 0) -> None:
-        """The side removes a local candidate."""
-        old = self.agents[side]
-        self.agents[side] = old.invalidate(candidate)
-        self._log(time, side, "invalidate_candidate", (candidate,), self.agents[side] != old)
+        """The side removes a candidate."""
+        new = self.agents[side].invalidate(candidate)
+        self._joins(time, side, new, "invalidate_candidate", candidate, new is not self.agents[side])
 
     def set(self, side: str, name: str, value: object, time: float = 0) -> None:
         """The side changes a setting."""
@@ -129,8 +127,14 @@ class Story:
 
     def remote(self, side: str, line: str, time: float = 0) -> None:
         """The side gets a remote candidate."""
-        self.agents[side] = self.agents[side].add_remote(line)
-        self._log(time, side, "add_remote_candidate", (line,))
+        self._joins(time, side, self.agents[side].add_remote(line), "add_remote_candidate", line, None)
+
+    def _joins(self, time: float, side: str, joined: Agent, call: str, given: object, returned: object) -> None:
+        """Logs a call that adds or removes a candidate, after which the side is `joined`, or selects another path."""
+        old = self.agents[side]
+        self.agents[side], paths = joined.reselected(old)
+        self._log(time, side, call, (given,), returned)
+        self._events(time, side, old, paths)
 
     def timeout(self, side: str, time: float) -> Transmit | None:
         """The side's `handle_timeout`, followed by its polls. Returns the check that it sends."""
@@ -161,11 +165,18 @@ class Story:
         if issued is not None:
             packet = Transmit(Protocol.UDP, *issued.path, message(issued.kind, issued.id, self._attributes(old, new, issued, source)))
             self._log(time, side, "poll_transmit", (), packet)
+        self._events(time, side, old, paths)
+        return packet
+
+    def _events(self, time: float, side: str, old: Agent, paths: tuple[Path, ...]) -> None:
+        """Logs the events of a call before which the side was `old`."""
+        new = self.agents[side]
         if new.state is not old.state:
             self._log(time, side, "poll_event", (), IceConnectionStateChange(new.state))
         for path in paths:
             self._log(time, side, "poll_event", (), NominatedSend(Protocol.UDP, *path))
-        return packet
+        if (source := new.discovered_since(old)) is not None:
+            self._log(time, side, "poll_event", (), DiscoveredRecv(Protocol.UDP, source))
 
     @staticmethod
     def _attributes(old: Agent, new: Agent, issued: Issued, source: bytes) -> dict[int, bytes]:

@@ -119,6 +119,18 @@ class OfUse(unittest.TestCase):
             session.steps[last.at] = replace(last, issued=None, after=after)
             self.assertFalse(of_use.find(Execution(session)).is_broken)
 
+    def test_a_path_is_selected_since_the_selected_pair_is_gone(self) -> None:
+        numbered: dict[str, Any] = {"renominates": True, "rules": Rules(numbered_nominations=True)}
+        unnumbered: dict[str, Any] = {}
+        for fields in (numbered, unnumbered):
+            session = self.story().session()
+            asked, last = (session.steps[at_] for at_ in (session.timeouts("a")[-1] - 1, session.timeouts("a")[-1]))
+            valid = tuple(replace(p, state="succeeded") for p in asked.before["a"].pairs)
+            before = {**asked.before, "a": replace(asked.before["a"], pairs=valid, **fields)}
+            session.steps[asked.at] = replace(asked, before=before)
+            session.steps[last.at] = replace(last, issued=None, selected=(TO_B,))
+            self.assertEqual(of_use.find(Execution(session)).is_broken, not fields)
+
 
 def renominated(story: Story, renominate: bool = True) -> Story:
     """A's first check selects its path, its check at 50 nominates it, and B's check at 60 is answered. B's timeout follows at 120."""

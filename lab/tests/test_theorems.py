@@ -6,10 +6,10 @@ from collections.abc import Callable
 from dataclasses import replace
 from typing import Any
 
-from is_ice import NominatedSend
+from is_ice import Candidate, NominatedSend
 from lab.clauses import (
     completed_nominations_are_selected, connected_are_answered, connected_have_consent, consent_ends_in_time, consent_holds, in_time,
-    run_connected, run_connected_answered, run_in_time, valid_have_consented)
+    run_connected, run_connected_answered, run_in_time, states_agree, valid_have_consented)
 from lab.clauses.execution import Execution, Lacks
 from lab.clauses.progress import has_selected
 from lab.clauses.verdict import Verdict
@@ -23,6 +23,7 @@ from lab.tests.stories import TO_A, TO_B, A, B, Story
 REQUEST = Request(BEGINNING, A, B, bytes(12), 1, False, "aaaa", 1, None)
 CONSENT = Rules(consent=Consent(1000 * MILLISECOND))
 AT_ONCE = Rules(selects_at_once=True)
+SETTLED = Rules(selects_at_once=True, state_after_nomination=True)
 
 
 def at(time: float) -> int:
@@ -301,6 +302,65 @@ class Completed(unittest.TestCase):
         better = replace(agent.pairs[0], number=9, remote=agent.pairs[0].remote, priority=agent.pairs[0].priority + 1)
         for own, expected in ((better, True), (replace(better, nomination="none"), True)):
             self.assertEqual(has_selected(replace(agent, pairs=(agent.pairs[0], own)), TO_A), expected)
+
+
+class Agree(unittest.TestCase):
+    """A selects a path at 10, and B at 55."""
+
+    of = states_agree
+
+    def story(self, rules: Rules = SETTLED) -> Story:
+        story = Story(rules=rules)
+        story.exchange("a", 0)
+        story.exchange("b", 20)
+        story.exchange("a", 50)
+        return story
+
+    def lacking(self, x: Execution) -> Lacks:
+        """Of the last entry that changes B."""
+        return self.of.lacking(x, [c for c in self.of.choices(x) if c.side == "b"][-1])
+
+    def test_after_each_call(self) -> None:
+        x = self.story().network().x
+        self.assertEqual(self.lacking(x), [])
+        self.assertEqual(self.of.find(x), Verdict("", at(0), at(0), at(0)))
+        found = [(x.time(c.at), c.selected) for c in self.of.choices(x) if c.side == "b" and c.selected is not None]
+        self.assertEqual(found[0], (at(55), TO_A))
+
+    def test_the_preconditions(self) -> None:
+        story = self.story()
+        self.assertEqual(self.lacking(altered(story, 0, "b", next_number=1)), ["IsFresh"])
+        for rules, missing in ((AT_ONCE, "state_after_nomination"), (Rules(state_after_nomination=True), "selects_at_once")):
+            self.assertEqual(self.lacking(self.story(rules).network().x), [f"HaveRulesAlong.{missing}"])
+        lite = Story(rules=SETTLED)
+        lite.set("b", "set_ice_lite", True)
+        lite.set("b", "set_ice_lite", False)
+        lite.timeout("b", 0)
+        self.assertEqual(self.lacking(lite.network().x), ["AreNeverLite"])
+        self.assertEqual(self.lacking(Story(rules=SETTLED).network().x), ["begun"])
+
+    def test_the_rules_count_once_the_session_has_begun(self) -> None:
+        late = Story(rules=ORIGINAL)
+        late.set("b", "set_rules", SETTLED)
+        late.timeout("b", 0)
+        self.assertEqual(self.lacking(late.network().x), [])
+        late.set("b", "set_rules", AT_ONCE, 10)
+        late.set("b", "set_rules", SETTLED, 20)
+        self.assertEqual(self.lacking(late.network().x), ["HaveRulesAlong.state_after_nomination"])
+
+    def test_a_pair_that_is_removed(self) -> None:
+        story = self.story()
+        story.invalidate("b", Candidate.host(B), 70)
+        self.assertFalse(story.agents["b"].state.is_connected())
+        self.assertFalse(self.of.find(story.network().x).is_broken)
+        self.assertTrue(self.of.find(altered(story, story.end - 2, "b", True, state=self.story().agents["b"].state)).is_broken)
+
+    def test_without_a_selected_path_or_a_live_pair(self) -> None:
+        self.assertTrue(self.of.find(without_selections(self.story(), "b")).is_broken)
+        agent = self.story().agents["b"]
+        self.assertEqual([self.of.is_live(agent, path) for path in (TO_A, TO_B, None)], [True, False, False])
+        for dead in (replace(agent.pairs[0], state="waiting"), replace(agent.pairs[0], nomination="none")):
+            self.assertFalse(self.of.is_live(replace(agent, pairs=(dead,)), TO_A))
 
 
 class InTime(unittest.TestCase):
