@@ -14,4 +14,5 @@ mod PollingRounds
 mod RenominatedPaths
 mod PunctualTimeouts
 mod ConnectedConsent
+mod SettledStates
 mod WorkedExamples

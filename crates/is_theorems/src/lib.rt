@@ -15,6 +15,7 @@ pub mod renominating;
 pub mod roles;
 pub mod rounds_to_select;
 pub mod selecting;
+pub mod settling;
 pub mod starving;
 pub mod staying;
 pub mod timing;

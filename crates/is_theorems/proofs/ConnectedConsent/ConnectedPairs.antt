@@ -71,7 +71,7 @@ stays-able n c l p able = at (is_numbered n p) where
   at true = self
   at false = able
 
-abbrev HasNominated : List PairRecord → Type 0
+abbrev pub HasNominated : List PairRecord → Type 0
 HasNominated ps = (p : PairRecord) × Has ps p × (is_nominated_and_valid p ≡ true)
 
 -- a check leaves it
@@ -98,7 +98,7 @@ module _ {H P : Type 0} where
   same-backs : (old new : AgentRecord H P) → new ≡ old → Backs old new
   same-backs old new same b = subst (λ (a : AgentRecord H P). IsBacked a) (sym same) b
 
-  evaluated-backed : (now : ℕ) (a : AgentRecord H P) → IsBacked (evaluated now a)
+  pub evaluated-backed : (now : ℕ) (a : AgentRecord H P) → IsBacked (evaluated now a)
   evaluated-backed now a connected =
       any-found is_nominated_and_valid a.pairs (connected-selected a.state (has_nominated a) (has_possible now a) a.lite connected)
 
@@ -132,7 +132,7 @@ module _ {H P : Type 0} where
       (λ _ k. subst (λ (a : AgentRecord H P). IsBacked a) (sym k.1) (λ connected.
       evaluated-backed now old (subst (λ (b : Bool). is_connected (if b then state_at now old else old.state) ≡ true) on connected)))
 
-  settles-named : (old new : AgentRecord H P) (path : Option Path) → Nominates old path new → settles new ≡ settles old
+  pub settles-named : (old new : AgentRecord H P) (path : Option Path) → Nominates old path new → settles new ≡ settles old
   settles-named old new path (chosen, names, made) = ap (λ (a : AgentRecord H P). settles a) made ∙ emits path (with_selection chosen old) where
     emits : (path : Option Path) (a : AgentRecord H P) → settles (nominated_emitted path a) ≡ settles a
     emits None a = refl

@@ -94,7 +94,7 @@ served-number c l q p =
     ∙ if-number (l && not c) (validated (with_request q.time p)) (with_request q.time p) refl in
     numbered-by (λ x. x.number ≡ p.number) c q.nomination (nominated_by_peer c l q v) same (λ n. same)
 
-request-number : {H P : Type 0} (q : RequestRecord) (s : AgentRecord H P) (p : PairRecord) → (after_request q s p).number ≡ p.number
+pub request-number : {H P : Type 0} (q : RequestRecord) (s : AgentRecord H P) (p : PairRecord) → (after_request q s p).number ≡ p.number
 request-number q s p = served-number s.controlling s.lite (as_taken (numbers s) q) (triggered_by q s p) ∙ by_trigger (λ (x : PairRecord). x.number ≡ p.number) q s p (λ due. refl)
 
 heard-number : (now : ℕ) (at : Option ℕ) (p : PairRecord) → (heard_at now at p).number ≡ p.number

@@ -1,0 +1,137 @@
+-- What a call does to the state and to the selected pair: it leaves both, or nomination and then the state are evaluated.
+use Rattle.std.proofs.Common.{◌≡◌, ℕ, ◌&&◌, Bool, true, false, not, List, Some, None, inl, inr, ◌⊎◌, refl, ap, sym, ◌∙◌, subst}
+use Rattle.is_stun.specs.declared.header.Class.{Class}
+use Rattle.is_stun.specs.declared.header.Class.TheVariants as class
+use Rattle.is_rules.specs.Agent.{AgentRecord}
+use Rattle.is_rules.specs.Connecting.{is_connected}
+use Rattle.is_rules.specs.declared.emitted.Emitted.{Emitted}
+use Rattle.is_rules.specs.declared.emitted.Issued.{Issued}
+use Rattle.is_rules.specs.declared.emitted.Path.{Path}
+use Rattle.is_rules.specs.declared.event.IceConnectionState.{IceConnectionState}
+use Rattle.is_rules.specs.declared.event.IceConnectionState.TheVariants.{New}
+use Rattle.is_rules.specs.declared.rules.Rules.{Rules}
+use Rattle.is_rules.specs.Effects.{last_of}
+use Rattle.is_rules.specs.Emitted.{issued_as, nothing_emitted}
+use Rattle.is_rules.specs.Settling.{settles}
+use Rattle.is_rules.specs.States.{same_state}
+use Rattle.is_theorems.proofs.ConnectedConsent.ConnectedPairs.{HasNominated, IsBacked}
+use Rattle.is_theorems.proofs.RuleEffects.SelectedPaths.{none_is, some_is}
+use Rattle.is_theorems.proofs.SettledStates.LivePairs.{no-live}
+use Rattle.is_theorems.proofs.SettledStates.SelectedPairs.{is-new, Selects}
+
+-- no check is sent
+abbrev pub IsUnasked : Emitted → Type 0
+IsUnasked emitted = (issued : Issued) → emitted.issued ≡ Some issued → issued.class ≡ class.Request → ⊥
+
+pub unasked-none : (emitted : Emitted) → emitted.issued ≡ None → IsUnasked emitted
+unasked-none emitted none issued is asks = none_is issued (sym none ∙ is)
+
+pub unasked-as : (emitted : Emitted) (path : Path) (c : Class) (id : List ℕ) → emitted.issued ≡ Some (issued_as path c id) → (c ≡ class.Request → ⊥)
+    → IsUnasked emitted
+unasked-as emitted path c id out differs issued is asks =
+    differs (ap (λ (i : Issued). i.class) (some_is (issued_as path c id) issued (sym out ∙ is)) ∙ asks)
+
+unsettled : (rule : Bool) → rule && false ≡ false
+unsettled true = refl
+unsettled false = refl
+
+module _ {H P : Type 0} where
+  -- the session has begun, and the rules are set
+  abbrev pub HasRules : AgentRecord H P → Type 0
+  HasRules a = (settles a ≡ true) × (a.rules.selects_at_once ≡ true)
+
+  -- or it has not begun
+  abbrev pub MayGoOn : AgentRecord H P → Type 0
+  MayGoOn a = (a.state ≡ New) ⊎ HasRules a
+
+  pub new-unsettled : (a : AgentRecord H P) → a.state ≡ New → settles a ≡ false
+  new-unsettled a is =
+      ap (λ (state : IceConnectionState). a.rules.state_after_nomination && not (same_state state New)) is ∙ unsettled a.rules.state_after_nomination
+
+  pub new-ruled : {A : Type 0} (a : AgentRecord H P) → a.state ≡ New → HasRules a → A
+  new-ruled a is rules = no-live (sym (new-unsettled a is) ∙ rules.0)
+
+  pub settles-begun : (a : AgentRecord H P) → settles a ≡ true → same_state a.state New ≡ false
+  settles-begun a on = by a.rules.state_after_nomination (same_state a.state New) on where
+    by : (rule new : Bool) → rule && not new ≡ true → new ≡ false
+    by true true h = no-live h
+    by true false h = refl
+    by false new h = no-live h
+
+  pub settles-as : (a b : AgentRecord H P) → b.state ≡ a.state → b.rules ≡ a.rules → settles b ≡ settles a
+  settles-as a b state rules =
+      ap (λ (s : IceConnectionState). b.rules.state_after_nomination && not (same_state s New)) state
+      ∙ ap (λ (r : Rules). r.state_after_nomination && not (same_state a.state New)) rules
+
+  pub may-go-on : (a : AgentRecord H P) → (a.state ≡ New) ⊎ ((a.rules.state_after_nomination ≡ true) × (a.rules.selects_at_once ≡ true)) → MayGoOn a
+  may-go-on a (inl new) = inl new
+  may-go-on a (inr rules) = by (same_state a.state New) refl where
+    by : (b : Bool) → same_state a.state New ≡ b → MayGoOn a
+    by true is = inl (is-new a.state is)
+    by false is = inr (
+      ap (λ b. b && not (same_state a.state New)) rules.0 ∙ ap (λ b. not b) is,
+      rules.1,
+    )
+
+  -- ---- outcomes
+
+  -- The state stays. By the rules the selected pair does too, and no pair is valid and nominated first, unless it is selected.
+  pub record Stays (old : AgentRecord H P) (emitted : Emitted) (new : AgentRecord H P) : Type 0 where
+    pub state : new.state ≡ old.state
+    pub unasked : IsUnasked emitted
+    pub silent : HasRules old → last_of emitted.selected_paths ≡ None
+    pub back : HasRules old → HasNominated new.pairs → HasNominated old.pairs ⊎ Selects new
+    pub keeps : HasRules old → Selects old → Selects new
+
+  -- The state is evaluated. By the rules nomination was before it.
+  pub record Settles (old new : AgentRecord H P) : Type 0 where
+    pub begun : same_state new.state New ≡ false
+    pub backed : IsBacked new
+    pub connects : HasRules old → HasNominated new.pairs → is_connected new.state ≡ true
+    pub selects : HasRules old → HasNominated new.pairs → Selects new
+
+  abbrev pub Outcome : AgentRecord H P → Emitted → AgentRecord H P → Type 0
+  Outcome old emitted new = Stays old emitted new ⊎ Settles old new
+
+  -- a change before, which leaves the state
+  pub record Prepares (old mid : AgentRecord H P) : Type 0 where
+    pub state : mid.state ≡ old.state
+    pub rules : mid.rules ≡ old.rules
+    pub back : HasNominated mid.pairs → HasNominated old.pairs
+    pub keeps : Selects old → Selects mid
+
+  pub same-rules : (old mid : AgentRecord H P) → Prepares old mid → HasRules old → HasRules mid
+  same-rules old mid k rules = (settles-as old mid k.state k.rules ∙ rules.0, ap (λ (r : Rules). r.selects_at_once) k.rules ∙ rules.1)
+
+  pub after-preparing : (old mid new : AgentRecord H P) (emitted : Emitted) → Prepares old mid → Outcome mid emitted new → Outcome old emitted new
+  after-preparing old mid new emitted k (inl o) = inl (record {
+    state = o.state ∙ k.state;
+    unasked = o.unasked;
+    silent = λ rules. o.silent (same-rules old mid k rules);
+    back = λ rules live. elim (o.back (same-rules old mid k rules) live) [ inl was ↦ inl (k.back was) | inr is ↦ inr is ];
+    keeps = λ rules was. o.keeps (same-rules old mid k rules) (k.keeps was);
+  })
+  after-preparing old mid new emitted k (inr o) = inr (record {
+    begun = o.begun;
+    backed = o.backed;
+    connects = λ rules. o.connects (same-rules old mid k rules);
+    selects = λ rules. o.selects (same-rules old mid k rules);
+  })
+
+  -- nothing else, and no path is selected
+  pub prepared : (old mid new : AgentRecord H P) (emitted : Emitted) → Prepares old mid → last_of emitted.selected_paths ≡ None → IsUnasked emitted
+      → new ≡ mid → Outcome old emitted new
+  prepared old mid new emitted k none unasked made = inl (subst (λ (a : AgentRecord H P). Stays old emitted a) (sym made) (record {
+    state = k.state;
+    unasked = unasked;
+    silent = λ _. none;
+    back = λ _ live. inl (k.back live);
+    keeps = λ _ was. k.keeps was;
+  }))
+
+  pub at-rest : (a : AgentRecord H P) → Prepares a a
+  at-rest a = record { state = refl; rules = refl; back = λ live. live; keeps = λ is. is }
+
+  pub nothing-done : (old mid new : AgentRecord H P) (emitted : Emitted) → Prepares old mid → emitted ≡ nothing_emitted → new ≡ mid → Outcome old emitted new
+  nothing-done old mid new emitted k is made =
+      prepared old mid new emitted k (ap (λ (x : Emitted). last_of x.selected_paths) is) (unasked-none emitted (ap (λ (x : Emitted). x.issued) is)) made
