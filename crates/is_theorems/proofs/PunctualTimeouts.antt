@@ -4,3 +4,4 @@ pub mod ChecksInTime
 pub mod ChecksInTimeInLogs
 pub mod ConsentInTime
 pub mod SelectedInTime
+pub mod SelectedInTimeInLogs

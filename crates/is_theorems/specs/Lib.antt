@@ -44,3 +44,4 @@ pub mod ConsentLogs
 pub mod Settled
 pub mod AtOnceCourses
 pub mod SelectedInTime
+pub mod TimedSelections

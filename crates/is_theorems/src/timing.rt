@@ -5,6 +5,7 @@ ghost use Rattle.is_theorems.specs.InTime.{CoursesCheckInTime, CoursesReachInTim
 ghost use Rattle.is_theorems.specs.SelectedInTime.{CoursesSelectInTime};
 ghost use Rattle.is_theorems.specs.Pacing.{PacingIsSet};
 ghost use Rattle.is_theorems.specs.TimedRounds.{PairsAreReachedInTime};
+ghost use Rattle.is_theorems.specs.TimedSelections.{PathsAreSelectedInTime};
 
 use crate::reaching::{courses_check_from_due, courses_reach_from_due};
 use crate::selecting::successes_select;
@@ -62,4 +63,11 @@ pub fn courses_select_in_time<H: Sha1HmacProvider, P: LocalPreference>()
 {
     courses_check_from_due::<H, P>();
     successes_select::<H, P>();
+}
+
+/// The same of the rounds of a log.
+pub fn selected_in_time<H: Sha1HmacProvider, P: LocalPreference>()
+    ensures { PathsAreSelectedInTime H.mac P.answers }
+{
+    courses_select_in_time::<H, P>();
 }

@@ -83,7 +83,7 @@ module _ {H P : Type 0} (mac : H → List ℕ → List ℕ → List ℕ) (answer
 
   -- ---- the execution of a segment
 
-  abbrev course_from : (more : List (Call P × Entry)) (a b last : AgentRecord H P) → a ≡ b → Course mac answers more a last → Course mac answers more b last
+  abbrev pub course_from : (more : List (Call P × Entry)) (a b last : AgentRecord H P) → a ≡ b → Course mac answers more a last → Course mac answers more b last
   course_from [] a b last same is = is ∙ same
   course_from (x ∷ rest) a b last same (mid, s, t, given, step, more) = (mid, s, t, given, subst (λ (z : AgentRecord H P). Step mac answers z s x.0 x.1 mid t) same step, more)
 

@@ -32,7 +32,7 @@ module _ {P : Type 0} where
   round-is r later y (inl is) = (r, inl refl, is)
   round-is r later y (inr has) = elim (rounds_is later [] y has) [ inl (x, there, is) ↦ (x, inr there, is) | inr none ↦ absurd none ]
 
-  call-is : (x : LoggedRound P) (c : CourseRound P) → round_from x ≡ c → (y : Call P × Entry) → Has c.following y → (z : Logged P) × Has x.following z × ((z.call, z.entry) ≡ y)
+  pub call-is : (x : LoggedRound P) (c : CourseRound P) → round_from x ≡ c → (y : Call P × Entry) → Has c.following y → (z : Logged P) × Has x.following z × ((z.call, z.entry) ≡ y)
   call-is x c same y has = elim (onto_is x.following [] y (subst (λ (d : CourseRound P). Has d.following y) (sym same) has)) [ inl found ↦ found | inr none ↦ absurd none ]
 
   entry-is : (r : LoggedRound P) (later : List (LoggedRound P)) (x : LoggedRound P) (z : Logged P) → Has (r ∷ later) x → Has x.following z → Has (all_entries r later) z
@@ -68,7 +68,7 @@ module _ {P : Type 0} where
   punctual delay r (x ∷ older) more (now, earlier) is =
       punctual delay r older (round_from x ∷ more) earlier (prompt delay x.now (last_round r older).following (search now), is)
 
-  timed : {H : Type 0} (pace delay : ℕ) (start : AgentRecord H P) (r : LoggedRound P) (later : List (LoggedRound P)) → IsTimedIn pace delay start r later → IsTimed pace delay start (round_from r) (rounds_onto later [])
+  pub timed : {H : Type 0} (pace delay : ℕ) (start : AgentRecord H P) (r : LoggedRound P) (later : List (LoggedRound P)) → IsTimedIn pace delay start r later → IsTimed pace delay start (round_from r) (rounds_onto later [])
   timed pace delay start r later k = record {
     begins = (let begins = k.begins in omega (arith, begins));
     keeps = λ c has y by there is. (

@@ -1,0 +1,214 @@
+-- A path is selected in time in the rounds of a log. What mutants/specifications changes is read by tactics.
+use Rattle.std.proofs.Common.{◌≡◌, ℕ, ◌+◌, ◌*◌, ◌≤◌, true, List, [], ◌∷◌, ◌++◌, length, is_some, inl, inr, refl, ap, sym, ◌∙◌, subst, arith, append_assoc}
+use Rattle.std.proofs.lemmas.List.{append-nil}
+use Rattle.rand_core.specs.Stream.{Stream}
+use Rattle.is_proto.specs.Lists.{Has}
+use Rattle.is_candidate.specs.Candidates.{CandidateRecord}
+use Rattle.is_rules.specs.Agent.{AgentRecord}
+use Rattle.is_rules.specs.Effects.{last_of}
+use Rattle.is_rules.specs.Sending.{path_of}
+use Rattle.is_rules.specs.Steps.{Call, Entry, HandleTimeout, Done, Step}
+use Rattle.is_theorems.specs.Courses.{AcceptsSuccess, ControlsAlong, CourseRound, CourseRounds}
+use Rattle.is_theorems.specs.Exchange.{AreBetween, Course}
+use Rattle.is_theorems.specs.FirstChecks.{SufficeForDue, times_of}
+use Rattle.is_theorems.specs.InTime.{SendsCheckOn}
+use Rattle.is_theorems.specs.Logs.{Logged}
+use Rattle.is_theorems.specs.OpenRounds.{ArePlain}
+use Rattle.is_theorems.specs.Reached.{IsPassing}
+use Rattle.is_theorems.specs.ReachedCourses.{IsPassed}
+use Rattle.is_theorems.specs.Rounds.{LoggedRound, entries_of, is_between, RunsOn, IsControllingIn}
+use Rattle.is_theorems.specs.SelectedInTime.{AcceptsBy, CoursesSelectInTime, IsAnsweredWithin, SelectsBy}
+use Rattle.is_theorems.specs.TimedSelections.{AcceptsInBy, logged_times, PathsAreSelectedInTime, SelectsInBy}
+use Rattle.is_theorems.proofs.CallEffects.ExternalViews.{Has-front, Has-rear}
+use Rattle.is_theorems.proofs.ExecutionLogs.LogSegments.{halves, starts-controlling}
+use Rattle.is_theorems.proofs.ExecutionLogs.SegmentsAsExecutions.{calls_onto, course_from, course_onto, course_to, onto_has, round_from, rounds_count, rounds_is, rounds_onto}
+use Rattle.is_theorems.proofs.PunctualTimeouts.ChecksInTimeInLogs.{call-is, timed}
+
+module _ {P : Type 0} where
+  -- ---- the rounds of a log in parts
+
+  onto-join : (xs ys : List (LoggedRound P)) (more : List (CourseRound P)) → rounds_onto (xs ++ ys) more ≡ rounds_onto ys (rounds_onto xs more)
+  onto-join [] ys more = refl
+  onto-join (x ∷ xs) ys more = onto-join xs ys (round_from x ∷ more)
+
+  onto-front : (xs : List (LoggedRound P)) (more : List (CourseRound P)) → rounds_onto xs more ≡ rounds_onto xs [] ++ more
+  onto-front [] more = refl
+  onto-front (x ∷ older) more =
+      onto-front older (round_from x ∷ more)
+      ∙ (sym (append_assoc (rounds_onto older []) (round_from x ∷ []) more)
+      ∙ ap (λ (l : List (CourseRound P)). l ++ more) (sym (onto-front older (round_from x ∷ []))))
+
+  two-parts : (more later : List (LoggedRound P)) → rounds_onto (more ++ later) [] ≡ rounds_onto later [] ++ rounds_onto more []
+  two-parts more later = onto-join more later [] ∙ onto-front later (rounds_onto more [])
+
+  -- all rounds, with the first one
+  whole : (r : LoggedRound P) (later more : List (LoggedRound P)) → rounds_onto ((more ++ later) ++ r ∷ []) [] ≡ round_from r ∷ (rounds_onto later [] ++ rounds_onto more [])
+  whole r later more = onto-join (more ++ later) (r ∷ []) [] ∙ ap (λ (l : List (CourseRound P)). round_from r ∷ l) (two-parts more later)
+
+  round-of : (rounds : List (LoggedRound P)) (y : CourseRound P) → Has (rounds_onto rounds []) y → (x : LoggedRound P) × Has rounds x × (round_from x ≡ y)
+  round-of rounds y has = elim (rounds_is rounds [] y has) [ inl found ↦ found | inr none ↦ absurd none ]
+
+  times-onto : (rounds : List (LoggedRound P)) (more : List (CourseRound P)) → times_of (rounds_onto rounds more) ≡ logged_times rounds ++ times_of more
+  times-onto [] more = refl
+  times-onto (r ∷ older) more = times-onto older (round_from r ∷ more) ∙ sym (append_assoc (logged_times older) (r.now ∷ []) (times_of more))
+
+  times-are : (rounds : List (LoggedRound P)) → times_of (rounds_onto rounds []) ≡ logged_times rounds
+  times-are rounds = times-onto rounds [] ∙ append-nil (logged_times rounds)
+
+  -- ---- what comes in a round
+
+  fits : (rounds : List (LoggedRound P)) → ArePlain rounds → (x : LoggedRound P) → Has rounds x → (c : CourseRound P) → round_from x ≡ c → AreBetween c.following
+  fits rounds plain x has c same y there =
+      let z = call-is x c same y there in
+      let between = plain x has z.0 z.1 in
+      subst (λ (v : Call P × Entry). is_between v.0 ≡ true) z.2 (search between)
+
+  passes : (by : ℕ) (x : LoggedRound P) (c : CourseRound P) → round_from x ≡ c → AreBetween c.following → IsPassing by x → IsPassed by c
+  passes by x c same between passing = record {
+    done = subst (λ (d : CourseRound P). d.timeout.answer ≡ Done) same passing.done;
+    late = (let late = passing.late in let at = ap (λ (d : CourseRound P). d.now) same in omega (arith, late, at));
+    early = (let early = passing.early in let at = ap (λ (d : CourseRound P). d.now) same in omega (arith, early, at));
+    between = between;
+  }
+
+  -- ---- a success response
+
+  accepts-from : (limit : ℕ) (older : List (LoggedRound P)) (more : List (CourseRound P)) → ((x : LoggedRound P) → Has older x → x.now ≤ limit) → AcceptsBy limit more → AcceptsBy limit (rounds_onto older more)
+  accepts-from limit [] more in_time accepts = accepts
+  accepts-from limit (x ∷ older) more in_time accepts =
+      accepts-from limit older (round_from x ∷ more) (λ y has. in_time y (inr has)) (in_time x (inl refl), inr accepts)
+
+  accepts : (limit : ℕ) (rounds : List (LoggedRound P)) → AcceptsInBy limit rounds → AcceptsBy limit (rounds_onto rounds [])
+  accepts limit rounds k =
+      subst (λ (l : List (CourseRound P)). AcceptsBy limit l) (sym (ap (λ (l : List (LoggedRound P)). rounds_onto l []) k.split ∙ onto-join k.newer (k.round ∷ k.older) []))
+      (accepts-from limit k.older (round_from k.round ∷ rounds_onto k.newer []) (λ y has. before y (inr has)) (
+        before k.round (inl refl),
+        inl ((k.response.call, k.response.entry), onto_has k.round.following [] k.response (inl k.received), search k.accepted),
+      )) where
+        before : (y : LoggedRound P) → Has (k.round ∷ k.older) y → y.now ≤ limit
+        before y has = let le = k.in_time y has in omega (arith, le)
+
+  selects-in : (limit : ℕ) (rounds : List (LoggedRound P)) → SelectsBy limit (rounds_onto rounds []) → SelectsInBy limit rounds
+  selects-in limit rounds (c, has, (y, there, success, selected), soon) =
+      let x = round-of rounds c has in
+      let z = call-is x.0 c x.2 y there in
+      let at = ap (λ (d : CourseRound P). d.now) x.2 in
+      record {
+        round = x.0;
+        there = x.1;
+        response = z.0;
+        received = z.1;
+        accepted = subst (λ (v : Call P × Entry). AcceptsSuccess v.0 v.1) (sym z.2) success;
+        selected = subst (λ (v : Call P × Entry). is_some (last_of v.1.emitted.selected_paths) ≡ true) (sym z.2) selected;
+        in_time = omega (arith, soon, at);
+      }
+
+module _ {H P : Type 0} (mac : H → List ℕ → List ℕ → List ℕ) (answers : P → CandidateRecord → ℕ → ℕ → Type 0) where
+  -- ---- the agent is controlling in the rounds
+
+  along-from : (more : List (Call P × Entry)) (a b last : AgentRecord H P) (same : a ≡ b) (course : Course mac answers more a last) → ControlsAlong mac answers more a last course
+      → ControlsAlong mac answers more b last (course_from mac answers more a b last same course)
+  along-from [] a b last same course along = tt
+  along-from (x ∷ rest) a b last same (mid, s, t, given, step, course) along = along
+
+  along-onto : (xs : List (Logged P)) (more : List (Call P × Entry)) (before : List (Logged P)) (start mid last : AgentRecord H P) (s t : Stream)
+      → (run : RunsOn mac answers before start s xs mid t) → IsControllingIn mac answers before start s xs mid t run
+      → (course : Course mac answers more mid last) → ControlsAlong mac answers more mid last course
+      → ControlsAlong mac answers (calls_onto xs more) start last (course_onto mac answers xs more before start mid last s t run course)
+  along-onto [] more before start mid last s t is role course along = along-from more mid start last is.0 course along
+  along-onto (x ∷ older) more before start mid last s t (old, u, run, number, given, step) role course along =
+      along-onto older ((x.call, x.entry) ∷ more) before start old last s u run role.1 (mid, u, t, given, step, course) (role.0, along)
+
+  abbrev rounds-from : (more : List (CourseRound P)) (a b last : AgentRecord H P) → a ≡ b → CourseRounds mac answers more a last → CourseRounds mac answers more b last
+  rounds-from [] a b last same is = is ∙ same
+  rounds-from (r ∷ later) a b last same (mid, next, s, t, step, role, course, along, more) =
+      (mid, next, s, t, subst (λ (z : AgentRecord H P). Step mac answers z s (HandleTimeout r.now) r.timeout mid t) same step, role, course, along, more)
+
+  abbrev rounds-onto : (rounds : List (LoggedRound P)) (more : List (CourseRound P)) (before : List (Logged P)) (start mid last : AgentRecord H P) (s t : Stream)
+      → ((r : LoggedRound P) → Has rounds r → r.timeout.call ≡ HandleTimeout r.now)
+      → (run : RunsOn mac answers before start s (entries_of rounds) mid t) → IsControllingIn mac answers before start s (entries_of rounds) mid t run
+      → CourseRounds mac answers more mid last → CourseRounds mac answers (rounds_onto rounds more) start last
+  rounds-onto [] more before start mid last s t comes is role course = rounds-from more mid start last is.0 course
+  rounds-onto (r ∷ older) more before start mid last s t comes run role course =
+      let h = halves mac answers before start mid s t r.following (r.timeout ∷ entries_of older) run role in
+      rounds-onto older (round_from r ∷ more) before start h.2.0 last s h.2.1 (λ x has. comes x (inr has)) h.2.2 h.3.1 (
+        h.0,
+        mid,
+        h.2.1,
+        h.1,
+        subst (λ (c : Call P). Step mac answers h.2.0 h.2.1 c r.timeout.entry h.0 h.1) (comes r (inl refl)) h.2.5,
+        h.3.0,
+        course_onto mac answers r.following [] ((r.timeout ∷ entries_of older) ++ before) h.0 mid mid h.1 t h.4 refl,
+        along-onto r.following [] ((r.timeout ∷ entries_of older) ++ before) h.0 mid mid h.1 t h.4 h.5 refl tt,
+        course,
+      )
+
+  -- ---- the theorem
+
+  pub selected-in-time : CoursesSelectInTime {H = H} {P = P} mac answers → PathsAreSelectedInTime {H = H} {P = P} mac answers
+  selected-in-time select first s log fresh k p by pace delay trip f =
+      let found = selects-in limit rounds (subst (λ (l : List (CourseRound P)). SelectsBy limit l) (sym all) (subst (λ n. SelectsBy (r.now + n * (pace + delay) + trip) course_rounds) count
+      (select first k.start k.last (calls_onto k.before []) r later more p by pace delay trip fresh
+      (course_to mac answers k.before first k.start k.start [] s k.one.at k.one.led refl) (starts-controlling mac answers k.before k.start k.second k.one.at k.one.following (entries_of (k.opening ∷ [])) k.one.run (search k.controls))
+      f.waits f.unanswered (let due = f.due in omega (arith, due)) f.done (let early = f.early in omega (arith, early))
+      (between r (inl refl)) run (λ y has. passed y has) (λ y has. between y (inr (Has-rear later more y has)))
+      (subst (λ ts. SufficeForDue by r.now k.start k.second ts) (sym (times-are k.later)) f.enough) (timed pace delay k.start k.opening k.later f.timed) answered))) in
+      record {
+        round = found.round;
+        there = found.there;
+        response = found.response;
+        received = found.received;
+        accepted = found.accepted;
+        selected = found.selected;
+        in_time = (let in_time = found.in_time in omega (arith, in_time));
+      } where
+        rounds : List (LoggedRound P)
+        rounds = (k.more ++ k.later) ++ k.opening ∷ []
+
+        limit : ℕ
+        limit = k.opening.now + length k.later * (pace + delay) + trip
+
+        r : CourseRound P
+        r = round_from k.opening
+
+        later : List (CourseRound P)
+        later = rounds_onto k.later []
+
+        more : List (CourseRound P)
+        more = rounds_onto k.more []
+
+        course_rounds : List (CourseRound P)
+        course_rounds = r ∷ (later ++ more)
+
+        all : rounds_onto rounds [] ≡ course_rounds
+        all = whole k.opening k.later k.more
+
+        count : length later ≡ length k.later
+        count = let same : length later ≡ length k.later + 0 = rounds_count k.later [] in omega (arith, same)
+
+        round-at : (y : CourseRound P) → Has course_rounds y → (x : LoggedRound P) × Has rounds x × (round_from x ≡ y)
+        round-at y has = round-of rounds y (subst (λ (l : List (CourseRound P)). Has l y) (sym all) has)
+
+        between : (y : CourseRound P) → Has course_rounds y → AreBetween y.following
+        between y has = let x = round-at y has in fits rounds k.plain x.0 x.1 y x.2
+
+        passed : (y : CourseRound P) → Has later y → IsPassed by y
+        passed y has =
+            let x = round-of k.later y has in
+            passes by x.0 y x.2 (between y (inr (Has-front later more y has))) (f.passing x.0 x.1)
+
+        answered : IsAnsweredWithin trip course_rounds (path_of k.start p)
+        answered y has sends =
+            let x = round-at y has in
+            subst (λ (l : List (CourseRound P)). AcceptsBy (y.now + trip) l) all
+            (subst (λ (c : CourseRound P). AcceptsBy (c.now + trip) (rounds_onto rounds [])) x.2
+            (accepts (x.0.now + trip) rounds (search (f.answered x.0 x.1 (subst (λ (c : CourseRound P). SendsCheckOn c.timeout (path_of k.start p)) (sym x.2) sends)))))
+
+        rest : CourseRounds mac answers (later ++ more) k.second k.last
+        rest = subst (λ (l : List (CourseRound P)). CourseRounds mac answers l k.second k.last) (two-parts k.more k.later)
+            (rounds-onto (k.more ++ k.later) [] (entries_of (k.opening ∷ []) ++ k.before) k.second k.last k.last k.others.at k.others.following
+            (λ x has. k.comes x (Has-front (k.more ++ k.later) (k.opening ∷ []) x has)) k.others.run k.controls_on refl)
+
+        run : CourseRounds mac answers course_rounds k.start k.last
+        run = rounds-onto (k.opening ∷ []) (later ++ more) k.before k.start k.second k.last k.one.at k.one.following
+            (λ x has. k.comes x (Has-rear (k.more ++ k.later) (k.opening ∷ []) x has)) k.one.run k.controls rest

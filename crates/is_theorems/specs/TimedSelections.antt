@@ -1,0 +1,99 @@
+-- When a controlling agent selects its first path in rounds of a log, in nanoseconds, if the caller is punctual and checks are answered
+-- within a round trip. The response may come several rounds after its check.
+use Rattle.std.specs.Prelude.{◌≡◌, ℕ, true, ◌+◌, ◌*◌, ◌<◌, ◌≤◌, List, [], ◌∷◌, ◌++◌, length}
+use Rattle.rand_core.specs.Stream.{Stream}
+use Rattle.is_proto.specs.Lists.{Has}
+use Rattle.is_proto.specs.Times.{MAX}
+use Rattle.is_candidate.specs.Candidates.{CandidateRecord}
+use Rattle.is_pair.specs.Pairs.{PairRecord}
+use Rattle.is_rules.specs.declared.emitted.Path.{Path}
+use Rattle.is_rules.specs.Agent.{AgentRecord}
+use Rattle.is_rules.specs.Sending.{path_of}
+use Rattle.is_rules.specs.Steps.{HandleTimeout, Done}
+use Rattle.is_theorems.specs.FirstChecks.{SufficeForDue}
+use Rattle.is_theorems.specs.InTime.{SendsCheckOn}
+use Rattle.is_theorems.specs.Logs.{Logged}
+use Rattle.is_theorems.specs.OpenRounds.{ArePlain}
+use Rattle.is_theorems.specs.Progress.{Awaits, IsUnanswered}
+use Rattle.is_theorems.specs.Reached.{IsPassing, selects}
+use Rattle.is_theorems.specs.Rounds.{LoggedRound, entries_of, BringsSuccess, Part, IsControllingIn}
+use Rattle.is_theorems.specs.Runs.{IsFresh}
+use Rattle.is_theorems.specs.TimedRounds.{IsTimedIn}
+
+module _ {P : Type 0} where
+  -- the times of the rounds, the oldest first
+  abbrev pub logged_times : List (LoggedRound P) → List ℕ
+  logged_times [] = []
+  logged_times (r ∷ older) = logged_times older ++ r.now ∷ []
+
+  -- A success response is accepted in one of the rounds. This round, and each one before it, begins at this time or earlier.
+  pub record AcceptsInBy (limit : ℕ) (rounds : List (LoggedRound P)) : Type 0 where
+    pub newer : List (LoggedRound P)
+    pub round : LoggedRound P
+    pub older : List (LoggedRound P)
+    pub split : rounds ≡ newer ++ round ∷ older
+    pub response : Logged P
+    pub received : Has round.following response
+    pub accepted : BringsSuccess response
+    pub in_time : (x : LoggedRound P) → Has (round ∷ older) x → x.now ≤ limit
+
+  -- If a check is sent on the path in one of the rounds, a success response has been accepted in a round that begins at most `trip` later.
+  abbrev pub IsAnsweredInBy : ℕ → List (LoggedRound P) → Path → Type 0
+  IsAnsweredInBy trip rounds path = (x : LoggedRound P) → Has rounds x → SendsCheckOn x.timeout.entry path → AcceptsInBy (x.now + trip) rounds
+
+  -- In one of the rounds an accepted success response selects a path. This round begins at this time or earlier.
+  pub record SelectsInBy (limit : ℕ) (rounds : List (LoggedRound P)) : Type 0 where
+    pub round : LoggedRound P
+    pub there : Has rounds round
+    pub response : Logged P
+    pub received : Has round.following response
+    pub accepted : BringsSuccess response
+    pub selected : selects response.entry ≡ true
+    pub in_time : round.now ≤ limit
+
+module _ {H P : Type 0} (mac : H → List ℕ → List ℕ → List ℕ) (answers : P → CandidateRecord → ℕ → ℕ → Type 0) where
+  -- Rounds of the log: one that opens them, later ones, and maybe more after these. In each of them `handle_timeout` is called, and only
+  -- packets and polls follow. The agent is controlling in each state.
+  pub record PlainRounds (first : AgentRecord H P) (s : Stream) (log : List (Logged P)) : Type 0 where
+    pub before : List (Logged P)
+    pub start : AgentRecord H P
+    pub opening : LoggedRound P
+    pub second : AgentRecord H P
+    pub later : List (LoggedRound P)
+    pub more : List (LoggedRound P)
+    pub last : AgentRecord H P
+    pub one : Part mac answers first s log before start (entries_of (opening ∷ [])) second
+    pub others : Part mac answers first s log (entries_of (opening ∷ []) ++ before) second (entries_of (more ++ later)) last
+    pub comes : (x : LoggedRound P) → Has ((more ++ later) ++ opening ∷ []) x → x.timeout.call ≡ HandleTimeout x.now
+    pub plain : ArePlain ((more ++ later) ++ opening ∷ [])
+    pub controls : IsControllingIn mac answers before start one.at (entries_of (opening ∷ [])) second one.following one.run
+    pub controls_on : IsControllingIn mac answers (entries_of (opening ∷ []) ++ before) second others.at (entries_of (more ++ later)) last others.following others.run
+
+  -- all of them, the newest first
+  abbrev pub rounds_of : {first : AgentRecord H P} {s : Stream} {log : List (Logged P)} → PlainRounds first s log → List (LoggedRound P)
+  rounds_of k = (k.more ++ k.later) ++ k.opening ∷ []
+
+  -- At the start of the rounds no pair is valid, and this one is due by the time of the first `handle_timeout` call. The later rounds suffice
+  -- for its check, and up to the last of these the caller is punctual: at most `delay` late, with a pacing interval of at most `pace`. If a
+  -- check is sent on the pair's path in any of the rounds, a success response is accepted within `trip`.
+  pub record SufficeInTime {first : AgentRecord H P} {s : Stream} {log : List (Logged P)} (k : PlainRounds first s log) (p : PairRecord)
+      (by pace delay trip : ℕ) : Type 0 where
+    pub waits : Awaits k.opening.now by k.start p
+    pub unanswered : IsUnanswered k.start p
+    pub due : by ≤ k.opening.now
+    pub done : k.opening.timeout.entry.answer ≡ Done
+    pub early : k.opening.now < MAX
+    pub passing : (x : LoggedRound P) → Has k.later x → IsPassing by x
+    pub enough : SufficeForDue by k.opening.now k.start k.second (logged_times k.later)
+    pub timed : IsTimedIn pace delay k.start k.opening k.later
+    pub answered : IsAnsweredInBy trip (rounds_of k) (path_of k.start p)
+
+  -- Then a path is selected in one of the rounds. It begins after the first one by at most `pace + delay` for each of the later ones, and
+  -- `trip`.
+  abbrev pub RoundsSelectInTime : AgentRecord H P → Stream → List (Logged P) → Type 0
+  RoundsSelectInTime first s log =
+      (k : PlainRounds first s log) (p : PairRecord) (by pace delay trip : ℕ) → SufficeInTime k p by pace delay trip
+      → SelectsInBy (k.opening.now + length k.later * (pace + delay) + trip) (rounds_of k)
+
+  abbrev pub PathsAreSelectedInTime : Type 0
+  PathsAreSelectedInTime = (first : AgentRecord H P) (s : Stream) (log : List (Logged P)) → IsFresh first → RoundsSelectInTime first s log
