@@ -9,6 +9,7 @@ ghost use Rattle.is_theorems.specs.ConsentLogs.{PathsAreAlive, PathsHaveConsent}
 ghost use Rattle.is_theorems.specs.Rounds.{LoggedTimeoutsAreOfUse, PartsPersist};
 ghost use Rattle.is_theorems.specs.DueRounds.{DueRoundsSelect};
 ghost use Rattle.is_theorems.specs.TimedRounds.{RoundsReachInTime};
+ghost use Rattle.is_theorems.specs.TimedSelections.{RoundsSelectInTime};
 ghost use Rattle.is_theorems.specs.OpenRounds.{OpenRoundsSelect};
 ghost use Rattle.is.specs.Log.{IsRunLog, log_of, EntriesPersist};
 ghost use Rattle.is.specs.Accepted.{PacketsAreSettled};
@@ -29,7 +30,7 @@ use is_theorems::selecting::{
     selected_are_nominated_by_peer, takers_are_valid, timeouts_select,
 };
 use is_theorems::starving::turns_are_of_use;
-use is_theorems::timing::reached_in_time;
+use is_theorems::timing::{reached_in_time, selected_in_time};
 use rand_core::Rng;
 
 /// The results of the calls of an execution.
@@ -150,6 +151,12 @@ pub fn run<H: Sha1HmacProvider + Drop, P: LocalPreference, R: Rng>(
     ensures in_time { IsFresh (record_of agent.old)
         → RoundsReachInTime H.mac P.answers (record_of agent.old) (R.stream rng.old) (log_of calls.items result) }
 
+    // A path in time: a controlling agent without a valid pair selects its first path in a round that begins at most k pacing intervals, k
+    // times δ and one round trip after the first, with the same caller. Precondition: only packets and polls come in the rounds, k after
+    // the first suffice for the check of a pair that is due by it, and each check on the pair's path is answered within a round trip.
+    ensures selects_in_time { IsFresh (record_of agent.old)
+        → RoundsSelectInTime H.mac P.answers (record_of agent.old) (R.stream rng.old) (log_of calls.items result) }
+
     // After an accepted success response a pair with its pending transaction, on its path, is valid.
     ensures takers { IsFresh (record_of agent.old)
         → SuccessesMakeValid H.mac P.answers (record_of agent.old) (R.stream rng.old) (log_of calls.items result) }
@@ -214,6 +221,7 @@ pub fn run<H: Sha1HmacProvider + Drop, P: LocalPreference, R: Rng>(
     open_rounds_select::<H, P>();
     due_rounds_select::<H, P>();
     reached_in_time::<H, P>();
+    selected_in_time::<H, P>();
     takers_are_valid::<H, P>();
     asked_are_nominated::<H, P>();
     replies_are_among::<H, P>();

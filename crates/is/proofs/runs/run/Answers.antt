@@ -46,6 +46,9 @@ returns-clause-due_rounds g c = c.due_rounds_select.ensures _ _ _
 pub returns-clause-in_time : goal.returns-clause-in_time
 returns-clause-in_time g c = c.reached_in_time.ensures _ _ _
 
+pub returns-clause-selects_in_time : goal.returns-clause-selects_in_time
+returns-clause-selects_in_time g c = c.selected_in_time.ensures _ _ _
+
 pub returns-clause-takers : goal.returns-clause-takers
 returns-clause-takers g c = c.takers_are_valid.ensures _ _ _
 
