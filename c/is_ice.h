@@ -565,8 +565,8 @@ IS_ICE_QUIET_CALL int32_t is_ice_original_rules(is_ice_agent_rules *rules);
  * selected. If a candidate that is added or invalidated takes the selected pair away, another one is selected at once,
  * or the state changes.
  *
- * invalidates_listed: is_ice_invalidate_local and is_ice_invalidate_remote pass over candidates that were invalidated
- * before, so each one that is listed can be invalidated. */
+ * invalidates_listed: is_ice_invalidate_local and is_ice_invalidate pass over candidates that were invalidated before, so
+ * each one that is listed can be invalidated. */
 IS_ICE_QUIET_CALL int32_t is_ice_set_rules(is_ice_agent *agent, const is_ice_agent_rules *rules);
 
 /* is_ice_set_mtu - stores how long a packet may be, and the length to warn about; is_ice_status returns both.
@@ -651,10 +651,11 @@ IS_ICE_CALL int32_t is_ice_add_local(is_ice_agent *agent, const is_ice_candidate
 IS_ICE_CALL int32_t is_ice_add_remote(is_ice_agent *agent, const uint8_t *line, size_t length, size_t *index);
 
 /* is_ice_invalidate_local - removes a candidate and its pairs, as when an interface is gone: the local candidate that
- * equals this one, else the remote one. Of several that are equal it looks at the first one only.
+ * equals this one in address, base, protocol, kind and related address, else such a remote one. Of several it removes the
+ * first one that was not removed before; without the rule invalidates_listed it looks at the first one only.
  *
- * IS_ICE_OK: removed. IS_ICE_NOTHING: there is none, or the first one was removed before. IS_ICE_BAD_ADDRESS,
- * IS_ICE_BAD_CANDIDATE: see is_ice_add_local. IS_ICE_OUT_OF_MEMORY. */
+ * IS_ICE_OK: removed. IS_ICE_NOTHING: there is none, or it was removed before. IS_ICE_BAD_ADDRESS, IS_ICE_BAD_CANDIDATE: see
+ * is_ice_add_local. IS_ICE_OUT_OF_MEMORY. */
 IS_ICE_CALL int32_t is_ice_invalidate_local(is_ice_agent *agent, const is_ice_candidate *candidate);
 
 /* is_ice_invalidate - removes a candidate in the same way, by its text.
@@ -699,6 +700,13 @@ IS_ICE_CALL int32_t is_ice_line_refusal(
  * unchanged. IS_ICE_BUFFER_TOO_SHORT. On any thread. */
 IS_ICE_CALL int32_t is_ice_candidate_refusal(
     const is_ice_candidate *candidate, uint8_t *buffer, size_t size, size_t *length);
+
+/* is_ice_alike_local - returns how many local candidates of the kind and IP version of this one the agent has, including
+ * those that were removed: its `same_kind` of is_ice_candidate_preference, if it is added next.
+ *
+ * IS_ICE_OK. After any other code, IS_ICE_NO_AGENT too, *count is unchanged. IS_ICE_BAD_ADDRESS, IS_ICE_BAD_CANDIDATE: see
+ * is_ice_add_local. IS_ICE_OUT_OF_MEMORY. */
+IS_ICE_CALL int32_t is_ice_alike_local(is_ice_agent *agent, const is_ice_candidate *candidate, size_t *count);
 
 /* ---- candidates without an agent: their texts and their JSON. On any thread. After an error or IS_ICE_NOTHING the
  * buffer is unchanged, and so is *length, except after IS_ICE_BUFFER_TOO_SHORT. */

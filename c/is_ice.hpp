@@ -486,6 +486,12 @@ public:
         int32_t code = is_ice_invalidate(at(), detail::at(line), line.size());
         return detail::explained(code, detail::refusal_of(line)) == IS_ICE_OK;
     }
+    size_t alike_local(const candidate &gathered) const
+    {
+        return *detail::filled<size_t>([&](size_t *count) {
+            return detail::explained(is_ice_alike_local(at(), &gathered, count), detail::refusal_of(gathered));
+        });
+    }
     std::optional<std::string> local_candidate(size_t index) const { return text(is_ice_local_candidate, index); }
     std::optional<std::string> remote_candidate(size_t index) const { return text(is_ice_remote_candidate, index); }
     std::optional<line_and_fields> local_fields(size_t index) const { return with_fields(is_ice_local_fields, index); }

@@ -1,10 +1,11 @@
 /* A chat over UDP. Run it on two machines, paste the line `signal ..` of each into the other, and type. It makes an ICE restart if
- * the peer is lost, if the network changes, and at /restart: paste the new lines then. /quit ends it. Clock, sockets and signaling
- * are those of peer_net.c and peer_signal.c. usage: chat controlling|controlled [-l]     -l: at 127.0.0.1 only */
+ * the peer is lost, and says why, if the network changes, and at /restart: paste the new lines then. /quit ends it. Clock, sockets
+ * and signaling are those of peer_net.c and peer_signal.c. usage: chat controlling|controlled [-l]     -l: at 127.0.0.1 only */
 #include "peer.h"
 #include <string.h>
 
 static const char *const states[] = {"New", "Checking", "Connected", "Completed", "Disconnected"};
+static const char *const reasons[] = {"", "no response", "consent lost", "peer silent", "evicted", "replaced", "invalidated"};
 static is_ice_agent agent;
 static struct net net;
 
@@ -18,6 +19,7 @@ static void report(void)
 {
     is_ice_event event = {0};
     is_ice_agent_stats stats = {0};
+    is_ice_removed_pair gone = {0};
     char from[NET_TEXT], to[NET_TEXT];
     while (ok(is_ice_poll_event(&agent, &event)) && ok(is_ice_stats(&agent, &stats))) {
         if (event.kind == IS_ICE_NOMINATED_SEND)
@@ -25,8 +27,10 @@ static void report(void)
         if (event.kind != IS_ICE_STATE_CHANGED) continue;
         unsigned sent = (unsigned)stats.bind_request_sent, answered = (unsigned)stats.bind_success_recv;
         printf("state %s: %u of %u checks answered\n", states[event.state], answered, sent);
-        /* before the first path the peer may not have this side's line yet */
-        if (event.state == IS_ICE_DISCONNECTED && stats.nomination_send_count > 0) ok(signal_restart(&agent, &net));
+        if (event.state != IS_ICE_DISCONNECTED) continue;
+        for (size_t i = 0; ok(is_ice_removed_at(&agent, i, &gone)); i++) /* those since the last restart */
+            printf("removed %s -> %s: %s\n", net_text(&gone.path.source, from), net_text(&gone.path.destination, to), reasons[gone.reason]);
+        if (stats.nomination_send_count > 0) ok(signal_restart(&agent, &net)); /* else the peer may not have this side's line yet */
     }
 }
 
@@ -59,17 +63,13 @@ int main(int argc, char **argv)
     bool goes_on = true, ready[NET_SOCKETS + 1];
     is_ice_agent_rules rules;
     is_ice_packet packet;
-    if (argc < 2 || !ok(signal_begin(&agent)) || !ok(is_ice_rules(&agent, &rules))) {
-        fprintf(stderr, "usage: chat controlling|controlled [-l]\n");
-        return 1;
-    }
-    rules.consent_timeout = 5 * SECOND; /* a lost peer is noticed after 5 s, and not after 30 s, */
-    rules.strict_consent = true;
+    if (argc < 2 || !ok(signal_begin(&agent)) || !ok(is_ice_rules(&agent, &rules)))
+        return fprintf(stderr, "usage: chat controlling|controlled [-l]\n"), 1;
+    rules.consent_timeout = 5 * SECOND, rules.strict_consent = true; /* a lost peer is noticed after 5 s, and not after 30 s, */
     ok(is_ice_set_rules(&agent, &rules));
     ok(is_ice_set_max_rto(&agent, SECOND)); /* as the path is checked each second */
     ok(is_ice_set_controlling(&agent, strcmp(argv[1], "controlling") == 0));
-    setvbuf(stdin, NULL, _IONBF, 0); /* so that each line is waited for */
-    setvbuf(stdout, NULL, _IOLBF, BUFSIZ);
+    setvbuf(stdin, NULL, _IONBF, 0), setvbuf(stdout, NULL, _IOLBF, BUFSIZ); /* so that each line is waited for, and is printed */
     for (uint64_t timeout = 0, next; goes_on;) {
         uint64_t now = net_now();
         if (net_move(&net, now, argc > 2 ? "127.0.0.1" : NULL)) ok(signal_restart(&agent, &net));

@@ -1,13 +1,14 @@
 // A chat over UDP. Run it on two machines, paste the line `signal ..` of each into the other, and type. It makes an ICE restart if
-// the peer is lost, if the network changes, and at /restart: paste the new lines then. /quit ends it. Clock, sockets and signaling
-// are those of peer_net.c and peer_signal.c. usage: chat controlling|controlled [-l]     -l: at 127.0.0.1 only
+// the peer is lost, and says why, if the network changes, and at /restart: paste the new lines then. /quit ends it. Clock, sockets
+// and signaling are those of peer_net.c and peer_signal.c. usage: chat controlling|controlled [-l]     -l: at 127.0.0.1 only
 #include "is_ice.hpp"
 #include "peer.h"
-#include <algorithm>
 #include <iostream>
 
 static const char *const states[] = {"New", "Checking", "Connected", "Completed", "Disconnected"};
+static const char *const reasons[] = {"", "no response", "consent lost", "peer silent", "evicted", "replaced", "invalidated"};
 static net sockets;
+static void restart(is_ice::agent &agent) { is_ice::checked(signal_restart(agent.get(), &sockets)); }
 
 template <class Bytes> static Bytes randomized()
 {
@@ -16,8 +17,6 @@ template <class Bytes> static Bytes randomized()
     return bytes;
 }
 
-static void restart(is_ice::agent &agent) { is_ice::checked(signal_restart(agent.get(), &sockets)); }
-
 static void report(is_ice::agent &agent)
 {
     char from[NET_TEXT], to[NET_TEXT];
@@ -25,12 +24,15 @@ static void report(is_ice::agent &agent)
         auto stats = agent.stats();
         if (auto path = std::get_if<is_ice::nominated_send>(&*event))
             std::cout << "path " << net_text(&path->source, from) << " -> " << net_text(&path->destination, to) << std::endl;
-        if (auto changed = std::get_if<is_ice::state_changed>(&*event)) {
-            std::cout << "state " << states[static_cast<int>(changed->state)] << ": " << stats.bind_success_recv << " of "
-                      << stats.bind_request_sent << " checks answered" << std::endl;
-            bool is_lost = changed->state == is_ice::connection_state::disconnected;
-            if (is_lost && stats.nomination_send_count > 0) restart(agent); // else the peer may not have this side's line yet
-        }
+        auto changed = std::get_if<is_ice::state_changed>(&*event);
+        if (!changed) continue;
+        std::cout << "state " << states[static_cast<int>(changed->state)] << ": " << stats.bind_success_recv << " of "
+                  << stats.bind_request_sent << " checks answered" << std::endl;
+        if (changed->state != is_ice::connection_state::disconnected) continue;
+        for (auto &pair : agent.removed_pairs()) // those since the last restart
+            std::cout << "removed " << net_text(&pair.path.source, from) << " -> " << net_text(&pair.path.destination, to) << ": "
+                      << reasons[pair.reason] << std::endl;
+        if (stats.nomination_send_count > 0) restart(agent); // else the peer may not have this side's line yet
     }
 }
 
@@ -62,8 +64,7 @@ int main(int argc, char **argv)
     bool goes_on = argc > 1, ready[NET_SOCKETS + 1];
     is_ice::agent agent(is_ice::make_credentials(randomized<is_ice::credentials_random>()), randomized<std::array<uint64_t, 1>>()[0]);
     auto rules = agent.rules();
-    rules.consent_timeout = 5 * SECOND; // a lost peer is noticed after 5 s, and not after 30 s,
-    rules.strict_consent = true;
+    rules.consent_timeout = 5 * SECOND, rules.strict_consent = true; // a lost peer is noticed after 5 s, and not after 30 s,
     agent.set_rules(rules);
     agent.set_max_rto(is_ice::nanoseconds(SECOND)); // as the path is checked each second
     agent.set_controlling(goes_on && std::string_view(argv[1]) == "controlling");
@@ -76,7 +77,7 @@ int main(int argc, char **argv)
                 agent.handle_timeout(now, randomized<is_ice::timeout_random>());
             }
             report(agent);
-            timeout = std::min(timeout, agent.poll_timeout().value_or(timeout)); // before packets are polled
+            if (auto next = agent.poll_timeout(); next && *next < timeout) timeout = *next; // before packets are polled
             while (auto packet = agent.poll_transmit())
                 net_send(&sockets, &packet->source, &packet->destination, packet->contents.data(), packet->contents.size());
             goes_on = net_wait(&sockets, true, static_cast<uint64_t>(timeout.count()), ready);

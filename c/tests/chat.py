@@ -3,7 +3,8 @@
 usage: chat.py PROGRAM [WORD ..]      runs `PROGRAM WORD .. controlling -l` and the same with `controlled`
 
   chat      both find a path and hear each other; one makes an ICE restart, and the other one follows
-  loss      one is killed: the other one says that checks were answered at first, makes an ICE restart, and chats with a new run
+  loss      one is killed: the other one says that checks were answered at first, and that consent for the path was lost, makes an ICE
+            restart, and chats with a new run
   network   the machine gets another address: both make an ICE restart. It needs root, for a network namespace
 
 These cases run at the same time, with a line for each. The status is 0 if none failed.
@@ -62,12 +63,15 @@ def case_chat():
 def case_loss():
     a, b = chats("-l")
     introduce(a, b)
-    connected(a, b)
+    path = " ".join(connected(a, b))
     b.run.send_signal(signal.SIGKILL)
     why = a.says("state Disconnected")
     answered, sent = map(int, re.fullmatch(r": (\d+) of (\d+) checks answered", why).groups())
     if not 0 < answered < sent:
         raise Failed(why)
+    # Another pair may have been replaced before: of a check that came before the signal.
+    while not re.fullmatch(rf"{re.escape(path)}( .*)?: consent lost", a.says("removed ")):
+        pass
     c, = chats("-l", roles=("controlled",))
     introduce(a, c)
     meet(a, c)

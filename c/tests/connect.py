@@ -272,9 +272,10 @@ def replay():
     request = tap.recv(2048)
     host, port = path[1].rsplit(":", 1)
     others = [socket.socket(socket.AF_INET, socket.SOCK_DGRAM) for _ in range(40)]
-    for other in others:
+    for place, other in enumerate(others):
         other.sendto(request, (host, int(port)))
-        b.says("source ")
+        if place < 30:  # of 32 discovered candidates two may be the peer and the tap; what is beyond the limit is dropped, and not reported
+            b.says("source ")
     others[0].sendto(b"good evening", (host, int(port)))
     a.hears("good morning")
     if b.says("heard ") != "good morning":
@@ -366,8 +367,8 @@ def late():
     a.ends(1)
 
 
-CASES = [roles, families, interfaces, trickle, removed, restart, lite, renomination, reflexive, silent_server, mdns, replay, options, errors,
-         long_candidate, late]
+CASES = [roles, families, interfaces, trickle, removed, restart, lite, renomination, reflexive, silent_server, mdns, replay, options,
+         errors, long_candidate, late]
 
 
 def main():

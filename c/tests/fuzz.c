@@ -193,6 +193,13 @@ static void invalidate(void)
     }
 }
 
+static void alike(void)
+{
+    const is_ice_candidate *candidate = candidate_argument();
+    size_t *count = argument(sizeof *count);
+    filled(CALL(OK | BAD_ADDRESS | BAD_CANDIDATE | QUERY, is_ice_alike_local(agents[on], candidate, count)), count, sizeof *count);
+}
+
 static void list(void)
 {
     static int32_t (*const calls[])(is_ice_agent *, size_t, uint8_t *, size_t, size_t *) = {is_ice_local_candidate,
@@ -777,7 +784,7 @@ static void (*const steps[])(void) = {
     line_fields, candidate_fields, line_parts, json_texts, line_texts, candidate_texts, preferences, find_pair, invalidate, queries,
     credentials, stun_read, stun_write, stun_text, stun_username, stun_response, stun_request, set_bool, set_number, set_limit, set_mtu,
     set_preference, set_rules, set_credentials, restart, recreate, create, destroy, make_credentials, fail_next, version,
-    fields_line, line_with_fields, json_fields, times, grammar, host_address, role, username_parts, hmac};
+    fields_line, line_with_fields, json_fields, times, grammar, host_address, role, username_parts, hmac, alike};
 
 /* Two agents that know each other's credentials and candidates. */
 static void introduce(void)

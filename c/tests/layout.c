@@ -185,6 +185,31 @@ static void candidates(void)
     is_ice_agent_free(&agent);
 }
 
+/* is_ice_alike_local: of each kind and IP version. Those that were removed count. */
+static void alike(void)
+{
+    const is_ice_candidate host = {v4, v4, IS_ICE_HOST, IS_ICE_UDP, 0}, host6 = {v6, v6, IS_ICE_HOST, IS_ICE_UDP, 0};
+    const is_ice_candidate reflexive = {seen4, v4, IS_ICE_SERVER_REFLEXIVE, IS_ICE_UDP, 0}, relayed = {seen4, v4, IS_ICE_RELAYED, IS_ICE_UDP, 0};
+    const is_ice_candidate other = {seen4, seen4, IS_ICE_HOST, IS_ICE_TCP, 0};
+    is_ice_candidate bad = host;
+    is_ice_agent agent = made();
+    size_t count = 7, index;
+    HOLD(is_ice_alike_local(&agent, &host, &count) == IS_ICE_OK && count == 0);
+    HOLD(is_ice_add_local(&agent, &host, &index) == IS_ICE_OK && is_ice_add_local(&agent, &reflexive, &index) == IS_ICE_OK);
+    HOLD(is_ice_alike_local(&agent, &host, &count) == IS_ICE_OK && count == 1);
+    HOLD(is_ice_alike_local(&agent, &host6, &count) == IS_ICE_OK && count == 0);
+    HOLD(is_ice_alike_local(&agent, &reflexive, &count) == IS_ICE_OK && count == 1);
+    HOLD(is_ice_alike_local(&agent, &relayed, &count) == IS_ICE_OK && count == 0);
+    HOLD(is_ice_add_local(&agent, &other, &index) == IS_ICE_OK && is_ice_invalidate_local(&agent, &host) == IS_ICE_OK);
+    HOLD(is_ice_alike_local(&agent, &other, &count) == IS_ICE_OK && count == 2);
+    bad.kind = 3;
+    HOLD(is_ice_alike_local(&agent, &bad, &count) == IS_ICE_BAD_ADDRESS && count == 2);
+    bad = host, memset(bad.address.bytes, 0, sizeof bad.address.bytes);
+    HOLD(is_ice_alike_local(&agent, &bad, &count) == IS_ICE_BAD_CANDIDATE && count == 2);
+    is_ice_agent_free(&agent);
+    HOLD(is_ice_alike_local(&agent, &host, &count) == IS_ICE_NO_AGENT && count == 2);
+}
+
 static is_ice_agent side(const char *near, const char *far, bool controlling, const is_ice_address *own, const is_ice_address *other)
 {
     is_ice_agent agent = {false, NULL};
@@ -329,6 +354,7 @@ int main(void)
     settings();
     rules();
     candidates();
+    alike();
     session();
     flow_and_scope();
     valid_path();

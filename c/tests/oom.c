@@ -339,6 +339,8 @@ static void end(struct story *s)
     CALL(s, IS_ICE_OK, is_ice_recreate_pairs(&s->a));
     CALL(s, IS_ICE_OK, is_ice_invalidate_local(&s->b, &host_b));
     CALL(s, IS_ICE_NOTHING, is_ice_invalidate(&s->b, TEXT("candidate:1 1 udp 7 10.0.0.9 9 typ host")));
+    CALL(s, IS_ICE_OK, is_ice_alike_local(&s->b, &host_b, &count));
+    add(s, &count, sizeof count);
     s->listed = removed_pairs(&s->a) + removed_pairs(&s->b);
     CALL(s, IS_ICE_OK, is_ice_restart(&s->a, TEXT("CCCC"), TEXT("RRRR"), true));
     note(s, &s->a);

@@ -210,6 +210,7 @@ static void ask(struct story *s)
     for (size_t i = 0; i < count; i++) CALL(IS_ICE_OK, is_ice_pair_at(&s->a, i, &pair));
     CALL(IS_ICE_OK, is_ice_removed_count(&s->a, &count));
     CALL(IS_ICE_NOTHING, is_ice_removed_at(&s->a, count, &removed));
+    CALL(IS_ICE_OK, is_ice_alike_local(&s->a, &of_b, &count));
     CALL(ANY, is_ice_find_pair(&s->a, TEXT(line), &pair));
     CALL(ANY, is_ice_has_viable_remote(&s->a, &of_b.address));
     CALL(IS_ICE_OK, is_ice_local_fields(&s->a, 0, text, sizeof text, &length, &fields));

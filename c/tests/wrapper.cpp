@@ -154,7 +154,7 @@ static void has_a_session()
     HOLD(!agent.nominated() && !agent.valid_path() && !agent.has_viable_remote(host(2).address) && agent.stats().bind_request_sent == 1);
     agent.recreate_pairs();
     HOLD(agent.invalidate(host(1)) && agent.invalidate(remote) && !agent.invalidate(remote));
-    HOLD(agent.removed_count() == 1);
+    HOLD(agent.removed_count() == 1 && agent.alike_local(host(3)) == 1);
     agent.restart("again", "pass", false);
     HOLD(agent.local_credentials().ufrag == "again" && agent.removed_pairs().empty());
 }

@@ -143,7 +143,7 @@ class Story:
         new, issued, paths = self.agents[side].timeout(now, id)
         self.moments[side].append(self.end)
         self._log(time, side, "handle_timeout", (now, id))
-        return self._polls(side, time, new, issued, paths, b"")
+        return self._polls(side, time, new, issued, paths)
 
     def passes(self, side: str, *times: float) -> None:
         """Timeouts of the side whose checks are lost."""
@@ -156,14 +156,14 @@ class Story:
         now, (source, local) = BEGINNING + round(time * MILLISECOND), via or (packet.source, packet.destination)
         new, issued, paths = self.agents[side].packet(now, source, local, packet.contents)
         self._log(time, side, "handle_packet", (now, source, local, packet.contents), True)
-        return self._polls(side, time, new, issued, paths, mapped(source))
+        return self._polls(side, time, new, issued, paths)
 
-    def _polls(self, side: str, time: float, new: Agent, issued: Issued | None, paths: tuple[Path, ...], source: bytes) -> Transmit | None:
+    def _polls(self, side: str, time: float, new: Agent, issued: Issued | None, paths: tuple[Path, ...]) -> Transmit | None:
         old, packet = self.agents[side], None
         self.agents[side], wake = new.poll_timeout(issued is not None)
         self._log(time, side, "poll_timeout", (), wake)
         if issued is not None:
-            packet = Transmit(Protocol.UDP, *issued.path, message(issued.kind, issued.id, self._attributes(old, new, issued, source)))
+            packet = Transmit(Protocol.UDP, *issued.path, message(issued.kind, issued.id, self._attributes(old, new, issued)))
             self._log(time, side, "poll_transmit", (), packet)
         self._events(time, side, old, paths)
         return packet
@@ -179,9 +179,9 @@ class Story:
             self._log(time, side, "poll_event", (), DiscoveredRecv(Protocol.UDP, source))
 
     @staticmethod
-    def _attributes(old: Agent, new: Agent, issued: Issued, source: bytes) -> dict[int, bytes]:
+    def _attributes(old: Agent, new: Agent, issued: Issued) -> dict[int, bytes]:
         if issued.kind == "success":
-            return {XOR_MAPPED_ADDRESS: source}
+            return {XOR_MAPPED_ADDRESS: mapped(issued.path[1])}
         if issued.kind == "failure":
             return {0x0009: b"\x00\x00\x04\x57"}
         assert old.peer is not None

@@ -104,7 +104,9 @@ class Kept(unittest.TestCase):
         story = Story()
         story.invalidate("a", Candidate.host(A))
         listed = story.agents["a"].removed[0].listed()
-        for pairs, count in (([listed], 0), ([], 1), ([replace(listed, reason=Removal.EVICTED)], 1), ([listed, listed], 1)):
+        cases: list[tuple[list[RemovedPair], int]] = [
+            ([listed], 0), ([], 1), ([replace(listed, reason=Removal.EVICTED)], 1), ([listed, listed], 1)]
+        for pairs, count in cases:
             story.log.removed["a"] = pairs
             self.assertEqual(len(replay(story.log).differences), count)
         self.assertEqual(listed, RemovedPair(PATH, listed.priority, CheckState.WAITING, 0, 0, None, Removal.INVALIDATED))

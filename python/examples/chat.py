@@ -1,6 +1,7 @@
 """A chat over UDP. Run it on two machines, paste the line `signal ..` of each into the other, and type.
 
-If the peer is lost, if the network changes, and at /restart it makes an ICE restart: paste the new lines then. /quit ends it.
+If the peer is lost, and it says why, if the network changes, and at /restart it makes an ICE restart: paste the new lines then.
+/quit ends it.
 
 usage: chat.py controlling|controlled [-l]     -l: at 127.0.0.1 only
 """
@@ -56,6 +57,8 @@ class Chat:
         elif isinstance(event, IceConnectionStateChange):
             stats, state = self.agent.stats, event.state.name.capitalize()
             print(f"state {state}: {stats.bind_success_recv} of {stats.bind_request_sent} checks answered", flush=True)
+            for pair in self.agent.removed_pairs() if event.state.is_disconnected() else []:
+                print("removed", pair, flush=True)  # those since the last restart
             if event.state.is_disconnected() and stats.nomination_send_count > 0:
                 self.restart()                    # before the first path the peer may not have this side's line yet
 

@@ -299,6 +299,7 @@ PROTOTYPES: dict[str, list[object]] = {
     "is_ice_add_remote": [_AGENT, *_BYTES, POINTER(c_size_t)],
     "is_ice_invalidate_local": [_AGENT, POINTER(Candidate)],
     "is_ice_invalidate": [_AGENT, *_BYTES],
+    "is_ice_alike_local": [_AGENT, POINTER(Candidate), POINTER(c_size_t)],
     "is_ice_local_candidate": [_AGENT, c_size_t, *_TEXT],
     "is_ice_remote_candidate": [_AGENT, c_size_t, *_TEXT],
     "is_ice_local_fields": [_AGENT, c_size_t, *_TEXT, POINTER(Fields)],

@@ -91,11 +91,12 @@ class Lines(unittest.IsolatedAsyncioTestCase):
         listed: list[RemovedPair] = []
         lister: Any = SimpleNamespace(local_credentials=SimpleNamespace(ufrag="abcd"), removed_pairs=lambda first=0: listed[first:])
         log = SessionLog(logging.getLogger("is_ice.test"), lister)
-        for now, new in (
+        cases: list[tuple[list[int], list[int]]] = [
             ([], []), ([1, 2], [1, 2]), ([1, 2], []), ([1, 2, 2], [2]),  # one more that is equal
             ([2, 2, 3], [3]), ([2, 3, 4, 5], [4, 5]),  # the oldest one was dropped, or another one was forgotten
             ([6, 7], [6, 7]), ([], []), ([6], [6]),  # all are new; after a restart there are none
-        ):
+        ]
+        for now, new in cases:
             listed[:] = map(removed_to, now)
             with self.subTest(now=now), self.assertLogs("is_ice.test", "INFO") as logged:
                 log.info("the lines:")

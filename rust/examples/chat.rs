@@ -1,6 +1,6 @@
 //! A chat over UDP and IPv4. Run it on two machines, paste the line `signal ..` of each into the other, and type. If the peer is lost,
-//! if the network changes, and at /restart it makes an ICE restart: paste the new lines then. /quit ends it. signaling/mod.rs has the
-//! signaling. usage: chat controlling|controlled [-l]     -l: at 127.0.0.1, and not at the address of the default route
+//! and it says why, if the network changes, and at /restart it makes an ICE restart: paste the new lines then. /quit ends it.
+//! signaling/mod.rs has the signaling. usage: chat controlling|controlled [-l]     -l: at 127.0.0.1, not that of the default route
 
 mod signaling;
 
@@ -16,6 +16,8 @@ fn report(agent: &mut IceAgent, socket: &UdpSocket, event: IceAgentEvent) -> Res
     } else if let IceAgentEvent::IceConnectionStateChange(state) = event {
         let stats = agent.stats();
         println!("state {state:?}: {} of {} checks answered", stats.bind_success_recv, stats.bind_request_sent);
+        let lost = agent.removed_pairs().filter(|_| state.is_disconnected());
+        lost.for_each(|pair| println!("removed {pair}")); // those since the last restart
         // Before the first path the peer may not have this side's line yet.
         if state.is_disconnected() && stats.nomination_send_count > 0 {
             restart(agent, socket)?;

@@ -196,13 +196,14 @@ impl IceAgent {
         Ok(self.added.as_ref())
     }
 
-    /// Passes on the preference that the program's function, if any, gives the candidate.
+    /// Passes on the preference that the program's function, if any, gives the candidate. One that cannot be added needs none.
     fn prefer(&mut self, c: &Candidate) -> Result<(), CallError> {
         let Some(preference) = self.preference.clone() else { return Ok(()) };
-        let is_alike = |listed: &&Candidate| listed.kind() == c.kind() && listed.addr().is_ipv6() == c.addr().is_ipv6();
-        let same_kind = self.try_local_candidates()?.iter().filter(is_alike).count();
-        let number = u16::try_from(preference.calculate(c, same_kind)).map_err(|_| CallError::PriorityTooHigh)?;
-        self.set(|agent| ffi::is_ice_set_local_preference(agent, number));
+        let (given, mut same_kind) = (c.as_gathered(), 0);
+        if self.tell(|agent| known(ffi::is_ice_alike_local(agent, &given, &mut same_kind)))? {
+            let number = u16::try_from(preference.calculate(c, same_kind)).map_err(|_| CallError::PriorityTooHigh)?;
+            self.set(|agent| ffi::is_ice_set_local_preference(agent, number));
+        }
         Ok(())
     }
 

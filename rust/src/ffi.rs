@@ -343,6 +343,7 @@ unsafe extern "C" {
     pub(crate) safe fn is_ice_set_preference_table(agent: &mut Agent, table: &PreferenceTable) -> i32;
     pub(crate) safe fn is_ice_reset_local_preference(agent: &mut Agent) -> i32;
     pub(crate) safe fn is_ice_add_local(agent: &mut Agent, candidate: &Gathered, index: &mut usize) -> i32;
+    pub(crate) safe fn is_ice_alike_local(agent: &mut Agent, candidate: &Gathered, count: &mut usize) -> i32;
     pub(crate) safe fn is_ice_candidate_preference(candidate: &Gathered, same_kind: usize, preference: &mut u32) -> i32;
     pub(crate) safe fn is_ice_invalidate_local(agent: &mut Agent, candidate: &Gathered) -> i32;
     pub(crate) safe fn is_ice_poll_timeout(agent: &mut Agent, at: &mut u64) -> i32;

@@ -42,7 +42,8 @@ pub struct PreferenceTable {
 /// assert_eq!(added.map(Candidate::prio), Some(126 << 24 | 255));
 /// ```
 pub trait LocalPreference: RefUnwindSafe + Send + Sync + 'static {
-    /// The local preference of a candidate, at most 65535. `same_kind` counts the listed local candidates of its kind and IP version.
+    /// The local preference of a candidate, at most 65535. `same_kind` counts the local candidates of its kind and IP version, including
+    /// those that were removed.
     fn calculate(&self, c: &Candidate, same_kind: usize) -> u32;
 }
 

@@ -461,6 +461,36 @@ fn a_preference_object_gets_the_candidate_and_the_count_of_its_kind() {
     assert_eq!(prio(&mut agent, host("10.0.0.5:1")), Ok(126 << 24 | (65534 - 6) << 8 | 255));
 }
 
+#[test]
+fn a_preference_function_counts_as_the_library_does() {
+    let mut agent = IceAgent::new(creds("near"));
+    let prio = |agent: &mut IceAgent, address: &str| agent.add_local_candidate(host(address)).expect("a new one").prio();
+    agent.set_local_preference(|_: &Candidate, same_kind: usize| same_kind as u32);
+    assert_eq!(prio(&mut agent, "10.0.0.1:1"), 126 << 24 | 255);
+    assert_eq!(prio(&mut agent, "[2001:db8::1]:1"), 126 << 24 | 255);
+    assert!(agent.invalidate_candidate(&host("10.0.0.1:1")));
+    // One that was removed counts, as in the original.
+    assert_eq!(prio(&mut agent, "10.0.0.2:1"), 126 << 24 | 1 << 8 | 255);
+    let v4 = KindPreferences { host: 100, peer_reflexive: 0, server_reflexive: 0, relayed: 0 };
+    agent.set_preference_table(PreferenceTable { v4, v6: v4 });
+    assert_eq!(prio(&mut agent, "10.0.0.3:1"), 126 << 24 | 98 << 8 | 255);
+    // A restart that keeps the others keeps those that were removed, too.
+    agent.ice_restart(creds("next"), true);
+    agent.set_local_preference(|_: &Candidate, same_kind: usize| same_kind as u32);
+    assert_eq!(prio(&mut agent, "10.0.0.4:1"), 126 << 24 | 3 << 8 | 255);
+    agent.ice_restart(creds("last"), false);
+    assert_eq!(prio(&mut agent, "10.0.0.4:1"), 126 << 24 | 255);
+}
+
+#[test]
+fn a_preference_function_is_not_asked_of_what_cannot_be_added() {
+    let mut agent = IceAgent::new(creds("near"));
+    agent.set_local_preference(|_: &Candidate, _: usize| 65536);
+    let discovered = Candidate::from_sdp_string("candidate:1 1 udp 7 10.0.0.1 1 typ prflx raddr 10.0.0.2 rport 2").unwrap();
+    assert_eq!(agent.try_add_local_candidate(discovered), Ok(None));
+    assert_eq!(agent.try_add_local_candidate(host("10.0.0.1:1")), Err(CallError::PriorityTooHigh));
+}
+
 // ---- others
 
 #[test]

@@ -178,11 +178,7 @@ pub extern "C" fn is_ice_invalidate(alloc: Global, slot: &mut Slot, line: &[u8])
 }
 
 /// Counts the local candidates that are alike, or returns the code of why there is no candidate.
-fn count_made(
-    home: &Home,
-    made: &Option<Result<Candidate, IceError>>,
-    count: &mut usize,
-) -> i32
+fn count_made(home: &Home, made: &Option<Result<Candidate, IceError>>, count: &mut usize) -> i32
     ensures { CountsMade made.now count.old count.new (home_of home.now) result (home_of home.now) }
 {
     match made {

@@ -1,8 +1,10 @@
 //! The exports as C calls them, in stories that the library's own tests have too.
 
+mod alike;
 mod fields;
 mod front_ends;
 mod limits;
+mod removed;
 mod rules;
 mod selected;
 mod stun;

@@ -7,7 +7,7 @@ use crate::rules::{
 };
 use crate::slot::Slot;
 
-const OFF: AgentRules = AgentRules {
+pub(super) const OFF: AgentRules = AgentRules {
     triggered_checks: 0,
     early_retransmits: 0,
     early_interval: 0,

@@ -116,7 +116,7 @@ fn the_selected_path_is_reported(rt: HostRuntime) {
     is_ice_agent_free(alloc, &mut far);
 }
 
-fn is_at(at: &Address, last: u8, port: u16) -> bool {
+pub(super) fn is_at(at: &Address, last: u8, port: u16) -> bool {
     at.family == 4 && at.bytes[0] == 10 && at.bytes[3] == last && at.port == port
 }
 

@@ -33,7 +33,7 @@ fn number() -> Number {
     }
 }
 
-fn no_message() -> Message {
+pub(super) fn no_message() -> Message {
     Message {
         priority: number(),
         controlled: number(),
@@ -83,7 +83,7 @@ fn a_message_is_read_strictly_or_not(rt: HostRuntime) {
     assert!(rt; message.class == 0);
 }
 
-fn no_texts() -> Texts {
+pub(super) fn no_texts() -> Texts {
     let none = Span {
         start: 0,
         length: 0,
