@@ -65,7 +65,7 @@ module _ {H P : Type 0} where
 
   -- one more packet, one more check of any pair, and the content of the packet
   abbrev pub HasCheckRoom : Agent H P → Type 0
-  HasCheckRoom a = HasPacketRoom a × checklists.HasCheckRoom a.pairs × IsPrepared a
+  HasCheckRoom a = HasPacketRoom a × checklists.HasCheckRoom a.timing.max_retransmits a.pairs × IsPrepared a
 
   -- the same, if a check may be due at this time
   abbrev pub HasCheckRoomAt : ℕ → Agent H P → Type 0

@@ -275,7 +275,7 @@ impl<H: Sha1HmacProvider + Drop, P: LocalPreference> Agent<H, P> {
     {
         self.prepare_check()?;
         reserve_one_in(&mut self.packets)?;
-        self.pairs.reserve_check()
+        self.pairs.reserve_check(self.timing.max_retransmits)
     }
 
     /// Does this if a check may be due at time `now`.

@@ -13,7 +13,8 @@ multiset_of c = c.pairs.items
 abbrev pub HasRoom : ℕ → code.Checklist → Type 0
 HasRoom n c = (vec_len c.pairs + n ≤ vec_capacity c.pairs) × (vec_len c.ranks + n ≤ vec_capacity c.ranks)
 
--- there is capacity for one more check, on any pair
-abbrev pub HasCheckRoom : code.Checklist → Type 0
-HasCheckRoom c =
-    (vec_len c.index < vec_capacity c.index) × (0 < deque_capacity c.spare) × (keep_fewer (deque_capacity c.spare) (multiset_of c) ≡ true)
+-- There is capacity for one more check on any pair, if each stores at most the last `limit` of its checks. A pair that stores as many
+-- drops its oldest for it.
+abbrev pub HasCheckRoom : (limit : ℕ) → code.Checklist → Type 0
+HasCheckRoom limit c =
+    (vec_len c.index < vec_capacity c.index) × (0 < deque_capacity c.spare) × (keep_fewer limit (deque_capacity c.spare) (multiset_of c) ≡ true)

@@ -1,5 +1,5 @@
 -- The abstract state of a checklist: its pairs, listed in the order of their numbers.
-use Rattle.std.specs.Prelude.{◌≡◌, ℕ, ◌<◌, ◌≤◌, ◌==◌, ◌&&◌, Bool, true, false, not, nat_lt, List, [], ◌∷◌, length, map, filter, find, Option, Some}
+use Rattle.std.specs.Prelude.{◌≡◌, ℕ, ◌<◌, ◌≤◌, ◌==◌, ◌&&◌, ◌||◌, Bool, true, false, not, nat_lt, nat_le, List, [], ◌∷◌, length, map, filter, find, Option, Some}
 use Rattle.std.specs.Prelude.{None, if◌then◌else◌}
 use Rattle.std.specs.List.{list_any, list_all}
 use Rattle.std.specs.Option.{option_map_or}
@@ -98,9 +98,13 @@ abbrev pub RecordsAnswer : ℕ → ℕ → List ℕ → List PairRecord → List
 RecordsAnswer number now id old new =
     (p after : PairRecord) × (pair_numbered number old ≡ Some p) × TakesAnswer p now id after × (new ≡ put_pair after old)
 
--- each pair stores fewer checks than n
-abbrev pub keep_fewer : ℕ → List PairRecord → Bool
-keep_fewer n pairs = list_all (λ p. nat_lt (length p.checks) n) pairs
+-- so many checks are as many as the limit or more, or fewer than n
+abbrev pub are_fewer : (limit n count : ℕ) → Bool
+are_fewer limit n count = nat_le limit count || nat_lt count n
+
+-- each pair that stores fewer checks than the limit stores fewer than n
+abbrev pub keep_fewer : (limit n : ℕ) → List PairRecord → Bool
+keep_fewer limit n pairs = list_all (λ p. are_fewer limit n (length p.checks)) pairs
 
 -- ---- priorities
 

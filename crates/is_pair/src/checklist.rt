@@ -106,7 +106,7 @@ impl Checklist {
         ensures multiset { multiset_of self.new ≡ multiset_of self.old }
         ensures reserved { OnOk result (HasRoom n self.new) }
         ensures room { (n : ℕ) → HasRoom n self.old → HasRoom n self.new }
-        ensures check_room { HasCheckRoom self.old → HasCheckRoom self.new }
+        ensures check_room { (n : ℕ) → HasCheckRoom n self.old → HasCheckRoom n self.new }
         ensures removed { removed_of self.new ≡ removed_of self.old }
     {
         reserve_few(&mut self.pairs, n)?;
@@ -120,7 +120,7 @@ impl Checklist {
         requires unchecked { pair.checks ≡ [] }
         ensures added { multiset_of self.new ≡ multiset_of self.old ++ pair ∷ [] }
         ensures room { (n : ℕ) → HasRoom (n + 1) self.old → HasRoom n self.new }
-        ensures check_room { HasCheckRoom self.old → HasCheckRoom self.new }
+        ensures check_room { (n : ℕ) → HasCheckRoom n self.old → HasCheckRoom n self.new }
         ensures below { are_below (pair.number + 1) (multiset_of self.new) ≡ true }
         ensures removed { removed_of self.new ≡ removed_of self.old }
     {
@@ -136,7 +136,7 @@ impl Checklist {
     pub fn remove_where<T: PairRemoval>(&mut self, test: &T)
         ensures left { multiset_of self.new ≡ without (T.passes test.now) (multiset_of self.old) }
         ensures room { (n : ℕ) → HasRoom n self.old → HasRoom n self.new }
-        ensures check_room { HasCheckRoom self.old → HasCheckRoom self.new }
+        ensures check_room { (n : ℕ) → HasCheckRoom n self.old → HasCheckRoom n self.new }
         ensures below { (n : ℕ) → are_below n (multiset_of self.old) ≡ true → are_below n (multiset_of self.new) ≡ true }
         ensures removed { AreRemoved (T.passes test.now) (T.reason test.now) (multiset_of self.old) (removed_of self.old) (removed_of self.new) }
     {
@@ -150,7 +150,7 @@ impl Checklist {
     pub fn remove(&mut self, number: u64, why: Removal)
         ensures left { multiset_of self.new ≡ without (is_numbered number) (multiset_of self.old) }
         ensures room { (n : ℕ) → HasRoom n self.old → HasRoom n self.new }
-        ensures check_room { HasCheckRoom self.old → HasCheckRoom self.new }
+        ensures check_room { (n : ℕ) → HasCheckRoom n self.old → HasCheckRoom n self.new }
         ensures below { (n : ℕ) → are_below n (multiset_of self.old) ≡ true → are_below n (multiset_of self.new) ≡ true }
         ensures removed { AreRemoved (is_numbered number) (λ p. why) (multiset_of self.old) (removed_of self.old) (removed_of self.new) }
         ensures kept { HasRemovedRoom self.old → IsKeptLast why (pair_numbered number (multiset_of self.old)) (removed_of self.old) (removed_of self.new) }
@@ -165,7 +165,7 @@ impl Checklist {
     pub fn clear(&mut self)
         ensures cleared { multiset_of self.new ≡ [] }
         ensures room { (n : ℕ) → HasRoom n self.old → HasRoom n self.new }
-        ensures check_room { HasCheckRoom self.old → HasCheckRoom self.new }
+        ensures check_room { (n : ℕ) → HasCheckRoom n self.old → HasCheckRoom n self.new }
         ensures removed { removed_of self.new ≡ removed_of self.old }
     {
         self.pairs.clear();

@@ -29,7 +29,7 @@ pub record AgentRecord (H P : Type 0) : Type 0 where
   pub lite : Bool
   -- each nomination replaces the ones before (`Nominating`)
   pub renominates : Bool
-  -- what the agent does beyond the original's behaviour
+  -- what the agent does beyond the original's behavior
   pub rules : Rules
   -- the target MTU, and the packet length from which a warning is due
   pub mtu : ℕ
@@ -70,7 +70,7 @@ pub record AgentRecord (H P : Type 0) : Type 0 where
   pub discovered_sources : List Source
   pub stats : IceAgentStats
 
--- the original's behaviour
+-- the original's behavior
 abbrev pub original_rules : Rules
 original_rules = record {
   kinds_in_turn = false;

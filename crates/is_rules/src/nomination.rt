@@ -187,7 +187,7 @@ impl PairChange for NominatesBySelf {
 fn nominate_pair(pairs: &mut Checklist, number: u64, controlling: bool, lite: bool)
     ensures nominated { multiset_of pairs.new ≡ change_pair number (nominated_by_self controlling lite) (multiset_of pairs.old) }
     ensures room { (n : ℕ) → HasRoom n pairs.old → HasRoom n pairs.new }
-    ensures check_room { checklists.HasCheckRoom pairs.old → checklists.HasCheckRoom pairs.new }
+    ensures check_room { (n : ℕ) → checklists.HasCheckRoom n pairs.old → checklists.HasCheckRoom n pairs.new }
     ensures below { (n : ℕ) → are_below n (multiset_of pairs.old) ≡ true → are_below n (multiset_of pairs.new) ≡ true }
 {
     pairs.change(number, &NominatesBySelf { controlling, lite });
@@ -276,7 +276,7 @@ pub fn begin_nomination(pairs: &mut Checklist, number: u64, begins: bool)
     ensures begun { multiset_of pairs.new ≡ (if begins then change_pair number renominated (multiset_of pairs.old) else multiset_of pairs.old) }
     ensures has { has_number number (multiset_of pairs.old) ≡ true → has_number number (multiset_of pairs.new) ≡ true }
     ensures placed { (local remote : List CandidateRecord) → are_placed local remote (multiset_of pairs.old) ≡ true → are_placed local remote (multiset_of pairs.new) ≡ true }
-    ensures check_room { checklists.HasCheckRoom pairs.old → checklists.HasCheckRoom pairs.new }
+    ensures check_room { (n : ℕ) → checklists.HasCheckRoom n pairs.old → checklists.HasCheckRoom n pairs.new }
     ensures below { (n : ℕ) → are_below n (multiset_of pairs.old) ≡ true → are_below n (multiset_of pairs.new) ≡ true }
 {
     if begins {
@@ -307,7 +307,7 @@ pub fn select_pair(
     ensures placed { are_placed sides.entry.local.now sides.entry.remote.now (multiset_of pairs.new) ≡ true }
     ensures named { Names (sides_view sides.entry) followed (selection (multiset_of pairs.old) selected.old) result (selection (multiset_of pairs.new) selected.new) }
     ensures room { (n : ℕ) → HasRoom n pairs.old → HasRoom n pairs.new }
-    ensures check_room { checklists.HasCheckRoom pairs.old → checklists.HasCheckRoom pairs.new }
+    ensures check_room { (n : ℕ) → checklists.HasCheckRoom n pairs.old → checklists.HasCheckRoom n pairs.new }
     ensures below { (n : ℕ) → are_below n (multiset_of pairs.old) ≡ true → are_below n (multiset_of pairs.new) ≡ true }
     ensures due { (now : ℕ) (t : StunTiming) → list_any (falls_due sides.entry.controlling now t) (multiset_of pairs.new) ≡ true
         → list_any (falls_due sides.entry.controlling now t) (multiset_of pairs.old) ≡ true }

@@ -1,4 +1,4 @@
-//! What an agent may do beyond the original's behaviour.
+//! What an agent may do beyond the original's behavior.
 
 ghost use Rattle.std.specs.Prelude.{◌≡◌};
 ghost use Rattle.is_rules.specs.Agent.{original_rules, modern_rules};
@@ -7,7 +7,7 @@ ghost use Rattle.is_rules.specs.Checking.{goes_ahead};
 use is_proto::Duration;
 use is_stun::stun::{Consent, EarlyRto};
 
-/// What an agent does beyond the original's behaviour, one field for each rule.
+/// What an agent does beyond the original's behavior, one field for each rule.
 #[derive(Clone, Copy, Debug, PartialEq, Eq)]
 pub struct Rules {
     /// Until a path is selected, every second check goes to the next kind of pairs, and not to the pair that is due first. So a
@@ -67,7 +67,7 @@ const MODERN_CONSENT: Consent = Consent {
 };
 
 impl Rules {
-    /// The original's behaviour.
+    /// The original's behavior.
     pub fn original() -> Rules
         ensures { result ≡ original_rules }
     {

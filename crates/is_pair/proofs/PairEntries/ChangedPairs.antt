@@ -4,7 +4,7 @@ use Rattle.is_pair.specs.declared.checklist.entries.Kept.{Kept}
 use Rattle.is_pair.specs.declared.checklist.entries.Rank.{Rank}
 use Rattle.is_pair.specs.Checks.{is_kept}
 use Rattle.is_pair.specs.Pairs.{PairRecord}
-use Rattle.is_pair.specs.Multiset.{are_below, change_at, keep_fewer, keeps, passes_at, ranks, rises, KeepsKeys}
+use Rattle.is_pair.specs.Multiset.{are_below, are_fewer, change_at, keep_fewer, keeps, passes_at, ranks, rises, KeepsKeys}
 use Rattle.is_pair.specs.Entries.{IsIndex, IsRanking}
 use Rattle.is_pair.proofs.PairEntries.ChangedEntry.{all-mapped, any-changed, change-keeps, rises-changed}
 
@@ -20,8 +20,8 @@ module _ (g : PairRecord → PairRecord) (number : (p : PairRecord) → (g p).nu
       ranked priority n ∙ sym (ap (ranks priority n) is ∙ any-changed (passes_at n (λ p. p.priority == priority)) g (λ p. rw (number p, same p) refl) ps)
 
   module _ (checks : (p : PairRecord) → (g p).checks ≡ p.checks) where
-    pub changed-fewer : (n : ℕ) → keep_fewer n ps ≡ true → keep_fewer n qs ≡ true
-    changed-fewer n h = ap (keep_fewer n) is ∙ all-mapped (λ p. nat_lt (length p.checks) n) g (λ p. ap (λ cs. nat_lt (length cs) n) (checks p)) ps h
+    pub changed-fewer : (limit n : ℕ) → keep_fewer limit n ps ≡ true → keep_fewer limit n qs ≡ true
+    changed-fewer limit n h = ap (keep_fewer limit n) is ∙ all-mapped (λ p. are_fewer limit n (length p.checks)) g (λ p. ap (λ cs. are_fewer limit n (length cs)) (checks p)) ps h
 
     pub changed-index : (index : List Kept) → IsIndex index ps → IsIndex index qs
     changed-index index indexed id n =

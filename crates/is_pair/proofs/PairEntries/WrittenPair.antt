@@ -5,7 +5,7 @@ use Rattle.is_pair.specs.declared.checklist.entries.Kept.{Kept}
 use Rattle.is_pair.specs.declared.checklist.entries.Rank.{Rank}
 use Rattle.is_pair.specs.Checks.{is_kept}
 use Rattle.is_pair.specs.Pairs.{PairRecord}
-use Rattle.is_pair.specs.Multiset.{are_below, keep_fewer, keeps, passes_at, ranks, rises}
+use Rattle.is_pair.specs.Multiset.{are_below, are_fewer, keep_fewer, keeps, passes_at, ranks, rises}
 use Rattle.is_pair.specs.Entries.{IsIndex, IsRanking}
 use Rattle.is_pair.proofs.PairEntries.AnsweredPair.{any-set}
 
@@ -29,8 +29,8 @@ module _ (k : ℕ) (ps qs : List PairRecord) (p after : PairRecord) (at : slice_
   pub written-below : (m : ℕ) → after.number ≡ p.number → are_below m ps ≡ true → are_below m qs ≡ true
   written-below m number h = ap (are_below m) is ∙ all-set (λ q. nat_lt q.number m) ps k p after at (ap (λ n. nat_lt n m) number) ∙ h
 
-  pub written-fewer : (m : ℕ) → length after.checks ≡ length p.checks → keep_fewer m ps ≡ true → keep_fewer m qs ≡ true
-  written-fewer m long h = ap (keep_fewer m) is ∙ all-set (λ q. nat_lt (length q.checks) m) ps k p after at (ap (λ n. nat_lt n m) long) ∙ h
+  pub written-fewer : (limit m : ℕ) → length after.checks ≡ length p.checks → keep_fewer limit m ps ≡ true → keep_fewer limit m qs ≡ true
+  written-fewer limit m long h = ap (keep_fewer limit m) is ∙ all-set (λ q. are_fewer limit m (length q.checks)) ps k p after at (ap (are_fewer limit m) long) ∙ h
 
   pub written-index : (index : List Kept) → after.number ≡ p.number → ((i : List ℕ) → is_kept i after.checks ≡ is_kept i p.checks) → IsIndex index ps → IsIndex index qs
   written-index index number kept indexed id m =

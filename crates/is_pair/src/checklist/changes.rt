@@ -68,7 +68,7 @@ impl Checklist {
         requires keys { KeepsKeys (C.makes change.now) }
         ensures changed { multiset_of self.new ≡ change_pair number (C.makes change.now) (multiset_of self.old) }
         ensures room { (n : ℕ) → HasRoom n self.old → HasRoom n self.new }
-        ensures check_room { HasCheckRoom self.old → HasCheckRoom self.new }
+        ensures check_room { (n : ℕ) → HasCheckRoom n self.old → HasCheckRoom n self.new }
         ensures below { (n : ℕ) → are_below n (multiset_of self.old) ≡ true → are_below n (multiset_of self.new) ≡ true }
         ensures removed { removed_of self.new ≡ removed_of self.old }
     {
@@ -80,7 +80,7 @@ impl Checklist {
         requires keys { KeepsKeys (C.makes change.now) }
         ensures changed { multiset_of self.new ≡ map (C.makes change.now) (multiset_of self.old) }
         ensures room { (n : ℕ) → HasRoom n self.old → HasRoom n self.new }
-        ensures check_room { HasCheckRoom self.old → HasCheckRoom self.new }
+        ensures check_room { (n : ℕ) → HasCheckRoom n self.old → HasCheckRoom n self.new }
         ensures below { (n : ℕ) → are_below n (multiset_of self.old) ≡ true → are_below n (multiset_of self.new) ≡ true }
         ensures removed { removed_of self.new ≡ removed_of self.old }
     {
@@ -91,7 +91,7 @@ impl Checklist {
     pub fn fix_due_times(&mut self, now: Instant, timing: &StunTiming)
         ensures asked { multiset_of self.new ≡ map (asked now.0 timing.now) (multiset_of self.old) }
         ensures room { (n : ℕ) → HasRoom n self.old → HasRoom n self.new }
-        ensures check_room { HasCheckRoom self.old → HasCheckRoom self.new }
+        ensures check_room { (n : ℕ) → HasCheckRoom n self.old → HasCheckRoom n self.new }
         ensures below { (n : ℕ) → are_below n (multiset_of self.old) ≡ true → are_below n (multiset_of self.new) ≡ true }
         ensures removed { removed_of self.new ≡ removed_of self.old }
     {
@@ -102,7 +102,7 @@ impl Checklist {
     pub fn reset_next_binding_attempts(&mut self)
         ensures reset { multiset_of self.new ≡ map undue (multiset_of self.old) }
         ensures room { (n : ℕ) → HasRoom n self.old → HasRoom n self.new }
-        ensures check_room { HasCheckRoom self.old → HasCheckRoom self.new }
+        ensures check_room { (n : ℕ) → HasCheckRoom n self.old → HasCheckRoom n self.new }
         ensures below { (n : ℕ) → are_below n (multiset_of self.old) ≡ true → are_below n (multiset_of self.new) ≡ true }
         ensures removed { removed_of self.new ≡ removed_of self.old }
     {
@@ -114,7 +114,7 @@ impl Checklist {
     pub fn hear_all(&mut self, now: Instant)
         ensures heard { multiset_of self.new ≡ map (heard now.0) (multiset_of self.old) }
         ensures room { (n : ℕ) → HasRoom n self.old → HasRoom n self.new }
-        ensures check_room { HasCheckRoom self.old → HasCheckRoom self.new }
+        ensures check_room { (n : ℕ) → HasCheckRoom n self.old → HasCheckRoom n self.new }
         ensures below { (n : ℕ) → are_below n (multiset_of self.old) ≡ true → are_below n (multiset_of self.new) ≡ true }
         ensures removed { removed_of self.new ≡ removed_of self.old }
     {
@@ -125,7 +125,7 @@ impl Checklist {
     pub fn set_priorities<R: PairPriority>(&mut self, rule: &R)
         ensures set { multiset_of self.new ≡ map (with_priority (R.gives rule.now)) (multiset_of self.old) }
         ensures room { (n : ℕ) → HasRoom n self.old → HasRoom n self.new }
-        ensures check_room { HasCheckRoom self.old → HasCheckRoom self.new }
+        ensures check_room { (n : ℕ) → HasCheckRoom n self.old → HasCheckRoom n self.new }
         ensures below { (n : ℕ) → are_below n (multiset_of self.old) ≡ true → are_below n (multiset_of self.new) ≡ true }
         ensures removed { removed_of self.new ≡ removed_of self.old }
     {

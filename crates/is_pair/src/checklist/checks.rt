@@ -17,17 +17,17 @@ use rand_core::Rng;
 use std::alloc::AllocError;
 
 impl Checklist {
-    /// Reserves capacity for one more check, on any pair.
+    /// Reserves capacity for one more check, on any pair, if each stores at most the last `limit` of its checks.
     ///
     /// If the allocation fails, the pairs are unchanged.
-    pub fn reserve_check(&mut self) -> Result<(), AllocError>
+    pub fn reserve_check(&mut self, limit: usize) -> Result<(), AllocError>
         ensures multiset { multiset_of self.new ≡ multiset_of self.old }
-        ensures reserved { OnOk result (HasCheckRoom self.new) }
+        ensures reserved { OnOk result (HasCheckRoom limit self.new) }
         ensures room { (n : ℕ) → HasRoom n self.old → HasRoom n self.new }
         ensures removed { removed_of self.new ≡ removed_of self.old }
     {
-        self.index.reserve(1)?;
-        listed::reserve_beyond_all(&mut self.spare, &self.pairs)
+        index::reserve_entry(&mut self.index)?;
+        listed::reserve_beyond_all(&mut self.spare, &self.pairs, limit)
     }
 
     /// Sends a check on the pair with the number, which must be in the checklist: stores the check, and returns its
@@ -41,7 +41,7 @@ impl Checklist {
         rng: &mut R,
     ) -> TransId
         requires retransmits { 0 < timing_config.now.max_retransmits }
-        requires room { HasCheckRoom self.old }
+        requires room { HasCheckRoom timing_config.now.max_retransmits self.old }
         requires has { has_number number (multiset_of self.old) ≡ true }
         ensures sent { multiset_of self.new ≡ change_pair number (checked now.0 timing_config.now controlling result.0) (multiset_of self.old) }
         ensures drawn { (result.0, R.stream rng.new) ≡ fill_bytes 12 (R.stream rng.old) }
@@ -90,7 +90,7 @@ impl Checklist {
         requires kept { keeps trans_id.0 number (multiset_of self.old) ≡ true }
         ensures answered { RecordsAnswer number now.0 trans_id.0 (multiset_of self.old) (multiset_of self.new) }
         ensures room { (n : ℕ) → HasRoom n self.old → HasRoom n self.new }
-        ensures check_room { HasCheckRoom self.old → HasCheckRoom self.new }
+        ensures check_room { (n : ℕ) → HasCheckRoom n self.old → HasCheckRoom n self.new }
         ensures below { (n : ℕ) → are_below n (multiset_of self.old) ≡ true → are_below n (multiset_of self.new) ≡ true }
         ensures removed { removed_of self.new ≡ removed_of self.old }
     {

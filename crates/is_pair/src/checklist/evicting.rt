@@ -25,7 +25,7 @@ impl Checklist {
     pub fn evict(&mut self, limit: usize)
         ensures evicted { Evicts limit (multiset_of self.old) (multiset_of self.new) }
         ensures room { (n : ℕ) → HasRoom n self.old → HasRoom n self.new }
-        ensures check_room { HasCheckRoom self.old → HasCheckRoom self.new }
+        ensures check_room { (n : ℕ) → HasCheckRoom n self.old → HasCheckRoom n self.new }
         ensures below { (n : ℕ) → are_below n (multiset_of self.old) ≡ true → are_below n (multiset_of self.new) ≡ true }
         ensures removed { AreRemoved (λ p. true) (λ p. Evicted) (multiset_of self.old) (removed_of self.old) (removed_of self.new) }
     {

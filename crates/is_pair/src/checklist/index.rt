@@ -1,7 +1,7 @@
 //! The index of a checklist: which pairs store checks with which transaction IDs.
 
 ghost use Rattle.std.specs.Prelude.{◌≡◌, ◌<◌, ◌≤◌, ◌==◌, true, false, not, ℕ, List, Bool, ◌||◌, filter, find, get_or, if◌then◌else◌};
-ghost use Rattle.std.specs.Prelude.{length, remove, vec_len, vec_capacity};
+ghost use Rattle.std.specs.Prelude.{OnOk, length, remove, vec_len, vec_capacity};
 ghost use Rattle.std.specs.List.{list_any};
 ghost use Rattle.std.specs.List.Sorted.{IsPartitionPoint};
 ghost use Rattle.is_pair.specs.Multiset.{has_number, rises};
@@ -16,6 +16,21 @@ use super::pair_test::PairTest;
 use crate::pair::CandidatePair;
 use crate::pair::cut::Cut;
 use is_stun::stun::TransId;
+use std::alloc::AllocError;
+
+/// An index with fewer entries is short.
+const SHORT: usize = 16;
+
+/// Reserves capacity for one more entry. A short index gets exactly one place more, since most agents have few pairs.
+pub(super) fn reserve_entry(index: &mut Vec<Kept>) -> Result<(), AllocError>
+    ensures items { index.new.items ≡ index.old.items }
+    ensures reserved { OnOk result (vec_len index.new < vec_capacity index.new) }
+{
+    if index.len() < SHORT {
+        return index.reserve_exact(1);
+    }
+    index.reserve(1)
+}
 
 /// Whether an entry names a pair other than this one, or a transaction ID that this one stores.
 fn is_current(kept: Kept, pair: &CandidatePair) -> bool

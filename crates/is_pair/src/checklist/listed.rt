@@ -208,17 +208,21 @@ pub(super) fn earliest<'a>(
     first
 }
 
-/// Gives the spare queue more capacity than any pair stores checks.
+/// Gives the spare queue more capacity than any pair stores checks, of those that store fewer than the limit.
 pub(super) fn reserve_beyond_all(
     spare: &mut VecDeque<BindingAttempt>,
     pairs: &[CandidatePair],
+    limit: usize,
 ) -> Result<(), AllocError>
     ensures some { OnOk result (0 < deque_capacity spare.new) }
-    ensures fewer { OnOk result (keep_fewer (deque_capacity spare.new) pairs.now ≡ true) }
+    ensures fewer { OnOk result (keep_fewer limit (deque_capacity spare.new) pairs.now ≡ true) }
 {
     let mut most = 0;
     for pair in pairs {
-        most = pair.kept_count().max(most);
+        let count = pair.kept_count();
+        if count < limit {
+            most = count.max(most);
+        }
     }
     reserve_beyond(spare, most)
 }

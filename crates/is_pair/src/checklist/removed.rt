@@ -147,7 +147,7 @@ impl Checklist {
     pub fn forget_all_removed(&mut self)
         ensures multiset { multiset_of self.new ≡ multiset_of self.old }
         ensures room { (n : ℕ) → HasRoom n self.old → HasRoom n self.new }
-        ensures check_room { HasCheckRoom self.old → HasCheckRoom self.new }
+        ensures check_room { (n : ℕ) → HasCheckRoom n self.old → HasCheckRoom n self.new }
         ensures removed { removed_of self.new ≡ [] }
     {
         self.removed.clear();
@@ -157,7 +157,7 @@ impl Checklist {
     pub fn note_error(&mut self, number: u64, code: u16)
         ensures multiset { multiset_of self.new ≡ multiset_of self.old }
         ensures room { (n : ℕ) → HasRoom n self.old → HasRoom n self.new }
-        ensures check_room { HasCheckRoom self.old → HasCheckRoom self.new }
+        ensures check_room { (n : ℕ) → HasCheckRoom n self.old → HasCheckRoom n self.new }
         ensures removed { removed_of self.new ≡ removed_of self.old }
     {
         if let Some(place) = listed::place_of(&self.pairs, number) {
@@ -169,7 +169,7 @@ impl Checklist {
     pub fn forget_removed(&mut self, remote: usize)
         ensures multiset { multiset_of self.new ≡ multiset_of self.old }
         ensures room { (n : ℕ) → HasRoom n self.old → HasRoom n self.new }
-        ensures check_room { HasCheckRoom self.old → HasCheckRoom self.new }
+        ensures check_room { (n : ℕ) → HasCheckRoom n self.old → HasCheckRoom n self.new }
         ensures removed { removed_of self.new ≡ filter (λ r. not (r.remote == remote)) (removed_of self.old) }
     {
         self.removed.retain(|pair| pair.remote != remote);

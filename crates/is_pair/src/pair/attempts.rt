@@ -1,6 +1,6 @@
 //! The pending transactions of a pair, oldest first.
 
-ghost use Rattle.std.specs.Prelude.{◌≡◌, ◌<◌, ◌≤◌, OnOk, find, length, position, reverse, slice_get};
+ghost use Rattle.std.specs.Prelude.{◌≡◌, ◌<◌, ◌≤◌, ◌-◌, OnOk, find, length, position, reverse, slice_get};
 ghost use Rattle.std.specs.Option.{option_copied};
 ghost use Rattle.std.specs.VecDeque.{deque_len, deque_capacity};
 ghost use Rattle.is_pair.specs.Checks.{first_unanswered, has_id, is_answered, last_check, last_checks, unanswered_count};
@@ -37,7 +37,8 @@ pub(crate) fn last(attempts: &VecDeque<BindingAttempt>) -> Option<BindingAttempt
 
 /// Removes all except the last `kept` checks.
 pub(crate) fn keep_last(attempts: &mut VecDeque<BindingAttempt>, kept: usize)
-    ensures { attempts.new.items ≡ last_checks kept attempts.old.items }
+    ensures kept { attempts.new.items ≡ last_checks kept attempts.old.items }
+    ensures capacity { deque_capacity attempts.new ≡ deque_capacity attempts.old }
 {
     while attempts.len() > kept {
         attempts.pop_front();
@@ -77,11 +78,9 @@ pub(crate) fn place_of(attempts: &VecDeque<BindingAttempt>, trans_id: TransId) -
     attempts.iter().position(|attempt| attempt.has_id(trans_id))
 }
 
-/// Makes capacity for one more check: a full queue moves its checks to the spare one, and the two are swapped.
-pub(crate) fn make_room(
-    attempts: &mut VecDeque<BindingAttempt>,
-    spare: &mut VecDeque<BindingAttempt>,
-)
+/// Makes capacity for one more check. A full queue moves its checks to the spare one, and the two are swapped; the memory of the full one
+/// is freed.
+fn make_room(attempts: &mut VecDeque<BindingAttempt>, spare: &mut VecDeque<BindingAttempt>)
     requires { length attempts.old.items < deque_capacity spare.old }
     ensures items { attempts.new.items ≡ attempts.old.items }
     ensures room { deque_len attempts.new < deque_capacity attempts.new }
@@ -94,6 +93,26 @@ pub(crate) fn make_room(
         Ok(()) => swap(attempts, spare),
         Err(_) => unreachable!(),
     }
+    spare.shrink_to_fit();
+}
+
+/// Makes capacity for one more check of at most `limit`: drops those that are then no longer among the last, or moves a full queue to the
+/// spare one.
+pub(crate) fn make_room_within(
+    attempts: &mut VecDeque<BindingAttempt>,
+    spare: &mut VecDeque<BindingAttempt>,
+    limit: usize,
+)
+    requires limit { 0 < limit }
+    requires room { length attempts.old.items < limit → length attempts.old.items < deque_capacity spare.old }
+    ensures items { attempts.new.items ≡ last_checks (limit - 1) attempts.old.items }
+    ensures room { deque_len attempts.new < deque_capacity attempts.new }
+{
+    if attempts.len() < limit {
+        make_room(attempts, spare);
+        return;
+    }
+    keep_last(attempts, limit - 1);
 }
 
 /// Gives the spare queue capacity for more than `most` checks, for `new_attempt_reserved`.

@@ -84,8 +84,8 @@ impl CandidatePair {
         self.cached_next_attempt_time = None;
     }
 
-    /// Does the same without failing: the spare queue has capacity for one check more than the pair stores. If the
-    /// pair's own queue is full, the two are swapped.
+    /// Does the same without failing: if the pair stores fewer checks than it may, the spare queue has capacity for one more. If the pair's
+    /// own queue is full, the two are swapped.
     pub(crate) fn new_attempt_reserved<R: Rng>(
         &mut self,
         now: Instant,
@@ -95,11 +95,15 @@ impl CandidatePair {
         spare: &mut VecDeque<BindingAttempt>,
     ) -> TransId
         requires retransmits { 0 < timing_config.now.max_retransmits }
-        requires room { length self.old.checks < deque_capacity spare.old }
+        requires room { length self.old.checks < timing_config.now.max_retransmits → length self.old.checks < deque_capacity spare.old }
         ensures sent { self.new ≡ checked now.0 timing_config.now controlling result.0 self.old }
         ensures drawn { (result.0, R.stream rng.new) ≡ fill_bytes 12 (R.stream rng.old) }
     {
-        attempts::make_room(&mut self.binding_attempts, spare);
+        attempts::make_room_within(
+            &mut self.binding_attempts,
+            spare,
+            timing_config.max_retransmits,
+        );
         let trans_id = TransId::new(rng);
         let attempt = self.attempt(trans_id, now, controlling);
         self.binding_attempts.push_back_reserved(attempt);

@@ -93,7 +93,7 @@ impl Paths {
     /// Sends a check of the pair with the number. Its id is the one that a generator with this seed gives. If that
     /// fails, there is no check.
     fn check(&mut self, number: u64, millis: u64, seed: u64) -> Result<TransId, IceError> {
-        self.list.reserve_check()?;
+        self.list.reserve_check(self.timing.max_retransmits)?;
         let mut rng = Pcg32::seed_from_u64(seed);
         if self.list.get(number).is_none() {
             return Ok(TransId::new(&mut rng));

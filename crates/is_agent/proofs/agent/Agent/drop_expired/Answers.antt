@@ -16,7 +16,7 @@ returns-clause-checks g c = λ t room falls.
     let before = and-third (not self.lite) (is_some self.remote_creds) (nominates || list_any due (multiset_of self.pairs)) (nominates || list_any due (multiset_of c.remove_where.new.self))
     (or-second nominates (list_any due (multiset_of self.pairs)) (list_any due (multiset_of c.remove_where.new.self)) (λ h. fewer (rw (c.remove_where.ensures.left) at h))) falls in
     let old = room before in
-    (old.0, c.remove_where.ensures.check_room old.1, old.2)
+    (old.0, c.remove_where.ensures.check_room _ old.1, old.2)
 
 pub invariant_of-self-clause-placed : goal.invariant_of-self-clause-placed
 invariant_of-self-clause-placed g c =

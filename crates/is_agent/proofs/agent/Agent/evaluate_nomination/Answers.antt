@@ -26,4 +26,4 @@ returns-clause-checks g c = λ now room.
     let all = and-third (not self.lite) (is_some self.remote_creds) (nominates || before) (nominates || named)
     (or-second nominates before named (c.select_pair-path.ensures.due now self.timing)) falls in
     let old = room all in
-    (old.0, c.select_pair-path.ensures.check_room old.1, old.2))
+    (old.0, c.select_pair-path.ensures.check_room _ old.1, old.2))

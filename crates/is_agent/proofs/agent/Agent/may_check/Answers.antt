@@ -24,7 +24,7 @@ check_next-requires g c =
           let falls = or-both (nominates_at_once all) (list_any (is_due now self.timing) (map (asked now self.timing) (multiset_of self.pairs))) (may_nominate (record_of self)) before
           (λ h. nominates-may all h) (λ h. falls-asked self.controlling now self.timing (multiset_of self.pairs) h) either in
           let old = c.requires (all-three (not self.lite) (is_some self.remote_creds) (may_nominate (record_of self) || before) full known falls) in
-          (old.0, c.fix_due_times.ensures.check_room old.1, old.2);
+          (old.0, c.fix_due_times.ensures.check_room _ old.1, old.2);
     }
 
 pub returns-else-self : goal.returns-else-self

@@ -28,7 +28,7 @@ returns-clause-check_room g c =
     let f = change_at c.args.number (g.C.PairChange.makes c.args.change.now) in
     let keys : KeepsKeys f = keeps-keys-at c.args.number (g.C.PairChange.makes c.args.change.now) c.requires.keys in
     let is = c.change.ensures.changed in
-    λ h. (h.0, h.1, changed-fewer f (λ p. (keys p).0) c.args.self.now.pairs.items _ is (λ p. (keys p).2) _ h.2)
+    λ limit h. (h.0, h.1, changed-fewer f (λ p. (keys p).0) c.args.self.now.pairs.items _ is (λ p. (keys p).2) limit _ h.2)
 
 pub returns-clause-below : goal.returns-clause-below
 returns-clause-below g c =

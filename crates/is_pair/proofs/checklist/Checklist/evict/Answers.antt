@@ -20,7 +20,7 @@ loop-self-preserved c =
     record {
       drops = λ gone end h. c.loop-self.invariant.drops (c.in-Some.least.now ∷ gone) end (omega (arith, c.loop-self-test.true, c.len.ensures), least, rw (c.remove.ensures.left, c.id-number.ensures) at h);
       room = λ n h. c.remove.ensures.room n (c.loop-self.invariant.room n h);
-      check_room = λ h. c.remove.ensures.check_room (c.loop-self.invariant.check_room h);
+      check_room = λ limit h. c.remove.ensures.check_room limit (c.loop-self.invariant.check_room limit h);
       removed = removed-then (λ p. true) (is_numbered c.id-number.result.0) (λ p. Evicted) (multiset_of c.args.self.now) (multiset_of c.loop-self.self)
           (removed_of c.args.self.now) (removed_of c.loop-self.self) (removed_of c.remove.new.self) (λ p. refl) c.loop-self.invariant.among
           c.loop-self.invariant.removed (search rules);

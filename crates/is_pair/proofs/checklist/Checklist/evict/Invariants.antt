@@ -11,7 +11,7 @@ abbrev pub invariant-loop-self : goal.invariant-loop-self
 invariant-loop-self l = record {
   drops : (gone : List PairRecord) (end : List PairRecord) → EvictsInTurn l.limit gone (multiset_of l.self) end → (all : List PairRecord) × EvictsInTurn l.limit all (multiset_of l.fn.self) end;
   room : (n : ℕ) → HasRoom n l.fn.self → HasRoom n l.self;
-  check_room : HasCheckRoom l.fn.self → HasCheckRoom l.self;
+  check_room : (n : ℕ) → HasCheckRoom n l.fn.self → HasCheckRoom n l.self;
   removed : AreRemoved (λ p. true) (λ p. Evicted) (multiset_of l.fn.self) (removed_of l.fn.self) (removed_of l.self);
   among : (p : PairRecord) → Has (multiset_of l.self) p → Has (multiset_of l.fn.self) p;
   below : (n : ℕ) → are_below n (multiset_of l.fn.self) ≡ true → are_below n (multiset_of l.self) ≡ true;

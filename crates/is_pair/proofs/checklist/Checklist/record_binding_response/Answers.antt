@@ -51,13 +51,13 @@ invariant_of-self-clause-ranked c =
     written-ranking c.in-Some.place list.pairs.items _ p after at refl list.ranks.items (answer-number p c.args.now.0 c.args.trans_id.0 after taken) (answer-priority p c.args.now.0 c.args.trans_id.0 after taken) list.ranked
 
 pub returns-clause-check_room : goal.returns-clause-check_room
-returns-clause-check_room c = λ h.
+returns-clause-check_room c = λ limit h.
     let list = c.args.self.now in
     let p = c.index_mut.result.now in
     let after = c.record_binding_response.new.self in
     let taken = c.record_binding_response.ensures in
     let at : slice_get list.pairs.items c.in-Some.place ≡ Some p = slice_get_read _ _ _ _ (ap length c.deref.ensures.value) c.in-Some.ensures.within c.index_mut.ensures.value in
-    (h.0, h.1, written-fewer c.in-Some.place list.pairs.items _ p after at refl _ (answer-checks p c.args.now.0 c.args.trans_id.0 after taken) h.2)
+    (h.0, h.1, written-fewer c.in-Some.place list.pairs.items _ p after at refl limit _ (answer-checks p c.args.now.0 c.args.trans_id.0 after taken) h.2)
 
 pub returns-clause-below : goal.returns-clause-below
 returns-clause-below c = λ n h.

@@ -2,7 +2,7 @@ use Rattle.std.proofs.Common.{◌==◌, ap, not, ◌∙◌, nat_lt, length, arit
 use Rattle.is_pair.specs.Pairs.{PairRecord}
 use Rattle.is_pair.specs.declared.checklist.entries.Kept.{Kept}
 use Rattle.is_pair.specs.declared.checklist.entries.Rank.{Rank}
-use Rattle.is_pair.specs.Multiset.{are_below, is_numbered, keep_fewer, rises}
+use Rattle.is_pair.specs.Multiset.{are_below, are_fewer, is_numbered, keep_fewer, rises}
 use Rattle.is_pair.specs.Entries.{are_ordered, ids_rise}
 use Rattle.is_pair.proofs.ChecklistIndex.SortedById.{rising-filter}
 use Rattle.is_pair.proofs.PairEntries.ChangedEntry.{all-filter, rises-filter}
@@ -33,8 +33,8 @@ invariant_of-self-clause-ranked c =
     c.take_out.ensures.left c.drop_number-2.ensures.items c.args.self.now.ranked
 
 pub returns-clause-check_room : goal.returns-clause-check_room
-returns-clause-check_room c = λ h.
-    let fewer = ap (keep_fewer _) c.take_out.ensures.left ∙ all-filter (λ (p : PairRecord). nat_lt (length p.checks) _) (λ (p : PairRecord). not (is_numbered c.args.number p)) c.args.self.now.pairs.items h.2 in
+returns-clause-check_room c = λ limit h.
+    let fewer = ap (keep_fewer limit _) c.take_out.ensures.left ∙ all-filter (λ (p : PairRecord). are_fewer limit _ (length p.checks)) (λ (p : PairRecord). not (is_numbered c.args.number p)) c.args.self.now.pairs.items h.2 in
     (omega (arith, h.0, c.drop_number.ensures.within, c.drop_number.ensures.capacity), h.1, fewer)
 
 pub returns-clause-below : goal.returns-clause-below

@@ -1,7 +1,7 @@
 use Rattle.std.proofs.Common.{List, ap, filter, not, ◌∙◌, nat_lt, length, arith}
 use Rattle.is_pair.specs.Pairs.{PairRecord}
 use Rattle.is_pair.specs.declared.checklist.entries.Rank.{Rank}
-use Rattle.is_pair.specs.Multiset.{are_below, has_number, keep_fewer, rises}
+use Rattle.is_pair.specs.Multiset.{are_below, are_fewer, has_number, keep_fewer, rises}
 use Rattle.is_pair.specs.declared.checklist.entries.Kept.{Kept}
 use Rattle.is_pair.specs.Entries.{are_ordered, ids_rise}
 use Rattle.is_pair.proofs.ChecklistIndex.SortedById.{rising-filter}
@@ -34,9 +34,9 @@ invariant_of-self-clause-by_id g c =
     ap ids_rise (c.keep_known.ensures.items ∙ ap (λ (ps : List PairRecord). filter (λ (k : Kept). has_number k.number ps) c.args.self.now.index.items) c.deref-2.ensures.value) ∙ rising-filter (λ (k : Kept). has_number k.number c.drop_passing.new.pairs.items) c.args.self.now.index.items c.args.self.now.by_id
 
 pub returns-clause-check_room : goal.returns-clause-check_room
-returns-clause-check_room g c = λ h.
+returns-clause-check_room g c = λ limit h.
     let stays = λ (p : PairRecord). not (g.T.PairTest.passes c.args.test.now p) in
-    let fewer = ap (keep_fewer _) c.drop_passing.ensures.left ∙ all-filter (λ (p : PairRecord). nat_lt (length p.checks) _) stays c.args.self.now.pairs.items h.2 in
+    let fewer = ap (keep_fewer limit _) c.drop_passing.ensures.left ∙ all-filter (λ (p : PairRecord). are_fewer limit _ (length p.checks)) stays c.args.self.now.pairs.items h.2 in
     (omega (arith, h.0, c.keep_known.ensures.within, c.keep_known.ensures.capacity), h.1, fewer)
 
 pub returns-clause-below : goal.returns-clause-below

@@ -30,9 +30,9 @@ invariant_of-self-clause-ranked g c = λ priority n.
     (with_priority (g.R.PairPriority.gives c.args.rule.now)) (λ p. refl) c.set_priorities.new.pairs.items c.set_priorities.ensures.set priority n
 
 pub returns-clause-check_room : goal.returns-clause-check_room
-returns-clause-check_room g c = λ h.
+returns-clause-check_room g c = λ limit h.
     let f = with_priority (g.R.PairPriority.gives c.args.rule.now) in
-    (h.0, h.1, changed-fewer f (λ p. refl) c.args.self.now.pairs.items _ c.set_priorities.ensures.set (λ p. refl) _ h.2)
+    (h.0, h.1, changed-fewer f (λ p. refl) c.args.self.now.pairs.items _ c.set_priorities.ensures.set (λ p. refl) limit _ h.2)
 
 pub returns-clause-below : goal.returns-clause-below
 returns-clause-below g c = λ n h.

@@ -1,4 +1,4 @@
-use Rattle.std.proofs.Common.{ap, ◌∙◌, arith}
+use Rattle.std.proofs.Common.{ap, ◌∙◌, rules, arith}
 use Rattle.is_pair.specs.Checks.{last_checks}
 use Rattle.is_pair.proofs.StoredChecks.LastChecks.{last_checks-drop}
 use Rattle.is_pair.proofs.pair.attempts.keep_last.Goals as goal
@@ -7,4 +7,7 @@ pub loop-attempts-preserved : goal.loop-attempts-preserved
 loop-attempts-preserved c =
     let kept = c.args.kept in
     let shorter = last_checks-drop kept c.loop-attempts.attempts.items (omega arith) in
-    ap (last_checks kept) c.pop_front.ensures.rest ∙ shorter ∙ c.loop-attempts.invariant
+    record {
+      kept = ap (last_checks kept) c.pop_front.ensures.rest ∙ shorter ∙ c.loop-attempts.invariant.kept;
+      capacity = search rules;
+    }

@@ -1,10 +1,13 @@
 use Rattle.std.proofs.Common.{◌≡◌}
-use Rattle.std.specs.VecDeque.{deque_len}
+use Rattle.std.specs.VecDeque.{deque_len, deque_capacity}
 use Rattle.is_pair.specs.Checks.{last_checks}
 use Rattle.is_pair.proofs.pair.attempts.keep_last.Given as goal
 
 abbrev pub invariant-loop-attempts : goal.invariant-loop-attempts
-invariant-loop-attempts l = last_checks l.kept l.attempts.items ≡ last_checks l.kept l.fn.attempts.items
+invariant-loop-attempts l = record {
+  kept : last_checks l.kept l.attempts.items ≡ last_checks l.kept l.fn.attempts.items;
+  capacity : deque_capacity l.attempts ≡ deque_capacity l.fn.attempts;
+}
 
 abbrev pub decreases-loop-attempts : goal.decreases-loop-attempts
 decreases-loop-attempts l = deque_len l.attempts
