@@ -12,6 +12,7 @@ pub mod checking;
 pub mod credentials;
 pub mod discarding;
 pub mod emitted;
+mod expiring;
 pub mod local;
 mod next_check;
 pub mod nomination;

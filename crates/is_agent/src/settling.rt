@@ -8,14 +8,14 @@ ghost use Rattle.is_rules.specs.Emitted.{nothing_emitted, selected_only};
 ghost use Rattle.is_rules.specs.Nominating.{Nominates};
 ghost use Rattle.is_rules.specs.States.{evaluated};
 ghost use Rattle.is_rules.specs.declared.emitted.Path.{Path};
-ghost use Rattle.is_rules.specs.Settling.{settles, state_at_start, started, state_settled, settled, has_selected, Reselects};
+ghost use Rattle.is_rules.specs.Settling.{settles, started, settled, has_selected, Reselects};
 
 use crate::agent::Agent;
 use is_candidate::LocalPreference;
 use is_proto::{Instant, Sha1HmacProvider};
 use is_rules::emitted::Emitted;
 use is_rules::event::IceConnectionState;
-use is_rules::states::{emit_state, same_state};
+use is_rules::states::same_state;
 use std::alloc::AllocError;
 
 impl<H: Sha1HmacProvider + Drop, P: LocalPreference> Agent<H, P> {
@@ -26,16 +26,6 @@ impl<H: Sha1HmacProvider + Drop, P: LocalPreference> Agent<H, P> {
         self.rules.state_after_nomination && !same_state(self.state, IceConnectionState::New)
     }
 
-    fn state_at_start(&self, now: Instant) -> IceConnectionState
-        ensures { result ≡ state_at_start now.0 (record_of self.now) }
-    {
-        if self.settles() {
-            self.state
-        } else {
-            self.state_at(now)
-        }
-    }
-
     /// The state when a `handle_timeout` call starts: evaluated, unless it is after nomination.
     pub(crate) fn start_state(&mut self, now: Instant)
         requires room { HasEventRoom 1 self.old }
@@ -44,17 +34,8 @@ impl<H: Sha1HmacProvider + Drop, P: LocalPreference> Agent<H, P> {
         ensures news { UsesNews 1 self.old self.new }
         ensures checks { (t : ℕ) → HasCheckRoomAt t self.old → HasCheckRoomAt t self.new }
     {
-        let state = self.state_at_start(now);
-        emit_state(&mut self.state, &mut self.events, state);
-    }
-
-    fn state_settled(&self, changes: bool, now: Instant) -> IceConnectionState
-        ensures { result ≡ state_settled changes now.0 (record_of self.now) }
-    {
-        if changes && self.settles() {
-            self.state_at(now)
-        } else {
-            self.state
+        if !self.settles() {
+            self.evaluate_state(now);
         }
     }
 
@@ -66,8 +47,9 @@ impl<H: Sha1HmacProvider + Drop, P: LocalPreference> Agent<H, P> {
         ensures news { UsesNews 1 self.old self.new }
         ensures checks { (t : ℕ) → HasCheckRoomAt t self.old → HasCheckRoomAt t self.new }
     {
-        let state = self.state_settled(changes, now);
-        emit_state(&mut self.state, &mut self.events, state);
+        if changes && self.settles() {
+            self.evaluate_state(now);
+        }
     }
 }
 

@@ -3,7 +3,7 @@
 ghost use Rattle.std.specs.Prelude.{◌≡◌, ℕ, ◌<◌, ◌+◌};
 ghost use Rattle.is_agent.specs.View.{record_of};
 ghost use Rattle.is_rules.specs.States.{next_state, has_nominated, has_possible, evaluated};
-ghost use Rattle.is_agent.specs.Room.{HasEventRoom, HasServingRoom, HasCheckRoomAt, UsesNews};
+ghost use Rattle.is_agent.specs.Room.{HasPacketRoom, HasEventRoom, HasServingRoom, HasCheckRoomAt, UsesNews};
 
 use crate::agent::Agent;
 use is_candidate::LocalPreference;
@@ -44,6 +44,7 @@ impl<H: Sha1HmacProvider + Drop, P: LocalPreference> Agent<H, P> {
     pub(crate) fn evaluate_state(&mut self, now: Instant)
         requires room { HasEventRoom 1 self.old }
         ensures evaluated { record_of self.new ≡ evaluated now.0 (record_of self.old) }
+        ensures packets { HasPacketRoom self.old → HasPacketRoom self.new }
         ensures serving { HasServingRoom self.old → HasServingRoom self.new }
         ensures news { UsesNews 1 self.old self.new }
         ensures checks { (t : ℕ) → HasCheckRoomAt t self.old → HasCheckRoomAt t self.new }

@@ -9,94 +9,37 @@ ghost use Rattle.is_stun.specs.Writing.{written};
 ghost use Rattle.is_stun.specs.declared.header.Class.TheVariants as classes;
 ghost use Rattle.is_rules.specs.declared.credentials.IceCreds as model;
 ghost use Rattle.is_agent.specs.View.{record_of, emitted_of};
-ghost use Rattle.is_agent.specs.Room.{HasPacketRoom, HasEventRoom, HasCheckRoom, HasCheckRoomAt, IsPrepared, UsesEvents};
+ghost use Rattle.is_agent.specs.Room.{HasPacketRoom, HasEventRoom, HasCheckRoom, HasCheckRoomAt, IsPrepared};
 ghost use Rattle.is_rules.specs.Checking.{check_message, is_ahead_turn, is_selected_number, ChecksPair, ChecksNext, MayCheck};
 ghost use Rattle.is_pair.specs.Multiset.{has_number, pair_numbered};
 ghost use Rattle.is_pair.specs.Due.{is_due};
 ghost use Rattle.is_rules.specs.Agent.{AgentRecord};
 ghost use Rattle.is_rules.specs.Due.{may_nominate, may_fall_due, Drafts, check_counted};
-ghost use Rattle.is_rules.specs.Nominating.{nominates_at_once, Nominates};
+ghost use Rattle.is_rules.specs.Nominating.{nominates_at_once};
 ghost use Rattle.is_pair.specs.Pairs.{PairRecord};
 ghost use Rattle.is_rules.specs.Queue.{request_at};
 ghost use Rattle.is_rules.specs.Sending.{with_packet};
-ghost use Rattle.is_rules.specs.States.{evaluated};
 ghost use Rattle.is_rules.specs.Emitted.{issued_as, emitted_by};
 ghost use Rattle.is_rules.specs.declared.emitted.Issued.{Issued};
 ghost use Rattle.is_rules.specs.declared.emitted.Path.{Path};
 ghost use Rattle.is_rules.specs.TimeoutStart.{outdated};
-ghost use Rattle.is_rules.specs.Timeouts.{at_request, timeout_begun, is_expired, expired_gone, RemovesExpired, MayFailAtTimeout, ServesQueued, MaintainsPairs, TimesOut};
+ghost use Rattle.is_rules.specs.Timeouts.{at_request, timeout_begun, MayFailAtTimeout, ServesQueued, MaintainsPairs, TimesOut};
 
 use crate::agent::Agent;
 use crate::settings::CHECK_ROOM;
 use is_candidate::LocalPreference;
-use is_pair::checklist::Expired;
 use is_proto::{IceError, Instant, Sha1HmacProvider, Transmit, reserve_one_in};
 use is_rules::checking::{Draft, write_username};
-use is_rules::emitted::{Emitted, Issued, Path};
+use is_rules::emitted::{Emitted, Issued};
+use is_rules::event::IceConnectionState;
 use is_rules::nomination::begin_nomination;
 use is_rules::queue::count_outdated;
+use is_rules::states::same_state;
 use is_rules::theorems;
 use is_rules::timeout::FallsDue;
 use is_stun::stun::{Class, TransId};
 use rand_core::Rng;
 use std::alloc::AllocError;
-
-// ---- pairs that are removed after timeout
-
-impl<H: Sha1HmacProvider + Drop, P: LocalPreference> Agent<H, P> {
-    fn any_expired(&self, now: Instant) -> bool
-        ensures { result ≡ list_any (is_expired now.0 (record_of self.now)) (record_of self.now).pairs }
-    {
-        self.pairs.any(&Expired {
-            lite: self.lite,
-            now,
-            timing: &self.timing,
-        })
-    }
-
-    fn drop_expired(&mut self, now: Instant)
-        ensures gone { record_of self.new ≡ expired_gone now.0 (record_of self.old) }
-        ensures events { UsesEvents 0 self.old self.new }
-        ensures checks { (t : ℕ) → HasCheckRoomAt t self.old → HasCheckRoomAt t self.new }
-    {
-        self.pairs.remove_where(&Expired {
-            lite: self.lite,
-            now,
-            timing: &self.timing,
-        });
-    }
-
-    /// Removes the pairs that failed, and evaluates nomination and state. It is a separate function, so that calls that
-    /// remove no pair do not pay for it.
-    #[inline(never)]
-    fn remove_expired_and_emit(&mut self, first: Option<Path>, now: Instant)
-        requires room { HasEventRoom 2 self.old }
-        ensures expired { (second : Option Path) × (mid : AgentRecord H P) × Nominates (expired_gone now.0 (record_of self.old)) second mid
-            × (record_of self.new ≡ evaluated now.0 mid) × (emitted_of self.new ≡ emitted_by None first second) }
-        ensures checks { (t : ℕ) → HasCheckRoomAt t self.old → HasCheckRoomAt t self.new }
-    {
-        self.drop_expired(now);
-        let second = self.evaluate_nomination();
-        self.evaluate_state(now);
-        self.emitted = Emitted::by(None, first, second);
-    }
-
-    /// Removes the pairs that are no longer possible. If there is one, nomination and state are evaluated; else the state is, by the
-    /// rule. A path that this selects is emitted after the path that was selected before.
-    fn remove_expired(&mut self, first: Option<Path>, now: Instant)
-        requires room { HasEventRoom 2 self.old }
-        ensures expired { (second : Option Path) × RemovesExpired now.0 (record_of self.old) second (record_of self.new)
-            × (emitted_of self.new ≡ emitted_by None first second) }
-        ensures checks { (t : ℕ) → HasCheckRoomAt t self.old → HasCheckRoomAt t self.new }
-    {
-        if !self.any_expired(now) {
-            self.settle_state(true, now);
-            self.emitted = Emitted::selected_only(first);
-            return;
-        }
-        self.remove_expired_and_emit(first, now);
-    }
-}
 
 // ---- a check
 
@@ -316,8 +259,10 @@ impl<H: Sha1HmacProvider + Drop, P: LocalPreference> Agent<H, P> {
         self.may_check(now, rng);
     }
 
-    /// A `handle_timeout` call that serves no request. This many early requests are outdated.
-    fn run_timeout_without_request<R: Rng>(
+    /// The first `handle_timeout` call, in New, if it serves no request. It is a separate function, so that later calls do not pay for the
+    /// start event.
+    #[inline(never)]
+    fn run_first_timeout<R: Rng>(
         &mut self,
         now: Instant,
         expired: usize,
@@ -331,6 +276,27 @@ impl<H: Sha1HmacProvider + Drop, P: LocalPreference> Agent<H, P> {
         let start = self.start_event()?;
         self.take_round_room(now)?;
         self.begin_timeout(now, start, expired);
+        self.maintain_pairs(now, rng);
+        Ok(())
+    }
+
+    /// A `handle_timeout` call that serves no request. This many early requests are outdated.
+    fn run_timeout_without_request<R: Rng>(
+        &mut self,
+        now: Instant,
+        expired: usize,
+        rng: &mut R,
+    ) -> Result<(), AllocError>
+        requires { expired ≡ outdated now.0 self.old.timing self.old.remote_creds (record_of self.old) }
+        ensures advanced { OnOk result (MaintainsPairs H.mac now.0 (timeout_begun now.0 (record_of self.old)) (R.stream rng.old) (emitted_of self.new)
+            (record_of self.new) (R.stream rng.new)) }
+        ensures unchanged { IfErr result (λ _. (record_of self.new ≡ record_of self.old) × (R.stream rng.new ≡ R.stream rng.old)) }
+    {
+        if same_state(self.state, IceConnectionState::New) {
+            return self.run_first_timeout(now, expired, rng);
+        }
+        self.take_round_room(now)?;
+        self.begin_later_timeout(now, expired);
         self.maintain_pairs(now, rng);
         Ok(())
     }

@@ -1,6 +1,6 @@
 //! How a `handle_timeout` call starts: the start event, the state, early requests; the rules: `is_rules::timeout_start`.
 
-ghost use Rattle.std.specs.Prelude.{◌≡◌, ℕ, ◌<◌, Some, IfOk, IfErr, IfSome, IsSome, IsSomeAnd, slice_get};
+ghost use Rattle.std.specs.Prelude.{◌≡◌, ℕ, ◌<◌, false, Some, IfOk, IfErr, IfSome, IsSome, IsSomeAnd, slice_get};
 ghost use Rattle.std.specs.VecDeque.{deque_len};
 ghost use Rattle.is_rules.specs.RequestView.{request_view, waiting_view};
 ghost use Rattle.is_agent.specs.Ready.{IsPlan};
@@ -8,7 +8,9 @@ ghost use Rattle.is_agent.specs.Room.{HasEventRoom, HasServingRoom, HasCheckRoom
 ghost use Rattle.is_rules.specs.Serving.{names_another, Serves, MayFailAtRequest};
 ghost use Rattle.is_agent.specs.View.{record_of};
 ghost use Rattle.is_rules.specs.Queue.{first_taken};
+ghost use Rattle.is_rules.specs.States.{same_state};
 ghost use Rattle.is_rules.specs.TimeoutStart.{start_event, outdated};
+ghost use Rattle.is_rules.specs.declared.event.IceConnectionState.TheVariants.{New};
 ghost use Rattle.is_rules.specs.Timeouts.{at_request, timeout_begun};
 
 use crate::agent::Agent;
@@ -51,6 +53,19 @@ impl<H: Sha1HmacProvider + Drop, P: LocalPreference> Agent<H, P> {
         ensures checks { (t : ℕ) → HasCheckRoomAt t self.old → HasCheckRoomAt t self.new }
     {
         emit_start(&mut self.events, start);
+        self.start_state(now);
+        drop_first(&mut self.queue, expired);
+    }
+
+    /// The same after the first call: there is no start event.
+    pub(crate) fn begin_later_timeout(&mut self, now: Instant, expired: usize)
+        requires later { same_state (record_of self.old).state New ≡ false }
+        requires expired { expired ≡ outdated now.0 self.old.timing self.old.remote_creds (record_of self.old) }
+        requires room { HasEventRoom 1 self.old }
+        ensures begun { record_of self.new ≡ timeout_begun now.0 (record_of self.old) }
+        ensures news { UsesNews 1 self.old self.new }
+        ensures checks { (t : ℕ) → HasCheckRoomAt t self.old → HasCheckRoomAt t self.new }
+    {
         self.start_state(now);
         drop_first(&mut self.queue, expired);
     }
