@@ -884,6 +884,15 @@ IS_ICE_CALL int32_t is_ice_accepts_message(is_ice_agent *agent, const uint8_t *b
  * timeout_after_requests of is_ice_set_rules); *at is unchanged. */
 IS_ICE_CALL int32_t is_ice_poll_timeout(is_ice_agent *agent, uint64_t *at);
 
+/* is_ice_poll_timeout_soon - returns this time for an agent that changed since the last is_ice_handle_timeout call: it
+ * took a packet, or the peer's credentials or a candidate came. So a check that is due at once does not wait for the whole
+ * Ta. The time is that of is_ice_poll_timeout, or 5 ms after the last call, if that is sooner: no checks may be sent more
+ * often (RFC 8445, section 14.2). Call it in place of is_ice_poll_timeout, also after a call that served an early request.
+ * Such a call counts as the last one only if none came before. Does not allocate.
+ *
+ * IS_ICE_OK: *at is the time. IS_ICE_NOTHING: see is_ice_poll_timeout; *at is unchanged. */
+IS_ICE_CALL int32_t is_ice_poll_timeout_soon(is_ice_agent *agent, uint64_t *at);
+
 /* is_ice_poll_transmit - returns the next packet to send and removes it from the agent. Its bytes are at the start of
  * the buffer, whose rest is unchanged; *packet has their length, the addresses and the protocol. Does not allocate.
  *
@@ -935,6 +944,11 @@ IS_ICE_CALL int32_t is_ice_nominated(is_ice_agent *agent, is_ice_nominated_pair 
  *
  * IS_ICE_OK. IS_ICE_NOTHING: no pair is valid; *path is unchanged. */
 IS_ICE_CALL int32_t is_ice_valid_path(is_ice_agent *agent, is_ice_media_path *path);
+
+/* is_ice_early_count - returns how many early requests wait, at most 100: checks of the peer that arrived before its
+ * credentials were set. Once these are set, each is_ice_handle_timeout call serves one, and sends no check as it does.
+ * After a call that lowered the count, ask is_ice_poll_timeout_soon when to call next. IS_ICE_OK. */
+IS_ICE_CALL int32_t is_ice_early_count(is_ice_agent *agent, size_t *count);
 
 /* is_ice_pair_count - returns the number of candidate pairs. IS_ICE_OK. */
 IS_ICE_CALL int32_t is_ice_pair_count(is_ice_agent *agent, size_t *count);

@@ -538,6 +538,12 @@ public:
         if (!done(is_ice_poll_timeout(at(), &time))) return std::nullopt;
         return detail::duration(time);
     }
+    std::optional<nanoseconds> poll_timeout_soon()
+    {
+        uint64_t time = 0;
+        if (!done(is_ice_poll_timeout_soon(at(), &time))) return std::nullopt;
+        return detail::duration(time);
+    }
     std::optional<packet> poll_transmit()
     {
         is_ice_packet header{};
@@ -573,6 +579,7 @@ public:
     counters stats() const { return *filled<counters>(is_ice_stats); }
     std::optional<nominated_pair> nominated() const { return filled<nominated_pair>(is_ice_nominated); }
     std::optional<media_path> valid_path() const { return filled<media_path>(is_ice_valid_path); }
+    size_t early_count() const { return *filled<size_t>(is_ice_early_count); }
     size_t pair_count() const { return *filled<size_t>(is_ice_pair_count); }
     std::optional<pair> pair_at(size_t index) const
     {

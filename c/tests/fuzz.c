@@ -548,6 +548,8 @@ static void poll_timeout(void)
     uint64_t *when = argument(sizeof *when);
     int32_t code = CALL(OK | NOTHING | QUIET | QUERY, is_ice_poll_timeout(agents[on], when));
     filled(code, when, sizeof *when);
+    code = CALL(OK | NOTHING | QUIET | QUERY, is_ice_poll_timeout_soon(agents[on], when));
+    filled(code, when, sizeof *when);
 }
 
 /* Some rounds of an honest session: timeouts, and packets that arrive or are lost. */
@@ -579,7 +581,7 @@ static void queries(void)
     const unsigned quiet = QUIET | QUERY;
     static const size_t sizes[] = {sizeof(is_ice_agent_status), sizeof(is_ice_agent_stats), sizeof(is_ice_nominated_pair), sizeof(size_t),
         sizeof(is_ice_pair), sizeof(size_t), sizeof(is_ice_agent_rules), sizeof(is_ice_media_path), sizeof(size_t),
-        sizeof(is_ice_removed_pair)};
+        sizeof(is_ice_removed_pair), sizeof(size_t)};
     uint8_t kind = take() % COUNT(sizes);
     void *result = argument(sizes[kind]);
     size_t index = one_in(8) ? (size_t)number() : below(16);
@@ -595,6 +597,7 @@ static void queries(void)
     if (kind == 7) code = CALL(OK | NOTHING | quiet, is_ice_valid_path(agents[on], result));
     if (kind == 8) code = CALL(OK | quiet, is_ice_removed_count(agents[on], result));
     if (kind == 9) code = CALL(OK | NOTHING | quiet, is_ice_removed_at(agents[on], index, result));
+    if (kind == 10) code = CALL(OK | quiet, is_ice_early_count(agents[on], result));
     filled(code, result, sizes[kind]);
 }
 

@@ -84,7 +84,7 @@ static const char *const passwords[AGENTS] = {"password of the left one", "passw
 
 /* What queries say of an agent. */
 struct view {
-    uint64_t values[33];
+    uint64_t values[34];
 };
 
 /* A code as the number of a bit. */
@@ -126,6 +126,7 @@ static void view(is_ice_agent *agent, struct view *v)
     }
     if (is_ice_poll_timeout(agent, &timeout) == IS_ICE_OK) *to++ = timeout;
     if (is_ice_removed_count(agent, &count) == IS_ICE_OK) *to++ = count;
+    if (is_ice_early_count(agent, &count) == IS_ICE_OK) *to++ = count;
 }
 
 static bool is_utf8(const uint8_t *text, size_t length)

@@ -297,6 +297,8 @@ static void connect(struct story *s)
         note(s, &s->b);
         QUIET(IS_ICE_OK, is_ice_poll_timeout(&s->a, &at));
         add(s, &at, sizeof at);
+        QUIET(IS_ICE_OK, is_ice_poll_timeout_soon(&s->a, &at));
+        add(s, &at, sizeof at);
     }
 }
 
@@ -321,6 +323,7 @@ static void end(struct story *s)
     size_t length, count;
     QUIET(IS_ICE_OK, is_ice_status(&s->a, &status));
     QUIET(IS_ICE_OK, is_ice_rules(&s->a, &rules));
+    QUIET(IS_ICE_OK, is_ice_early_count(&s->a, &count));
     QUIET(IS_ICE_OK, is_ice_pair_count(&s->a, &count));
     QUIET(IS_ICE_OK, is_ice_pair_at(&s->a, 0, &pair));
     CALL(s, IS_ICE_NOTHING, is_ice_find_pair(&s->a, TEXT("candidate:1 1 udp 7 10.0.0.9 9 typ host"), &pair));

@@ -150,6 +150,7 @@ static void timeout_at(struct story *s, is_ice_agent *agent)
     memcpy(random, &s->now, sizeof s->now);
     CALL(IS_ICE_OK, is_ice_handle_timeout(agent, s->now, random, sizeof random));
     CALL(IS_ICE_OK, is_ice_poll_timeout(agent, &at));
+    CALL(IS_ICE_OK, is_ice_poll_timeout_soon(agent, &at));
 }
 
 /* What the agent sends arrives, if it may. */
@@ -206,6 +207,7 @@ static void ask(struct story *s)
     CALL(IS_ICE_OK, is_ice_stats(&s->a, &stats));
     CALL(IS_ICE_OK, is_ice_nominated(&s->a, &selected));
     CALL(IS_ICE_OK, is_ice_valid_path(&s->a, &path));
+    CALL(IS_ICE_OK, is_ice_early_count(&s->a, &count));
     CALL(IS_ICE_OK, is_ice_pair_count(&s->a, &count));
     for (size_t i = 0; i < count; i++) CALL(IS_ICE_OK, is_ice_pair_at(&s->a, i, &pair));
     CALL(IS_ICE_OK, is_ice_removed_count(&s->a, &count));

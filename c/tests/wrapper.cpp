@@ -127,7 +127,7 @@ static void settings_are_kept()
 static void has_a_session()
 {
     is_ice::agent agent("ufrag", "pass", 1);
-    HOLD(!agent.poll_timeout() && !agent.poll_transmit() && !agent.poll_event());
+    HOLD(!agent.poll_timeout() && !agent.poll_timeout_soon() && !agent.poll_transmit() && !agent.poll_event());
     agent.set_remote_credentials("peer", "password");
     HOLD(agent.remote_credentials()->ufrag == "peer");
     auto line = agent.add_local(host(1));
@@ -137,7 +137,7 @@ static void has_a_session()
     HOLD(agent.add_remote(remote) == is_ice::added::yes && agent.add_remote(remote) == is_ice::added::known);
     HOLD(agent.add_remote("candidate:1 2 udp 1 10.0.0.3 1 typ host") == is_ice::added::other_component);
     agent.handle_timeout(60s, NONE);
-    HOLD(agent.poll_timeout() > 60s);
+    HOLD(agent.poll_timeout() == 60050ms && agent.poll_timeout_soon() == 60005ms && agent.early_count() == 0);
     HOLD(std::holds_alternative<is_ice::restarted>(*agent.poll_event()));
     auto changed = agent.poll_event();
     HOLD(std::get<is_ice::state_changed>(*changed).state == is_ice::connection_state::checking);

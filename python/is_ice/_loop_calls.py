@@ -32,7 +32,7 @@ class _Arguments:
     may make another call on the same agent in the same thread before this one is made, or before its result is read."""
 
     __slots__ = ("now", "protocol", "length", "due", "event", "packet", "buffer", "handle_packet", "handle_timeout", "poll_timeout",
-                 "poll_event", "poll_transmit", "next_packet", "pair", "nominated", "valid_path")
+                 "poll_timeout_soon", "poll_event", "poll_transmit", "next_packet", "pair", "nominated", "valid_path")
 
     def __init__(self, library: ctypes.PyDLL, agent: object) -> None:
         self.now, self.protocol, self.length, self.due = c_uint64(), c_uint8(), c_size_t(), c_uint64()
@@ -40,6 +40,7 @@ class _Arguments:
         self.handle_packet = partial(library.is_ice_handle_packet, agent, self.now, self.protocol)
         self.handle_timeout = partial(library.is_ice_handle_timeout, agent, self.now)
         self.poll_timeout = partial(library.is_ice_poll_timeout, agent, byref(self.due))
+        self.poll_timeout_soon = partial(library.is_ice_poll_timeout_soon, agent, byref(self.due))
         self.poll_event = partial(library.is_ice_poll_event, agent, byref(self.event))
         self.poll_transmit = partial(library.is_ice_poll_transmit, agent)
         self.pair = _abi.Nominated()  # the longer one of both structs
@@ -100,6 +101,17 @@ class LoopCalls:
         try:
             own = self._spare.pop() if self._spare else self._new()
             code, due = own.poll_timeout(), own.due.value
+            self._spare.append(own)
+        finally:
+            self._release()
+        return due if done(code) else None
+
+    def poll_timeout_soon(self) -> int | None:
+        """`IceAgent.poll_timeout_soon`."""
+        self._acquire()
+        try:
+            own = self._spare.pop() if self._spare else self._new()
+            code, due = own.poll_timeout_soon(), own.due.value
             self._spare.append(own)
         finally:
             self._release()

@@ -216,6 +216,16 @@ class IceAgent(Settings):
         return self._loop.poll_timeout()
 
     @holds_the_lock
+    def poll_timeout_soon(self) -> int | None:
+        """Returns that time for an agent that changed since the last `handle_timeout` call: it took a packet, or the peer's credentials
+        or a candidate came; or for one that served an early request in that call.
+
+        So a check that is due at once does not wait for the whole pacing interval. It is the time of `poll_timeout`, or 5 ms after the
+        last call, if that is sooner: no checks may be sent more often (RFC 8445, section 14.2).
+        """
+        return self._loop.poll_timeout_soon()
+
+    @holds_the_lock
     def poll_transmit(self) -> Transmit | None:
         """Returns the next packet to send and removes it from the agent, or None if there is none."""
         return self._loop.poll_transmit()
@@ -258,6 +268,13 @@ class IceAgent(Settings):
         stats = _abi.Stats()
         done(self._c.is_ice_stats(self._at, byref(stats)))
         return IceAgentStats(*(getattr(stats, name) for name, _ in _abi.Stats._fields_))
+
+    @property
+    def early_requests(self) -> int:
+        """How many requests wait that arrived before the peer's credentials were set, at most 100. Each `handle_timeout` serves one then."""
+        count = c_size_t()
+        done(self._c.is_ice_early_count(self._at, byref(count)))
+        return count.value
 
     @property
     def nominated_pair(self) -> NominatedPair | None:

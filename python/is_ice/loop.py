@@ -6,7 +6,6 @@ import asyncio
 import logging
 import socket
 import time
-from collections import deque
 from collections.abc import Callable
 
 from ._report import tried
@@ -21,11 +20,7 @@ from .events import IceAgentEvent
 
 _log = logging.getLogger(__name__)
 
-# How soon after a `handle_timeout` call the next one may be made once the agent has changed: the least Ta (RFC 8445, section 14.2). By the
-# agent's own Ta, 50 ms by default, the check that a packet triggers would wait longer than a round trip takes in a local network.
-_LEAST_PACING = 5_000_000
 _AGAIN = 50_000_000  # nanoseconds until `handle_timeout` is called again if it failed, or if the agent names no time
-_EARLY_CHECKS = 16
 _RECEIVE_BUFFER = 256 * 1024
 
 EventHandler = Callable[[IceAgentEvent], None]
@@ -71,10 +66,8 @@ class IceLoop(Unique):
         self._start = time.monotonic_ns()
         self._sends: dict[SocketAddress, Send] = {}
         self._closes: list[Callable[[], None]] = []
-        self._early: deque[tuple[SocketAddress, SocketAddress, bytes]] = deque(maxlen=_EARLY_CHECKS)
         self._timer: asyncio.TimerHandle | None = None
-        self._last_timeout = 0
-        self._due: int | None = None  # the earliest time that the timer was set to since then
+        self._due: int | None = None  # the earliest time that the timer was set to since the last `handle_timeout` call
         self._began = self._closed = False
 
     def now(self) -> int:
@@ -112,13 +105,10 @@ class IceLoop(Unique):
     def begin(self) -> None:
         """Starts the session: calls `handle_timeout` now, and at each later time that `poll_timeout` returns, or sooner after `wake`.
 
-        Checks that came before, up to 16 of them, are passed to the agent: all at once, since it serves one that it stored itself in
-        each `handle_timeout` call.
+        Checks of the peer may come before. The agent stores them until it has the peer's credentials, and responds then.
         """
         self._began = not self._closed
         self._timed_out()
-        while self._began and self._early:
-            self._take(*self._early.popleft())
 
     def wake(self) -> None:
         """Sends packets, reports events and sets the timer. Call it after each call of yours on the agent."""
@@ -156,20 +146,22 @@ class IceLoop(Unique):
     def _timed_out(self) -> None:
         if not self._began:
             return
-        self._last_timeout, self._due = self.now(), None
+        self._due, served = None, False
         try:
-            self.agent.handle_timeout(self._last_timeout)
-            self._turn(soon=False)
+            early = self.agent.early_requests
+            self.agent.handle_timeout(self.now())
+            served = self.agent.early_requests < early
+            self._turn(soon=served)
         except NoAgent:
             self.close()
         except IceError:
             pass  # as when out of memory: the agent is unchanged
         if self._began and self._due is None:
-            self._set_timer(self.now() + _AGAIN)
+            self._set_timer(self.now() + (0 if served else _AGAIN))
 
     def _take(self, source: SocketAddress, local: SocketAddress, data: bytes) -> None:
         try:
-            accepted = self.agent.handle_packet(self.now(), source, local, data) if self._began else self.agent.accepts_message(bytes(data))
+            accepted = self.agent.handle_packet(self.now(), source, local, data)
         except Unparsed:
             accepted = False  # a response without MESSAGE-INTEGRITY, as of a STUN server
         except NoAgent:
@@ -177,26 +169,27 @@ class IceLoop(Unique):
             return
         except IceError:
             return  # the agent is unchanged, as if the datagram had been lost
-        if not accepted:
-            self._pass_on(source, local, data)
-        elif self._began:
+        if accepted:
             self._turn(soon=True)
         else:
-            self._early.append((source, local, bytes(data)))
+            self._pass_on(source, local, data)
 
     def _pass_on(self, source: SocketAddress, local: SocketAddress, data: bytes) -> None:
         if not self._report(self._on_stun, source, local, data):
             self.log.message_discarded(source, local, data)
 
     def _turn(self, soon: bool) -> None:
-        """`soon`: the agent has changed since `handle_timeout`, so the next call need not wait for its pacing interval."""
-        if not self._began:
-            return
+        """`soon`: the agent has changed since `handle_timeout`, or served an early request, so the next call need not wait for its pacing
+        interval. Before the session only packets are sent: responses to checks of a peer that is known.
+        """
         try:
-            if (due := self.agent.poll_timeout()) is not None:  # before packets are polled, and before handlers run
-                self._set_timer(min(due, self._last_timeout + _LEAST_PACING) if soon else due)
-            while self._began and (packet := self.agent.poll_transmit()):
+            due = self.agent.poll_timeout_soon() if soon else self.agent.poll_timeout()  # before packets are polled, and handlers run
+            if self._began and due is not None:
+                self._set_timer(due)
+            while not self._closed and (packet := self.agent.poll_transmit()):
                 self.send(packet.source, packet.destination, packet.contents)
+            if not self._began:
+                return
             self.log.removals()  # before what they cause: a handler may close the agent
             while self._began and (event := self.agent.poll_event()):
                 self.log.event(event)

@@ -13,6 +13,7 @@ import unittest
 from collections.abc import Callable
 from concurrent.futures import ThreadPoolExecutor
 from pathlib import Path
+from random import Random
 from typing import Any
 from unittest import mock
 
@@ -696,6 +697,25 @@ class Values(unittest.TestCase):
         high = agent.add_local_candidate(Candidate.host(SocketAddress("10.0.0.3", 1000)))
         assert low is not None and high is not None
         self.assertLess(int(low.split()[3]), int(high.split()[3]))
+
+    def test_a_candidate_that_was_invalidated_is_not_listed(self) -> None:
+        """Also if equal ones were added and invalidated before, with one local preference for all, in any order."""
+        for seed in range(100):
+            random, agent, listed = Random(seed), IceAgent(), set[SocketAddress]()
+            agent.set_local_preference(65535)
+            hosts = [SocketAddress("10.0.0.1", 1000 + number) for number in range(8)]
+            for adds in random.sample([True] * 20 + [False] * 25, 45):
+                host = random.choice(hosts)
+                if adds:
+                    self.assertEqual(agent.add_local_candidate(Candidate.host(host)) is not None, host not in listed)
+                    listed.add(host)
+                else:
+                    self.assertEqual(agent.invalidate_candidate(Candidate.host(host)), host in listed)
+                    listed.discard(host)
+                self.assertCountEqual([fields.address for fields in agent.local_fields()], listed)
+            for host in hosts:
+                self.assertEqual(agent.invalidate_candidate(Candidate.host(host)), host in listed)
+            self.assertEqual(agent.local_candidates(), [])
 
     def test_pairs(self) -> None:
         a, b = two_agents()

@@ -3,6 +3,7 @@
 from __future__ import annotations
 
 import asyncio
+import itertools
 import os
 import socket
 import time
@@ -11,7 +12,7 @@ import unittest
 from pathlib import Path
 from unittest import mock
 
-from is_ice import Candidate, IceAgent, IceCreds, NominatedSend, OutOfMemory, SocketAddress
+from is_ice import Candidate, IceAgent, IceCreds, NominatedSend, OutOfMemory, Rules, SocketAddress
 from is_ice.demux import PacketKind, is_stun, packet_kind
 from is_ice.loop import IceLoop
 from is_ice.stun import StunClass, StunMethod, write_message
@@ -52,11 +53,12 @@ def signal(a: Side, b: Side) -> None:
             one.agent.add_remote_candidate(line)
 
 
-async def two_sides() -> tuple[Side, Side]:
+async def two_sides(known: bool = True) -> tuple[Side, Side]:
     sides = Side(True), Side(False)
     for side in sides:
         await side.loop.bind("127.0.0.1")
-    signal(*sides)
+    if known:
+        signal(*sides)
     return sides
 
 
@@ -130,13 +132,13 @@ class Handlers(unittest.IsolatedAsyncioTestCase):
 
 
 class Datagrams(unittest.IsolatedAsyncioTestCase):
-    async def test_checks_before_the_session_are_served_at_its_start(self) -> None:
+    async def test_checks_of_a_known_peer_get_responses_before_the_session(self) -> None:
         a, b = await two_sides()
         a.loop.begin()
-        await asyncio.sleep(0.1)
-        b.loop.begin()
+        await asyncio.wait_for(a.path, 1)
         self.assertGreater(b.agent.stats.bind_request_recv, 0)
-        await asyncio.wait_for(asyncio.gather(a.path, b.path), 0.5)
+        b.loop.begin()
+        await asyncio.wait_for(b.path, 0.5)
         a.loop.close()
         b.loop.close()
 
@@ -154,17 +156,51 @@ class Datagrams(unittest.IsolatedAsyncioTestCase):
         a.loop.close()
         b.loop.close()
 
-    async def test_the_last_16_early_checks_are_kept(self) -> None:
-        side = Side(False)
-        at = SocketAddress("127.0.0.1", 10)
-        with (mock.patch.object(side.agent, "accepts_message", return_value=True),
-              mock.patch.object(side.agent, "handle_packet", return_value=True) as taken):
-            for count in range(20):
-                side.loop.receive(SocketAddress("127.0.0.1", 1000 + count), at, BINDING_REQUEST)
-            taken.assert_not_called()
-            side.loop.begin()
-        self.assertEqual([call.args[1].port for call in taken.call_args_list], list(range(1004, 1020)))
-        side.loop.close()
+    async def test_the_agent_stores_checks_until_it_knows_the_peer(self) -> None:
+        for rules, begins_first in itertools.product((Rules.modern(), Rules.original()), (False, True)):
+            a, b = await two_sides(known=False)
+            b.agent.set_rules(rules)
+            a.agent.set_remote_credentials(b.agent.local_credentials)
+            a.agent.add_remote_candidate(b.agent.local_candidates()[0])
+            a.agent.handle_timeout(a.loop.now())
+            request = a.agent.poll_transmit()
+            assert request is not None
+            for port in range(1000, 1020):
+                b.loop.receive(SocketAddress("127.0.0.1", port), local_of(b), request.contents)
+            if begins_first:
+                b.loop.begin()
+            self.assertEqual((b.agent.early_requests, b.agent.stats.bind_request_recv), (20, 0))
+            b.agent.set_remote_credentials(a.agent.local_credentials)
+            b.loop.wake()
+            if not begins_first:
+                b.loop.begin()
+            await asyncio.sleep(0.2)
+            with self.subTest(rules=rules, begins_first=begins_first):
+                self.assertEqual((b.agent.early_requests, b.agent.stats.bind_request_recv), (0, 20))
+            a.loop.close()
+            b.loop.close()
+
+    async def test_checks_are_not_sent_more_often_than_every_5_ms(self) -> None:
+        """Whatever arrives: here each response, and a call after each check."""
+        a, b = await two_sides()
+        for port in range(30000, 30040):
+            a.agent.add_remote_candidate(f"candidate:1 1 udp 5 127.0.0.1 {port} typ host")
+        times: list[int] = []
+        timed_out = a.agent.handle_timeout
+
+        def note(now: int) -> None:
+            times.append(now)
+            timed_out(now)
+            a.loop.wake()
+
+        with mock.patch.object(a.agent, "handle_timeout", note):
+            a.loop.begin()
+            b.loop.begin()
+            await asyncio.sleep(0.2)
+        self.assertGreater(len(times), 2)
+        self.assertGreaterEqual(min(later - earlier for earlier, later in zip(times, times[1:])), 4_999_000)  # the clock of asyncio is a float
+        a.loop.close()
+        b.loop.close()
 
     async def test_early_requests_of_strangers_are_not_kept(self) -> None:
         a, b = await two_sides()

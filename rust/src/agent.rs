@@ -426,6 +426,16 @@ impl IceAgent {
         is_some.then(|| self.instant(at)).flatten()
     }
 
+    /// The time at which to call `handle_timeout` next, if the agent changed since its last call: it took a packet, or the peer's
+    /// credentials or a candidate came; or if that call served an early request. So a check that is due at once does not wait for the
+    /// whole pacing interval. It is the time of [`poll_timeout`](Self::poll_timeout), or 5 ms after the last call, if that is sooner: no
+    /// checks may be sent more often (RFC 8445, section 14.2).
+    pub fn poll_timeout_soon(&mut self) -> Option<Instant> {
+        let mut at = 0;
+        let is_some = ffi::is_ice_poll_timeout_soon(self.held(), &mut at) == ffi::OK;
+        is_some.then(|| self.instant(at)).flatten()
+    }
+
     /// The next event.
     pub fn poll_event(&mut self) -> Option<IceAgentEvent> {
         let mut event = ffi::Event::default();
@@ -471,6 +481,14 @@ impl IceAgent {
         let mut stats = ffi::Stats::default();
         self.ask(|agent| ffi::is_ice_stats(agent, &mut stats));
         IceAgentStats::of(stats)
+    }
+
+    /// How many requests wait that arrived before the peer's credentials were set, at most 100. Each `handle_timeout` call serves one
+    /// then.
+    pub fn early_requests(&self) -> usize {
+        let mut count = 0;
+        self.ask(|agent| ffi::is_ice_early_count(agent, &mut count));
+        count
     }
 
     /// The candidate pairs, in the order in which they were formed.

@@ -347,6 +347,7 @@ unsafe extern "C" {
     pub(crate) safe fn is_ice_candidate_preference(candidate: &Gathered, same_kind: usize, preference: &mut u32) -> i32;
     pub(crate) safe fn is_ice_invalidate_local(agent: &mut Agent, candidate: &Gathered) -> i32;
     pub(crate) safe fn is_ice_poll_timeout(agent: &mut Agent, at: &mut u64) -> i32;
+    pub(crate) safe fn is_ice_poll_timeout_soon(agent: &mut Agent, at: &mut u64) -> i32;
     pub(crate) safe fn is_ice_poll_event(agent: &mut Agent, event: &mut Event) -> i32;
     pub(crate) safe fn is_ice_recreate_pairs(agent: &mut Agent) -> i32;
     pub(crate) safe fn is_ice_status(agent: &mut Agent, status: &mut Status) -> i32;
@@ -354,6 +355,7 @@ unsafe extern "C" {
     pub(crate) safe fn is_ice_stats(agent: &mut Agent, stats: &mut Stats) -> i32;
     pub(crate) safe fn is_ice_nominated(agent: &mut Agent, nominated: &mut Nominated) -> i32;
     pub(crate) safe fn is_ice_valid_path(agent: &mut Agent, path: &mut MediaPath) -> i32;
+    pub(crate) safe fn is_ice_early_count(agent: &mut Agent, count: &mut usize) -> i32;
     pub(crate) safe fn is_ice_pair_count(agent: &mut Agent, count: &mut usize) -> i32;
     pub(crate) safe fn is_ice_pair_at(agent: &mut Agent, index: usize, pair: &mut Pair) -> i32;
     pub(crate) safe fn is_ice_removed_count(agent: &mut Agent, count: &mut usize) -> i32;

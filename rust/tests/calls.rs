@@ -136,6 +136,36 @@ fn the_clock_may_stand_or_go_back() {
     assert_eq!(agent.poll_timeout(), Some(began + ms(100)));
 }
 
+#[test]
+fn an_agent_that_changed_is_called_soon() {
+    let (mut agent, began) = (paired(), Instant::now());
+    assert_eq!(agent.poll_timeout_soon(), None);
+    agent.handle_timeout(began);
+    assert_eq!((agent.poll_timeout(), agent.poll_timeout_soon()), (Some(began + ms(50)), Some(began + ms(5))));
+    agent.set_timing_advance(ms(2));
+    assert_eq!((agent.poll_timeout(), agent.poll_timeout_soon()), (Some(began + ms(2)), Some(began + ms(2))));
+}
+
+#[test]
+fn each_call_serves_an_early_request() {
+    let (mut agent, bytes, began) = (IceAgent::new(creds("p9KA")), unhex(REQUEST), Instant::now());
+    agent.set_local_credentials(IceCreds { ufrag: "p9KA".to_owned(), pass: PASSWORD.to_owned() });
+    agent.add_local_candidate(host("10.0.0.1:1000")).expect("a candidate");
+    for count in 0..3 {
+        assert_eq!(agent.early_requests(), count);
+        assert!(agent.handle_packet(began, from_peer(&bytes)));
+    }
+    agent.handle_timeout(began); // the credentials are not known yet
+    assert_eq!((agent.early_requests(), agent.poll_transmit()), (3, None));
+    agent.set_remote_credentials(IceCreds { ufrag: "SQAt".to_owned(), pass: "x".to_owned() });
+    for left in [2, 1, 0] {
+        agent.handle_timeout(began + ms(5));
+        assert_eq!(agent.early_requests(), left);
+        assert!(agent.poll_transmit().is_some() && agent.poll_transmit().is_none());
+        assert_eq!(agent.poll_timeout_soon(), Some(began + ms(5)));
+    }
+}
+
 // ---- settings
 
 #[test]

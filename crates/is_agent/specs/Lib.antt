@@ -7,3 +7,4 @@ pub mod Ready
 pub mod Room
 pub mod Keys
 pub mod Removed
+pub mod Polls

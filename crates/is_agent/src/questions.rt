@@ -1,6 +1,6 @@
 //! Queries that change nothing: candidates, statistics, and figures of pairs.
 
-ghost use Rattle.std.specs.Prelude.{◌≡◌, option_map};
+ghost use Rattle.std.specs.Prelude.{◌≡◌, length, option_map};
 ghost use Rattle.std.specs.Option.{option_copied};
 ghost use Rattle.is_pair.specs.Pairs.{is_valid};
 ghost use Rattle.is_agent.specs.View.{record_of};
@@ -160,6 +160,14 @@ impl<H: Sha1HmacProvider + Drop, P: LocalPreference> Agent<H, P> {
         ensures { result ≡ (record_of self.now).stats }
     {
         self.stats
+    }
+
+    /// How many early requests wait: they were received before the remote credentials, and each is served by one `handle_timeout` call
+    /// after these are known. At most 100.
+    pub fn early_request_count(&self) -> usize
+        ensures { result ≡ length (record_of self.now).queue }
+    {
+        self.queue.len()
     }
 
     /// Whether a check succeeded on a pair whose remote candidate has this address. Does not allocate.

@@ -1,5 +1,5 @@
 -- What C can query of an agent, which is unchanged.
-use Rattle.std.specs.Prelude.{◌≡◌, ℕ, List, Option, Some, None, MatchOption, slice_get, ◌⊎◌, ℤ}
+use Rattle.std.specs.Prelude.{◌≡◌, ℕ, List, length, Option, Some, None, MatchOption, slice_get, ◌⊎◌, ℤ}
 use Rattle.is_candidate.specs.Candidates.{CandidateRecord}
 use Rattle.is_candidate.specs.Sdp.{sdp_text}
 use Rattle.is_rules.specs.declared.event.IceAgentStats.{IceAgentStats}
@@ -36,6 +36,10 @@ stats_of s = record {
 
 abbrev pub ReturnsStats : Stats → HomeRecord → ℤ → HomeRecord → Type 0
 ReturnsStats stats old code new = (code ≡ OK) × (stats_of stats ≡ old.agent.stats) × (new ≡ old)
+
+-- `is_ice_early_count`
+abbrev pub CountsEarly : ℕ → HomeRecord → ℤ → HomeRecord → Type 0
+CountsEarly count old code new = (code ≡ OK) × (count ≡ length old.agent.queue) × (new ≡ old)
 
 -- the candidate attribute of a candidate, in the caller's buffer
 abbrev pub PutsLine : Option CandidateRecord → List ℕ → ℕ → ℤ → List ℕ → ℕ → Type 0

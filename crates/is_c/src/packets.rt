@@ -4,7 +4,8 @@ ghost use Rattle.std.specs.Prelude.{◌≡◌, None, option_map};
 ghost use Rattle.is_rules.specs.Polls.{IsPolled};
 ghost use Rattle.is_proto.specs.Packets.{packet_of};
 ghost use Rattle.is_c.specs.Held.{home_of, held_by, At};
-ghost use Rattle.is_c.specs.Packets.{packet_path, TakesBytes, HandlesDatagram, IsSettled, TimesOutBy, ReturnsTimeout, queue_of, IsReported, GivesFirst, Gives};
+ghost use Rattle.is_c.specs.Packets.{packet_path, TakesBytes, HandlesDatagram, IsSettled, TimesOutBy, WritesTime, ReturnsTimeout};
+ghost use Rattle.is_c.specs.Packets.{ReturnsTimeoutSoon, queue_of, IsReported, GivesFirst, Gives};
 
 use crate::address::{Address, address_of, number_of, protocol_of, socket_of};
 use crate::clock::{agent_time, caller_time};
@@ -12,7 +13,7 @@ use crate::codes;
 use crate::home::Home;
 use crate::random::Given;
 use crate::slot::Slot;
-use is_proto::{DefaultSha1HmacProvider, Sha1HmacProvider, Transmit};
+use is_proto::{DefaultSha1HmacProvider, Instant, Sha1HmacProvider, Transmit};
 use is_rules::emitted::Path;
 use is_stun::stun::{StunMessage, StunPacket};
 use std::alloc::Global;
@@ -125,6 +126,19 @@ pub extern "C" fn is_ice_handle_timeout(
     codes::done_code(home.agent.handle_timeout(agent_time(now), &mut given))
 }
 
+/// Writes the time, if there is one.
+fn write_time(time: Option<Instant>, at: &mut u64) -> i32
+    ensures { WritesTime (option_map (λ time. time.0) time) at.old at.new result }
+{
+    match time {
+        Some(time) => {
+            *at = caller_time(time);
+            codes::OK
+        }
+        None => codes::NOTHING,
+    }
+}
+
 /// The time of the next `is_ice_handle_timeout` call.
 #[unsafe(no_mangle)]
 pub extern "C" fn is_ice_poll_timeout(alloc: Global, slot: &mut Slot, at: &mut u64) -> i32
@@ -134,13 +148,19 @@ pub extern "C" fn is_ice_poll_timeout(alloc: Global, slot: &mut Slot, at: &mut u
     let Some(home) = slot.home() else {
         return codes::NO_AGENT;
     };
-    match home.agent.poll_timeout() {
-        Some(time) => {
-            *at = caller_time(time);
-            codes::OK
-        }
-        None => codes::NOTHING,
-    }
+    write_time(home.agent.poll_timeout(), at)
+}
+
+/// The time of the next `is_ice_handle_timeout` call for an agent that changed since the last one: 5 ms after that call at the latest.
+#[unsafe(no_mangle)]
+pub extern "C" fn is_ice_poll_timeout_soon(alloc: Global, slot: &mut Slot, at: &mut u64) -> i32
+    ensures polled { At (ReturnsTimeoutSoon at.old at.new) (held_by slot.old) result (held_by slot.new) }
+    ensures without { held_by slot.old ≡ None → at.new ≡ at.old }
+{
+    let Some(home) = slot.home() else {
+        return codes::NO_AGENT;
+    };
+    write_time(home.agent.poll_timeout_soon(), at)
 }
 
 // ---- packets to send

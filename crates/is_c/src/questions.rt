@@ -8,7 +8,7 @@ ghost use Rattle.is_agent.specs.Added.{listed_index};
 ghost use Rattle.is_agent.specs.View.{record_of};
 ghost use Rattle.is_c.specs.Held.{home_of, held_by, At};
 ghost use Rattle.is_c.specs.Questions.{IsStatus, ReturnsStatus, stats_of, ReturnsStats, PutsLine, ReturnsLine};
-ghost use Rattle.is_c.specs.Questions.{ReturnsRemote, ReturnsViable};
+ghost use Rattle.is_c.specs.Questions.{CountsEarly, ReturnsRemote, ReturnsViable};
 ghost use Rattle.is_c.specs.Selected.{candidate_of, IsNominated, IsNominatedIn, ReturnsNominated};
 
 use crate::address::{Address, address_of, number_of, socket_of};
@@ -118,6 +118,19 @@ pub extern "C" fn is_ice_stats(alloc: Global, slot: &mut Slot, figures: &mut Sta
         return codes::NO_AGENT;
     };
     *figures = reported_stats(home);
+    codes::OK
+}
+
+/// Writes how many early requests wait: received before the remote credentials, and not served yet.
+#[unsafe(no_mangle)]
+pub extern "C" fn is_ice_early_count(alloc: Global, slot: &mut Slot, count: &mut usize) -> i32
+    ensures counted { At (CountsEarly count.new) (held_by slot.old) result (held_by slot.new) }
+    ensures without { held_by slot.old ≡ None → count.new ≡ count.old }
+{
+    let Some(home) = slot.home() else {
+        return codes::NO_AGENT;
+    };
+    *count = home.agent.early_request_count();
     codes::OK
 }
 

@@ -1,6 +1,7 @@
 //! The exports as C calls them, in stories that the library's own tests have too.
 
 mod alike;
+mod early;
 mod fields;
 mod front_ends;
 mod limits;
