@@ -271,7 +271,7 @@ class IceAgent(Settings):
 
     @property
     def early_requests(self) -> int:
-        """How many requests wait that arrived before the peer's credentials were set, at most 100. Each `handle_timeout` serves one then."""
+        """How many requests wait that came before the peer's credentials, at most 100. Then each `handle_timeout` call serves one."""
         count = c_size_t()
         done(self._c.is_ice_early_count(self._at, byref(count)))
         return count.value

@@ -5,3 +5,7 @@ pub mod AnsweredPairs
 pub mod AnsweredCourses
 pub mod AnsweredLately
 pub mod ConnectedLogs
+pub mod SilentPairs
+pub mod SilentRequests
+pub mod SilentCalls
+pub mod LeftPaths

@@ -41,6 +41,7 @@ pub mod TimedRounds
 pub mod Consent
 pub mod ConsentCourses
 pub mod ConsentLogs
+pub mod LeftInTime
 pub mod Settled
 pub mod AtOnceCourses
 pub mod SelectedInTime

@@ -3,6 +3,7 @@
 ghost use Rattle.is_theorems.specs.Consent.{ConsentHolds, ConsentEndsInTime};
 ghost use Rattle.is_theorems.specs.ConsentCourses.{ConnectedAreAnswered, ConnectedHaveConsent, ValidHaveConsented};
 ghost use Rattle.is_theorems.specs.ConsentLogs.{SelectedAreAlive, SelectedHaveConsent};
+ghost use Rattle.is_theorems.specs.LeftInTime.{LeavesInTime};
 
 use is_candidate::LocalPreference;
 use is_proto::Sha1HmacProvider;
@@ -54,3 +55,12 @@ pub fn selected_are_alive<H: Sha1HmacProvider, P: LocalPreference>()
 {
     connected_are_answered::<H, P>();
 }
+
+/// A punctual caller leaves a path in time. From a newly created agent that is never lite, with the rule `consent`: let the last check on
+/// a path that got a response be sent at time t, and the peer's last check on it arrive at time u. Nothing keeps consent on it from then
+/// on. Then consent ends at t and the timeout, or unless it is strict, at u + 15 s if that is later. While the agent is connected on
+/// this path, the next `handle_timeout` call comes at most a pacing interval and δ after this end. After each call from then on the agent is
+/// not connected on this path.
+pub fn leaves_in_time<H: Sha1HmacProvider, P: LocalPreference>()
+    ensures { LeavesInTime H.mac P.answers }
+{}

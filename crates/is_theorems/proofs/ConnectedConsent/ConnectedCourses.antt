@@ -26,14 +26,14 @@ use Rattle.is_theorems.proofs.StoredPairs.TransactionsOverPackets.{sound-course}
 
 module _ {H P : Type 0} (mac : H → List ℕ → List ℕ → List ℕ) where
   -- a call that did not fail, and served no early request
-  succeeded : (now : ℕ) (e : Entry) (old new : AgentRecord H P) (s t : Stream) → e.answer ≡ Done
+  pub succeeded : (now : ℕ) (e : Entry) (old new : AgentRecord H P) (s t : Stream) → e.answer ≡ Done
       → (r : Result (Unit {0}) IceError) (emitted : Emitted) → e ≡ record { answer = answer_by done r; emitted = emitted } → TimesOut mac now old s r emitted new t
       → TimesOut mac now old s (Ok tt) emitted new t
   succeeded now e old new s t finished (Ok u) emitted is h = h
   succeeded now e old new s t finished (Err error) emitted is h =
       absurd (let no : Rejected error ≡ Done = sym (ap (λ (x : Entry). x.answer) is) ∙ finished in cc)
 
-  maintained : (now : ℕ) (old new : AgentRecord H P) (s t : Stream) (emitted : Emitted) → request_at now old ≡ None → TimesOut mac now old s (Ok tt) emitted new t
+  pub maintained : (now : ℕ) (old new : AgentRecord H P) (s t : Stream) (emitted : Emitted) → request_at now old ≡ None → TimesOut mac now old s (Ok tt) emitted new t
       → MaintainsPairs mac now (timeout_begun now old) s emitted new t
   maintained now old new s t emitted none h =
       subst (λ o. MatchOption o (MaintainsPairs mac now (timeout_begun now old) s emitted new t) (λ q. ServesQueued mac q (at_request now (timeout_begun now old)) s emitted new t)) none h

@@ -44,7 +44,7 @@ module _ {H P : Type 0} where
   module _ (mac : H → List ℕ → List ℕ → List ℕ) (answers : P → CandidateRecord → ℕ → ℕ → Type 0) where
     -- ---- what comes between two `handle_timeout` calls
 
-    round-clock : (call : Call P) (e : Entry) (old new : AgentRecord H P) (s t : Stream) → is_in_round call ≡ true → Step mac answers old s call e new t → clock_of new ≡ clock_of old
+    pub round-clock : (call : Call P) (e : Entry) (old new : AgentRecord H P) (s t : Stream) → is_in_round call ≡ true → Step mac answers old s call e new t → clock_of new ≡ clock_of old
     round-clock (ReceivePacket at via bytes) e old new s t is (h, drawn) = ap (λ (p : Pace). p.clock) (receives mac answers at old new via bytes e h)
     round-clock PollTransmit e old new s t is (given, reported, (polled, made), drawn) = clocked _ new made
     round-clock PollTimeout e old new s t is (deadline, reported, h, drawn) = by_waking old new deadline h (λ made. clocked old new made) (λ at made. clocked _ new made)
@@ -75,7 +75,7 @@ module _ {H P : Type 0} where
 
     -- ---- the time that `poll_timeout` returns
 
-    polled-soon : (pace delay now next deadline : ℕ) (c : Consent) (e : Entry) (old new : AgentRecord H P) (s t : Stream) (p : PairRecord) → old.lite ≡ false → old.last_time ≡ Some now
+    pub polled-soon : (pace delay now next deadline : ℕ) (c : Consent) (e : Entry) (old new : AgentRecord H P) (s t : Stream) (p : PairRecord) → old.lite ≡ false → old.last_time ≡ Some now
         → old.timing.consent ≡ Some c → old.timing_advance ≤ pace → Step mac answers old s PollTimeout e new t → e.answer ≡ NextTimeout (Some deadline) → next ≤ deadline + delay → Has old.pairs p
         → next ≤ max (consent_end c p) (now + pace) + delay
     polled-soon pace delay now next deadline c e old new s t p full last rule slow (returned, reported, h, drawn) answer close has =

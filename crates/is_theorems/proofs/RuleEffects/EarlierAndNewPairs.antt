@@ -295,7 +295,7 @@ module _ (asks : Path → ℕ → Type 0) (met : Path → Type 0) (sent : Path �
   parts_with s f = record { local = s.local; remote = s.remote; pairs = f.pairs; next_number = f.next_number }
 
   -- redundant pairs have one path
-  redundant_path : (s : SidesRecord) (at : Combination) (f : Formed) (p q : PairRecord) → is_redundant s at p ≡ true → q.local ≡ at.0 → q.remote ≡ at.1
+  pub redundant_path : (s : SidesRecord) (at : Combination) (f : Formed) (p q : PairRecord) → is_redundant s at p ≡ true → q.local ≡ at.0 → q.remote ≡ at.1
       → path_in (parts_with s f) p ≡ path_in (parts_with s f) q
   redundant_path s at f p q h l r =
       let d = both _ _ h in let c = both _ _ d.0 in let b = both _ _ c.0 in
@@ -325,7 +325,7 @@ module _ (asks : Path → ℕ → Type 0) (met : Path → Type 0) (sent : Path �
   taken_state true other p = refl
   taken_state false other p = refl
 
-  taken_consent : (lite : Bool) (other p : PairRecord) → (taking_over lite other p).consented ≡ last_of other.consented p.consented
+  pub taken_consent : (lite : Bool) (other p : PairRecord) → (taking_over lite other p).consented ≡ last_of other.consented p.consented
   taken_consent true other p = refl
   taken_consent false other p = refl
 
@@ -337,7 +337,7 @@ module _ (asks : Path → ℕ → Type 0) (met : Path → Type 0) (sent : Path �
   taken_number true other p = refl
   taken_number false other p = refl
 
-  taken_rest : (lite : Bool) (other p : PairRecord) → ((taking_over lite other p).checks ≡ p.checks) × ((taking_over lite other p).number ≡ p.number)
+  pub taken_rest : (lite : Bool) (other p : PairRecord) → ((taking_over lite other p).checks ≡ p.checks) × ((taking_over lite other p).number ≡ p.number)
       × ((taking_over lite other p).local ≡ p.local) × ((taking_over lite other p).remote ≡ p.remote)
   taken_rest true other p = (refl, refl, refl, refl)
   taken_rest false other p = (refl, refl, refl, refl)
