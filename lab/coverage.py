@@ -9,7 +9,8 @@ from dataclasses import dataclass, field, replace
 from .clauses import (
     both, by_number, completed_nominations_are_selected, connect, connected_are_answered, connected_have_consent, consent_ends_in_time,
     consent_holds, courses_select_in_time, due_rounds, in_time, leaves_in_time, meet, nomination_accepted, nominations, of_use, one_path,
-    rounds, run_connected, run_connected_answered, run_in_time, states_agree, successes, valid_have_consented, world_rounds)
+    reached_in_turn, rounds, run_connected, run_connected_answered, run_in_time, states_agree, successes, valid_have_consented,
+    world_rounds)
 from .clauses.execution import Execution
 from .clauses.accepted_nominations import Network
 from .clauses.verdict import Verdict
@@ -35,7 +36,7 @@ THEOREMS: dict[str, Callable[[Execution], Verdict]] = {
     "valid_have_consented": valid_have_consented.find, "connected_have_consent": connected_have_consent.find,
     "connected_are_answered": connected_are_answered.find, "leaves_in_time": leaves_in_time.find,
     "completed_nominations_are_selected": completed_nominations_are_selected.find,
-    "courses_select_in_time": courses_select_in_time.find, "states_agree": states_agree.find}
+    "courses_select_in_time": courses_select_in_time.find, "states_agree": states_agree.find, "reached_in_turn": reached_in_turn.find}
 CLAUSES = (*WORLD, *RUN, *THEOREMS)
 
 

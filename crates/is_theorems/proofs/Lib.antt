@@ -11,6 +11,7 @@ mod DuePairs
 mod EarlierChecks
 mod RemainingChecks
 mod PollingRounds
+mod KindTurns
 mod RenominatedPaths
 mod PunctualTimeouts
 mod ConnectedConsent

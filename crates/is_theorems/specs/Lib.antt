@@ -18,6 +18,7 @@ pub mod Staying
 pub mod Asked
 pub mod AtOnce
 pub mod Reached
+pub mod KindsInTurn
 pub mod BoundedRounds
 pub mod ReachedCourses
 pub mod Pending

@@ -11,6 +11,7 @@
 ghost use Rattle.is_theorems.specs.BoundedRounds.{LimitsReach};
 ghost use Rattle.is_theorems.specs.FirstChecks.{CoursesCheckFromDue};
 ghost use Rattle.is_theorems.specs.FirstTimeouts.{OpenCoursesReach, PairsAreReachedFromDue, CoursesReachFromDue, CoursesReachUnanswered};
+ghost use Rattle.is_theorems.specs.KindsInTurn.{KindsAreReachedInTurn};
 ghost use Rattle.is_theorems.specs.Reached.{PairsAreReached};
 ghost use Rattle.is_theorems.specs.ReachedCourses.{CoursesReach, CoursesCheck};
 
@@ -82,3 +83,11 @@ pub fn courses_check_from_due<H: Sha1HmacProvider, P: LocalPreference>()
     courses_check::<H, P>();
     successes_select::<H, P>();
 }
+
+/// From a newly created agent: kinds of pairs take turns in some rounds, since no path is selected in them, and pairs have k kinds. Then
+/// in 2 * k * m rounds a check is sent on the path of a pair that is due, or m of the rounds check another pair that goes before all kinds, or
+/// one of the pair's kind that goes before it. This holds whatever the agent receives and adds in the rounds, as long as the
+/// pair keeps its kind; the exceptions are a success response on the path, and a candidate that may remove a pair of the path.
+pub fn reached_in_turn<H: Sha1HmacProvider, P: LocalPreference>()
+    ensures { KindsAreReachedInTurn H.mac P.answers }
+{}

@@ -50,6 +50,7 @@ pub record Ground : Type 0 where
   pub last_time : Option ℕ
   pub rules : Rules
   pub ahead_turn : Bool
+  pub next_kind : ℕ
 
 module _ {H P : Type 0} where
   abbrev pub ground_of : AgentRecord H P → Ground
@@ -61,6 +62,7 @@ module _ {H P : Type 0} where
     last_time = a.last_time;
     rules = a.rules;
     ahead_turn = a.ahead_turn;
+    next_kind = a.next_kind;
   }
 
   module _ (n by : ℕ) where

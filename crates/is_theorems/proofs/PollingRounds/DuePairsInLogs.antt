@@ -71,15 +71,15 @@ module _ {P : Type 0} where
 -- ---- responses on a path
 
 module _ {P : Type 0} (path : Path) where
-  answered-later : (x : Logged P) (xs : List (Logged P)) → IsAnsweredIn xs path → IsAnsweredIn (x ∷ xs) path
+  pub answered-later : (x : Logged P) (xs : List (Logged P)) → IsAnsweredIn xs path → IsAnsweredIn (x ∷ xs) path
   answered-later x xs (y, has, is) = (y, inr has, is)
 
-  has-front : (xs ys : List (Logged P)) → IsAnsweredIn xs path → IsAnsweredIn (xs ++ ys) path
+  pub has-front : (xs ys : List (Logged P)) → IsAnsweredIn xs path → IsAnsweredIn (xs ++ ys) path
   has-front [] ys (y, has, is) = absurd has
   has-front (x ∷ xs) ys (y, inl e, is) = (y, inl e, is)
   has-front (x ∷ xs) ys (y, inr has, is) = answered-later x (xs ++ ys) (has-front xs ys (y, has, is))
 
-  has-following : (xs ys : List (Logged P)) → IsAnsweredIn ys path → IsAnsweredIn (xs ++ ys) path
+  pub has-following : (xs ys : List (Logged P)) → IsAnsweredIn ys path → IsAnsweredIn (xs ++ ys) path
   has-following [] ys h = h
   has-following (x ∷ xs) ys h = answered-later x (xs ++ ys) (has-following xs ys h)
 
@@ -125,39 +125,39 @@ module _ {H P : Type 0} where
   -- ---- a pair that waits for its check
 
   -- before a `handle_timeout` call
-  record Persists (by n : ℕ) (path : Path) (keeps : ℕ → Bool) (ahead : Bool) (owes : AgentRecord H P → ℕ) (total base now k spent : ℕ) (a : AgentRecord H P) : Type 0 where
-    checking : IsChecking a
-    queue : a.queue ≡ []
-    pair : PairRecord
-    there : Has a.pairs pair
-    number : pair.number ≡ n
-    on : path_of a pair ≡ path
-    young : nat_lt (unanswered_count pair.checks) a.timing.max_retransmits ≡ true
-    lasts : (m : ℕ) → keeps m ≡ true → stays_answered a.timing.consent m pair ≡ true
-    late : by < now
-    early : now < MAX
-    ready : Ready now by late early a.timing pair
-    rules : goes_ahead a.rules ≡ ahead
-    count : calls_left ahead a.ahead_turn (leads n by a.pairs) + k + times ahead (base + owes a) ≤ total + times ahead (a.next_number + spent)
+  pub record Persists (by n : ℕ) (path : Path) (keeps : ℕ → Bool) (ahead : Bool) (owes : AgentRecord H P → ℕ) (total base now k spent : ℕ) (a : AgentRecord H P) : Type 0 where
+    pub checking : IsChecking a
+    pub queue : a.queue ≡ []
+    pub pair : PairRecord
+    pub there : Has a.pairs pair
+    pub number : pair.number ≡ n
+    pub on : path_of a pair ≡ path
+    pub young : nat_lt (unanswered_count pair.checks) a.timing.max_retransmits ≡ true
+    pub lasts : (m : ℕ) → keeps m ≡ true → stays_answered a.timing.consent m pair ≡ true
+    pub late : by < now
+    pub early : now < MAX
+    pub ready : Ready now by late early a.timing pair
+    pub rules : goes_ahead a.rules ≡ ahead
+    pub count : calls_left ahead a.ahead_turn (leads n by a.pairs) + k + times ahead (base + owes a) ≤ total + times ahead (a.next_number + spent)
 
   -- after it
-  record Waits (by n : ℕ) (path : Path) (keeps : ℕ → Bool) (ahead : Bool) (owes : AgentRecord H P → ℕ) (total base at k spent : ℕ) (a : AgentRecord H P) : Type 0 where
-    checking : IsChecking a
-    queue : a.queue ≡ []
-    last : a.last_time ≡ Some at
-    pair : PairRecord
-    there : Has a.pairs pair
-    number : pair.number ≡ n
-    on : path_of a pair ≡ path
-    young : nat_lt (unanswered_count pair.checks) a.timing.max_retransmits ≡ true
-    lasts : (m : ℕ) → keeps m ≡ true → stays_answered a.timing.consent m pair ≡ true
-    timeout : ℕ
-    before : timeout ≤ by
-    due : pair.due ≡ Some timeout
-    rules : goes_ahead a.rules ≡ ahead
-    count : calls_left ahead a.ahead_turn (leads n by a.pairs) + k + times ahead (base + owes a) ≤ total + times ahead (a.next_number + spent)
+  pub record Waits (by n : ℕ) (path : Path) (keeps : ℕ → Bool) (ahead : Bool) (owes : AgentRecord H P → ℕ) (total base at k spent : ℕ) (a : AgentRecord H P) : Type 0 where
+    pub checking : IsChecking a
+    pub queue : a.queue ≡ []
+    pub last : a.last_time ≡ Some at
+    pub pair : PairRecord
+    pub there : Has a.pairs pair
+    pub number : pair.number ≡ n
+    pub on : path_of a pair ≡ path
+    pub young : nat_lt (unanswered_count pair.checks) a.timing.max_retransmits ≡ true
+    pub lasts : (m : ℕ) → keeps m ≡ true → stays_answered a.timing.consent m pair ≡ true
+    pub timeout : ℕ
+    pub before : timeout ≤ by
+    pub due : pair.due ≡ Some timeout
+    pub rules : goes_ahead a.rules ≡ ahead
+    pub count : calls_left ahead a.ahead_turn (leads n by a.pairs) + k + times ahead (base + owes a) ≤ total + times ahead (a.next_number + spent)
 
-  persists : (by n : ℕ) (path : Path) (keeps : ℕ → Bool) (ahead : Bool) (owes : AgentRecord H P → ℕ) (total base at k spent now : ℕ) (a : AgentRecord H P) → by < now → now < MAX → Waits by n path keeps ahead owes total base at k spent a
+  pub persists : (by n : ℕ) (path : Path) (keeps : ℕ → Bool) (ahead : Bool) (owes : AgentRecord H P → ℕ) (total base at k spent now : ℕ) (a : AgentRecord H P) → by < now → now < MAX → Waits by n path keeps ahead owes total base at k spent a
       → Persists by n path keeps ahead owes total base now k spent a
   persists by n path keeps ahead owes total base at k spent now a late early w = record {
     checking = w.checking;
@@ -264,16 +264,19 @@ module _ {H P : Type 0} where
       sound-at : (log : List (Logged P)) (a : AgentRecord H P) (t : Stream) → Run mac answers first s log a t → IsSound a
       sound-at log a t run = runs_sound mac answers (path_theorem mac answers) first a s t log fresh run
 
-      walk : (at k spent : ℕ) → by < at → at < MAX → (before : List (Logged P)) (start last : AgentRecord H P) (u t : Stream) (xs : List (Logged P)) → ((x : Logged P) → Has xs x → is_in_round x.call ≡ true)
+      pub walk : (at k spent : ℕ) → by < at → at < MAX → (before : List (Logged P)) (start last : AgentRecord H P) (u t : Stream) (xs : List (Logged P)) → ((x : Logged P) → Has xs x → is_in_round x.call ≡ true)
           → Run mac answers first s before start u → (run : RunsOn mac answers before start u xs last t) → Waits by n path keeps ahead owes total base at k spent start
-          → IsAnsweredIn xs path ⊎ (IsEndedIn mac answers before start u xs last t run path ⊎ Waits by n path keeps ahead owes total base at k (paid pays xs + spent) last)
-      walk at k spent following early before start last u t [] fits led (is, same) w = inr (inr (subst (λ (a : AgentRecord H P). Waits by n path keeps ahead owes total base at k (0 + spent) a) (sym is)
-          (subst (λ n_spent. Waits by n path keeps ahead owes total base at k n_spent start) (none-more spent) w)))
+          → IsAnsweredIn xs path ⊎ (IsEndedIn mac answers before start u xs last t run path ⊎ (Goes n by start last × Waits by n path keeps ahead owes total base at k (paid pays xs + spent) last))
+      walk at k spent following early before start last u t [] fits led (is, same) w = inr (inr (
+        goes-same n by start last is,
+        subst (λ (a : AgentRecord H P). Waits by n path keeps ahead owes total base at k (0 + spent) a) (sym is)
+            (subst (λ n_spent. Waits by n path keeps ahead owes total base at k n_spent start) (none-more spent) w),
+      ))
       walk at k spent following early before start last u t (x ∷ xs) fits led (mid, v, run, number, given, step) w =
           elim (walk at k spent following early before start mid u v xs (λ y has. fits y (inr has)) led run w) [
             | inl answered ↦ inl (answered-later path x xs answered)
             | inr (inl ended) ↦ inr (inl (inr ended))
-            | inr (inr m) ↦
+            | inr (inr (g, m)) ↦
                 (let here = run-on mac answers first start mid s u v before xs led run in
                 let sound = sound-at (xs ++ before) mid v here in
                 let sound_last = sound-at (x ∷ (xs ++ before)) last t (mid, v, here, number, given, step) in
@@ -282,8 +285,11 @@ module _ {H P : Type 0} where
                   | inl answered ↦ inl (x, inl refl, answered)
                   | inr (inl ends) ↦ inr (inl (inl (fits x (inl refl), ends-here ends)))
                   | inr (inr goes) ↦ elim (pairs-stay mac answers mid last v t x.call x.entry m.pair sound given step m.there) [
-                    | inl stays ↦ inr (inr (subst (λ n_spent. Waits by n path keeps ahead owes total base at k n_spent last) (sum-is (pays x.entry) (paid pays xs) spent)
-                        (waits-on at k (paid pays xs + spent) x.entry following mid last m sound_last goes (owing x.call x.entry mid last v t (fits x (inl refl)) step) stays)))
+                    | inl stays ↦ inr (inr (
+                      goes-on n by start mid last g goes,
+                      subst (λ n_spent. Waits by n path keeps ahead owes total base at k n_spent last) (sum-is (pays x.entry) (paid pays xs) spent)
+                          (waits-on at k (paid pays xs + spent) x.entry following mid last m sound_last goes (owing x.call x.entry mid last v t (fits x (inl refl)) step) stays),
+                    ))
                     | inr ends ↦ inr (inl (inl (fits x (inl refl), ends-here ends)))
                   ]
                 ])
@@ -291,7 +297,7 @@ module _ {H P : Type 0} where
 
     -- ---- a `handle_timeout` call
 
-    timeout-on : (now k spent : ℕ) (e : Entry) (old new : AgentRecord H P) (s t : Stream) → e.answer ≡ Done → Step mac answers old s (HandleTimeout now) e new t → IsSound old → IsSound new
+    pub timeout-on : (now k spent : ℕ) (e : Entry) (old new : AgentRecord H P) (s t : Stream) → e.answer ≡ Done → Step mac answers old s (HandleTimeout now) e new t → IsSound old → IsSound new
         → Persists by n path keeps ahead owes total base now k spent old → owes new ≤ owes old + pays e
         → ((h : MaintainsPairs mac now (timeout_begun now old) s e.emitted new t) → nominates_at_once (all_asked now h.4) ≡ true → owes new + 1 ≤ owes old + pays e) → keeps now ≡ true
         → ((id : List ℕ) × (e.emitted.issued ≡ Some (issued_as path class.Request id))) ⊎ Waits by n path keeps ahead owes total base now (suc k) (pays e + spent) new
@@ -415,7 +421,7 @@ module _ {H P : Type 0} where
                       elim (walk turns.owing first s fresh r.now (length (r ∷ older)) (paid pays (r.timeout ∷ entries_of older)) (falls-late by r passing) (falls-early by r passing) ((r.timeout ∷ entries_of older) ++ before) mid last v t r.following passing.between led_mid back still_waits) [
                         | inl answered ↦ inl (inr (has-front path r.following (r.timeout ∷ entries_of older) answered))
                         | inr (inl ended) ↦ inr (inl (inl ended))
-                        | inr (inr waits) ↦ inr (inr (subst (λ k. Waits by n path keeps ahead owes total base r.now (length (r ∷ older)) k last) (sym (paid-join pays r.following (r.timeout ∷ entries_of older))) waits))
+                        | inr (inr (goes, waits)) ↦ inr (inr (subst (λ k. Waits by n path keeps ahead owes total base r.now (length (r ∷ older)) k last) (sym (paid-join pays r.following (r.timeout ∷ entries_of older))) waits))
                       ]
                 ]
 
@@ -442,7 +448,7 @@ module _ {H P : Type 0} where
 
   module _ (mac : H → List ℕ → List ℕ → List ℕ) (answers : P → CandidateRecord → ℕ → ℕ → Type 0) where
     -- a pair that is not valid never got a response
-    lasts-at : (first : AgentRecord H P) (s : Stream) (log : List (Logged P)) → IsFresh first → (before : List (Logged P)) (start last : AgentRecord H P) (part : List (Logged P)) (p : PairRecord)
+    pub lasts-at : (first : AgentRecord H P) (s : Stream) (log : List (Logged P)) → IsFresh first → (before : List (Logged P)) (start last : AgentRecord H P) (part : List (Logged P)) (p : PairRecord)
         → Part mac answers first s log before start part last → Has start.pairs p → (m : ℕ) → IsLasting m start p → answered_at start p m ≡ true
     lasts-at first s log fresh before start last part p found there m lasting =
         answered-if start p m (runs_sound mac answers (path_theorem mac answers) first start s found.at before fresh found.led) there lasting

@@ -1,0 +1,4 @@
+-- Kinds of pairs take turns.
+pub mod OrderOfKinds
+pub mod ChecksByKind
+pub mod RoundsByKind

@@ -1,0 +1,130 @@
+"""The theorem `reached_in_turn` (`RoundsReachInTurn`): kinds take turns in 2 * k * m rounds, for k kinds of pairs. Then a pair that is due
+is checked in one of them, or m of them check pairs that go before all kinds, or pairs of its kind that go before it."""
+
+from __future__ import annotations
+
+from collections.abc import Iterator
+from dataclasses import dataclass
+
+from ..kinds import kind_of
+from ..model import Agent
+from ..pairs import Pair
+from ..scenario import SIDES
+from .connections import succeeds_in
+from .execution import Execution, Lacks, Round, is_in_round, lacks
+from .fair import is_new_agent
+from .opening import most_rounds, pair_of
+from .progress import is_in_line, is_lasting
+from .single import is_passing
+from .staying import may_end_in_rounds
+from .verdict import Verdict, first_of_all
+
+# The greatest number of rounds that delay the pair, for which choices are proposed.
+MOST_DELAYS = 4
+
+
+@dataclass(frozen=True)
+class Choice:
+    """The side, the number of its pair, the rounds from a `handle_timeout` call up to `end`, and how many of them may delay the pair."""
+
+    side: str
+    pair: int
+    first: int
+    end: int
+    delays: int
+
+    def rounds(self, x: Execution) -> list[Round]:
+        """Returns the rounds."""
+        return x.rounds(self.side, self.first, self.end)
+
+
+# ---- the preconditions
+
+def kind_in(agent: Agent, pair: Pair) -> int:
+    """Returns the kind of a pair of the agent (`kind_in`)."""
+    return kind_of(agent.local, agent.remote, pair)
+
+
+def takes_turns(x: Execution, side: str, kind: int, number: int, r: Round) -> Lacks:
+    """Kinds take turns at the `handle_timeout` call, no path is selected by its end, and the pair has this kind (`TakesTurns`)."""
+    old, new = x.state(r.moment, side), x.state(r.moment + 1, side)
+    return lacks(turns=new.rules.kinds_in_turn and not new.state.is_connected(), unselected=new.selected is None,
+                 keeps=all(kind_in(old, p) == kind for p in old.pairs if p.number == number))
+
+
+def kinds_of(x: Execution, side: str, rounds: list[Round]) -> set[int]:
+    """Returns the kinds of the pairs before the `handle_timeout` calls."""
+    return {kind_in(agent, p) for r in rounds for agent in (x.state(r.moment, side),) for p in agent.pairs}
+
+
+def lacking(x: Execution, c: Choice) -> Lacks:
+    """Returns the preconditions that do not hold. Without a check there may be a reason: a success response, or a pair that may be gone."""
+    rounds, agent = c.rounds(x), x.state(c.first, c.side)
+    own, now = pair_of(agent, c.pair), x.now(c.first)
+    by, path = min(own.due_at(now, agent.timing), now), agent.path(own)
+    passing: Lacks = next((missing for r in rounds if (missing := is_passing(x, c.side, by, r))), [])
+    turns: Lacks = next((missing for r in rounds if (missing := takes_turns(x, c.side, kind_in(agent, own), c.pair, r))), [])
+    is_reached = reached_at(x, c) is not None
+    return lacks(IsFresh=is_new_agent(x.state(0, c.side)), line=is_in_line(now, by, agent, own), IsPassing=passing,
+                 lasting=all(is_lasting(r.now, agent, own) for r in rounds), TakesTurns=turns,
+                 enough=2 * len(kinds_of(x, c.side, rounds)) * c.delays <= len(rounds),
+                 IsAnsweredIn=is_reached or not succeeds_in(x, c.side, path, rounds),
+                 IsEndedIn=is_reached or not may_end_in_rounds(x, c.side, path, rounds))
+
+
+# ---- the conclusion
+
+def is_delayed(x: Execution, side: str, kind: int, number: int, r: Round) -> bool:
+    """Whether the call checks another pair, which goes before all kinds, or has this kind and goes before the pair (`IsDelayed`)."""
+    agent, step = x.state(r.moment, side), x.steps[r.moment]
+    own = pair_of(agent, number)
+
+    def place(pair: Pair) -> tuple[int, int]:
+        return pair.due_at(r.now, agent.timing), -pair.priority
+
+    return any(p.number != number and step.checks(side, agent.path(p))
+               and (agent.goes_first(p) or (kind_in(agent, p) == kind and place(p) <= place(own))) for p in agent.pairs)
+
+
+def reached_at(x: Execution, c: Choice) -> int | None:
+    """Returns when a check is sent on the pair's path, or so many rounds have delayed the pair."""
+    agent, delays = x.state(c.first, c.side), 0
+    own = pair_of(agent, c.pair)
+    path, kind = agent.path(own), kind_in(agent, own)
+    for r in c.rounds(x):
+        if x.steps[r.moment].checks(c.side, path):
+            return r.now
+        if not any(p.number == c.pair for p in x.state(r.moment, c.side).pairs):
+            return None
+        delays += is_delayed(x, c.side, kind, c.pair, r)
+        if delays == c.delays:
+            return r.now
+    return None
+
+
+# ---- the search
+
+def choices(x: Execution) -> Iterator[Choice]:
+    """Proposes each pair at each `handle_timeout` call while no path is selected, with the fewest rounds for each number of delays."""
+    for side in SIDES:
+        row = x.timeouts[side]
+        for place, first in enumerate(row):
+            agent, now = x.state(first, side), x.now(first)
+            if x.state(first + 1, side).selected is not None:
+                continue
+            kinds, most = len(kinds_of(x, side, x.rounds(side, first, first + 1))), most_rounds(x, side, place, is_in_round)
+            for delays in range(1, MOST_DELAYS + 1):
+                if (count := 2 * kinds * delays) > most:
+                    break
+                yield from (Choice(side, p.number, first, row[place + count - 1] + 1, delays)
+                            for p in agent.pairs if p.due_at(now, agent.timing) < now)
+
+
+def find(x: Execution) -> Verdict:
+    """Returns the first such choice, or one in which neither came true."""
+
+    def verdict(c: Choice) -> Verdict:
+        rounds = c.rounds(x)
+        return Verdict("", rounds[0].now, rounds[-1].now, reached_at(x, c), len(rounds))
+
+    return first_of_all(choices(x), lambda c: lacking(x, c), verdict, "line.there")
