@@ -6,13 +6,14 @@ use crate::error::{CallError, found, or_panic};
 use crate::event::{IceAgentEvent, IceAgentStats, IceConnectionState, MediaPath, Transmit};
 use crate::ffi;
 use crate::hmac::Sha1HmacProvider;
+use crate::ids::TransIds;
 use crate::pair::CandidatePair;
 use crate::preference::LocalPreference;
 use crate::proto::{Protocol, address_of, socket_of};
 use crate::stun::{StunMessage, StunPacket};
 use std::fmt;
 use std::net::SocketAddr;
-use std::sync::{Arc, Mutex, PoisonError};
+use std::sync::{Arc, Mutex, OnceLock, PoisonError};
 use std::time::{Duration, Instant};
 
 /// The first instant that is passed, on the agent's clock: late enough for earlier ones that are passed later.
@@ -45,11 +46,13 @@ pub struct IceAgent {
     /// Queries take `&self`, although each call of the library borrows the agent mutably: so there is one at a time.
     held: Mutex<Box<ffi::Agent>>,
     first: Option<Instant>,
-    /// The credentials are in the library too: these are what `local_credentials` and `remote_credentials` return references to.
-    pub(crate) local: IceCreds,
-    pub(crate) remote: Option<IceCreds>,
-    /// What `add_local_candidate` returns a reference to.
-    added: Option<Candidate>,
+    /// The library has the credentials: these are what `local_credentials` and `remote_credentials` returned references to. Most programs
+    /// call at most one of the two.
+    pub(crate) local: OnceLock<Box<IceCreds>>,
+    pub(crate) remote: OnceLock<Box<IceCreds>>,
+    /// What `add_local_candidate` returned a reference to, until the next packet or timeout.
+    added: Option<Box<Candidate>>,
+    ids: TransIds,
     /// The library calls no function of the program, so this one is called before a candidate is added.
     pub(crate) preference: Option<Arc<dyn LocalPreference>>,
 }
@@ -86,7 +89,15 @@ impl IceAgent {
     pub fn try_new(local_credentials: IceCreds) -> Result<IceAgent, CallError> {
         let tie_breaker = u64::from_ne_bytes(ffi::random().ok_or(CallError::NoRandomBytes)?);
         let agent = ffi::Agent::new(&local_credentials.ufrag, &local_credentials.pass, tie_breaker).map_err(CallError::of)?;
-        Ok(IceAgent { held: Mutex::new(agent), first: None, local: local_credentials, remote: None, added: None, preference: None })
+        Ok(IceAgent {
+            held: Mutex::new(agent),
+            first: None,
+            local: OnceLock::new(),
+            remote: OnceLock::new(),
+            added: None,
+            ids: TransIds::default(),
+            preference: None,
+        })
     }
 
     pub(crate) fn ask<R>(&self, call: impl FnOnce(&mut ffi::Agent) -> R) -> R {
@@ -192,8 +203,8 @@ impl IceAgent {
         if !is_added {
             return Ok(None);
         }
-        self.added = Some(self.local_candidate(index).map_err(CallError::of)?);
-        Ok(self.added.as_ref())
+        self.added = Some(Box::new(self.local_candidate(index).map_err(CallError::of)?));
+        Ok(self.added.as_deref())
     }
 
     /// Passes on the preference that the program's function, if any, gives the candidate. One that cannot be added needs none.
@@ -324,8 +335,8 @@ impl IceAgent {
     /// [`CallError::CredentialsTooLong`], [`CallError::OutOfMemory`].
     pub fn try_ice_restart(&mut self, local_credentials: IceCreds, keep_local_candidates: bool) -> Result<(), CallError> {
         self.tell(|agent| agent.restart(&local_credentials.ufrag, &local_credentials.pass, keep_local_candidates))?;
-        self.local = local_credentials;
-        self.remote = None;
+        self.local = OnceLock::new();
+        self.remote = OnceLock::new();
         Ok(())
     }
 
@@ -365,6 +376,7 @@ impl IceAgent {
     /// # Panics
     ///
     /// If out of memory, among others: `try_handle_packet` returns an error then.
+    #[inline]
     #[track_caller]
     pub fn handle_packet(&mut self, now: Instant, packet: StunPacket<'_>) -> bool {
         or_panic(self.try_handle_packet(now, packet))
@@ -375,10 +387,24 @@ impl IceAgent {
     /// # Errors
     ///
     /// [`CallError::OutOfMemory`], [`CallError::PairIdsExhausted`].
+    #[inline]
     pub fn try_handle_packet(&mut self, now: Instant, packet: StunPacket<'_>) -> Result<bool, CallError> {
+        self.take(now, packet.proto, packet.source, packet.destination, packet.message.bytes())
+    }
+
+    /// The same. Programs get `try_handle_packet` inline, so that they do not copy the message, whose bytes are all that is used.
+    fn take(
+        &mut self,
+        now: Instant,
+        proto: Protocol,
+        source: SocketAddr,
+        destination: SocketAddr,
+        bytes: &[u8],
+    ) -> Result<bool, CallError> {
+        self.forget_added();
         let now = self.time(now);
-        let (source, destination) = (address_of(packet.source), address_of(packet.destination));
-        self.tell(|agent| match agent.handle_packet(now, packet.proto.number(), &source, &destination, packet.message.bytes()) {
+        let (source, destination) = (address_of(source), address_of(destination));
+        self.tell(|agent| match agent.handle_packet(now, proto.number(), &source, &destination, bytes) {
             ffi::UNPARSED => ffi::NOTHING,
             code => code,
         })
@@ -400,22 +426,18 @@ impl IceAgent {
     ///
     /// [`CallError::OutOfMemory`], [`CallError::NoRandomBytes`], [`CallError::PairIdsExhausted`].
     pub fn try_handle_timeout(&mut self, now: Instant) -> Result<(), CallError> {
-        let random = ffi::random().ok_or(CallError::NoRandomBytes)?;
+        let id = self.ids.next().ok_or(CallError::NoRandomBytes)?;
+        self.forget_added();
         let now = self.time(now);
-        self.tell(|agent| agent.handle_timeout(now, &random)).map(drop)
+        self.tell(|agent| agent.handle_timeout(now, &id)).map(drop)
     }
 
     /// The next packet to send.
     pub fn poll_transmit(&mut self) -> Option<Transmit> {
         let mut packet = ffi::Packet::default();
-        let agent = self.held();
-        let contents = ffi::bytes(|buffer, length| {
-            let code = agent.poll_transmit(buffer, &mut packet);
-            *length = packet.length;
-            code
-        });
+        let contents = self.held().poll_transmit(&mut packet)?;
         let (source, destination) = (socket_of(&packet.source), socket_of(&packet.destination));
-        Some(Transmit { proto: Protocol::of(packet.protocol), source, destination, contents: contents.ok()? })
+        Some(Transmit { proto: Protocol::of(packet.protocol), source, destination, contents })
     }
 
     /// The time at which to call `handle_timeout` next. Call it before packets are polled, and keep the earliest one that it returns
@@ -440,7 +462,14 @@ impl IceAgent {
     pub fn poll_event(&mut self) -> Option<IceAgentEvent> {
         let mut event = ffi::Event::default();
         let is_some = ffi::is_ice_poll_event(self.held(), &mut event) == ffi::OK;
-        is_some.then(|| IceAgentEvent::of(&event, &self.local))
+        is_some.then(|| IceAgentEvent::of(&event, || IceCreds::of(self.held().local_credentials())))
+    }
+
+    /// Nothing refers any longer to the candidate that was added last.
+    fn forget_added(&mut self) {
+        if self.added.is_some() {
+            self.added = None;
+        }
     }
 
     /// The time on the agent's clock, which starts at one minute.

@@ -62,6 +62,12 @@ impl IceCreds {
     }
 }
 
+impl IceCreds {
+    pub(crate) fn of([ufrag, pass]: [String; 2]) -> IceCreds {
+        IceCreds { ufrag, pass }
+    }
+}
+
 impl fmt::Debug for IceCreds {
     fn fmt(&self, f: &mut fmt::Formatter<'_>) -> fmt::Result {
         f.debug_struct("IceCreds").field("ufrag", &self.ufrag).field("pass", &"..").finish()

@@ -96,11 +96,11 @@ pub enum IceAgentEvent {
 
 impl IceAgentEvent {
     /// Converts the library's event; the credentials are those of a restart.
-    pub(crate) fn of(event: &ffi::Event, creds: &IceCreds) -> IceAgentEvent {
+    pub(crate) fn of(event: &ffi::Event, creds: impl FnOnce() -> IceCreds) -> IceAgentEvent {
         let proto = Protocol::of(event.protocol);
         let source = socket_of(&event.source);
         match event.kind {
-            1 => IceAgentEvent::IceRestart(creds.clone()),
+            1 => IceAgentEvent::IceRestart(creds()),
             2 => IceAgentEvent::IceConnectionStateChange(IceConnectionState::of(event.state)),
             3 => IceAgentEvent::DiscoveredRecv { proto, source },
             _ => IceAgentEvent::NominatedSend { proto, source, destination: socket_of(&event.destination) },

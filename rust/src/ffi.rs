@@ -7,7 +7,8 @@
 //!   raw pointer, so it is not `Sync`: an `IceAgent` has it in a `Mutex`.
 //! - References and slices are not null, and a mutable one overlaps no other argument.
 
-use std::ptr;
+use std::mem::MaybeUninit;
+use std::{ptr, slice};
 
 // ---- codes
 
@@ -390,6 +391,10 @@ unsafe extern "C" {
         pass_length: usize,
         keep_local_candidates: bool,
     ) -> i32;
+    fn is_ice_local_ufrag(agent: &mut Agent, buffer: *mut u8, size: usize, length: &mut usize) -> i32;
+    fn is_ice_local_pass(agent: &mut Agent, buffer: *mut u8, size: usize, length: &mut usize) -> i32;
+    fn is_ice_remote_ufrag(agent: &mut Agent, buffer: *mut u8, size: usize, length: &mut usize) -> i32;
+    fn is_ice_remote_pass(agent: &mut Agent, buffer: *mut u8, size: usize, length: &mut usize) -> i32;
     fn is_ice_add_remote(agent: &mut Agent, line: *const u8, length: usize, index: &mut usize) -> i32;
     fn is_ice_invalidate(agent: &mut Agent, line: *const u8, length: usize) -> i32;
     fn is_ice_local_fields(agent: &mut Agent, index: usize, buffer: *mut u8, size: usize, length: &mut usize, fields: &mut Fields) -> i32;
@@ -509,6 +514,9 @@ unsafe extern "C" {
 // Why each block is safe: pointer and length are those of one slice, the slice lives as long as the call, and the library keeps no
 // pointer to it. A slice that the library writes is borrowed mutably.
 
+/// A call that returns a text of an agent.
+type Text = unsafe extern "C" fn(&mut Agent, *mut u8, usize, &mut usize) -> i32;
+
 impl Agent {
     /// Creates an agent with these credentials.
     pub(crate) fn new(ufrag: &str, pass: &str, tie_breaker: u64) -> Result<Box<Agent>, i32> {
@@ -534,6 +542,24 @@ impl Agent {
         unsafe {
             is_ice_set_remote_credentials(self, ufrag.as_ptr(), ufrag.len(), pass.as_ptr(), pass.len())
         }
+    }
+
+    /// The local username fragment and password, which are always there.
+    #[cold]
+    pub(crate) fn local_credentials(&mut self) -> [String; 2] {
+        [is_ice_local_ufrag as Text, is_ice_local_pass].map(|call| self.text(call).unwrap_or_default())
+    }
+
+    /// Those of the peer; `None` if they are not known.
+    pub(crate) fn remote_credentials(&mut self) -> Option<[String; 2]> {
+        Some([self.text(is_ice_remote_ufrag)?, self.text(is_ice_remote_pass)?])
+    }
+
+    /// The text that a call returns; `None` if there is none.
+    fn text(&mut self, call: Text) -> Option<String> {
+        #[allow(unsafe_code)]
+        // SAFETY: the buffer is a slice that is borrowed mutably.
+        text(|buffer, length| unsafe { call(self, buffer.as_mut_ptr(), buffer.len(), length) }).ok()
     }
 
     pub(crate) fn restart(&mut self, ufrag: &str, pass: &str, keep_local_candidates: bool) -> i32 {
@@ -616,11 +642,16 @@ impl Agent {
         }
     }
 
-    pub(crate) fn poll_transmit(&mut self, buffer: &mut [u8], packet: &mut Packet) -> i32 {
+    /// The bytes of the next packet, whose rest is written to `packet`; `None` if there is none.
+    pub(crate) fn poll_transmit(&mut self, packet: &mut Packet) -> Option<Vec<u8>> {
+        const { assert!(ROOM >= 596, "no packet is longer") };
+        let mut room = [const { MaybeUninit::<u8>::uninit() }; ROOM];
         #[allow(unsafe_code)]
-        // SAFETY: the buffer is a slice that is borrowed mutably.
+        // SAFETY: the room is an array that is borrowed mutably. The call reads nothing of it and, if it returns OK, has written so many
+        // bytes to its start as the packet's length says.
         unsafe {
-            is_ice_poll_transmit(self, buffer.as_mut_ptr(), buffer.len(), packet)
+            let code = is_ice_poll_transmit(self, room.as_mut_ptr().cast(), ROOM, packet);
+            (code == OK).then(|| slice::from_raw_parts(room.as_ptr().cast(), packet.length).to_vec())
         }
     }
 }

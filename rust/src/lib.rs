@@ -29,6 +29,7 @@ mod error;
 mod event;
 mod ffi;
 mod hmac;
+mod ids;
 mod pair;
 mod preference;
 mod proto;

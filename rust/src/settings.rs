@@ -6,7 +6,7 @@ use crate::error::{CallError, or_panic};
 use crate::ffi;
 use crate::preference::{LocalPreference, PreferenceTable};
 use std::ops::RangeInclusive;
-use std::sync::Arc;
+use std::sync::{Arc, OnceLock};
 use std::time::Duration;
 
 impl IceAgent {
@@ -199,7 +199,7 @@ impl IceAgent {
 
     /// The local credentials.
     pub fn local_credentials(&self) -> &IceCreds {
-        &self.local
+        self.local.get_or_init(|| Box::new(IceCreds::of(self.ask(ffi::Agent::local_credentials))))
     }
 
     /// Sets the local credentials without an ICE restart: for use before they are signaled.
@@ -220,13 +220,17 @@ impl IceAgent {
     /// [`CallError::CredentialsTooLong`], [`CallError::OutOfMemory`].
     pub fn try_set_local_credentials(&mut self, r: IceCreds) -> Result<(), CallError> {
         self.tell(|agent| agent.set_local_credentials(&r.ufrag, &r.pass))?;
-        self.local = r;
+        self.local = OnceLock::new();
         Ok(())
     }
 
     /// The peer's credentials.
     pub fn remote_credentials(&self) -> Option<&IceCreds> {
-        self.remote.as_ref()
+        if self.remote.get().is_none() {
+            let texts = self.ask(ffi::Agent::remote_credentials)?;
+            self.remote.get_or_init(|| Box::new(IceCreds::of(texts)));
+        }
+        self.remote.get().map(Box::as_ref)
     }
 
     /// Sets the peer's credentials, from signaling. Before this call no check is sent.
@@ -247,7 +251,7 @@ impl IceAgent {
     /// [`CallError::CredentialsTooLong`], [`CallError::OutOfMemory`].
     pub fn try_set_remote_credentials(&mut self, r: IceCreds) -> Result<(), CallError> {
         self.tell(|agent| agent.set_remote_credentials(&r.ufrag, &r.pass))?;
-        self.remote = Some(r);
+        self.remote = OnceLock::new();
         Ok(())
     }
 }

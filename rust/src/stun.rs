@@ -153,20 +153,24 @@ pub struct StunMessage<'a> {
 impl<'a> StunMessage<'a> {
     /// Parses a datagram, which the message borrows. An error if it is not a STUN message, as media, or lacks what ICE requires, as the
     /// response of a STUN server, which has no MESSAGE-INTEGRITY.
+    #[inline]
     pub fn parse(bytes: &'a [u8]) -> Result<StunMessage<'a>, StunError> {
         StunMessage::parsed(bytes, ffi::stun_read_strict)
     }
 
     /// Parses a message that need not have the attributes that ICE requires, as the response of a STUN server. Nothing is verified.
+    #[inline]
     pub fn parse_any(bytes: &'a [u8]) -> Result<StunMessage<'a>, StunError> {
         StunMessage::parsed(bytes, ffi::stun_read)
     }
 
+    /// Programs get this inline, so that they do not copy the message once more.
+    #[inline]
     fn parsed(bytes: &'a [u8], read: fn(&[u8], &mut ffi::StunMessage) -> i32) -> Result<StunMessage<'a>, StunError> {
         let mut flat = ffi::StunMessage::default();
         match read(bytes, &mut flat) {
             ffi::OK => Ok(StunMessage { bytes, flat, texts: Texts::default() }),
-            code => Err(StunError::Parse(ffi::text_of(code).to_owned())),
+            code => Err(unparsed(code)),
         }
     }
 
@@ -553,6 +557,11 @@ impl<'a> StunMessage<'a> {
         let at = find(self.bytes, copy)?;
         self.bytes.get(at..at + copy.len())
     }
+}
+
+#[cold]
+fn unparsed(code: i32) -> StunError {
+    StunError::Parse(ffi::text_of(code).to_owned())
 }
 
 /// A text of the library, which is UTF-8.

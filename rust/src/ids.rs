@@ -1,0 +1,54 @@
+//! The transaction IDs of an agent's checks.
+
+use crate::ffi;
+
+/// The bytes of an ID (RFC 8489, section 5).
+const LENGTH: usize = 12;
+
+/// How many IDs the system draws at once. Five take it half as long again as one.
+const DRAWN: usize = 5;
+
+/// Transaction IDs that nobody can predict, and that no check had yet. Several are drawn at once, since a call of the system's generator
+/// takes longer than all else that this crate does for a check.
+///
+/// They are the agent's own, so that agents and threads share nothing. Only the copy of an agent in a forked process has the same ones, for
+/// the same session.
+#[derive(Default)]
+pub(crate) struct TransIds {
+    drawn: [[u8; LENGTH]; DRAWN],
+    left: u8,
+}
+
+impl TransIds {
+    /// The next ID; `None` if the system has no random bytes.
+    pub(crate) fn next(&mut self) -> Option<[u8; LENGTH]> {
+        if self.left == 0 {
+            self.draw()?;
+        }
+        self.left -= 1;
+        self.drawn.get(usize::from(self.left)).copied()
+    }
+
+    fn draw(&mut self) -> Option<()> {
+        let bytes: [u8; LENGTH * DRAWN] = ffi::random()?;
+        for (id, drawn) in self.drawn.iter_mut().zip(bytes.chunks_exact(LENGTH)) {
+            id.copy_from_slice(drawn);
+        }
+        self.left = DRAWN as u8;
+        Some(())
+    }
+}
+
+#[cfg(test)]
+mod tests {
+    use super::{DRAWN, TransIds};
+    use std::collections::HashSet;
+
+    #[test]
+    fn no_id_is_returned_twice() {
+        let mut ids = TransIds::default();
+        let returned: HashSet<_> = (0..10 * DRAWN).map(|_| ids.next().unwrap()).collect();
+        assert_eq!(returned.len(), 10 * DRAWN);
+        assert!(!returned.contains(&[0; 12]));
+    }
+}
