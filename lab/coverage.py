@@ -11,6 +11,8 @@ from .clauses import (
     consent_holds, courses_select_in_time, due_rounds, in_time, leaves_in_time, meet, nomination_accepted, nominations, of_use, one_path,
     reached_in_turn, rounds, run_connected, run_connected_answered, run_in_time, states_agree, successes, valid_have_consented,
     world_rounds)
+    consent_holds, courses_select_in_time, due_rounds, in_time, meet, nomination_accepted, nominations, of_use, one_path, rounds,
+    run_connected, run_connected_answered, run_in_time, selects_in_time, states_agree, successes, valid_have_consented, world_rounds)
 from .clauses.execution import Execution
 from .clauses.accepted_nominations import Network
 from .clauses.verdict import Verdict
@@ -20,6 +22,7 @@ from .guarantees import Broken
 from .log import Log
 from .pool import Fault, Portion
 from .replay import replay
+from .scenario import Scenario
 from .session import Session
 
 # The clauses of progress of `World::run` and of `run`, and theorems of `is_theorems` on one agent.
@@ -30,7 +33,7 @@ WORLD: dict[str, Callable[[Network], Verdict]] = {
 RUN: dict[str, Callable[[Execution], Verdict]] = {
     "run: of_use": of_use.find, "run: successes": successes.find, "run: nominations": nominations.find,
     "run: connected": run_connected.find, "run: connected_answered": run_connected_answered.find, "run: rounds": rounds.find,
-    "run: due_rounds": due_rounds.find, "run: in_time": run_in_time.find}
+    "run: due_rounds": due_rounds.find, "run: in_time": run_in_time.find, "run: selects_in_time": selects_in_time.find}
 THEOREMS: dict[str, Callable[[Execution], Verdict]] = {
     "consent_holds": consent_holds.find, "consent_ends_in_time": consent_ends_in_time.find,
     "valid_have_consented": valid_have_consented.find, "connected_have_consent": connected_have_consent.find,
@@ -62,14 +65,20 @@ def verdicts_of(log: Log) -> tuple[dict[str, Verdict], tuple[str, ...]]:
 
 @dataclass(frozen=True)
 class Play:
-    """Runs a portion of sessions, and applies the checkers to each. `settle_s`: the sessions go on this long after the last selection."""
+    """Runs a portion of sessions, and applies the checkers to each. `settle_s`: the sessions go on this long after the last selection;
+    None: as long as the scenario says."""
 
-    settle_s: float = 0.0
+    settle_s: float | None = None
+
+    def prolonged(self, scenario: Scenario) -> Scenario:
+        """Returns a scenario whose sessions go on so long."""
+        settle = scenario.coverage_s if self.settle_s is None else self.settle_s
+        return replace(scenario, settle_s=max(scenario.settle_s, settle), seconds=max(scenario.seconds, settle * 2))
 
     def __call__(self, portion: Portion) -> list[Covered] | Fault:
         """Returns what was found, up to the first broken guarantee."""
         scenario, seeds = portion
-        longer = replace(scenario, settle_s=max(scenario.settle_s, self.settle_s), seconds=max(scenario.seconds, self.settle_s * 2))
+        longer = self.prolonged(scenario)
         found = []
         for seed in seeds:
             log = Log()

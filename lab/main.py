@@ -8,7 +8,7 @@ import time
 from contextlib import ExitStack
 from pathlib import Path
 
-from . import bars, compare, coverage, figures, hosts, pool, rules, scenario
+from . import bars, compare, consent, coverage, figures, hosts, pool, rules, scenario
 from .guarantees import Broken
 from .scenario import BadScenario, Scenario
 
@@ -37,12 +37,15 @@ def _arguments() -> argparse.Namespace:
     each = words.add_parser("rules", help="measures how long agents take with each rule off in turn, also if the peer starts later")
     each.add_argument("-n", "--sessions", type=int, default=40, help="sessions of each setting (40)")
     each.add_argument("--document", type=Path, metavar="FILE", help="puts the table in place of that of a document, as docs/SESSIONS.md")
+    keeping = words.add_parser("consent", help="measures how long agents keep a path when its link fails, beside the end of consent")
+    keeping.add_argument("-n", "--sessions", type=int, default=20, help="sessions of each setting (20)")
+    keeping.add_argument("--document", type=Path, metavar="FILE", help="puts the table in place of that of a document, as docs/SESSIONS.md")
     covering = words.add_parser("coverage", help="shows how many sessions each clause of progress covers, and its bound")
     covering.add_argument("scenario", nargs="*", help="as for measure")
     covering.add_argument("-n", "--sessions", type=int, default=200, help="sessions of each scenario (200)")
     covering.add_argument("--set", action="append", default=[], metavar="KEY=VALUE", help="as for measure")
-    covering.add_argument("--settle", type=float, default=12.0, metavar="S", help="go on this long after the last selection (12 s)")
-    for command in (measure, comparing, many, each, covering):
+    covering.add_argument("--settle", type=float, metavar="S", help="go on this long after the last selection (as the scenario says: 12 s)")
+    for command in (measure, comparing, many, each, keeping, covering):
         command.add_argument("--seed", type=int, default=0, help="the first seed (0)")
         command.add_argument("-j", "--processes", type=int, default=1, help="number of processes (1)")
         command.add_argument("-q", "--quiet", action="store_true", help="no progress bar")
@@ -94,6 +97,8 @@ def main() -> int:
             hosts.run(options.sessions, options.seed, options.processes, options.quiet, options.plot, options.own_svg, options.document)
         elif options.word == "rules":
             rules.run(options.sessions, options.seed, options.processes, options.quiet, options.document)
+        elif options.word == "consent":
+            consent.run(options.sessions, options.seed, options.processes, options.quiet, options.document)
         else:
             compare.run(options.question, options.sessions, options.seed, options.processes, options.quiet, options.plot, options.own_svg,
                         options.original)

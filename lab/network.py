@@ -124,6 +124,7 @@ class Interface:
         self.name, self.ip, self.network = name, ip, network
         self.up, self.down = Link(up, random), Link(down, random)
         self.is_on = True
+        self.is_mute = False  # what it sends is lost
         self.take: Callable[[Interface, Packet], None] = lambda interface, packet: None
         network.attach(ip, self)
 
@@ -132,6 +133,9 @@ class Interface:
         now = self.network.clock.now
         if not self.is_on:
             lose(packet, now, f"{self.name} is off")
+            return
+        if self.is_mute:
+            lose(packet, now, "lost")
             return
         self._carry(self.up, packet, self.network.route)
 

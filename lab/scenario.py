@@ -13,7 +13,7 @@ from .nat import Behavior, NatSettings
 
 FOLDER = Path(__file__).resolve().parent / "scenarios"
 SIDES = ("a", "b")
-EVENTS = ("on", "off", "silent", "restart")
+EVENTS = ("on", "off", "silent", "mute", "restart")
 
 T = TypeVar("T")
 
@@ -92,7 +92,8 @@ class GatewaySettings:
 
 @dataclass(frozen=True)
 class ScenarioEvent:
-    """What happens to a side: an interface is turned on or off, its link fails without notification (silent), or an ICE restart."""
+    """What happens to a side: an interface is turned on or off, its link fails without notification (silent), or only for what it sends
+    (mute), or an ICE restart."""
 
     at_s: float
     side: str
@@ -108,6 +109,7 @@ class Scenario:
     title: str
     seconds: float = 40.0  # the longest duration of a session
     settle_s: float = 4.0  # the session ends this long after the last selected pair and the last event, if both have a path
+    coverage_s: float = 12.0  # the same in `lab/run coverage`, if that is longer: so that rounds have time to end
     begin_s: float = 0.0  # side B starts with the first signal, or at this time if that is later
     symmetric: bool = True  # the last paths of both sides must be the reverse of each other
     connects: str = "always"  # always, sometimes or never

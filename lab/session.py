@@ -209,6 +209,8 @@ class Session:
         interface = self._interfaces[event.side, event.interface]
         if event.do == "silent":
             interface.is_on = False
+        elif event.do == "mute":
+            interface.is_mute = True
         elif event.do == "on":
             endpoint.turn_on(interface)
         else:

@@ -7,7 +7,7 @@ from collections.abc import Iterator, Mapping
 from typing import Protocol
 
 from ..pairs import Pair, Path
-from .execution import Execution, Lacks, Round, fewest, is_in_round, lacks
+from .execution import Execution, Lacks, Round, entries_of, fewest, is_in_round, lacks, part_of
 from .accepted_nominations import ALL, Network
 from .progress import is_in_line, is_lasting, nominations_ahead, suffices
 from .selections import are_kept, checks_in
@@ -96,7 +96,7 @@ class Rows:
 
 def succeeds_in(x: Execution, side: str, path: Path, rounds: list[Round]) -> bool:
     """Whether the side accepts a success response on the path after one of the `handle_timeout` calls (`Succeeds`)."""
-    return any(at in r.behind and x.steps[at].entry.given[1:3] == path[::-1] for r in rounds for at in x.successes(side))
+    return any(x.steps[at].entry.given[1:3] == path[::-1] for at in part_of(x.successes(side), entries_of(rounds)))
 
 
 def is_active(x: Execution, side: str, path: Path, rounds: list[Round]) -> bool:

@@ -10,7 +10,7 @@ from itertools import groupby
 
 from ..pairs import Path
 from ..scenario import SIDES
-from .execution import MAX, Execution, Lacks, Round, any_in, lacks
+from .execution import MAX, Execution, Lacks, Round, any_in, lacks, part_of
 from .fair import is_new_agent
 from .in_time import delay
 from .opening import Counts, controlling_calls, pair_of
@@ -45,12 +45,12 @@ class Choice:
 def trip(x: Execution, c: Choice) -> int | None:
     """Returns the least round trip within which the checks on the path are answered (`IsAnsweredWithin`): a success response is accepted in
     a round that begins so long after each of them, or earlier. None: there is a check, and none is accepted."""
-    rounds, path = c.rounds(x), c.path(x)
-    sent = [r.now for r in rounds if x.steps[r.moment].checks(c.side, path)]
-    place = next((place for place, r in enumerate(rounds) if any_in(x.successes(c.side), r.behind)), None)
+    rounds, part = c.rounds(x), range(c.first, c.end)
+    sent = [x.now(at) for at in part_of(x.checks(c.side, c.path(x)), part)]
     if not sent:
         return 0
-    return None if place is None else max(0, max(r.now for r in rounds[:place + 1]) - min(sent))
+    answers = part_of(x.successes(c.side), part)
+    return max(0, max(r.now for r in rounds if r.moment < answers[0]) - min(sent)) if answers else None
 
 
 def limit(x: Execution, c: Choice) -> int | None:
@@ -100,18 +100,32 @@ def choice_of(x: Execution, side: str, pair: int, place: int, count: int) -> Cho
     return Choice(side, pair, row[0], count, max(last, answer or 0) + 1)
 
 
-def choices(x: Execution) -> Iterator[Choice]:
-    """Proposes choices by the first `handle_timeout` call, of one call those with the earliest bound first. Those with a call other than
-    packets and polls before enough rounds, or with too few rounds, come last."""
+def choices_by_call(x: Execution) -> Iterator[tuple[list[Choice], list[Choice]]]:
+    """Proposes choices for each first `handle_timeout` call: those with enough rounds, the earliest bound first; and those with a call
+    other than packets and polls before enough rounds, or with too few rounds."""
     counts = {side: Counts(x, side) for side in SIDES}
-    hopeless: list[Choice] = []
     for (side, place), calls in groupby(controlling_calls(x, SIDES), key=lambda call: (call[1], call[0])):
         enough: list[Choice] = []
+        hopeless: list[Choice] = []
         for _, _, pair, due in calls:
             count = counts[side].least_polled(place, due)
             wanted = counts[side].rounds_for_due(place, due) if count is None else count
             (hopeless if count is None else enough).append(choice_of(x, side, pair.number, place, wanted))
-        yield from sorted(enough, key=lambda c: MAX if (bound := limit(x, c)) is None else bound)
+        yield sorted(enough, key=lambda c: earliest(x, c)), hopeless
+
+
+def earliest(x: Execution, c: Choice) -> int:
+    """Returns the bound of a choice, or the greatest time if it has none."""
+    bound = limit(x, c)
+    return MAX if bound is None else bound
+
+
+def choices(x: Execution) -> Iterator[Choice]:
+    """Proposes choices by the first call. Those without enough rounds come last."""
+    hopeless: list[Choice] = []
+    for enough, few in choices_by_call(x):
+        yield from enough
+        hopeless += few
     yield from hopeless
 
 

@@ -9,7 +9,7 @@ from ..scenario import SIDES
 from .execution import Execution, Lacks, is_in_round, lacks
 from .opening import controlling_calls, most_rounds
 from .progress import suffices_from_due
-from .single import Choice, announces_in, are_in_round, by_end, due_of, end_of, is_passing, shared
+from .single import Choice, announces_in, are_in_round, are_passing, by_end, due_of, end_of, shared
 from .verdict import Verdict, first_that_holds
 
 
@@ -17,7 +17,7 @@ def lacking(x: Execution, c: Choice) -> Lacks:
     """Returns the preconditions that do not hold."""
     rounds, by = c.rounds(x), min(due_of(x, c), x.now(c.first))  # so `by` is no later than the first call
     first = lacks(between=are_in_round(x, c.side, rounds[0]))
-    later: Lacks = next((missing for r in rounds[1:] if (missing := is_passing(x, c.side, by, r))), [])
+    later = are_passing(x, c.side, by, rounds[1:])
     states = x.state(c.first, c.side), x.state(rounds[0].behind.stop, c.side), x.state(c.end, c.side)
     return lacks(**shared(x, c, by), first=first, IsPassing=later, SufficesFromDue=suffices_from_due(*states, len(rounds) - 1))
 

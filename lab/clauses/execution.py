@@ -5,7 +5,7 @@ from __future__ import annotations
 
 from bisect import bisect_left
 from collections.abc import Callable, Sequence
-from dataclasses import dataclass
+from dataclasses import dataclass, replace
 from functools import cached_property
 
 from ..model import Agent
@@ -33,6 +33,11 @@ def lacks(**parts: bool | Lacks) -> Lacks:
 def fewest(found: Sequence[Lacks], otherwise: Lacks) -> Lacks:
     """Returns what the best of several choices lacks, or `otherwise` if there is no choice."""
     return min(found, key=len, default=otherwise)
+
+
+def part_of(indices: Sequence[int], part: range) -> Sequence[int]:
+    """Returns the sorted indices that are in the range."""
+    return indices[bisect_left(indices, part.start):bisect_left(indices, part.stop)]
 
 
 def any_in(indices: Sequence[int], part: range) -> bool:
@@ -72,6 +77,11 @@ class Round:
     behind: range
 
 
+def entries_of(rounds: list[Round]) -> range:
+    """Returns the entries of consecutive rounds (`entries_of`)."""
+    return range(rounds[0].moment, rounds[-1].behind.stop) if rounds else range(0)
+
+
 class Execution:
     """A session: the entries of its log, each with the states of both agents before and after it."""
 
@@ -79,6 +89,7 @@ class Execution:
         self.session, self.steps = session, session.steps
         self.timeouts = {side: session.timeouts(side) for side in SIDES}
         self._indices: dict[tuple[object, ...], list[int]] = {}
+        self._rounds: dict[str, list[Round]] = {}
 
     def __len__(self) -> int:
         return len(self.steps)
@@ -100,8 +111,12 @@ class Execution:
 
     def indices(self, key: tuple[object, ...], passes: Callable[[Step], bool]) -> list[int]:
         """Returns the indices of the entries that pass, which are kept under this key."""
+        return self.kept(key, lambda: [step.at for step in self.steps if passes(step)])
+
+    def kept(self, key: tuple[object, ...], make: Callable[[], list[int]]) -> list[int]:
+        """Returns a list that is made once, and kept under this key."""
         if key not in self._indices:
-            self._indices[key] = [step.at for step in self.steps if passes(step)]
+            self._indices[key] = make()
         return self._indices[key]
 
     # ---- what a side does
@@ -154,8 +169,13 @@ class Execution:
 
     def rounds(self, side: str, first: int, end: int) -> list[Round]:
         """Returns the side's rounds from this `handle_timeout` call on, up to an index."""
-        row = self.timeouts[side][bisect_left(self.timeouts[side], first):bisect_left(self.timeouts[side], end)]
-        return [Round(self.now(at), at, range(at + 1, stop)) for at, stop in zip(row, [*row[1:], end])]
+        row = self.timeouts[side]
+        if side not in self._rounds:
+            self._rounds[side] = [Round(self.now(at), at, range(at + 1, stop)) for at, stop in zip(row, [*row[1:], len(self)])]
+        found = self._rounds[side][bisect_left(row, first):bisect_left(row, end)]
+        if found:
+            found[-1] = replace(found[-1], behind=range(found[-1].moment + 1, end))
+        return found
 
 
 def brings_success(step: Step) -> bool:

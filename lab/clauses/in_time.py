@@ -14,6 +14,7 @@ from .connections import Rows, has_rounds, side_rounds_reach, succeeds_in
 from .execution import Execution, Lacks, Round, is_in_round, lacks
 from .fair import are_new_agents
 from .opening import most_rounds
+from .progress import checks_for
 from .staying import may_end_in_rounds
 from .verdict import Verdict, first_that_holds
 
@@ -37,6 +38,17 @@ def pace(x: Execution, c: Choice) -> int:
     return max(x.state(at, c.side).advance for at in range(c.first, c.end + 1))
 
 
+def lateness(x: Execution, side: str) -> list[int]:
+    """Returns for each of the side's `handle_timeout` calls but the last how late the next one comes, after the latest time that
+    `poll_timeout` returned between both. -1: it returned none."""
+    def late(r: Round, following: Round) -> int:
+        deadline = latest_deadline(x, side, r)
+        return -1 if deadline is None else max(0, following.now - deadline)
+
+    rounds = x.rounds(side, 0, len(x))
+    return x.kept(("lateness", side), lambda: [late(r, following) for r, following in zip(rounds, rounds[1:])])
+
+
 def latest_deadline(x: Execution, side: str, r: Round) -> int | None:
     """Returns the latest time that `poll_timeout` returned in the round, if one did."""
     polls = x.indices(("deadlines", side),
@@ -48,13 +60,11 @@ def latest_deadline(x: Execution, side: str, r: Round) -> int | None:
 def delay(x: Execution, side: str, rounds: list[Round]) -> int | None:
     """Returns how late the caller is at most: each later round begins so long after a time that `poll_timeout` returned in the round
     before, or earlier (`IsPunctual`). None: in one round `poll_timeout` returned no time."""
-    most = 0
-    for r, following in zip(rounds, rounds[1:]):
-        deadline = latest_deadline(x, side, r)
-        if deadline is None:
-            return None
-        most = max(most, following.now - deadline)
-    return most
+    if len(rounds) < 2:
+        return 0
+    first = bisect_left(x.timeouts[side], rounds[0].moment)
+    found = lateness(x, side)[first:first + len(rounds) - 1]
+    return None if min(found) < 0 else max(found)
 
 
 def checked_at(x: Execution, c: Choice) -> int | None:
@@ -74,10 +84,20 @@ def lacking(x: Execution, c: Choice) -> Lacks:
 
 # ---- the search
 
+def least_later(x: Execution, side: str, place: int) -> int:
+    """Returns a number of rounds after the first one, which is at this place: fewer do not suffice."""
+    row = x.timeouts[side]
+    first = x.state(row[place], side)
+    if len(first.pairs) <= 1 or place + 1 == len(row):
+        return 0
+    second = x.state(row[place + 1], side)
+    return max(0, min(checks_for(first.rules, 2 * len(first.pairs)) - 2, checks_for(second.rules, 2 * len(second.pairs)) - 1))
+
+
 def least_count(x: Execution, side: str, place: int, is_early: bool) -> int | None:
     """Returns how many rounds suffice at least for a pair that is due by the call at this place among the side's, or before it."""
     row = x.timeouts[side]
-    for later in range(most_rounds(x, side, place, is_in_round)):
+    for later in range(least_later(x, side, place), most_rounds(x, side, place, is_in_round)):
         end = row[place + later] + 1
         if side_rounds_reach(x, side, is_early, row[place], row[place + 1] if later else end, later, end):
             return later + 1

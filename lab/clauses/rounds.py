@@ -9,15 +9,14 @@ from ..scenario import SIDES
 from .execution import Execution, Lacks, is_between, is_in_round, lacks
 from .opening import Counts, controlling_calls, most_rounds
 from .progress import are_open_enough, checks_for
-from .single import Choice, announces_in, are_enough, by_end, due_of, end_of, is_passing, shared
+from .single import Choice, announces_in, are_enough, are_passing, by_end, due_of, end_of, shared
 from .verdict import Verdict, first_that_holds
 
 
 def lacking(x: Execution, c: Choice) -> Lacks:
     """Returns the preconditions that do not hold."""
     rounds, by = c.rounds(x), min(due_of(x, c), x.now(c.first))
-    passing: Lacks = next((missing for r in rounds if (missing := is_passing(x, c.side, by, r))), [])
-    return lacks(**shared(x, c, by), IsPassing=passing, OpenRoundsSuffice=are_enough(x, c.side, by, rounds))
+    return lacks(**shared(x, c, by), IsPassing=are_passing(x, c.side, by, rounds), OpenRoundsSuffice=are_enough(x, c.side, by, rounds))
 
 
 # ---- the search

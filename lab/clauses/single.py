@@ -7,7 +7,7 @@ from collections.abc import Iterable
 from dataclasses import dataclass
 
 from ..pairs import Path
-from .execution import MAX, Execution, Lacks, Round, any_in, is_between, is_in_round, lacks
+from .execution import MAX, Execution, Lacks, Round, any_in, entries_of, is_between, is_in_round, lacks, part_of
 from .fair import is_new_agent
 from .opening import pair_of
 from .progress import are_open_enough, awaits, checks_for, due_by, is_unanswered
@@ -46,9 +46,17 @@ def are_plain(x: Execution, side: str, rounds: list[Round]) -> bool:
     return not any(any_in(x.calls_besides(side, is_between), r.behind) for r in rounds)
 
 
-def is_answered(x: Execution, side: str, path: Path, r: Round) -> bool:
-    """Whether a success response is accepted in the round, if a check is sent on the path (`IsAnswered`)."""
-    return not x.steps[r.moment].checks(side, path) or any_in(x.successes(side), r.behind)
+def are_passing(x: Execution, side: str, by: int, rounds: list[Round]) -> Lacks:
+    """Returns what the first of the rounds lacks that is not passing."""
+    if not any_in(x.calls_besides(side, is_in_round), entries_of(rounds)) and all(by < r.now < MAX for r in rounds):
+        return []
+    return next((missing for r in rounds if (missing := is_passing(x, side, by, r))), [])
+
+
+def is_answered(x: Execution, side: str, path: Path, rounds: list[Round]) -> bool:
+    """Whether a success response is accepted in each of the rounds that sends a check on the path (`IsAnswered`)."""
+    checks = part_of(x.checks(side, path), entries_of(rounds))
+    return all(any_in(x.successes(side), r.behind) for at in checks for r in rounds if r.moment == at)
 
 
 def are_enough(x: Execution, side: str, by: int, rounds: list[Round]) -> bool:
@@ -69,7 +77,7 @@ def shared(x: Execution, c: Choice, by: int) -> dict[str, bool | Lacks]:
     return {"IsFresh": is_new_agent(x.state(0, c.side)),
             "Awaits": awaits(rounds[0].now, by, agent, pair),
             "IsUnanswered": is_unanswered(agent, pair),
-            "IsAnswered": all(is_answered(x, c.side, path, r) for r in rounds),
+            "IsAnswered": is_answered(x, c.side, path, rounds),
             "IsControllingIn": x.is_controlling_in(c.side, range(c.first, c.end + 1)),
             "IsEndedIn": not may_end_in_rounds(x, c.side, path, rounds)}
 

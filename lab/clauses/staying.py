@@ -7,7 +7,7 @@ from ..kinds import COUNT, kind_between, kind_of
 from ..model import Agent
 from ..pairs import Pair, Path
 from ..replay import Step
-from .execution import Execution, Round, any_in, is_between
+from .execution import Execution, Round, any_in, entries_of, is_between
 
 
 def is_replaced_by(agent: Agent, pair: Pair, combination: tuple[int, int]) -> bool:
@@ -87,7 +87,13 @@ def ends(step: Step, path: Path) -> bool:
 
 def ends_of(x: Execution, side: str, path: Path) -> list[int]:
     """Returns the indices at which a call of the side may remove a pair of the path (`MayEndAt`)."""
-    return x.indices(("ends", side, path), lambda s: s.entry.side == side and ends(s, path))
+    return x.kept(("ends", side, path), lambda: [at for at in removals(x, side) if ends(x.steps[at], path)])
+
+
+def removals(x: Execution, side: str) -> list[int]:
+    """Returns the indices at which a call of the side may remove any pair."""
+    return x.indices(("ends", side), lambda s: s.entry.side == side and not is_between(s.entry.call)
+                     and any(may_end(s, p) for p in s.before[side].pairs))
 
 
 def may_end_in(x: Execution, side: str, path: Path, part: range) -> bool:
@@ -97,4 +103,4 @@ def may_end_in(x: Execution, side: str, path: Path, part: range) -> bool:
 
 def may_end_in_rounds(x: Execution, side: str, path: Path, rounds: list[Round]) -> bool:
     """Whether a call between the `handle_timeout` calls of the rounds may remove a pair of the path (`MayEndInRounds`)."""
-    return any(may_end_in(x, side, path, r.behind) for r in rounds)
+    return may_end_in(x, side, path, entries_of(rounds)) and any(may_end_in(x, side, path, r.behind) for r in rounds)

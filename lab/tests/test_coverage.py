@@ -14,10 +14,16 @@ class Sessions(unittest.TestCase):
     def test_the_model_foresees_what_the_agents_do(self) -> None:
         for name in scenario.names():
             with self.subTest(scenario=name):
-                found = Play()((scenario.load(name), range(1)))
+                found = Play(0)((scenario.load(name), range(1)))
                 assert isinstance(found, list)
                 self.assertEqual(found[0].differences, ())
                 self.assertEqual(found[0].connected, found[0].verdicts["meet"].held)
+
+    def test_how_long_a_session_goes_on(self) -> None:
+        homes, hosts = scenario.load("two_homes"), scenario.load("many_hosts")
+        found = [(s.settle_s, s.seconds) for play, made in ((Play(), homes), (Play(), hosts), (Play(1), hosts), (Play(30), homes))
+                 for s in (play.prolonged(made),)]
+        self.assertEqual(found, [(12, 40), (40, 80), (1, 20), (30, 60)])
 
     def test_a_difference_is_found(self) -> None:
         story = Story()

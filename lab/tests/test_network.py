@@ -106,6 +106,13 @@ class Routing(unittest.TestCase):
         six.is_on = False
         self.assertIn("is off", self.send(six, 1, STUN).fates[0][1])
 
+    def test_a_mute_interface_hears(self) -> None:
+        here, there = (self.interface(f"192.0.2.{n}", self.internet) for n in (1, 2))
+        here.is_mute = True
+        self.assertEqual(self.send(here, 1, SocketAddress(there.ip, 2)).fates[0][1], "lost")
+        self.send(there, 2, SocketAddress(here.ip, 1))
+        self.assertEqual([ip for ip, _ in self.heard], [here.ip])
+
     def test_private_addresses_have_no_route_in_the_internet(self) -> None:
         self.gateway()
         here = self.interface("10.0.0.1", self.home)

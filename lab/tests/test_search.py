@@ -8,7 +8,8 @@ from typing import TypeVar
 
 from is_ice import Transmit
 from lab.clauses import (
-    both, connect, courses_select_in_time, due_rounds, in_time, meet, nomination_accepted, rounds, run_in_time, single, world_rounds)
+    both, connect, courses_select_in_time, due_rounds, in_time, meet, nomination_accepted, rounds, run_in_time, selects_in_time, single,
+    world_rounds)
 from lab.clauses.execution import Execution, Lacks
 from lab.clauses.accepted_nominations import Network
 from lab.clauses.verdict import Verdict
@@ -158,18 +159,27 @@ class Searches(unittest.TestCase):
         self.compare(clause, lambda n: find(n.x), found)
 
     def test_selection_in_time(self) -> None:
+        self.compare_selection_in_time(courses_select_in_time.find, courses_select_in_time.lacking)
+        self.compare_selection_in_time(selects_in_time.find, selects_in_time.lacking, True)
+
+    def compare_selection_in_time(self, find: Callable[[Execution], Verdict],
+                                  lacking: Callable[[Execution, courses_select_in_time.Choice], Lacks], is_earliest: bool = False) -> None:
         held = 0
         for seed in self.SEEDS:
             n = random_story(seed).network()
             every = (courses_select_in_time.Choice(side, pair, first, count, last + 1)
                      for side in SIDES for first, pair, count in self.openings(n, side)
                      for last in sorted(n.x.timeouts[side] + n.x.successes(side)) if last >= first)
-            good = [c for c in every if not courses_select_in_time.lacking(n.x, c)]
+            good = [c for c in every if not lacking(n.x, c)]
+            limits = []
             for c in good:
                 limit, selected = courses_select_in_time.limit(n.x, c), courses_select_in_time.selected_at(n.x, c)
                 assert limit is not None and selected is not None
                 self.assertLessEqual(selected, limit, f"seed {seed}")
-            own = courses_select_in_time.find(n.x)
+                limits.append(limit)
+            own = find(n.x)
+            if is_earliest:
+                self.assertEqual(own.bound, min(limits, default=None), f"seed {seed}")
             self.assertEqual((own.held, own.is_broken), (bool(good), False), f"seed {seed}: {own.failed}")
             held += own.held
         self.assertGreater(held, 2)

@@ -1,0 +1,44 @@
+"""`run`, clause `selects_in_time` (`RoundsSelectInTime`): what the theorem `courses_select_in_time` says of one agent, in its log. The
+rounds are consecutive entries of the log, whatever the other agent is."""
+
+from __future__ import annotations
+
+from .courses_select_in_time import Choice, choices_by_call, earliest, limit, selected_at, trip
+from .execution import MAX, Execution, Lacks, lacks
+from .fair import is_new_agent
+from .in_time import delay
+from .opening import pair_of
+from .progress import awaits, is_unanswered, suffice_for_due
+from .single import are_passing, are_plain
+from .verdict import Verdict, first_that_holds
+
+
+def lacking(x: Execution, c: Choice) -> Lacks:
+    """Returns the preconditions that do not hold (`PlainRounds`, `SufficeInTime`). Only packets and polls come in the rounds, so the
+    pacing interval is that of the first one."""
+    rounds, agent = c.rounds(x), x.state(c.first, c.side)
+    opening, later = rounds[0], rounds[1:c.count]
+    pair = pair_of(agent, c.pair)
+    by = min(pair.due_at(opening.now, agent.timing), opening.now)  # so `by` is no later than the first call
+    second = x.state(opening.behind.stop, c.side)
+    return lacks(IsFresh=is_new_agent(x.state(0, c.side)), ArePlain=are_plain(x, c.side, rounds),
+                 IsControllingIn=x.is_controlling_in(c.side, range(c.first, c.end + 1)), Awaits=awaits(opening.now, by, agent, pair),
+                 IsUnanswered=is_unanswered(agent, pair), early=opening.now < MAX, IsPassing=are_passing(x, c.side, by, later),
+                 SufficeForDue=suffice_for_due(by, opening.now, agent, second, [r.now for r in later]),
+                 punctual=delay(x, c.side, rounds[:c.count]) is not None, IsAnsweredInBy=trip(x, c) is not None)
+
+
+def choices(x: Execution) -> list[Choice]:
+    """Proposes choices of all `handle_timeout` calls, the earliest bound first. Those without enough rounds come last."""
+    found = list(choices_by_call(x))
+    enough = sorted((c for of_call, _ in found for c in of_call), key=lambda c: earliest(x, c))
+    return [*enough, *(c for _, few in found for c in few)]
+
+
+def find(x: Execution) -> Verdict:
+    """Returns the earliest bound."""
+
+    def verdict(c: Choice) -> Verdict:
+        return Verdict("", x.time(c.first), limit(x, c), selected_at(x, c), c.count)
+
+    return first_that_holds(choices(x), lambda c: lacking(x, c), verdict, "Awaits.there")
