@@ -8,11 +8,9 @@ from dataclasses import dataclass, field, replace
 
 from .clauses import (
     both, by_number, completed_nominations_are_selected, connect, connected_are_answered, connected_have_consent, consent_ends_in_time,
-    consent_holds, courses_select_in_time, due_rounds, in_time, leaves_in_time, meet, nomination_accepted, nominations, of_use, one_path,
-    reached_in_turn, rounds, run_connected, run_connected_answered, run_in_time, states_agree, successes, valid_have_consented,
-    world_rounds)
-    consent_holds, courses_select_in_time, due_rounds, in_time, meet, nomination_accepted, nominations, of_use, one_path, rounds,
-    run_connected, run_connected_answered, run_in_time, selects_in_time, states_agree, successes, valid_have_consented, world_rounds)
+    consent_holds, courses_select_in_time, due_rounds, in_time, leaves_in_time, meet, nomination_accepted, nominations,
+    none_starved_in_time, of_use, one_path, reached_in_turn, rounds, run_connected, run_connected_answered, run_in_time,
+    run_selects_in_time, states_agree, successes, valid_have_consented, world_rounds)
 from .clauses.execution import Execution
 from .clauses.accepted_nominations import Network
 from .clauses.verdict import Verdict
@@ -33,7 +31,8 @@ WORLD: dict[str, Callable[[Network], Verdict]] = {
 RUN: dict[str, Callable[[Execution], Verdict]] = {
     "run: of_use": of_use.find, "run: successes": successes.find, "run: nominations": nominations.find,
     "run: connected": run_connected.find, "run: connected_answered": run_connected_answered.find, "run: rounds": rounds.find,
-    "run: due_rounds": due_rounds.find, "run: in_time": run_in_time.find, "run: selects_in_time": selects_in_time.find}
+    "run: due_rounds": due_rounds.find, "run: in_time": run_in_time.find, "run: selects_in_time": run_selects_in_time.find,
+    "run: none_starved_in_time": none_starved_in_time.find}
 THEOREMS: dict[str, Callable[[Execution], Verdict]] = {
     "consent_holds": consent_holds.find, "consent_ends_in_time": consent_ends_in_time.find,
     "valid_have_consented": valid_have_consented.find, "connected_have_consent": connected_have_consent.find,

@@ -24,8 +24,8 @@ from .verdict import Verdict, first_of_all
 
 @dataclass(frozen=True)
 class Choice:
-    """The side; the `handle_timeout` calls of its rounds, from `first` on, up to one after which a path was selected last, and the next one;
-    this path; and the pairs before the first call, with what the log shows of their checks."""
+    """The side; the `handle_timeout` calls of its rounds, from `first` on, up to one after which a path was selected last, and the next
+    one; this path; and the pairs before the first call, with what the log shows of their checks."""
 
     side: str
     first: int

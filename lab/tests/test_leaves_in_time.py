@@ -1,5 +1,5 @@
-"""Tests the checker of the theorem `leaves_in_time`: for each precondition, a log that lacks exactly it; and logs in which the conclusion does
-not come true."""
+"""Tests the checker of the theorem `leaves_in_time`: for each precondition, a log that lacks exactly it; and logs in which the conclusion
+does not come true."""
 
 import unittest
 from dataclasses import replace

@@ -8,15 +8,15 @@ from typing import TypeVar
 
 from is_ice import Transmit
 from lab.clauses import (
-    both, connect, courses_select_in_time, due_rounds, in_time, meet, nomination_accepted, rounds, run_in_time, selects_in_time, single,
-    world_rounds)
+    both, connect, courses_select_in_time, due_rounds, in_time, meet, nomination_accepted, none_starved_in_time, rounds, run_in_time,
+    run_selects_in_time, single, world_rounds)
 from lab.clauses.execution import Execution, Lacks
 from lab.clauses.accepted_nominations import Network
 from lab.clauses.verdict import Verdict
 from lab.kinds import Rules
 from lab.pairs import Path
 from lab.scenario import SIDES
-from lab.tests.stories import Story
+from lab.tests.stories import TO_B, A, Story
 
 C = TypeVar("C")
 
@@ -44,6 +44,27 @@ def random_story(seed: int) -> Story:
         if packet_sent is not None and random.random() < 0.95:
             waiting.append((time + random.choice((0, 0, 5, 60)), "b" if side == "a" else "a", packet_sent))
     return story
+
+
+def random_limited(seed: int) -> Execution:
+    """Timeouts of A, which limits its pairs to 1 and what packets bring to 1, and perhaps an added candidate. Its checks are lost, or one
+    is answered."""
+    random = Random(seed)
+    story = Story(hosts=(0, 1), known=False, rules=Rules(selected_first=seed % 6 == 0))
+    story.set("a", "set_max_discovered", 1)
+    story.limit("a", 1)
+    story.host("a", A, 1 << 24)
+    story.know("a")
+    story.know("b")
+    time = 0.0
+    for _ in range(random.randrange(6, 18)):
+        check = story.timeout("a", time)
+        if check is not None and random.random() < 0.1:
+            story.deliver(story.deliver(check, "b", time), "a", time)
+        if random.random() < 0.03:
+            story.remote("a", "candidate:1 1 udp 1 10.9.9.9 9 typ host", time)
+        time += random.choice((1, 20, 50, 50, 52, 250))
+    return Execution(story.session())
 
 
 def paths_of(n: Network, side: str) -> list[Path]:
@@ -160,7 +181,7 @@ class Searches(unittest.TestCase):
 
     def test_selection_in_time(self) -> None:
         self.compare_selection_in_time(courses_select_in_time.find, courses_select_in_time.lacking)
-        self.compare_selection_in_time(selects_in_time.find, selects_in_time.lacking, True)
+        self.compare_selection_in_time(run_selects_in_time.find, run_selects_in_time.lacking, True)
 
     def compare_selection_in_time(self, find: Callable[[Execution], Verdict],
                                   lacking: Callable[[Execution, courses_select_in_time.Choice], Lacks], is_earliest: bool = False) -> None:
@@ -183,6 +204,19 @@ class Searches(unittest.TestCase):
             self.assertEqual((own.held, own.is_broken), (bool(good), False), f"seed {seed}: {own.failed}")
             held += own.held
         self.assertGreater(held, 2)
+
+    def test_none_is_starved_in_time(self) -> None:
+        held = 0
+        for seed in range(20, 32):
+            x = random_limited(seed)
+            every = (none_starved_in_time.Choice("a", TO_B, first, last + 1, many) for place, first in enumerate(x.timeouts["a"])
+                     for last in x.timeouts["a"][place:] for many in range(4, 13))
+            good = [c for c in every if not none_starved_in_time.lacking(x, c)]
+            self.assertEqual([c for c in good if none_starved_in_time.verdict_of(x, c).is_broken], [], f"seed {seed}")
+            own = none_starved_in_time.find(x)
+            self.assertEqual((own.held, own.is_broken), (bool(good), False), f"seed {seed}: {own.failed}")
+            held += own.held
+        self.assertTrue(2 < held < 12)
 
 
 if __name__ == "__main__":

@@ -6,7 +6,7 @@ from dataclasses import replace
 from typing import Any
 
 from is_ice import NominatedSend
-from lab.clauses import courses_select_in_time, selects_in_time
+from lab.clauses import courses_select_in_time, run_selects_in_time
 from lab.clauses.courses_select_in_time import Choice, limit, selected_at, trip
 from lab.clauses.execution import MAX, Execution, Lacks
 from lab.clauses.verdict import Verdict
@@ -88,7 +88,7 @@ class SelectsInTime(unittest.TestCase):
     def test_the_delay(self) -> None:
         x = selecting(third=102).network().x
         self.assertEqual(courses_select_in_time.find(x), Verdict("", at(0), at(3 * 52 + 100), at(250), 4))
-        self.assertEqual(selects_in_time.find(x), Verdict("", at(150), at(150 + 100), at(250), 1))
+        self.assertEqual(run_selects_in_time.find(x), Verdict("", at(150), at(150 + 100), at(250), 1))
 
     def test_a_new_agent(self) -> None:
         self.assertEqual(self.lacking(selecting().altered(0, "a", next_number=1).x), ["IsFresh"])
@@ -170,7 +170,7 @@ class SelectsInTime(unittest.TestCase):
 class SelectsInTimeInALog(SelectsInTime):
     """`run`: the rounds are entries of the log."""
 
-    of = selects_in_time
+    of = run_selects_in_time
     controlling, controlling_on, late, first_early, early, answered = (
         "IsControllingIn", "IsControllingIn", "IsPassing.late", "early", "IsPassing.early", "IsAnsweredInBy")
 
@@ -182,7 +182,7 @@ class SelectsInTimeInALog(SelectsInTime):
 
     def test_the_earliest_bound(self) -> None:
         x = selecting().network().x
-        found = selects_in_time.choices(x)
+        found = run_selects_in_time.choices(x)
         bounds = [limit(x, c) for c in found if not self.of.lacking(x, c)]
         self.assertEqual(bounds, [at(time) for time in [250] * 4 + [300] * 3 + [350] * 2 + [400]])
         self.assertEqual(self.of.lacking(x, found[-1]), ["SufficeForDue"])

@@ -10,6 +10,7 @@ ghost use Rattle.is_theorems.specs.Rounds.{LoggedTimeoutsAreOfUse, PartsPersist}
 ghost use Rattle.is_theorems.specs.DueRounds.{DueRoundsSelect};
 ghost use Rattle.is_theorems.specs.TimedRounds.{RoundsReachInTime};
 ghost use Rattle.is_theorems.specs.TimedSelections.{RoundsSelectInTime};
+ghost use Rattle.is_theorems.specs.TimedSteadyRounds.{SteadyRoundsReachInTime};
 ghost use Rattle.is_theorems.specs.OpenRounds.{OpenRoundsSelect};
 ghost use Rattle.is.specs.Log.{IsRunLog, log_of, EntriesPersist};
 ghost use Rattle.is.specs.Accepted.{PacketsAreSettled};
@@ -30,7 +31,7 @@ use is_theorems::selecting::{
     selected_are_nominated_by_peer, takers_are_valid, timeouts_select,
 };
 use is_theorems::starving::turns_are_of_use;
-use is_theorems::timing::{reached_in_time, selected_in_time};
+use is_theorems::timing::{none_is_starved_in_time, reached_in_time, selected_in_time};
 use rand_core::Rng;
 
 /// The results of the calls of an execution.
@@ -157,6 +158,15 @@ pub fn run<H: Sha1HmacProvider + Drop, P: LocalPreference, R: Rng>(
     ensures selects_in_time { IsFresh (record_of agent.old)
         → RoundsSelectInTime H.mac P.answers (record_of agent.old) (R.stream rng.old) (log_of calls.items result) }
 
+    // Starvation freedom in time: with limits on pairs and on what packets bring, and the same caller, a check is sent on the path of a pair
+    // that is due before the first round at most k - 1 pacing intervals and k - 1 times δ after it, once a round begins later than that, or
+    // k came. The exception is a success response that is received on the path in the rounds. No candidate is added in them. For p pairs
+    // when they begin, at most n later, m retransmits and s nominations that may be sent at once, k is (2p + n + s - 1) * m / (m - 1). If
+    // checks may go ahead, it is (4p + 2n + 2s - 1) * m / (m - 2). No packet in the rounds makes it greater, if s is 0. If the pair is due
+    // by the first round and maybe not before it, read n for p, and k for k - 1.
+    ensures none_starved_in_time { IsFresh (record_of agent.old)
+        → SteadyRoundsReachInTime H.mac P.answers (record_of agent.old) (R.stream rng.old) (log_of calls.items result) }
+
     // After an accepted success response a pair with its pending transaction, on its path, is valid.
     ensures takers { IsFresh (record_of agent.old)
         → SuccessesMakeValid H.mac P.answers (record_of agent.old) (R.stream rng.old) (log_of calls.items result) }
@@ -222,6 +232,7 @@ pub fn run<H: Sha1HmacProvider + Drop, P: LocalPreference, R: Rng>(
     due_rounds_select::<H, P>();
     reached_in_time::<H, P>();
     selected_in_time::<H, P>();
+    none_is_starved_in_time::<H, P>();
     takers_are_valid::<H, P>();
     asked_are_nominated::<H, P>();
     replies_are_among::<H, P>();

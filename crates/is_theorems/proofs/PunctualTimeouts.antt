@@ -5,3 +5,4 @@ pub mod ChecksInTimeInLogs
 pub mod ConsentInTime
 pub mod SelectedInTime
 pub mod SelectedInTimeInLogs
+pub mod SteadyRoundsInTime

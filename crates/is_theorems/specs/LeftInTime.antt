@@ -66,7 +66,8 @@ module _ {H P : Type 0} where
   module _ (mac : H → List ℕ → List ℕ → List ℕ) (answers : P → CandidateRecord → ℕ → ℕ → Type 0) where
     -- In each of the rounds: if the agent is connected on the path after the `handle_timeout` call, consent ends later, and the next call
     -- comes by then or at most `slack` after it; unless a candidate that is added between these calls may remove a pair of the path.
-    abbrev pub LeavesBy : (ends slack : ℕ) (path : Path) (before : List (Call P × Entry)) (rounds : List (CourseRound P)) (old new : AgentRecord H P)
+    abbrev pub LeavesBy : (ends slack : ℕ) (path : Path) (before : List (Call P × Entry)) (rounds : List (CourseRound P))
+        (old new : AgentRecord H P)
         → PassRounds mac answers rounds old new → Type 0
     LeavesBy ends slack path before [] old new run = Unit {0}
     LeavesBy ends slack path before (r ∷ later) old new run =

@@ -47,3 +47,4 @@ pub mod Settled
 pub mod AtOnceCourses
 pub mod SelectedInTime
 pub mod TimedSelections
+pub mod TimedSteadyRounds

@@ -41,10 +41,16 @@ module _ {H P : Type 0} where
   abbrev pub HaveConsent : ℕ → AgentRecord H P → Type 0
   HaveConsent now a = (p : PairRecord) → Has a.pairs p → has_consent a.timing.consent now p ≡ true
 
-  -- The rounds suffice for a pair that is due by the time `by` when they begin, whatever pairs requests add in them. For at most n
-  -- pairs and m retransmits, m at least 2, k rounds suffice if k is at least (3n - 1) * m / (m - 1). If checks may go ahead, m is at
-  -- least 3, and k at least (6n - 1) * m / (m - 2). If s nominations may be sent at once, read 3n + s for 3n: each takes one of the
-  -- rounds, and nothing that the caller chooses bounds how many paths are selected in them.
+  -- So many rounds are enough, whatever pairs requests add in them. For p pairs when they begin, at most n when they end, and m retransmits,
+  -- m at least 2, k rounds are enough if k is at least (2p + n - 1) * m / (m - 1). If checks may go ahead, m is at least 3, and k at least
+  -- (4p + 2n - 1) * m / (m - 2). If s nominations may be sent at once, read n + s for n: each takes one of the rounds, and nothing that the
+  -- caller chooses bounds how many paths are selected in them.
+  abbrev pub AreEnough : (rounds pairs bound selections : ℕ) → AgentRecord H P → Type 0
+  AreEnough rounds pairs bound selections a =
+      checks_for a.rules (2 * pairs + bound + nominations_ahead a selections) * a.timing.max_retransmits + checks_for a.rules rounds
+      ≤ (rounds + 1) * a.timing.max_retransmits
+
+  -- The rounds suffice for a pair that is due by the time `by` when they begin, whatever pairs requests add in them.
   pub record SufficeSteady (bound by : ℕ) (start : AgentRecord H P) (rounds : List (LoggedRound P)) (p : PairRecord) : Type 0 where
     pub at : ℕ
     pub began : began_at rounds ≡ Some at
@@ -52,9 +58,7 @@ module _ {H P : Type 0} where
     pub passing : (r : LoggedRound P) → Has rounds r → IsPassing by r
     pub lasting : (r : LoggedRound P) → Has rounds r → IsLasting r.now start p
     pub steady : AreSteady (entries_of rounds)
-    pub enough : checks_for start.rules (3 * bound + nominations_ahead start (selection_count (entries_of rounds))) * start.timing.max_retransmits
-        + checks_for start.rules (length rounds)
-        ≤ (length rounds + 1) * start.timing.max_retransmits
+    pub enough : AreEnough (length rounds) (length start.pairs) bound (selection_count (entries_of rounds)) start
 
   module _ (mac : H → List ℕ → List ℕ → List ℕ) (answers : P → CandidateRecord → ℕ → ℕ → Type 0) where
     -- At each `handle_timeout` call of a segment all pairs that are stored then have consent, or consent does not end by a clock.

@@ -34,10 +34,10 @@ pub fn requests_add_few<H: Sha1HmacProvider, P: LocalPreference>()
     ensures { RequestsAddFew H.mac P.answers }
 {}
 
-/// With limits on pairs and on what packets bring, n pairs at most: a check is sent on the path of a pair that is due in one of
-/// (3n - 1) * m / (m - 1) rounds, whatever the agent receives in them and received before, unless a success response is received
-/// on the path in one of them. No candidate is added in the rounds. If checks may go ahead, it is (6n - 1) * m / (m - 2)
-/// rounds. If s nominations may be sent at once (`nominations_ahead`), read 3n + s for 3n, and 6n + 2s for 6n. With the rule `consent`
+/// With limits on pairs and on what packets bring, n pairs at most, of which p are there when the rounds begin: a check is sent on the path
+/// of a pair that is due in one of (2p + n - 1) * m / (m - 1) rounds, whatever the agent receives in them and received before, unless a
+/// success response is received on the path in one of them. No candidate is added in the rounds. If checks may go ahead, it is
+/// (4p + 2n - 1) * m / (m - 2) rounds. If s nominations may be sent at once (`nominations_ahead`), read n + s for n. With the rule `consent`
 /// the stored pairs have consent at each timeout of the rounds.
 pub fn none_is_starved<H: Sha1HmacProvider, P: LocalPreference>()
     ensures { NoneIsStarved H.mac P.answers }

@@ -6,6 +6,7 @@ ghost use Rattle.is_theorems.specs.SelectedInTime.{CoursesSelectInTime};
 ghost use Rattle.is_theorems.specs.Pacing.{PacingIsSet};
 ghost use Rattle.is_theorems.specs.TimedRounds.{PairsAreReachedInTime};
 ghost use Rattle.is_theorems.specs.TimedSelections.{PathsAreSelectedInTime};
+ghost use Rattle.is_theorems.specs.TimedSteadyRounds.{NoneIsStarvedInTime};
 
 use crate::reaching::{courses_check_from_due, courses_reach_from_due};
 use crate::selecting::successes_select;
@@ -44,6 +45,17 @@ pub fn reached_in_time<H: Sha1HmacProvider, P: LocalPreference>()
     ensures { PairsAreReachedInTime H.mac P.answers }
 {
     courses_reach_in_time::<H, P>();
+}
+
+/// Starvation freedom in time: with limits on pairs and on what packets bring, and a caller at most δ late. If k rounds after the first are
+/// enough for a pair that is due by it (`AreEnoughLater`), a check is sent on the pair's path at most k times one pacing interval and δ after
+/// the first `handle_timeout` call, whatever the agent receives, unless a success response is received on the path in one of the rounds. So
+/// it is once k of them came, or one begins later than that.
+pub fn none_is_starved_in_time<H: Sha1HmacProvider, P: LocalPreference>()
+    ensures { NoneIsStarvedInTime H.mac P.answers }
+{
+    reached_in_time::<H, P>();
+    rounds_come_in_time::<H, P>();
 }
 
 /// Likewise for a controlling agent without a valid pair, for the k rounds after the first of `courses_check_from_due`: for n due pairs

@@ -385,7 +385,7 @@ module _ {H P : Type 0} (mac : H → List ℕ → List ℕ → List ℕ) (answer
 
   pub kinds-are-reached-in-turn : KindsAreReachedInTurn mac answers
   kinds-are-reached-in-turn first s log fresh before start last rounds p by m kinds found w turns enough =
-      by-rounds rounds last found.following found.run w.began enough
+      by-rounds rounds last found.following found.run w.began (omega (arith, enough))
       (rounds-turn kinds (kind_in start p) p.number by (path_of start p) (answered_at start p) (goes_ahead start.rules) total start.next_number first s fresh before start found.at found.led w.at begin rounds last found.following
       (inr w.began) w.passing (λ r has. lasts-at mac answers first s log fresh before start last (entries_of rounds) p found w.line.there r.now (search (w.lasting r has))) found.run turns) where
         total : ℕ

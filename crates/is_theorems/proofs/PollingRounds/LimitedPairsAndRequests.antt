@@ -1,5 +1,5 @@
 -- With limits, a bound on the rounds before a pair that is due is checked, whatever pairs requests add in them.
-use Rattle.std.proofs.Common.{◌≡◌, ℕ, ◌+◌, ◌*◌, ◌<◌, ◌≤◌, Bool, true, false, List, [], ◌∷◌, ◌++◌, length, count_by, inl, inr, refl, ap, sym, ◌∙◌, subst, arith, cond, append_assoc}
+use Rattle.std.proofs.Common.{◌≡◌, ℕ, ◌+◌, ◌*◌, ◌<◌, ◌≤◌, Bool, true, false, List, [], ◌∷◌, ◌++◌, length, count_by, inl, inr, refl, ap, sym, ◌∙◌, subst, arith, cond}
 use Rattle.std.proofs.Math.Nat.{add-mul, le_of_mul-le-mul_right, mul-le-mul_right}
 use Rattle.std.proofs.lemmas.List.Sums.{sum_by-append, sum_by-cons}
 use Rattle.rand_core.specs.Stream.{Stream}
@@ -8,42 +8,42 @@ use Rattle.is_candidate.specs.Candidates.{CandidateRecord}
 use Rattle.is_pair.specs.Pairs.{PairRecord}
 use Rattle.is_rules.specs.Agent.{AgentRecord}
 use Rattle.is_rules.specs.Checking.{goes_ahead}
-use Rattle.is_theorems.specs.Bounds.{gathered_count, is_gathered, is_signal, pair_bound, signal_count}
+use Rattle.is_theorems.specs.Bounds.{FormsFew, IsLimited, gathered_count, is_gathered, is_signal, pair_bound, signal_count}
 use Rattle.is_theorems.specs.Logs.{Logged}
-use Rattle.is_theorems.specs.Reached.{IsEndedIn, IsPassing, PairsAreReached, is_in_round, nominations_ahead, selection_count}
-use Rattle.is_theorems.specs.Rounds.{LoggedRound, RunsOn, entries_of}
-use Rattle.is_theorems.specs.Runs.{Run}
+use Rattle.is_theorems.specs.Reached.{IsEndedIn, PairsAreReached, is_in_round, nominations_ahead, selection_count}
+use Rattle.is_theorems.specs.Rounds.{LoggedRound, Part, RunsOn, entries_of}
+use Rattle.is_theorems.specs.Runs.{IsFresh, Run}
 use Rattle.is_rules.specs.Sending.{path_of}
 use Rattle.is_rules.specs.Sound.{IsSound}
 use Rattle.is_theorems.specs.Staying.{MayEnd}
 use Rattle.is_rules.specs.Steps.{Call, AddLocalCandidate, AddRemoteCandidate, InvalidateCandidate, RestartIce, RecreateCandidatePairs, HandleTimeout, Entry}
 use Rattle.is_rules.specs.declared.emitted.Path.{Path}
-use Rattle.is_theorems.proofs.DuePairs.ChecksAhead.{times}
+use Rattle.is_theorems.proofs.DuePairs.ChecksAhead.{times, times-kept}
 use Rattle.is_theorems.proofs.StorageBounds.BoundedLists.{at-most-one}
 use Rattle.is_theorems.proofs.StorageBounds.NumberOfPairs.{pairs_within}
 use Rattle.is_theorems.proofs.CallEffects.PathAndTradeEffects.{path_theorem}
 use Rattle.is_theorems.proofs.ExecutionLogs.LogTheorems.{runs_sound}
 use Rattle.is_theorems.proofs.ExecutionLogs.LogSegments.{no-case, run-on}
 use Rattle.is_theorems.proofs.ExecutionLogs.PointsOfSegments.{deeper}
-use Rattle.is_theorems.specs.NotStarved.{AreSteady, NoneIsStarved, is_steady, is_timeout, timeout_count}
+use Rattle.is_theorems.specs.NotStarved.{AreSteady, ConsentLastsIn, NoneIsStarved, is_steady, is_timeout, timeout_count}
 use Rattle.is_theorems.proofs.RemainingChecks.PairsThatRequestsAdd.{requests-add-few}
 use Rattle.is_theorems.proofs.BasicLemmas.EqualAddresses.{both}
 
 -- ---- numbers
 
-enough-rounds : (was now next_was next rounds bound ahead m : ℕ) → was ≤ bound → now ≤ bound → 0 < m → next * m ≤ (next_was + now) * m + rounds
-    → (3 * bound + ahead) * m + rounds ≤ (rounds + 1) * m → 2 * was + next + ahead ≤ rounds + 1 + next_was
-enough-rounds was now next_was next rounds bound ahead m was_few now_few some added enough =
-    let all : (2 * was + now) * m ≤ 3 * bound * m = mul-le-mul_right m (omega (arith, was_few, now_few)) in
-    let all_sum : (2 * was + now) * m ≡ 2 * was * m + now * m = add-mul (2 * was) now m in
-    let most : (3 * bound + ahead) * m ≡ 3 * bound * m + ahead * m = add-mul (3 * bound) ahead m in
+enough-rounds : (was now next_was next rounds bound ahead m : ℕ) → now ≤ bound → 0 < m → next * m ≤ (next_was + now) * m + rounds
+    → (2 * was + bound + ahead) * m + rounds ≤ (rounds + 1) * m → 2 * was + next + ahead ≤ rounds + 1 + next_was
+enough-rounds was now next_was next rounds bound ahead m few some added enough =
+    let all : now * m ≤ bound * m = mul-le-mul_right m (omega (arith, few)) in
+    let most : (2 * was + bound + ahead) * m ≡ (2 * was + bound) * m + ahead * m = add-mul (2 * was + bound) ahead m in
+    let most_sum : (2 * was + bound) * m ≡ 2 * was * m + bound * m = add-mul (2 * was) bound m in
     let left : (2 * was + next + ahead) * m ≡ (2 * was + next) * m + ahead * m = add-mul (2 * was + next) ahead m in
     let left_sum : (2 * was + next) * m ≡ 2 * was * m + next * m = add-mul (2 * was) next m in
     let added_sum : (next_was + now) * m ≡ next_was * m + now * m = add-mul next_was now m in
     let right : (rounds + 1 + next_was) * m ≡ (rounds + 1) * m + next_was * m = add-mul (rounds + 1) next_was m in
-    le_of_mul-le-mul_right (joined (2 * was * m) (now * m) (next * m) (next_was * m) (3 * bound * m) (ahead * m) ((rounds + 1) * m) _ _ _ _ _ _
-    left left_sum right added_sum most all all_sum added enough) some where
-      joined : (a b c d e g f left sum right added most both : ℕ) → left ≡ sum + g → sum ≡ a + c → right ≡ f + d → added ≡ d + b → most ≡ e + g → both ≤ e → both ≡ a + b
+    le_of_mul-le-mul_right (joined (2 * was * m) (now * m) (next * m) (next_was * m) (bound * m) (ahead * m) ((rounds + 1) * m) _ _ _ _ _ _
+    left left_sum right added_sum most most_sum all added enough) some where
+      joined : (a b c d e g f left sum right added most both : ℕ) → left ≡ sum + g → sum ≡ a + c → right ≡ f + d → added ≡ d + b → most ≡ both + g → both ≡ a + e → b ≤ e
           → c ≤ added + rounds → most + rounds ≤ f → left ≤ right
       joined a b c d e g f left sum right added most both h1 h2 h3 h4 h5 h6 h7 h8 h9 = omega (arith, h1, h2, h3, h4, h5, h6, h7, h8, h9)
 
@@ -51,27 +51,27 @@ none-of : (b : Bool) → b ≡ false → cond b 1 0 ≤ 0
 none-of true is = no-case (sym is)
 none-of false is = omega arith
 
-enough-rounds-in-turn : (ahead : Bool) (was now next_was next rounds bound sent m : ℕ) → was ≤ bound → now ≤ bound → 0 < m → next * m ≤ (next_was + now) * m + rounds
-    → times ahead (3 * bound + sent) * m + times ahead rounds ≤ (rounds + 1) * m → times ahead (2 * was + next + sent) ≤ rounds + 1 + times ahead next_was
-enough-rounds-in-turn false was now next_was next rounds bound sent m was_few now_few some added enough = enough-rounds was now next_was next rounds bound sent m was_few now_few some added enough
-enough-rounds-in-turn true was now next_was next rounds bound sent m was_few now_few some added enough =
-    let all : (2 * was + now) * m ≤ 3 * bound * m = mul-le-mul_right m (omega (arith, was_few, now_few)) in
-    let all_sum : (2 * was + now) * m ≡ 2 * was * m + now * m = add-mul (2 * was) now m in
+enough-rounds-in-turn : (ahead : Bool) (was now next_was next rounds bound sent m : ℕ) → now ≤ bound → 0 < m → next * m ≤ (next_was + now) * m + rounds
+    → times ahead (2 * was + bound + sent) * m + times ahead rounds ≤ (rounds + 1) * m → times ahead (2 * was + next + sent) ≤ rounds + 1 + times ahead next_was
+enough-rounds-in-turn false was now next_was next rounds bound sent m few some added enough = enough-rounds was now next_was next rounds bound sent m few some added enough
+enough-rounds-in-turn true was now next_was next rounds bound sent m few some added enough =
+    let all : now * m ≤ bound * m = mul-le-mul_right m (omega (arith, few)) in
     let left : (2 * (2 * was + next + sent)) * m ≡ (2 * was + next + sent) * m + (2 * was + next + sent) * m = doubled (2 * was + next + sent) in
     let left_sum : (2 * was + next + sent) * m ≡ (2 * was + next) * m + sent * m = add-mul (2 * was + next) sent m in
     let one_sum : (2 * was + next) * m ≡ 2 * was * m + next * m = add-mul (2 * was) next m in
     let added_sum : (next_was + now) * m ≡ next_was * m + now * m = add-mul next_was now m in
     let right : (rounds + 1 + 2 * next_was) * m ≡ (rounds + 1) * m + (2 * next_was) * m = add-mul (rounds + 1) (2 * next_was) m in
     let right_sum : (2 * next_was) * m ≡ next_was * m + next_was * m = doubled next_was in
-    let bounds : (2 * (3 * bound + sent)) * m ≡ (3 * bound + sent) * m + (3 * bound + sent) * m = doubled (3 * bound + sent) in
-    let bounds_sum : (3 * bound + sent) * m ≡ 3 * bound * m + sent * m = add-mul (3 * bound) sent m in
-    le_of_mul-le-mul_right (joined (2 * was * m) (now * m) (next * m) (next_was * m) (3 * bound * m) (sent * m) ((rounds + 1) * m) _ _ _ _ _ _ _ _ _
-    left left_sum one_sum right right_sum added_sum bounds bounds_sum all all_sum added enough) some where
+    let bounds : (2 * (2 * was + bound + sent)) * m ≡ (2 * was + bound + sent) * m + (2 * was + bound + sent) * m = doubled (2 * was + bound + sent) in
+    let bounds_sum : (2 * was + bound + sent) * m ≡ (2 * was + bound) * m + sent * m = add-mul (2 * was + bound) sent m in
+    let most_sum : (2 * was + bound) * m ≡ 2 * was * m + bound * m = add-mul (2 * was) bound m in
+    le_of_mul-le-mul_right (joined (2 * was * m) (now * m) (next * m) (next_was * m) (bound * m) (sent * m) ((rounds + 1) * m) _ _ _ _ _ _ _ _ _
+    left left_sum one_sum right right_sum added_sum bounds bounds_sum most_sum all added enough) some where
       doubled : (x : ℕ) → (2 * x) * m ≡ x * m + x * m
       doubled x = let same : 2 * x ≡ x + x = omega arith in ap (λ y. y * m) same ∙ add-mul x x m
 
       joined : (a b c d e g f left sum one right twice added bounds most both : ℕ) → left ≡ sum + sum → sum ≡ one + g → one ≡ a + c → right ≡ f + twice → twice ≡ d + d → added ≡ d + b
-          → bounds ≡ most + most → most ≡ e + g → both ≤ e → both ≡ a + b → c ≤ added + rounds → bounds + 2 * rounds ≤ f → left ≤ right
+          → bounds ≡ most + most → most ≡ both + g → both ≡ a + e → b ≤ e → c ≤ added + rounds → bounds + 2 * rounds ≤ f → left ≤ right
       joined a b c d e g f left sum one right twice added bounds most both h1 h2 h3 h4 h5 h6 h7 h8 h9 h10 h11 h12 = omega (arith, h1, h2, h3, h4, h5, h6, h7, h8, h9, h10, h11, h12)
 
 -- ---- calls of a segment in which no candidate is added
@@ -112,13 +112,14 @@ module _ {P : Type 0} where
         let none = none-counted xs are in
         omega (arith, sum, none)
 
-  few-timeouts : (by : ℕ) (rounds : List (LoggedRound P)) → ((r : LoggedRound P) → Has rounds r → IsPassing by r) → timeout_count (entries_of rounds) ≤ length rounds
-  few-timeouts by [] are = omega arith
-  few-timeouts by (r ∷ older) are =
-      let rest = few-timeouts by older (λ x has. are x (inr has)) in
+  pub few-timeouts : (rounds : List (LoggedRound P)) → ((r : LoggedRound P) → Has rounds r → (x : Logged P) → Has r.following x → is_in_round x.call ≡ true)
+      → timeout_count (entries_of rounds) ≤ length rounds
+  few-timeouts [] are = omega arith
+  few-timeouts (r ∷ older) are =
+      let rest = few-timeouts older (λ x has. are x (inr has)) in
       let split = sum_by-append (λ (y : Logged P). cond (is_timeout y.call) 1 0) r.following (r.timeout ∷ entries_of older) in
       let here = sum_by-cons (λ (y : Logged P). cond (is_timeout y.call) 1 0) r.timeout (entries_of older) in
-      let none = no-timeouts r.following (are r (inl refl)).between in
+      let none = no-timeouts r.following (are r (inl refl)) in
       let one = at-most-one (is_timeout r.timeout.call) in
       omega (arith, rest, split, here, none, one)
 
@@ -133,11 +134,38 @@ module _ {H P : Type 0} (mac : H → List ℕ → List ℕ → List ℕ) (answer
   may-not a (HandleTimeout now) e p between steady ends = no-case between
   may-not a _ e p between steady ends = absurd ends
 
-  none-ends : (before : List (Logged P)) (start : AgentRecord H P) (u : Stream) (part : List (Logged P)) (last : AgentRecord H P) (t : Stream) (run : RunsOn mac answers before start u part last t) (path : Path)
+  pub none-ends : (before : List (Logged P)) (start : AgentRecord H P) (u : Stream) (part : List (Logged P)) (last : AgentRecord H P) (t : Stream) (run : RunsOn mac answers before start u part last t) (path : Path)
       → AreSteady part → IsEndedIn mac answers before start u part last t run path → ⊥
   none-ends before start u [] last t run path steady ended = absurd ended
   none-ends before start u (x ∷ part) last t run path steady (inl (between, (p, has, joins, ends))) = may-not run.0 x.call x.entry p between (steady x (inl refl)) ends
   none-ends before start u (x ∷ part) last t run path steady (inr ended) = none-ends before start u part run.0 run.1 run.2 path (λ y has. steady y (inr has)) ended
+
+  -- as many pairs as the caller allows, after a segment in which no candidate is added
+  pub few-pairs : (most limit : ℕ) (first : AgentRecord H P) (s : Stream) (log : List (Logged P)) → IsFresh first → IsLimited mac answers most first s log → FormsFew mac answers limit first s log
+      → (rest part before : List (Logged P)) (last : AgentRecord H P) (t : Stream) → log ≡ rest ++ (part ++ before) → AreSteady part → Run mac answers first s (part ++ before) last t
+      → length last.pairs ≤ pair_bound limit most (gathered_count before) (signal_count before)
+  few-pairs most limit first s log fresh limited few rest part before last t split steady led =
+      subst (λ k. length last.pairs ≤ pair_bound limit most k (signal_count before)) (counted-before is_gathered steady-gathered part before steady)
+      (subst (λ k. length last.pairs ≤ pair_bound limit most (gathered_count (part ++ before)) k) (counted-before is_signal steady-signals part before steady)
+      (pairs_within mac answers most limit first s (part ++ before) last t fresh
+      (λ b m a y k. limited b m a y (deeper mac answers first s log (part ++ before) rest b m y a split k))
+      (λ b m a y k. few b m a y (deeper mac answers first s log (part ++ before) rest b m y a split k)) led))
+
+  -- rounds that suffice whatever pairs requests add in them suffice with those that they do
+  pub suffice-steady : (first : AgentRecord H P) (s : Stream) (log : List (Logged P)) → IsFresh first → (before part : List (Logged P)) (start last : AgentRecord H P)
+      → (found : Part mac answers first s log before start part last) → start.lite ≡ false → AreSteady part → ConsentLastsIn mac answers before start found.at part last found.following found.run
+      → (pairs bound sent rounds : ℕ) → length start.pairs ≤ pairs → length last.pairs ≤ bound → timeout_count part ≤ rounds
+      → times (goes_ahead start.rules) (2 * pairs + bound + sent) * start.timing.max_retransmits + times (goes_ahead start.rules) rounds ≤ (rounds + 1) * start.timing.max_retransmits
+      → times (goes_ahead start.rules) (2 * length start.pairs + last.next_number + sent) ≤ rounds + 1 + times (goes_ahead start.rules) start.next_number
+  suffice-steady first s log fresh before part start last found full steady consents pairs bound sent rounds few few_last timeouts enough =
+      let added = requests-add-few mac answers first s log fresh before part start last found full steady consents in
+      let sound : IsSound start = runs_sound mac answers (path_theorem mac answers) first start s found.at before fresh found.led in
+      let fit : times (goes_ahead start.rules) (2 * pairs + last.next_number + sent) ≤ rounds + 1 + times (goes_ahead start.rules) start.next_number =
+      enough-rounds-in-turn (goes_ahead start.rules) pairs (length last.pairs) start.next_number last.next_number rounds
+      bound sent start.timing.max_retransmits (omega (arith, few_last)) sound.checks (omega (arith, added, timeouts)) (omega (arith, enough)) in
+      let fewer = times-kept (goes_ahead start.rules) (2 * pairs + last.next_number + sent) (2 * length start.pairs + last.next_number + sent)
+      (rounds + 1 + times (goes_ahead start.rules) start.next_number) (omega (arith, few)) fit in
+      omega (arith, fewer)
 
   -- ---- the theorem
 
@@ -148,31 +176,13 @@ module _ {H P : Type 0} (mac : H → List ℕ → List ℕ → List ℕ) (answer
         | inr (inl answered) ↦ inr answered
         | inr (inr ended) ↦ absurd (none-ends before start part.at (entries_of rounds) last part.following part.run (path_of start p) f.steady ended)
       ] where
-        split : log ≡ (part.rest ++ entries_of rounds) ++ before
-        split = part.split ∙ sym (append_assoc part.rest (entries_of rounds) before)
-
-        led : Run mac answers first s (entries_of rounds ++ before) last part.following
-        led = run-on mac answers first start last s part.at part.following before (entries_of rounds) part.led part.run
-
-        was : length start.pairs ≤ pair_bound limit most (gathered_count before) (signal_count before)
-        was = pairs_within mac answers most limit first s before start part.at fresh
-            (λ b m a y k. limited b m a y (deeper mac answers first s log before (part.rest ++ entries_of rounds) b m y a split k))
-            (λ b m a y k. few b m a y (deeper mac answers first s log before (part.rest ++ entries_of rounds) b m y a split k)) part.led
-
         now : length last.pairs ≤ pair_bound limit most (gathered_count before) (signal_count before)
-        now =
-            subst (λ k. length last.pairs ≤ pair_bound limit most k (signal_count before)) (counted-before is_gathered steady-gathered (entries_of rounds) before f.steady)
-            (subst (λ k. length last.pairs ≤ pair_bound limit most (gathered_count (entries_of rounds ++ before)) k) (counted-before is_signal steady-signals (entries_of rounds) before f.steady)
-            (pairs_within mac answers most limit first s (entries_of rounds ++ before) last part.following fresh
-            (λ b m a y k. limited b m a y (deeper mac answers first s log (entries_of rounds ++ before) part.rest b m y a part.split k))
-            (λ b m a y k. few b m a y (deeper mac answers first s log (entries_of rounds ++ before) part.rest b m y a part.split k)) led))
+        now = few-pairs most limit first s log fresh limited few part.rest (entries_of rounds) before last part.following part.split f.steady
+            (run-on mac answers first start last s part.at part.following before (entries_of rounds) part.led part.run)
 
         enough : times (goes_ahead start.rules) (2 * length start.pairs + last.next_number + nominations_ahead start (selection_count (entries_of rounds))) ≤ length rounds + 1 + times (goes_ahead start.rules) start.next_number
         enough =
-            let added = requests-add-few mac answers first s log fresh before (entries_of rounds) start last part f.line.checking.full f.steady consents in
-            let timeouts = few-timeouts by rounds f.passing in
-            let sound : IsSound start = runs_sound mac answers (path_theorem mac answers) first start s part.at before fresh part.led in
             let all = f.enough in
-            enough-rounds-in-turn (goes_ahead start.rules) (length start.pairs) (length last.pairs) start.next_number last.next_number (length rounds)
-            (pair_bound limit most (gathered_count before) (signal_count before)) (nominations_ahead start (selection_count (entries_of rounds))) start.timing.max_retransmits was now sound.checks
-            (omega (arith, added, timeouts)) (omega (arith, all))
+            suffice-steady first s log fresh before (entries_of rounds) start last part f.line.checking.full f.steady consents
+            (length start.pairs) (pair_bound limit most (gathered_count before) (signal_count before)) (nominations_ahead start (selection_count (entries_of rounds))) (length rounds) (omega arith) now
+            (few-timeouts rounds (λ r has. (f.passing r has).between)) (omega (arith, all))

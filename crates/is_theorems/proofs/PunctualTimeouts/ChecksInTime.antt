@@ -74,7 +74,7 @@ module _ {P : Type 0} where
       (omega (arith, here, le), come-later (one + each) (two + each) each later (omega (arith, le)) more)
 
   -- the last of them comes by this time, so each of them does
-  come-all : (limit each : ℕ) (r : CourseRound P) (later : List (CourseRound P)) (x : CourseRound P) → Has (r ∷ later) x → ComeBy limit each (r ∷ later)
+  pub come-all : (limit each : ℕ) (r : CourseRound P) (later : List (CourseRound P)) (x : CourseRound P) → Has (r ∷ later) x → ComeBy limit each (r ∷ later)
       → x.now ≤ limit + length later * each
   come-all limit each r later x (inl is) (here, more) =
       let same : r.now ≡ x.now = ap (λ (y : CourseRound P). y.now) is in omega (arith, here, same)

@@ -1,26 +1,31 @@
 -- A pair is checked in time in the rounds of a log. What mutants/specifications changes is read by tactics.
-use Rattle.std.proofs.Common.{◌≡◌, ℕ, ◌+◌, ◌*◌, true, List, [], ◌∷◌, ◌++◌, length, inl, inr, refl, ap, sym, ◌∙◌, subst, arith}
+use Rattle.std.proofs.Common.{◌≡◌, ℕ, ◌+◌, ◌*◌, ◌<◌, ◌≤◌, ◌⊎◌, true, List, [], ◌∷◌, ◌++◌, length, inl, inr, refl, ap, sym, ◌∙◌, subst, arith}
+use Rattle.rand_core.specs.Stream.{Stream}
 use Rattle.is_proto.specs.Lists.{Has}
+use Rattle.is_proto.specs.Times.{MAX}
 use Rattle.is_candidate.specs.Candidates.{CandidateRecord}
+use Rattle.is_pair.specs.Pairs.{PairRecord}
 use Rattle.is_rules.specs.declared.emitted.Path.{Path}
 use Rattle.is_rules.specs.Agent.{AgentRecord}
 use Rattle.is_rules.specs.Sending.{path_of}
-use Rattle.is_rules.specs.Steps.{Call, Entry, HandleTimeout}
+use Rattle.is_rules.specs.Steps.{Call, Entry, HandleTimeout, Done}
 use Rattle.is_theorems.specs.Asked.{IsAnsweredIn}
 use Rattle.is_theorems.specs.AskedCourses.{AcceptsSuccessOn, IsAnsweredAlong}
 use Rattle.is_theorems.specs.Courses.{CourseRound}
 use Rattle.is_theorems.specs.FirstTimeouts.{IsOpenRound, RoundsSuffice}
-use Rattle.is_theorems.specs.InTime.{CoursesReachInTime, IsPrompt, IsPunctual, IsTimed, SendsCheckOn}
+use Rattle.is_theorems.specs.InTime.{CoursesReachInTime, IsPrompt, IsPunctual, IsReachedBy, IsTimed, RoundsComeInTime, SendsCheckOn}
 use Rattle.is_theorems.specs.Logs.{Logged}
 use Rattle.is_theorems.specs.Progress.{checks_for}
-use Rattle.is_theorems.specs.Reached.{IsLasting, is_in_round, IsPassing, nominations_ahead, selection_count}
+use Rattle.is_theorems.specs.Reached.{IsInLine, IsLasting, is_in_round, IsPassing, nominations_ahead, selection_count}
 use Rattle.is_theorems.specs.ReachedCourses.{PassRounds, selections_among}
-use Rattle.is_theorems.specs.Rounds.{LoggedRound, entries_of}
-use Rattle.is_theorems.specs.TimedRounds.{all_entries, IsPromptIn, IsPunctualIn, IsTimedIn, last_round, LoggedRoundsSuffice, PairsAreReachedInTime}
+use Rattle.is_theorems.specs.Rounds.{LoggedRound, Part, entries_of}
+use Rattle.is_theorems.specs.Runs.{IsFresh}
+use Rattle.is_theorems.specs.TimedRounds.{all_entries, IsPromptIn, IsPunctualIn, IsReachedInBy, IsTimedIn, last_round, LoggedRoundsSuffice, PairsAreReachedInTime}
 use Rattle.is_theorems.proofs.CallEffects.ExternalViews.{Has-front, Has-rear}
 use Rattle.is_theorems.proofs.ExecutionLogs.SegmentsAsExecutions.{among_onto, calls_onto, course_to, onto_has, onto_is, pass_onto, round_from, rounds_count, rounds_is, rounds_onto}
 use Rattle.is_theorems.proofs.PollingRounds.AddedCandidatesInLogs.{in_entries}
 use Rattle.is_theorems.proofs.PollingRounds.CountedSelections.{selections-all, selections-onto}
+use Rattle.is_theorems.proofs.PunctualTimeouts.ChecksInTime.{come-all}
 
 module _ {P : Type 0} where
   -- ---- the rounds of a log as those of an execution
@@ -31,6 +36,13 @@ module _ {P : Type 0} where
   round-is : (r : LoggedRound P) (later : List (LoggedRound P)) (y : CourseRound P) → Has (course_of r later) y → (x : LoggedRound P) × Has (r ∷ later) x × (round_from x ≡ y)
   round-is r later y (inl is) = (r, inl refl, is)
   round-is r later y (inr has) = elim (rounds_is later [] y has) [ inl (x, there, is) ↦ (x, inr there, is) | inr none ↦ absurd none ]
+
+  rounds-has : (rounds : List (LoggedRound P)) (more : List (CourseRound P)) (x : LoggedRound P) → Has rounds x ⊎ Has more (round_from x) → Has (rounds_onto rounds more) (round_from x)
+  rounds-has [] more x (inl none) = absurd none
+  rounds-has [] more x (inr has) = has
+  rounds-has (r ∷ older) more x (inl (inl is)) = rounds-has older (round_from r ∷ more) x (inr (inl (ap (λ (y : LoggedRound P). round_from y) is)))
+  rounds-has (r ∷ older) more x (inl (inr has)) = rounds-has older (round_from r ∷ more) x (inl has)
+  rounds-has (r ∷ older) more x (inr has) = rounds-has older (round_from r ∷ more) x (inr (inr has))
 
   pub call-is : (x : LoggedRound P) (c : CourseRound P) → round_from x ≡ c → (y : Call P × Entry) → Has c.following y → (z : Logged P) × Has x.following z × ((z.call, z.entry) ≡ y)
   call-is x c same y has = elim (onto_is x.following [] y (subst (λ (d : CourseRound P). Has d.following y) (sym same) has)) [ inl found ↦ found | inr none ↦ absurd none ]
@@ -96,20 +108,54 @@ module _ {H P : Type 0} where
     by-case (inr (inl few)) = inr (inl (omega (arith, few)))
     by-case (inr (inr enough)) = inr (inr (omega (arith, enough, rest)))
 
-  -- ---- the theorem
-
   module _ (mac : H → List ℕ → List ℕ → List ℕ) (answers : P → CandidateRecord → ℕ → ℕ → Type 0) where
-    pub reached-in-time : CoursesReachInTime {H = H} {P = P} mac answers → PairsAreReachedInTime {H = H} {P = P} mac answers
-    reached-in-time reach first s log fresh before start second last r later p by pace delay many one others line from comes done early between passing lasting enough long in_time =
-        elim (reach first start last (calls_onto before []) (round_from r) (rounds_onto later []) p by pace delay many fresh
-        (course_to mac answers before first start start [] s one.at one.led refl) line (omega (arith, from)) done (omega (arith, early))
-        (λ y has. fits r between (round_from r) refl y has) run opened lasts (suffice by many start second last r later enough) (omega (arith, long, count)) (timed pace delay start r later in_time)) [
-          | inl (y, inl is, sent, soon) ↦ inl (inl (r, inl refl, subst (λ (c : CourseRound P). SendsCheckOn c.timeout path) (sym is) sent, (let same = ap (λ (c : CourseRound P). c.now) is in omega (arith, soon, same))))
-          | inl (y, inr has, sent, soon) ↦ (let x = later-is y has in
-              inr (inl (x.0, x.1, subst (λ (c : CourseRound P). SendsCheckOn c.timeout path) (sym x.2) sent, (let same = ap (λ (c : CourseRound P). c.now) x.2 in omega (arith, soon, same)))))
-          | inr (inl (y, inl is, heard)) ↦ inl (inr (inl (answered path (r ∷ []) r y (inl refl) is heard)))
-          | inr (inl (y, inr has, heard)) ↦ (let x = later-is y has in inr (inr (inl (answered path later x.0 y x.1 x.2 heard))))
-          | inr (inr ended) ↦ elim (among_onto mac answers path (r ∷ []) (rounds_onto later []) before start second last one.at one.following one-comes one-fits one.run rest ended) [
+    -- ---- rounds of a log: a first one, and later ones
+
+    module _ (first : AgentRecord H P) (s : Stream) (log before : List (Logged P)) (start second last : AgentRecord H P) (r : LoggedRound P) (later : List (LoggedRound P)) (p : PairRecord) (by : ℕ)
+        (one : Part mac answers first s log before start (entries_of (r ∷ [])) second)
+        (others : Part mac answers first s log (entries_of (r ∷ []) ++ before) second (entries_of later) last)
+        (comes : r.timeout.call ≡ HandleTimeout r.now) (between : (x : Logged P) → Has r.following x → is_in_round x.call ≡ true)
+        (passing : (x : LoggedRound P) → Has later x → IsPassing by x) (lasting : (x : LoggedRound P) → Has later x → IsLasting x.now start p) where
+      abbrev path : Path
+      path = path_of start p
+
+      one-comes : (x : LoggedRound P) → Has (r ∷ []) x → x.timeout.call ≡ HandleTimeout x.now
+      one-comes x (inl is) = subst (λ (y : LoggedRound P). y.timeout.call ≡ HandleTimeout y.now) is comes
+      one-comes x (inr none) = absurd none
+
+      one-fits : (x : LoggedRound P) → Has (r ∷ []) x → (y : Logged P) → Has x.following y → is_in_round y.call ≡ true
+      one-fits x (inl is) = subst (λ (z : LoggedRound P). (y : Logged P) → Has z.following y → is_in_round y.call ≡ true) is between
+      one-fits x (inr none) = absurd none
+
+      others-come : (x : LoggedRound P) → Has later x → x.timeout.call ≡ HandleTimeout x.now
+      others-come x has = (passing x has).comes
+
+      abbrev rest : PassRounds mac answers (rounds_onto later []) second last
+      rest = pass_onto mac answers later [] (entries_of (r ∷ []) ++ before) second last last others.at others.following others-come others.run refl
+
+      abbrev run : PassRounds mac answers (course_of r later) start last
+      run = pass_onto mac answers (r ∷ []) (rounds_onto later []) before start second last one.at one.following one-comes one.run rest
+
+      later-is : (y : CourseRound P) → Has (rounds_onto later []) y → (x : LoggedRound P) × Has later x × (round_from x ≡ y)
+      later-is y has = elim (rounds_is later [] y has) [ inl found ↦ found | inr none ↦ absurd none ]
+
+      opened : (y : CourseRound P) → Has (rounds_onto later []) y → IsOpenRound by y
+      opened y has = let x = later-is y has in opens by x.0 y x.2 (passing x.0 x.1)
+
+      lasts : (y : CourseRound P) → Has (rounds_onto later []) y → IsLasting y.now start p
+      lasts y has = let x = later-is y has in subst (λ (c : CourseRound P). IsLasting c.now start p) x.2 (search (lasting x.0 x.1))
+
+      -- a path that is reached in the execution is reached in the log
+      reached : (limit : ℕ) → IsReachedBy mac answers limit (course_of r later) start last run path → IsReachedInBy mac answers limit (r ∷ []) one path ⊎ IsReachedInBy mac answers limit later others path
+      reached limit (inl (y, inl is, sent, soon)) =
+          inl (inl (r, inl refl, subst (λ (c : CourseRound P). SendsCheckOn c.timeout path) (sym is) sent, (let same = ap (λ (c : CourseRound P). c.now) is in omega (arith, soon, same))))
+      reached limit (inl (y, inr has, sent, soon)) =
+          let x = later-is y has in
+          inr (inl (x.0, x.1, subst (λ (c : CourseRound P). SendsCheckOn c.timeout path) (sym x.2) sent, (let same = ap (λ (c : CourseRound P). c.now) x.2 in omega (arith, soon, same))))
+      reached limit (inr (inl (y, inl is, heard))) = inl (inr (inl (answered path (r ∷ []) r y (inl refl) is heard)))
+      reached limit (inr (inl (y, inr has, heard))) = let x = later-is y has in inr (inr (inl (answered path later x.0 y x.1 x.2 heard)))
+      reached limit (inr (inr ended)) =
+          elim (among_onto mac answers path (r ∷ []) (rounds_onto later []) before start second last one.at one.following one-comes one-fits one.run rest ended) [
             | inl here ↦ inl (inr (inr here))
             | inr others-ended ↦
                 elim (among_onto mac answers path later [] (entries_of (r ∷ []) ++ before) second last last others.at others.following others-come (λ x has. (passing x has).between) others.run refl others-ended) [
@@ -117,35 +163,45 @@ module _ {H P : Type 0} where
                   | inr none ↦ absurd none
                 ]
           ]
+
+    -- ---- the theorem
+
+    pub reached-in-time : CoursesReachInTime {H = H} {P = P} mac answers → PairsAreReachedInTime {H = H} {P = P} mac answers
+    reached-in-time reach first s log fresh before start second last r later p by pace delay many one others line from comes done early between passing lasting enough long in_time =
+        elim (reached first s log before start second last r later p by one others comes between passing lasting (r.now + many * (pace + delay))
+        (reach first start last (calls_onto before []) (round_from r) (rounds_onto later []) p by pace delay many fresh
+        (course_to mac answers before first start start [] s one.at one.led refl) line (omega (arith, from)) done (omega (arith, early))
+        (λ y has. fits r between (round_from r) refl y has) (run first s log before start second last r later p by one others comes between passing lasting)
+        (opened first s log before start second last r later p by one others comes between passing lasting) (lasts first s log before start second last r later p by one others comes between passing lasting)
+        (suffice by many start second last r later enough) (let count = rounds_count later [] in omega (arith, long, count)) (timed pace delay start r later in_time))) [
+          | inl (inl (x, has, sent, soon)) ↦ inl (inl (x, has, sent, omega (arith, soon)))
+          | inl (inr others) ↦ inl (inr others)
+          | inr (inl (x, has, sent, soon)) ↦ inr (inl (x, has, sent, omega (arith, soon)))
+          | inr (inr others) ↦ inr (inr others)
+        ]
+
+    -- each round begins in time, or the path is reached
+    pub come-in-time : RoundsComeInTime {H = H} {P = P} mac answers → (first : AgentRecord H P) (s : Stream) (log : List (Logged P)) → IsFresh first
+        → (before : List (Logged P)) (start second last : AgentRecord H P) (r : LoggedRound P) (later : List (LoggedRound P)) (p : PairRecord) (by pace delay : ℕ)
+        → (one : Part mac answers first s log before start (entries_of (r ∷ [])) second)
+        → (others : Part mac answers first s log (entries_of (r ∷ []) ++ before) second (entries_of later) last)
+        → IsInLine r.now by start p → by ≤ r.now → r.timeout.call ≡ HandleTimeout r.now → r.timeout.entry.answer ≡ Done → r.now < MAX
+        → ((x : Logged P) → Has r.following x → is_in_round x.call ≡ true) → ((x : LoggedRound P) → Has later x → IsPassing by x)
+        → ((x : LoggedRound P) → Has later x → IsLasting x.now start p) → IsTimedIn pace delay start r later
+        → ((x : LoggedRound P) → Has later x → x.now ≤ r.now + length later * (pace + delay))
+        ⊎ (IsReachedInBy mac answers (r.now + length later * (pace + delay)) (r ∷ []) one (path_of start p)
+        ⊎ IsReachedInBy mac answers (r.now + length later * (pace + delay)) later others (path_of start p))
+    come-in-time come first s log fresh before start second last r later p by pace delay one others line from comes done early between passing lasting in_time =
+        elim (come first start last (calls_onto before []) (round_from r) (rounds_onto later []) p by pace delay fresh
+        (course_to mac answers before first start start [] s one.at one.led refl) line (omega (arith, from)) done (omega (arith, early))
+        (λ y has. fits r between (round_from r) refl y has) (run first s log before start second last r later p by one others comes between passing lasting)
+        (opened first s log before start second last r later p by one others comes between passing lasting) (lasts first s log before start second last r later p by one others comes between passing lasting)
+        (timed pace delay start r later in_time)) [
+          | inl come_by ↦ inl (λ x has.
+              let le : x.now ≤ r.now + length (rounds_onto later []) * (pace + delay) = come-all r.now (pace + delay) (round_from r) (rounds_onto later []) (round_from x) (inr (rounds-has later [] x (inl has))) come_by in
+              subst (λ n. x.now ≤ r.now + n * (pace + delay)) count le)
+          | inr found ↦ inr (reached first s log before start second last r later p by one others comes between passing lasting (r.now + length later * (pace + delay))
+              (subst (λ n. IsReachedBy mac answers (r.now + n * (pace + delay)) (course_of r later) start last (run first s log before start second last r later p by one others comes between passing lasting) (path_of start p)) count found))
         ] where
-          path : Path
-          path = path_of start p
-
-          one-comes : (x : LoggedRound P) → Has (r ∷ []) x → x.timeout.call ≡ HandleTimeout x.now
-          one-comes x (inl is) = subst (λ (y : LoggedRound P). y.timeout.call ≡ HandleTimeout y.now) is comes
-          one-comes x (inr none) = absurd none
-
-          one-fits : (x : LoggedRound P) → Has (r ∷ []) x → (y : Logged P) → Has x.following y → is_in_round y.call ≡ true
-          one-fits x (inl is) = subst (λ (z : LoggedRound P). (y : Logged P) → Has z.following y → is_in_round y.call ≡ true) is between
-          one-fits x (inr none) = absurd none
-
-          others-come : (x : LoggedRound P) → Has later x → x.timeout.call ≡ HandleTimeout x.now
-          others-come x has = (passing x has).comes
-
-          rest : PassRounds mac answers (rounds_onto later []) second last
-          rest = pass_onto mac answers later [] (entries_of (r ∷ []) ++ before) second last last others.at others.following others-come others.run refl
-
-          run : PassRounds mac answers (course_of r later) start last
-          run = pass_onto mac answers (r ∷ []) (rounds_onto later []) before start second last one.at one.following one-comes one.run rest
-
-          count : length (rounds_onto later []) ≡ length later + 0
-          count = rounds_count later []
-
-          later-is : (y : CourseRound P) → Has (rounds_onto later []) y → (x : LoggedRound P) × Has later x × (round_from x ≡ y)
-          later-is y has = elim (rounds_is later [] y has) [ inl found ↦ found | inr none ↦ absurd none ]
-
-          opened : (y : CourseRound P) → Has (rounds_onto later []) y → IsOpenRound by y
-          opened y has = let x = later-is y has in opens by x.0 y x.2 (passing x.0 x.1)
-
-          lasts : (y : CourseRound P) → Has (rounds_onto later []) y → IsLasting y.now start p
-          lasts y has = let x = later-is y has in subst (λ (c : CourseRound P). IsLasting c.now start p) x.2 (search (lasting x.0 x.1))
+          count : length (rounds_onto later []) ≡ length later
+          count = let same : length (rounds_onto later []) ≡ length later + 0 = rounds_count later [] in omega (arith, same)

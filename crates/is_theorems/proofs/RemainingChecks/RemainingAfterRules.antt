@@ -27,6 +27,7 @@ use Rattle.is_rules.specs.declared.credentials.IceCreds.{IceCreds}
 use Rattle.is_rules.specs.declared.places.RemotePlace.{RemotePlace}
 use Rattle.is_rules.specs.declared.places.RemotePlace.TheVariants.{Known, Barred, Unknown, Vacant, Full}
 use Rattle.is_rules.specs.declared.roles.Conflict.{Conflict}
+use Rattle.is_rules.specs.declared.rules.Rules.{Rules}
 use Rattle.is_rules.specs.declared.roles.Conflict.TheVariants.{Absent, Send487, SwitchRole}
 use Rattle.is_rules.specs.declared.emitted.Path.{Path}
 use Rattle.is_rules.specs.declared.emitted.Emitted.{Emitted}
@@ -57,6 +58,7 @@ use Rattle.is_theorems.proofs.BasicLemmas.ServedPairs.{numbered-by}
 pub record Held : Type 0 where
   pub lite : Bool
   pub timing : StunTiming
+  pub rules : Rules
 
 -- one more pair
 one-more : (n m : ℕ) → (n + 1) * m ≡ n * m + m
@@ -94,7 +96,7 @@ request-checks q s p =
 
 module _ {H P : Type 0} where
   abbrev pub held_of : AgentRecord H P → Held
-  held_of a = record { lite = a.lite; timing = a.timing }
+  held_of a = record { lite = a.lite; timing = a.timing; rules = a.rules }
 
   module _ (m : ℕ) where
     -- at most k checks of them are sent, and each added pair has m more

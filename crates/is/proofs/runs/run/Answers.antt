@@ -49,6 +49,9 @@ returns-clause-in_time g c = c.reached_in_time.ensures _ _ _
 pub returns-clause-selects_in_time : goal.returns-clause-selects_in_time
 returns-clause-selects_in_time g c = c.selected_in_time.ensures _ _ _
 
+pub returns-clause-none_starved_in_time : goal.returns-clause-none_starved_in_time
+returns-clause-none_starved_in_time g c = c.none_is_starved_in_time.ensures _ _ _
+
 pub returns-clause-takers : goal.returns-clause-takers
 returns-clause-takers g c = c.takers_are_valid.ensures _ _ _
 
