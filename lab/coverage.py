@@ -10,7 +10,7 @@ from .clauses import (
     both, by_number, completed_nominations_are_selected, connect, connected_are_answered, connected_have_consent, consent_ends_in_time,
     consent_holds, courses_select_in_time, due_rounds, in_time, leaves_in_time, meet, nomination_accepted, nominations,
     none_starved_in_time, of_use, one_path, reached_in_turn, rounds, run_connected, run_connected_answered, run_in_time,
-    run_selects_in_time, states_agree, successes, valid_have_consented, world_rounds)
+    run_selects_in_time, selects_in_time, states_agree, successes, urgent_are_reached, valid_have_consented, world_rounds)
 from .clauses.execution import Execution
 from .clauses.accepted_nominations import Network
 from .clauses.verdict import Verdict
@@ -26,6 +26,7 @@ from .session import Session
 # The clauses of progress of `World::run` and of `run`, and theorems of `is_theorems` on one agent.
 WORLD: dict[str, Callable[[Network], Verdict]] = {
     "meet": meet.find, "rounds": world_rounds.find, "in_time": lambda network: in_time.find(network.x),
+    "selects_in_time": selects_in_time.find,
     "nomination_accepted": nomination_accepted.find, "connect": connect.find, "both": both.find, "one_path": one_path.find,
     "by_number": by_number.find}
 RUN: dict[str, Callable[[Execution], Verdict]] = {
@@ -38,7 +39,8 @@ THEOREMS: dict[str, Callable[[Execution], Verdict]] = {
     "valid_have_consented": valid_have_consented.find, "connected_have_consent": connected_have_consent.find,
     "connected_are_answered": connected_are_answered.find, "leaves_in_time": leaves_in_time.find,
     "completed_nominations_are_selected": completed_nominations_are_selected.find,
-    "courses_select_in_time": courses_select_in_time.find, "states_agree": states_agree.find, "reached_in_turn": reached_in_turn.find}
+    "courses_select_in_time": courses_select_in_time.find, "states_agree": states_agree.find, "reached_in_turn": reached_in_turn.find,
+    "urgent_are_reached": urgent_are_reached.find}
 CLAUSES = (*WORLD, *RUN, *THEOREMS)
 
 

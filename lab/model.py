@@ -221,10 +221,10 @@ class Agent(Candidates):
         """Returns the pairs of which one is checked: the selected one, if its nomination is to be sent, else those that come first."""
         if self.nominates_at_once:
             return [p for p in self.pairs if p.number == self.selected]
-        order = {p.number: self._place_in_order(p, now, is_ahead) for p in self.pairs if p.due_at(now, self.timing) <= now}
+        order = {p.number: self.place_in_order(p, now, is_ahead) for p in self.pairs if p.due_at(now, self.timing) <= now}
         return [p for p in self.pairs if order.get(p.number) == min(order.values())] if order else []
 
-    def _place_in_order(self, pair: Pair, now: int, is_ahead: bool) -> tuple[int, int, int]:
+    def place_in_order(self, pair: Pair, now: int, is_ahead: bool) -> tuple[int, int, int]:
         """Returns what decides which of the due pairs is checked: if the check goes ahead its turn, then its due time and its priority."""
         return self._turn_of(pair) if is_ahead else 0, pair.due_at(now, self.timing), -pair.priority
 

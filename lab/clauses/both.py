@@ -1,8 +1,10 @@
 """`World::run`, clause `both` (`BothSelect`): two new agents agree on roles, and the network delivers on one path of each. Then both
-select a path: the controlling one once its check is answered, the controlled one by a `handle_timeout` after its rounds."""
+select a path: the controlling one once its check is answered, if it has not yet; the controlled one by a `handle_timeout` after its
+rounds."""
 
 from __future__ import annotations
 
+from bisect import bisect_left
 from collections.abc import Iterator
 from dataclasses import dataclass
 
@@ -23,14 +25,14 @@ from .verdict import Verdict, first_that_holds, selects
 @dataclass(frozen=True)
 class Choice:
     """The side that is controlled in the end, its path, and the path `its` of the other side. The log up to `opening` is the meeting;
-    from there up to `start` the opening, which begins with `count` rounds for a pair of the other side; up to the `handle_timeout`
-    call `moment` the last segment, with the first rounds of both sides."""
+    from there up to `start` the opening, which begins with `count` rounds for a pair of the other side; without a pair, that side has
+    selected a path by then. Up to the `handle_timeout` call `moment` comes the last segment, with the first rounds of both sides."""
 
     side: str
     path: Path
     its: Path
     opening: int
-    pair: int
+    pair: int | None
     count: int
     start: int
     leads: int
@@ -48,13 +50,21 @@ def agree_on_roles(n: Network, part: range) -> Lacks:
     return [] if any(not is_meeting(n, side, path, part) for side, path in paths) else ["IsMeeting"]
 
 
-def opens(n: Network, c: Choice) -> Lacks:
+def opens(n: Network, c: Choice, pair: int) -> Lacks:
     """The opening begins with rounds of the other side that suffice for a pair on `its`, and the network delivers (`Opens`)."""
     x, side = n.x, other(c.side)
     rounds, agent = rounds_of(x, side, c.opening, c.count), x.state(c.opening, side)
     delivered = delivers(n, side, c.its, reversed_path(c.path), rounds, range(c.opening, c.start))
-    is_on = agent.path(pair_of(agent, c.pair)) == c.its
-    return lacks(on=is_on, split=rounds[-1].moment < c.start, **waits(x, side, c.pair, rounds), delivers=delivered)
+    is_on = agent.path(pair_of(agent, pair)) == c.its
+    return lacks(on=is_on, split=rounds[-1].moment < c.start, **waits(x, side, pair, rounds), delivers=delivered)
+
+
+def starts(n: Network, c: Choice) -> dict[str, bool | Lacks]:
+    """Returns what has to hold of the opening: it begins with such rounds, or the other side has selected a path by its end
+    (`StartsToSelect`)."""
+    if c.pair is not None:
+        return {"Opens": opens(n, c, c.pair)}
+    return {"Already": c.opening <= c.start and selects(n.x, other(c.side), range(c.start)) is not None}
 
 
 def stay_nominated(x: Execution, side: str, its: Path, part: range) -> bool:
@@ -77,7 +87,7 @@ def lacking(n: Network, c: Choice) -> Lacks:
         split=c.start <= min(c.leads, c.goes),
         AgreeOnRoles=agree_on_roles(n, range(c.opening)),
         controlled=not x.state(c.opening, c.side).controlling,
-        Opens=opens(n, c),
+        **starts(n, c),
         AreNominatedOn=stay_nominated(x, other(c.side), c.its, part),
         leads=goes(n, other(c.side), c.its, reversed_path(c.path), c.leads, part),
         goes=goes(n, c.side, c.path, reversed_path(c.its), c.goes, part),
@@ -91,23 +101,23 @@ def lacking(n: Network, c: Choice) -> Lacks:
 
 @dataclass(frozen=True)
 class Opening:
-    """The first rounds of the controlling side, and the first entry at which the last segment may begin."""
+    """The first rounds of the controlling side, or none, and the first entry at which the last segment may begin."""
 
     first: int
-    pair: int
+    pair: int | None
     count: int
     end: int
 
 
 class Search:
-    """Proposes choices for one controlled side."""
+    """Proposes choices for one controlled side: in which the other side opens, or those in which it selected a path before."""
 
-    def __init__(self, n: Network, side: str) -> None:
+    def __init__(self, n: Network, side: str, opens: bool) -> None:
         self.n, self.side, self.peer = n, side, other(side)
         self.own, self.peers = Rows(n.x, side), Rows(n.x, self.peer)
         asks = {(reversed_path(h.over), h.path) for h in n.handed[self.peer]}
         self.ways = sorted(asks & {(h.path, reversed_path(h.over)) for h in n.handed[side]})
-        self.openings = {way: self._opening(*way) for way in self.ways}
+        self.openings = {way: self._opening(*way) for way in self.ways} if opens else dict.fromkeys(self.ways, self._selected())
 
     def _opening(self, path: Path, its: Path) -> Opening | None:
         """Returns the opening that ends first, or one that shows what is missing."""
@@ -120,6 +130,15 @@ class Search:
             end = max(p.last, back if back is not None and is_needed else 0) + 1
             found.append((not is_good, end, Opening(p.first, p.pair, p.count or 1, end)))
         return min(found, key=lambda f: f[:2])[2] if found else None
+
+    def _selected(self) -> Opening | None:
+        """Returns the opening that ends once roles are agreed on, and the controlling side selected a path."""
+        x = self.n.x
+        agreed = bisect_left(range(len(x)), True, key=lambda end: not agree_on_roles(self.n, range(end)))
+        found = x.announces(self.peer)
+        if agreed == len(x) or x.state(agreed, self.side).controlling or not found:
+            return None
+        return Opening(agreed, None, 0, max(agreed, found[0] + 1))
 
     def _is_good(self, p: Proposal, rounds: list[Round]) -> bool:
         agreed = not agree_on_roles(self.n, range(p.first)) and not self.n.x.state(p.first, self.side).controlling
@@ -147,13 +166,16 @@ class Search:
 
 
 def choices(n: Network) -> Iterator[Choice]:
-    """Proposes choices by the time of the last `handle_timeout` call; at the end some that show what is missing."""
-    return by_last_call(n.x, {side: Search(n, side) for side in SIDES})
+    """Proposes choices by the time of the last `handle_timeout` call, first those with rounds in the opening; and some that show what is
+    missing."""
+    for opens_first in (True, False):
+        yield from by_last_call(n.x, {side: Search(n, side, opens_first) for side in SIDES})
 
 
 def both_selected_by(n: Network, c: Choice) -> int | None:
-    """Returns when both sides had selected a path: the controlling one in the opening, the other one by the last call."""
-    leads, own = selects(n.x, other(c.side), range(c.opening, c.start)), selects(n.x, c.side, range(c.moment + 1))
+    """Returns when both sides had selected a path: the controlling one by the end of the opening, in it if it has rounds there; the other
+    one by the last call."""
+    leads, own = selects(n.x, other(c.side), range(0 if c.pair is None else c.opening, c.start)), selects(n.x, c.side, range(c.moment + 1))
     if leads is None or own is None or not has_announced(n.x.state(c.moment + 1, c.side)):
         return None
     return max(leads, own)

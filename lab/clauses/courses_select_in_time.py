@@ -4,7 +4,7 @@ path. Its round begins at most k times the pacing interval and the caller's dela
 
 from __future__ import annotations
 
-from collections.abc import Iterator
+from collections.abc import Callable, Iterable, Iterator
 from dataclasses import dataclass
 from itertools import groupby
 
@@ -100,9 +100,11 @@ def choice_of(x: Execution, side: str, pair: int, place: int, count: int) -> Cho
     return Choice(side, pair, row[0], count, max(last, answer or 0) + 1)
 
 
-def choices_by_call(x: Execution) -> Iterator[tuple[list[Choice], list[Choice]]]:
+def choices_by_call(x: Execution, choice: Callable[[str, int, int, int], Choice],
+                    bound_of: Callable[[Choice], int | None]) -> Iterator[tuple[list[Choice], list[Choice]]]:
     """Proposes choices for each first `handle_timeout` call: those with enough rounds, the earliest bound first; and those with a call
-    other than packets and polls before enough rounds, or with too few rounds."""
+    other than packets and polls before enough rounds, or with too few rounds. `choice` makes one of a side, a pair, the place of the call
+    and the number of rounds."""
     counts = {side: Counts(x, side) for side in SIDES}
     for (side, place), calls in groupby(controlling_calls(x, SIDES), key=lambda call: (call[1], call[0])):
         enough: list[Choice] = []
@@ -110,36 +112,50 @@ def choices_by_call(x: Execution) -> Iterator[tuple[list[Choice], list[Choice]]]
         for _, _, pair, due in calls:
             count = counts[side].least_polled(place, due)
             wanted = counts[side].rounds_for_due(place, due) if count is None else count
-            (hopeless if count is None else enough).append(choice_of(x, side, pair.number, place, wanted))
-        yield sorted(enough, key=lambda c: earliest(x, c)), hopeless
+            (hopeless if count is None else enough).append(choice(side, pair.number, place, wanted))
+        yield sorted(enough, key=lambda c: earliest(bound_of(c))), hopeless
 
 
-def earliest(x: Execution, c: Choice) -> int:
+def earliest(bound: int | None) -> int:
     """Returns the bound of a choice, or the greatest time if it has none."""
-    bound = limit(x, c)
     return MAX if bound is None else bound
 
 
-def choices(x: Execution) -> Iterator[Choice]:
-    """Proposes choices by the first call. Those without enough rounds come last."""
+def by_first_call(proposed: Iterable[tuple[list[Choice], list[Choice]]]) -> Iterator[Choice]:
+    """Proposes these choices by the first call. Those without enough rounds come last."""
     hopeless: list[Choice] = []
-    for enough, few in choices_by_call(x):
+    for enough, few in proposed:
         yield from enough
         hopeless += few
     yield from hopeless
 
 
-def find(x: Execution) -> Verdict:
+def own_choices(x: Execution) -> Iterator[tuple[list[Choice], list[Choice]]]:
+    """Proposes choices of one agent for each first call."""
+    return choices_by_call(x, lambda side, pair, place, count: choice_of(x, side, pair, place, count), lambda c: limit(x, c))
+
+
+def choices(x: Execution) -> Iterator[Choice]:
+    """Proposes choices by the first call."""
+    return by_first_call(own_choices(x))
+
+
+def first_call_that_holds(found: Iterable[Choice], lacking_of: Callable[[Choice], Lacks], verdict: Callable[[Choice], Verdict]) -> Verdict:
     """Returns the earliest bound of the first call with a choice that lacks nothing; or one of this call whose conclusion does not come
     true."""
+    failed = []
+    for _, of_call in groupby(found, key=lambda c: (c.side, c.first)):
+        of_first = first_of_all(of_call, lacking_of, verdict, "Awaits.there")
+        if of_first.held:
+            return of_first
+        failed.append(of_first.failed)
+    return Verdict(min(failed, key=lambda names: names.count(","), default="Awaits.there"))
+
+
+def find(x: Execution) -> Verdict:
+    """Returns what holds at the first call with a choice that lacks nothing."""
 
     def verdict(c: Choice) -> Verdict:
         return Verdict("", x.time(c.first), limit(x, c), selected_at(x, c), c.count)
 
-    failed = []
-    for _, of_call in groupby(choices(x), key=lambda c: (c.side, c.first)):
-        found = first_of_all(of_call, lambda c: lacking(x, c), verdict, "Awaits.there")
-        if found.held:
-            return found
-        failed.append(found.failed)
-    return Verdict(min(failed, key=lambda names: names.count(","), default="Awaits.there"))
+    return first_call_that_holds(choices(x), lambda c: lacking(x, c), verdict)

@@ -1,7 +1,6 @@
 """`run`, clause `none_starved_in_time` (`SteadyRoundsReachInTime`): with limits on pairs and on what packets bring, k rounds after the
 first one are enough for a pair that is due by it, whatever pairs requests add, and the caller is punctual. Then a check is sent on the
-pair's path by k times the pacing interval and the caller's delay after the first round begins, once k rounds came or one begins later than
-that."""
+pair's path by k times the pacing interval and the caller's delay after the first round begins, once k rounds came or one begins later."""
 
 from __future__ import annotations
 
@@ -72,7 +71,7 @@ def least_rounds(rules: Rules, retransmits: int, checks: int) -> int | None:
 
 
 def least_later(agent: Agent, is_early: bool, bound: int, selections: int) -> int | None:
-    """Returns the least number of rounds after the first that are enough (`AreEnoughLater`). `is_early`: the pair is due before that."""
+    """Returns the least number of rounds after the first one that are enough (`AreEnoughLater`). `is_early`: the pair is due before it."""
     ahead = nominations_ahead(agent, selections)
     later = least_rounds(agent.rules, agent.timing.retransmits, 2 * bound + bound + ahead)
     early = least_rounds(agent.rules, agent.timing.retransmits, 2 * len(agent.pairs) + bound + ahead) if is_early else None
@@ -125,14 +124,14 @@ def lacking(x: Execution, c: Choice) -> Lacks:
 # ---- the search
 
 def segments(x: Execution, side: str, place: int, is_early: bool) -> Iterator[tuple[int, int]]:
-    """Proposes segments from the side's `handle_timeout` call at this place on: how many rounds after the first are enough, and their end.
-    The first one is the shortest in which so many come, or one begins after the time of the bound; the other one has all rounds."""
+    """Proposes a segment from the side's `handle_timeout` call at this place on: how many rounds after the first are enough, and its end.
+    It is the shortest in which so many come, or one begins after the time of the bound; if there is none, it has all rounds."""
     row, bound = x.timeouts[side], pair_bound(x, side, x.timeouts[side][place])
     start, most = x.state(row[place], side), most_rounds(x, side, place, is_steady)
     late, begin, many = 0, x.now(row[place]), None
     for later in range(most if bound is not None else 0):
         at = row[place + later]
-        many = least_later(start, is_early, bound, selections_of(x, side, range(row[place], at + 1))) if bound is not None else None
+        many = None if bound is None else least_later(start, is_early, bound, selections_of(x, side, range(row[place], at + 1)))
         if later:
             before = row[place + later - 1]
             deadline = latest_deadline(x, side, Round(x.now(before), before, range(before + 1, at)))

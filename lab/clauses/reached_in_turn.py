@@ -5,6 +5,7 @@ from __future__ import annotations
 
 from collections.abc import Iterator
 from dataclasses import dataclass
+from weakref import WeakKeyDictionary
 
 from ..kinds import kind_of
 from ..model import Agent
@@ -21,6 +22,7 @@ from .verdict import Verdict, first_of_all
 
 # The greatest number of rounds that delay the pair, for which choices are proposed.
 MOST_DELAYS = 4
+_KINDS: WeakKeyDictionary[Execution, dict[tuple[str, int], frozenset[int]]] = WeakKeyDictionary()
 
 
 @dataclass(frozen=True)
@@ -46,15 +48,23 @@ def kind_in(agent: Agent, pair: Pair) -> int:
 
 
 def takes_turns(x: Execution, side: str, kind: int, number: int, r: Round) -> Lacks:
-    """Kinds take turns at the `handle_timeout` call, no path is selected by its end, and the pair has this kind (`TakesTurns`)."""
+    """The rule is set at the `handle_timeout` call, and the pair has this kind (`TakesTurns`)."""
     old, new = x.state(r.moment, side), x.state(r.moment + 1, side)
-    return lacks(turns=new.rules.kinds_in_turn and not new.state.is_connected(), unselected=new.selected is None,
-                 keeps=all(kind_in(old, p) == kind for p in old.pairs if p.number == number))
+    return lacks(rule=new.rules.kinds_in_turn, keeps=all(kind_in(old, p) == kind for p in old.pairs if p.number == number))
+
+
+def kinds_at(x: Execution, side: str, moment: int) -> frozenset[int]:
+    """Returns the kinds of the pairs before the call, which are kept with the log."""
+    kept = _KINDS.setdefault(x, {})
+    if (side, moment) not in kept:
+        agent = x.state(moment, side)
+        kept[side, moment] = frozenset(kind_in(agent, p) for p in agent.pairs)
+    return kept[side, moment]
 
 
 def kinds_of(x: Execution, side: str, rounds: list[Round]) -> set[int]:
     """Returns the kinds of the pairs before the `handle_timeout` calls."""
-    return {kind_in(agent, p) for r in rounds for agent in (x.state(r.moment, side),) for p in agent.pairs}
+    return {kind for r in rounds for kind in kinds_at(x, side, r.moment)}
 
 
 def lacking(x: Execution, c: Choice) -> Lacks:
@@ -86,8 +96,13 @@ def is_delayed(x: Execution, side: str, kind: int, number: int, r: Round) -> boo
                and (agent.goes_first(p) or (kind_in(agent, p) == kind and place(p) <= place(own))) for p in agent.pairs)
 
 
+def has_path(agent: Agent) -> bool:
+    """Whether a path is selected, or the agent is Connected or Completed (`HasPath`)."""
+    return agent.selected is not None or agent.state.is_connected()
+
+
 def reached_at(x: Execution, c: Choice) -> int | None:
-    """Returns when a check is sent on the pair's path, or so many rounds have delayed the pair."""
+    """Returns when a check is sent on the pair's path, or so many rounds have delayed the pair, or the agent has a path."""
     agent, delays = x.state(c.first, c.side), 0
     own = pair_of(agent, c.pair)
     path, kind = agent.path(own), kind_in(agent, own)
@@ -99,23 +114,35 @@ def reached_at(x: Execution, c: Choice) -> int | None:
         delays += is_delayed(x, c.side, kind, c.pair, r)
         if delays == c.delays:
             return r.now
+        if (at := next((at for at in (r.moment, *r.behind) if has_path(x.state(at + 1, c.side))), None)) is not None:
+            return x.time(at)
     return None
 
 
 # ---- the search
 
+def spans(x: Execution, side: str, place: int) -> Iterator[tuple[int, int]]:
+    """Returns for each number of delays the fewest rounds that suffice, from the side's `handle_timeout` call at this place on."""
+    row, kinds, delays = x.timeouts[side], set[int](), 1
+    for later in range(most_rounds(x, side, place, is_in_round)):
+        moment = row[place + later]
+        if delays > MOST_DELAYS or not x.state(moment + 1, side).rules.kinds_in_turn:
+            return
+        kinds |= kinds_at(x, side, moment)
+        if kinds and 2 * len(kinds) * delays <= later + 1:
+            yield later + 1, delays
+            delays += 1
+
+
 def choices(x: Execution) -> Iterator[Choice]:
-    """Proposes each pair at each `handle_timeout` call while no path is selected, with the fewest rounds for each number of delays."""
+    """Proposes each pair that is due before a `handle_timeout` call, at which the side has no path, with such rounds."""
     for side in SIDES:
         row = x.timeouts[side]
         for place, first in enumerate(row):
             agent, now = x.state(first, side), x.now(first)
-            if x.state(first + 1, side).selected is not None:
+            if has_path(agent):
                 continue
-            kinds, most = len(kinds_of(x, side, x.rounds(side, first, first + 1))), most_rounds(x, side, place, is_in_round)
-            for delays in range(1, MOST_DELAYS + 1):
-                if (count := 2 * kinds * delays) > most:
-                    break
+            for count, delays in spans(x, side, place):
                 yield from (Choice(side, p.number, first, row[place + count - 1] + 1, delays)
                             for p in agent.pairs if p.due_at(now, agent.timing) < now)
 
@@ -127,4 +154,4 @@ def find(x: Execution) -> Verdict:
         rounds = c.rounds(x)
         return Verdict("", rounds[0].now, rounds[-1].now, reached_at(x, c), len(rounds))
 
-    return first_of_all(choices(x), lambda c: lacking(x, c), verdict, "line.there")
+    return first_of_all(choices(x), lambda c: lacking(x, c), verdict, "TakesTurns")

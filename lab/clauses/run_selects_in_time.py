@@ -3,7 +3,7 @@ rounds are consecutive entries of the log, whatever the other agent is."""
 
 from __future__ import annotations
 
-from .courses_select_in_time import Choice, choices_by_call, earliest, limit, selected_at, trip
+from .courses_select_in_time import Choice, earliest, limit, own_choices, selected_at, trip
 from .execution import MAX, Execution, Lacks, lacks
 from .fair import is_new_agent
 from .in_time import delay
@@ -30,8 +30,8 @@ def lacking(x: Execution, c: Choice) -> Lacks:
 
 def choices(x: Execution) -> list[Choice]:
     """Proposes choices of all `handle_timeout` calls, the earliest bound first. Those without enough rounds come last."""
-    found = list(choices_by_call(x))
-    enough = sorted((c for of_call, _ in found for c in of_call), key=lambda c: earliest(x, c))
+    found = list(own_choices(x))
+    enough = sorted((c for of_call, _ in found for c in of_call), key=lambda c: earliest(limit(x, c)))
     return [*enough, *(c for _, few in found for c in few)]
 
 

@@ -44,9 +44,8 @@ def have_rules(x: Execution, c: Choice) -> Lacks:
 
 
 def lacking(x: Execution, c: Choice) -> Lacks:
-    """Returns the preconditions that do not hold. `begun`: before that nothing is said."""
-    return lacks(IsFresh=is_new_agent(x.state(0, c.side)), AreNeverLite=is_never_lite(x, c.side, c.at), HaveRulesAlong=have_rules(x, c),
-                 begun=x.steps[c.at].after[c.side].state is not NEW)
+    """Returns the preconditions that do not hold."""
+    return lacks(IsFresh=is_new_agent(x.state(0, c.side)), AreNeverLite=is_never_lite(x, c.side, c.at), HaveRulesAlong=have_rules(x, c))
 
 
 def choices(x: Execution) -> Iterator[Choice]:
@@ -69,4 +68,4 @@ def find(x: Execution) -> Verdict:
         time, agent = x.time(c.at), x.steps[c.at].after[c.side]
         return Verdict("", time, time, time if agent.state.is_connected() == is_live(agent, c.selected) else None)
 
-    return first_of_all(choices(x), lambda c: lacking(x, c), verdict, "begun")
+    return first_of_all(choices(x), lambda c: lacking(x, c), verdict, "IsFresh")

@@ -223,7 +223,7 @@ class Numbered(unittest.TestCase):
 
 
 class Both(Late):
-    def lacking(self, n: Network, pair: int = 0, start: int | None = None, count: int = 1, leads: int = -1) -> list[str]:
+    def lacking(self, n: Network, pair: int | None = 0, start: int | None = None, count: int = 1, leads: int = -1) -> list[str]:
         a, b = n.x.timeouts["a"], n.x.timeouts["b"]
         return both.lacking(n, both.Choice("b", TO_A, TO_B, a[0], pair, count, b[0] if start is None else start, a[leads], b[-2], b[-1]))
 
@@ -248,6 +248,19 @@ class Both(Late):
         story.exchange("a", 300)
         story.timeout("b", 1000)
         self.assertEqual(both.find(story.network()), Verdict("", at(20), at(1000), at(1000), 1))
+
+    def test_a_check_that_ends_a_role_conflict_selects(self) -> None:
+        story = Story(roles=(True, True))
+        story.exchange("a", 20)
+        story.exchange("b", 260)
+        story.exchange("a", 300)
+        story.timeout("b", 1000)
+        self.assertEqual(both.find(story.network()), Verdict("", at(25), at(1000), at(1000), 1))
+
+    def test_a_path_that_was_selected_before(self) -> None:
+        story = self.story()
+        self.assertEqual(self.lacking(story.network(), None), [])
+        self.assertEqual(self.lacking(story.network(), None, story.moments["a"][0] + 1), ["Already", "AreNominatedOn"])
 
     def test_the_side_is_controlled(self) -> None:
         story = self.story()

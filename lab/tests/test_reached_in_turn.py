@@ -57,6 +57,12 @@ class Turns(unittest.TestCase):
         story.log.entries = [e for e in story.log.entries if e.call != "poll_transmit"]
         self.assertTrue(of.find(Execution(replay(story.log))).is_broken)
 
+    def test_a_path_is_selected(self) -> None:
+        story = self.story()
+        c = self.choice(story, self.order(story)[3], 4, 2)
+        x = self.altered(story, story.moments["a"][1] + 1, selected=self.order(story)[0])
+        self.assertEqual((self.lacking(x, c), of.reached_at(x, c)), ([], at(50)))
+
     def test_other_pairs_are_no_delay(self) -> None:
         story = self.story()
         x, order, first = story.network().x, self.order(story), story.moments["a"][1]
@@ -80,8 +86,7 @@ class Turns(unittest.TestCase):
         order, moments = self.order(story), story.moments["a"]
         c = self.choice(story, order[3])
         self.assertEqual(self.lacking(self.altered(story, 0, next_number=1), c), ["IsFresh"])
-        self.assertEqual(self.lacking(self.altered(story, moments[1] + 1, rules=ORIGINAL), c), ["TakesTurns.turns"])
-        self.assertEqual(self.lacking(self.altered(story, moments[2] + 1, selected=order[0]), c), ["TakesTurns.unselected"])
+        self.assertEqual(self.lacking(self.altered(story, moments[1] + 1, rules=ORIGINAL), c), ["TakesTurns.rule"])
         self.assertEqual(self.lacking(story.network().x, self.choice(story, order[3], 1)), ["enough"])
         self.assertEqual(self.lacking(story.network().x, self.choice(story, order[3], first=0)), ["IsPassing.late"])
 

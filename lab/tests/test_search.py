@@ -9,7 +9,7 @@ from typing import TypeVar
 from is_ice import Transmit
 from lab.clauses import (
     both, connect, courses_select_in_time, due_rounds, in_time, meet, nomination_accepted, none_starved_in_time, rounds, run_in_time,
-    run_selects_in_time, single, world_rounds)
+    run_selects_in_time, selects_in_time, single, world_rounds)
 from lab.clauses.execution import Execution, Lacks
 from lab.clauses.accepted_nominations import Network
 from lab.clauses.verdict import Verdict
@@ -120,17 +120,26 @@ class Searches(unittest.TestCase):
         self.compare("connect", connect.find, found)
 
     def test_both(self) -> None:
-        def every(n: Network) -> Iterator[both.Choice]:
+        def ends(n: Network) -> Iterator[tuple[str, Path, Path, int, int, int, int]]:
             for side, other in (("a", "b"), ("b", "a")):
-                for opening, pair, count in self.openings(n, other):
-                    for path, its in product(paths_of(n, side), paths_of(n, other)):
-                        for moment, leads, goes in product(n.x.timeouts[side], n.x.timeouts[other], n.x.timeouts[side]):
-                            for start in (at for at in sorted(n.x.timeouts["a"] + n.x.timeouts["b"]) if opening < at <= min(leads, goes)):
-                                if max(leads, goes) < moment:
-                                    yield both.Choice(side, path, its, opening, pair, count, start, leads, goes, moment)
+                for path, its in product(paths_of(n, side), paths_of(n, other)):
+                    for moment, leads, goes in product(n.x.timeouts[side], n.x.timeouts[other], n.x.timeouts[side]):
+                        for start in (at for at in sorted(n.x.timeouts["a"] + n.x.timeouts["b"]) if at <= min(leads, goes)):
+                            if max(leads, goes) < moment:
+                                yield side, path, its, start, leads, goes, moment
+
+        def opened(n: Network) -> Iterator[both.Choice]:
+            for side, path, its, *end in ends(n):
+                for opening, pair, count in self.openings(n, "b" if side == "a" else "a"):
+                    if opening < end[0]:
+                        yield both.Choice(side, path, its, opening, pair, count, *end)
+
+        def selected(n: Network) -> Iterator[both.Choice]:
+            return (both.Choice(side, path, its, end[0], None, 0, *end) for side, path, its, *end in ends(n))
 
         def found(n: Network) -> int | None:
-            return earliest(n, every(n), lambda c: both.lacking(n, c), lambda c: c.moment)
+            first = earliest(n, opened(n), lambda c: both.lacking(n, c), lambda c: c.moment)
+            return first if first is not None else earliest(n, selected(n), lambda c: both.lacking(n, c), lambda c: c.moment)
 
         self.compare("both", both.find, found, self.FEWER)
 
@@ -217,6 +226,23 @@ class Searches(unittest.TestCase):
             self.assertEqual((own.held, own.is_broken), (bool(good), False), f"seed {seed}: {own.failed}")
             held += own.held
         self.assertTrue(2 < held < 12)
+
+    def test_selection_in_time_of_two_agents(self) -> None:
+        held = 0
+        for seed in self.SEEDS:
+            n = random_story(seed).network()
+            every = (courses_select_in_time.Choice(side, pair, first, count, last + 1)
+                     for side in SIDES for first, pair, count in self.openings(n, side)
+                     for last in sorted(n.x.timeouts[side] + n.x.successes(side)) if last >= first)
+            good = [c for c in every if not selects_in_time.lacking(n, c)]
+            for c in good:
+                limit, selected = selects_in_time.limit(n, c), selects_in_time.selected_at(n.x, c)
+                assert limit is not None and selected is not None
+                self.assertLessEqual(selected, limit, f"seed {seed}")
+            own = selects_in_time.find(n)
+            self.assertEqual((own.held, own.is_broken), (bool(good), False), f"seed {seed}: {own.failed}")
+            held += own.held
+        self.assertGreater(held, 2)
 
 
 if __name__ == "__main__":

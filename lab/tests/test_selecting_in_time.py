@@ -1,12 +1,13 @@
-"""Tests the checkers of the theorem `courses_select_in_time` and of `selects_in_time` of `run`: for each precondition, a log that lacks
-exactly it; and logs in which the conclusion does not come true."""
+"""Tests the checkers of the theorem `courses_select_in_time` and of `selects_in_time` of `run` and of `World::run`: for each precondition,
+a log that lacks exactly it; and logs in which the conclusion does not come true."""
 
 import unittest
 from dataclasses import replace
 from typing import Any
 
 from is_ice import NominatedSend
-from lab.clauses import courses_select_in_time, run_selects_in_time
+from lab.clauses import courses_select_in_time, run_selects_in_time, selects_in_time
+from lab.clauses.accepted_nominations import Network
 from lab.clauses.courses_select_in_time import Choice, limit, selected_at, trip
 from lab.clauses.execution import MAX, Execution, Lacks
 from lab.clauses.verdict import Verdict
@@ -189,6 +190,63 @@ class SelectsInTimeInALog(SelectsInTime):
 
     def test_the_other_agent(self) -> None:
         self.assertEqual(self.lacking(selecting().altered(0, "b", next_number=1).x), [])
+
+
+class OfTwoAgents(unittest.TestCase):
+    """`World::run`."""
+
+    def lacking(self, n: Network, count: int = 4, pair: int = 3, first: int = 0) -> Lacks:
+        return selects_in_time.lacking(n, Choice("a", pair, n.x.timeouts["a"][first], count, len(n.x)))
+
+    def altered(self, side: str, later: int, **fields: Any) -> Lacks:
+        """With another state of a side so many entries after the first round begins."""
+        story = selecting()
+        return self.lacking(story.altered(story.moments["a"][0] + later, side, **fields))
+
+    def test_four_pairs(self) -> None:
+        n = selecting().network()
+        self.assertEqual([self.lacking(n, count) for count in (3, 4, 5)], [["AreEachPolled.few"], [], []])
+        self.assertEqual(selects_in_time.find(n), Verdict("", at(0), at(3 * 50 + 100), at(250), 4))
+
+    def test_new_agents(self) -> None:
+        self.assertEqual(self.lacking(selecting().altered(0, "b", next_number=1)), ["IsNewAgent"])
+
+    def test_the_roles(self) -> None:
+        self.assertEqual(self.altered("a", 0, controlling=False), ["role"])
+        for side, role in (("a", False), ("b", True)):
+            self.assertEqual(self.altered(side, 1, controlling=role), ["IsControlling"])
+
+    def test_the_pair_waits_and_none_is_valid(self) -> None:
+        story = selecting()
+        pairs = story.session().steps[story.moments["a"][0]].before["a"].pairs
+        self.assertEqual(self.altered("a", 0, queue=(REQUEST,)), ["Awaits.queue"])
+        self.assertEqual(self.altered("a", 0, pairs=(replace(pairs[0], state="succeeded"), *pairs[1:])), ["IsUnanswered.invalid"])
+
+    def test_other_calls_in_the_rounds(self) -> None:
+        for call, missing in ((50, ["AreKept.kept.between", "AreEachPolled.polls"]), (200, ["MakesPollsIn"])):
+            self.assertEqual(self.lacking(selecting(call).network()), missing)
+
+    def test_later_rounds_begin_later(self) -> None:
+        story = Story()
+        story.exchange("a", 0)
+        story.exchange("a", 0)
+        self.assertEqual([self.lacking(story.network(), count, 0) for count in (1, 2)], [[], ["AreKept.late"]])
+
+    def test_the_caller_is_punctual(self) -> None:
+        story = selecting()
+        poll = next(n for n, e in enumerate(story.log.entries) if e.side == "a" and e.call == "poll_timeout")
+        story.log.entries[poll] = replace(story.log.entries[poll], returned=None)
+        self.assertEqual(self.lacking(Network(Execution(replay(story.log)))), ["punctual"])
+
+    def test_no_response_arrives(self) -> None:
+        n = selecting(is_answered=False).network()
+        self.assertEqual(self.lacking(n), ["AreAnsweredWithin"])
+        self.assertEqual(selects_in_time.find(n).failed, "AreAnsweredWithin")
+
+    def test_no_path_is_selected(self) -> None:
+        story = selecting()
+        story.log.entries = [e for e in story.log.entries if not isinstance(e.returned, NominatedSend)]
+        self.assertTrue(selects_in_time.find(Network(Execution(replay(story.log)))).is_broken)
 
 
 if __name__ == "__main__":

@@ -337,7 +337,11 @@ class Agree(unittest.TestCase):
         lite.set("b", "set_ice_lite", False)
         lite.timeout("b", 0)
         self.assertEqual(self.lacking(lite.network().x), ["AreNeverLite"])
-        self.assertEqual(self.lacking(Story(rules=SETTLED).network().x), ["begun"])
+
+    def test_before_the_session(self) -> None:
+        x = Story(rules=ORIGINAL).network().x
+        self.assertEqual(self.lacking(x), [])
+        self.assertFalse(self.of.find(x).is_broken)
 
     def test_the_rules_count_once_the_session_has_begun(self) -> None:
         late = Story(rules=ORIGINAL)

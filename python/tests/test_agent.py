@@ -10,6 +10,7 @@ import re
 import tempfile
 import threading
 import unittest
+from collections import Counter
 from collections.abc import Callable
 from concurrent.futures import ThreadPoolExecutor
 from pathlib import Path
@@ -698,23 +699,27 @@ class Values(unittest.TestCase):
         assert low is not None and high is not None
         self.assertLess(int(low.split()[3]), int(high.split()[3]))
 
-    def test_a_candidate_that_was_invalidated_is_not_listed(self) -> None:
-        """Also if equal ones were added and invalidated before, with one local preference for all, in any order."""
-        for seed in range(100):
-            random, agent, listed = Random(seed), IceAgent(), set[SocketAddress]()
+    def test_each_listed_candidate_can_be_invalidated(self) -> None:
+        """Also after equal ones. With one local preference for all, a candidate that is added again may be listed twice."""
+        hosts = [Candidate.host(SocketAddress("10.0.0.1", 1000 + number)) for number in range(4)]
+        for seed in range(30):
+            random, agent = Random(seed), IceAgent()
             agent.set_local_preference(65535)
-            hosts = [SocketAddress("10.0.0.1", 1000 + number) for number in range(8)]
+
+            def listed(agent: IceAgent = agent) -> Counter[int]:
+                return Counter(fields.address.port - 1000 for fields in agent.local_fields())
+
             for adds in random.sample([True] * 20 + [False] * 25, 45):
-                host = random.choice(hosts)
+                number, before = random.randrange(4), listed()
                 if adds:
-                    self.assertEqual(agent.add_local_candidate(Candidate.host(host)) is not None, host not in listed)
-                    listed.add(host)
+                    agent.add_local_candidate(hosts[number])
+                    self.assertGreater(listed()[number], 0)
+                    self.assertFalse(before - listed())
                 else:
-                    self.assertEqual(agent.invalidate_candidate(Candidate.host(host)), host in listed)
-                    listed.discard(host)
-                self.assertCountEqual([fields.address for fields in agent.local_fields()], listed)
-            for host in hosts:
-                self.assertEqual(agent.invalidate_candidate(Candidate.host(host)), host in listed)
+                    self.assertEqual(agent.invalidate_candidate(hosts[number]), before[number] > 0)
+                    self.assertEqual(listed(), before - Counter([number]))
+            for number, left in listed().items():
+                self.assertEqual([agent.invalidate_candidate(hosts[number]) for _ in range(left + 1)], [True] * left + [False])
             self.assertEqual(agent.local_candidates(), [])
 
     def test_pairs(self) -> None:

@@ -5,8 +5,8 @@ use crate::ffi;
 /// The bytes of an ID (RFC 8489, section 5).
 const LENGTH: usize = 12;
 
-/// How many IDs the system draws at once. Five take it half as long again as one.
-const DRAWN: usize = 5;
+/// How many IDs the system draws at once. Ten take it twice as long as one.
+const DRAWN: usize = 10;
 
 /// Transaction IDs that nobody can predict, and that no check had yet. Several are drawn at once, since a call of the system's generator
 /// takes longer than all else that this crate does for a check.

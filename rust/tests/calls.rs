@@ -168,6 +168,38 @@ fn each_call_serves_an_early_request() {
 
 // ---- settings
 
+/// The crate keeps what these calls returned, until the credentials change.
+#[test]
+fn credentials_are_those_that_were_set_last() {
+    let mut agent = IceAgent::new(creds("near"));
+    for (local, remote) in [("near", None), ("near", Some("farr")), ("nare", Some("rarf"))] {
+        agent.set_local_credentials(creds(local));
+        if let Some(remote) = remote {
+            agent.set_remote_credentials(creds(remote));
+        }
+        for _ in 0..2 {
+            assert_eq!((agent.local_credentials(), agent.remote_credentials()), (&creds(local), remote.map(creds).as_ref()));
+        }
+    }
+    agent.ice_restart(creds("next"), true);
+    assert_eq!((agent.local_credentials(), agent.remote_credentials()), (&creds("next"), None));
+    agent.set_remote_credentials(creds(&"a".repeat(500)));
+    assert_eq!(agent.remote_credentials(), Some(&creds(&"a".repeat(500))));
+}
+
+/// The candidate that the last call returned is not kept once packets come, and adding another one returns that.
+#[test]
+fn what_was_added_last_is_returned() {
+    let mut agent = IceAgent::new(creds("near"));
+    for port in ["1000", "1001"] {
+        let at = format!("10.0.0.1:{port}");
+        let added = agent.add_local_candidate(host(&at)).cloned();
+        assert_eq!(added.map(|candidate| candidate.addr()), Some(self::at(&at)));
+        agent.handle_timeout(Instant::now());
+    }
+    assert_eq!(agent.local_candidates().count(), 2);
+}
+
 #[test]
 fn settings_begin_as_documented() {
     let agent = IceAgent::new(creds("near"));

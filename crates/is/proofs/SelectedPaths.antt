@@ -4,6 +4,7 @@ pub mod SelectedInRounds
 pub mod SelectedAfterNomination
 pub mod BothSelectInRounds
 pub mod ChecksInTime
+pub mod SelectionsInTime
 pub mod NewAgentsSelect
 pub mod PathsOfOnePair
 pub mod LastNominatedPath

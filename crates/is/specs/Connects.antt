@@ -58,11 +58,19 @@ module _ {H P : Type 0} where
   abbrev pub AgreeOnRoles : (H → List ℕ → List ℕ → List ℕ) → (P → CandidateRecord → ℕ → ℕ → Type 0) → WorldRecord H P → List (Occurrence H P) → Type 0
   AgreeOnRoles mac answers w all = (w.a.controlling ≢ w.b.controlling) ⊎ ((side : Side) × (path : Path) × IsMeeting mac answers side path all)
 
+  -- How the side comes to select a path: it has rounds in the opening (`Opens`), or it selected one by the end of the opening, perhaps
+  -- by a check that it sent before the roles differed.
+  pub data StartsToSelect (mac : H → List ℕ → List ℕ → List ℕ) (answers : P → CandidateRecord → ℕ → ℕ → Type 0) (side : Side) (path over : Path) (meeting opening : List (Occurrence H P))
+      : Type 0 where
+    InRounds : Opens mac answers side path over opening → StartsToSelect mac answers side path over meeting opening
+    Already : SelectsIn side (meeting ++ opening) → StartsToSelect mac answers side path over meeting opening
+
   -- Two agents are newly created, with different tie-breakers, in any roles. First they agree on roles (`meeting`). Let `path` be one of
   -- the side that is controlled then, and `its` one of the other side: what one sends on its own arrives on the reverse of the other's.
-  -- Next the controlling side has rounds for its path, and the network delivers on it (`opening`). From then on its pairs on this path
-  -- are nominated, each side has rounds for its path, and the network delivers on both (`part`). A `handle_timeout` call of the
-  -- controlled side that serves no early request follows, after which only one of its pairs uses the path's addresses.
+  -- Next the controlling side has rounds for its path, and the network delivers on it, or it selected a path already (`opening`). From
+  -- then on its pairs on `its` are nominated, each side has rounds for its path, and the network delivers on both (`part`). A
+  -- `handle_timeout` call of the controlled side that serves no early request follows, after which only one of its pairs uses the path's
+  -- addresses.
   pub record IsSession (mac : H → List ℕ → List ℕ → List ℕ) (answers : P → CandidateRecord → ℕ → ℕ → Type 0) (first : WorldRecord H P) (log : List (LoggedEvent P))
       (all meeting opening part rest : List (Occurrence H P)) (timeout : Occurrence H P) (side : Side) (path its : Path) : Type 0 where
     pub greater : Side
@@ -70,7 +78,7 @@ module _ {H P : Type 0} where
     pub split : all ≡ meeting ++ (opening ++ ((part ++ timeout ∷ []) ++ rest))
     pub agree : AgreeOnRoles mac answers first meeting
     pub controlled : (at side (state_after first meeting)).controlling ≡ false
-    pub opens : Opens mac answers (other side) its (reversed path) opening
+    pub starts : StartsToSelect mac answers (other side) its (reversed path) meeting opening
     pub nominated : (x : Occurrence H P) → Has part x → AreNominatedOn (at (other side) x.following) its
     pub leads : Goes mac answers (other side) its (reversed path) part timeout.before
     pub follows : Goes mac answers side path (reversed its) part timeout.before
@@ -78,14 +86,20 @@ module _ {H P : Type 0} where
     pub only_pair : IsOnlyPair (at side timeout.following) path
 
   module _ (mac : H → List ℕ → List ℕ → List ℕ) (answers : P → CandidateRecord → ℕ → ℕ → Type 0) where
-    -- In such a session the controlling side selects a path while it opens. By the end the other side selected a path, too, and last the
-    -- best one. An exception is that an added candidate, or another call, may have removed the pair of a path.
+    -- By the end of the opening the side selects a path. If it has rounds in the opening, it does so in it, unless a candidate that it
+    -- adds in them may remove a pair of its path.
+    abbrev pub SelectsByOpening : (side : Side) (path over : Path) (meeting opening : List (Occurrence H P)) → StartsToSelect mac answers side path over meeting opening → Type 0
+    SelectsByOpening side path over meeting opening (InRounds opens) = SelectsIn side opening ⊎ MayEndInRounds answers side path (opens.first ∷ opens.later)
+    SelectsByOpening side path over meeting opening (Already selected) = SelectsIn side (meeting ++ opening)
+
+    -- In such a session the controlling side selects a path by the end of the opening. By the end the other side selected a path, too,
+    -- and last the best one. An exception is that an added candidate, or another call, may have removed the pair of a path.
     abbrev pub BothSelect : WorldRecord H P → Streams → List (LoggedEvent P) → Type 0
     BothSelect first s log =
         (last : WorldRecord H P) (t : Streams) (run : WorldRun mac answers first s 0 log last t) (meeting opening part rest : List (Occurrence H P))
         (timeout : Occurrence H P) (side : Side) (path its : Path)
         → (is : IsSession mac answers first log (occurrences_in mac answers first s 0 log last t run) meeting opening part rest timeout side path its)
-        → (SelectsIn (other side) opening ⊎ MayEndInRounds answers (other side) its (is.opens.first ∷ is.opens.later))
+        → SelectsByOpening (other side) its (reversed path) meeting opening is.starts
         × (SelectsTop mac answers side (meeting ++ (opening ++ (part ++ timeout ∷ []))) timeout
         ⊎ (MayEndIn answers side path (part ++ timeout ∷ [])
         ⊎ MayEndInRounds answers (other side) its (is.leads.rounds.first ∷ is.leads.rounds.later)))

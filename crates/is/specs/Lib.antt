@@ -20,6 +20,7 @@ pub mod AcceptedNominations
 pub mod Floods
 pub mod Renominations
 pub mod Punctual
+pub mod PunctualSelections
 pub mod WorldTheorems
 pub use Rattle.is_proto.specs.Times
 pub use Rattle.is_proto.specs.Packets

@@ -11,6 +11,7 @@ use Rattle.is.specs.AcceptedNominations.{AcceptedNominationsSelect}
 use Rattle.is.specs.Connections.{BothConnect}
 use Rattle.is.specs.Connects.{BothSelect}
 use Rattle.is.specs.Punctual.{ChecksComeInTime}
+use Rattle.is.specs.PunctualSelections.{SelectionsComeInTime}
 use Rattle.is.specs.Meetings.{RolesMeet}
 use Rattle.is.specs.Mirrors.{LonePathsMirror}
 use Rattle.is.specs.Renominations.{LeadingPathIsSelected, OnePathIsSelected}
@@ -51,6 +52,9 @@ module _ {H P : Type 0} (mac : H → List ℕ → List ℕ → List ℕ) (answer
 
   abbrev pub InTimeTheorem : Type 0
   InTimeTheorem = (first : WorldRecord H P) (s : Streams) (log : List (LoggedEvent P)) → ChecksComeInTime mac answers first s log
+
+  abbrev pub SelectionsInTimeTheorem : Type 0
+  SelectionsInTimeTheorem = (first : WorldRecord H P) (s : Streams) (log : List (LoggedEvent P)) → SelectionsComeInTime mac answers first s log
 
   abbrev pub MeetingsTheorem : Type 0
   MeetingsTheorem = (first : WorldRecord H P) (s : Streams) (log : List (LoggedEvent P)) → RolesMeet mac answers first s log

@@ -10,6 +10,7 @@ ghost use Rattle.is.specs.Connections.{BothConnect};
 ghost use Rattle.is.specs.AcceptedNominations.{AcceptedNominationsSelect};
 ghost use Rattle.is.specs.Connects.{BothSelect};
 ghost use Rattle.is.specs.Punctual.{ChecksComeInTime};
+ghost use Rattle.is.specs.PunctualSelections.{SelectionsComeInTime};
 ghost use Rattle.is.specs.Meetings.{RolesMeet};
 ghost use Rattle.is.specs.Mirrors.{LonePathsMirror};
 ghost use Rattle.is.specs.Renominations.{LeadingPathIsSelected, OnePathIsSelected};
@@ -20,7 +21,7 @@ use crate::world_theorems::{
     accepted_nominations_select, both_connect, both_select, checks_come_in_time,
     delivered_rounds_select, greater_keeps, leading_path_is_selected, lesser_switches_once,
     lone_paths_mirror, one_path_is_selected, roles_differ_once_met, roles_meet,
-    selected_are_traced,
+    selected_are_traced, selections_come_in_time,
 };
 use is_agent::{Agent, IceCreds};
 use is_candidate::LocalPreference;
@@ -171,11 +172,17 @@ impl<H: Sha1HmacProvider + Drop, P: LocalPreference> TwoAgents<H, P> {
         // first round begins, for a pacing interval of at most `pace`, unless the path is answered earlier.
         ensures in_time { ChecksComeInTime H.mac P.answers (world_of self.old) (sources (R.stream rng_a.old) (S.stream rng_b.old)) (logged events.items result.entries.items) }
 
+        // In nanoseconds: no pair of the controlling agent is valid, and it has rounds that suffice as in `rounds`, k after the first, in
+        // which it makes only polls, with a punctual caller as in `in_time`. If each check on the path of the pair is answered in a round
+        // that begins at most `trip` later, it selects a path in a round that begins at most k times `pace + delay`, and `trip`, after
+        // the first.
+        ensures selects_in_time { SelectionsComeInTime H.mac P.answers (world_of self.old) (sources (R.stream rng_a.old) (S.stream rng_b.old)) (logged events.items result.entries.items) }
+
         // Together, for two new agents with different tie-breakers, in whatever roles they begin: one check of either is delivered,
         // and its 487 if it gets one. If then the network delivers on one path of each, in both directions and while checks are
-        // pending, the controlling agent selects a path once a check is answered, as in `rounds`. If its pairs on this path are
-        // nominated from then on, the controlled agent selects one by its next `handle_timeout` call after its rounds, as in
-        // `connect`.
+        // pending, the controlling agent selects a path once a check is answered, as in `rounds`, if it selected none before. If its
+        // pairs on this path are nominated from then on, the controlled agent selects one by its next `handle_timeout` call after its
+        // rounds, as in `connect`.
         ensures both { BothSelect H.mac P.answers (world_of self.old) (sources (R.stream rng_a.old) (S.stream rng_b.old)) (logged events.items result.entries.items) }
 
         // And on the same path: while neither is lite, all pairs of one are on a path, and all pairs of the other on the reverse
@@ -214,6 +221,7 @@ impl<H: Sha1HmacProvider + Drop, P: LocalPreference> TwoAgents<H, P> {
         accepted_nominations_select::<H, P>();
         both_connect::<H, P>();
         checks_come_in_time::<H, P>();
+        selections_come_in_time::<H, P>();
         both_select::<H, P>();
         lone_paths_mirror::<H, P>();
         one_path_is_selected::<H, P>();

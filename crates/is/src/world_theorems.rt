@@ -1,6 +1,6 @@
 //! The theorems of each execution of the two-agent network model. Each is the contract of a function that does nothing.
 
-ghost use Rattle.is.specs.WorldTheorems.{KeepsTheorem, SwitchesOnceTheorem, DiffersTheorem, TracedTheorem, DeliveriesTheorem, AcceptedNominationsTheorem, ConnectionsTheorem, ConnectsTheorem, InTimeTheorem, MeetingsTheorem, MirrorsTheorem, RenominationsTheorem, NumbersTheorem};
+ghost use Rattle.is.specs.WorldTheorems.{KeepsTheorem, SwitchesOnceTheorem, DiffersTheorem, TracedTheorem, DeliveriesTheorem, AcceptedNominationsTheorem, ConnectionsTheorem, ConnectsTheorem, InTimeTheorem, SelectionsInTimeTheorem, MeetingsTheorem, MirrorsTheorem, RenominationsTheorem, NumbersTheorem};
 
 use is_candidate::LocalPreference;
 use is_proto::Sha1HmacProvider;
@@ -13,7 +13,7 @@ use is_theorems::renominating::{
 };
 use is_theorems::roles::conflicts_settle;
 use is_theorems::selecting::{accepted_nominations_are_selected, successes_select};
-use is_theorems::timing::courses_reach_in_time;
+use is_theorems::timing::{courses_reach_in_time, courses_select_in_time};
 use is_theorems::transitions::{fresh_is_sound, path_effect, role_effect};
 
 /// Of two agents over any network, the one with the greater tie-breaker keeps its role.
@@ -99,6 +99,19 @@ pub(crate) fn checks_come_in_time<H: Sha1HmacProvider, P: LocalPreference>()
     ensures { InTimeTheorem H.mac P.answers }
 {
     courses_reach_in_time::<H, P>();
+}
+
+/// If the caller of a controlling agent without a valid pair is punctual, and k rounds after the first suffice for a pair whose check is
+/// answered within a round trip, the agent selects a path in a round that begins at most k times one pacing interval and the caller's
+/// delay, and the round trip, after the first.
+pub(crate) fn selections_come_in_time<H: Sha1HmacProvider, P: LocalPreference>()
+    ensures { SelectionsInTimeTheorem H.mac P.answers }
+{
+    path_effect::<H, P>();
+    fresh_is_sound::<H, P>();
+    exchanges_succeed_later::<H, P>();
+    successes_select::<H, P>();
+    courses_select_in_time::<H, P>();
 }
 
 /// In whatever roles two new agents begin, if the network delivers on one path of each: the controlling one selects a path once its

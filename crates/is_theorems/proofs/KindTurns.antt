@@ -1,4 +1,5 @@
 -- Kinds of pairs take turns.
 pub mod OrderOfKinds
 pub mod ChecksByKind
+pub mod CountedTurns
 pub mod RoundsByKind

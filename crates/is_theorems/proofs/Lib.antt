@@ -12,6 +12,7 @@ mod EarlierChecks
 mod RemainingChecks
 mod PollingRounds
 mod KindTurns
+mod UrgentPairs
 mod RenominatedPaths
 mod PunctualTimeouts
 mod ConnectedConsent

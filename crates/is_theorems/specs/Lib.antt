@@ -19,6 +19,7 @@ pub mod Asked
 pub mod AtOnce
 pub mod Reached
 pub mod KindsInTurn
+pub mod UrgentFirst
 pub mod BoundedRounds
 pub mod ReachedCourses
 pub mod Pending

@@ -20,9 +20,9 @@ module _ {H P : Type 0} where
   abbrev pub IsLive : Option Path → AgentRecord H P → Type 0
   IsLive path a = (p : PairRecord) × Has a.pairs p × (is_nominated_and_valid p ≡ true) × (path ≡ Some (path_of a p))
 
-  -- Once the session has begun, the agent is Connected or Completed if and only if this path can be used.
+  -- The agent is Connected or Completed if and only if this path can be used.
   abbrev pub IsAgreed : Option Path → AgentRecord H P → Type 0
-  IsAgreed path a = (a.state ≡ New) ⊎ ((is_connected a.state ≡ true) ↔ IsLive path a)
+  IsAgreed path a = (is_connected a.state ≡ true) ↔ IsLive path a
 
   module _ (mac : H → List ℕ → List ℕ → List ℕ) (answers : P → CandidateRecord → ℕ → ℕ → Type 0) where
     -- The rule is set before each of the calls, from the first one of the session on, and that of selection at once. Without this one a

@@ -14,6 +14,7 @@ ghost use Rattle.is_theorems.specs.FirstTimeouts.{OpenCoursesReach, PairsAreReac
 ghost use Rattle.is_theorems.specs.KindsInTurn.{KindsAreReachedInTurn};
 ghost use Rattle.is_theorems.specs.Reached.{PairsAreReached};
 ghost use Rattle.is_theorems.specs.ReachedCourses.{CoursesReach, CoursesCheck};
+ghost use Rattle.is_theorems.specs.UrgentFirst.{UrgentPairsAreReached};
 
 use crate::selecting::successes_select;
 use is_candidate::LocalPreference;
@@ -84,10 +85,19 @@ pub fn courses_check_from_due<H: Sha1HmacProvider, P: LocalPreference>()
     successes_select::<H, P>();
 }
 
-/// From a newly created agent: kinds of pairs take turns in some rounds, since no path is selected in them, and pairs have k kinds. Then
-/// in 2 * k * m rounds a check is sent on the path of a pair that is due, or m of the rounds check another pair that goes before all kinds, or
-/// one of the pair's kind that goes before it. This holds whatever the agent receives and adds in the rounds, as long as the
+/// From a newly created agent: kinds of pairs take turns in some rounds, and pairs have k kinds. Then in 2 * k * m rounds a check is sent
+/// on the path of a pair that is due, or m of the rounds check another pair that goes before all kinds, or one of the pair's kind that goes
+/// before it, or a path is selected in them. This holds whatever the agent receives and adds in the rounds, as long as the
 /// pair keeps its kind; the exceptions are a success response on the path, and a candidate that may remove a pair of the path.
 pub fn reached_in_turn<H: Sha1HmacProvider, P: LocalPreference>()
     ensures { KindsAreReachedInTurn H.mac P.answers }
+{}
+
+/// From a newly created agent with the rule `triggered_checks`: a pair that is due is urgent in some rounds, since a request was served on it
+/// and it is not valid yet. Then in 2 * m rounds a check is sent on its path, or m of the rounds check the selected pair or urgent pairs whose
+/// turn comes before, however many pairs there are. So one that comes first is checked in two rounds. This holds in either role, whatever
+/// the agent receives and adds in the rounds, as long as no `handle_timeout` selects a path; the exceptions are a success response on
+/// the path, and a candidate that may remove a pair of the path.
+pub fn urgent_are_reached<H: Sha1HmacProvider, P: LocalPreference>()
+    ensures { UrgentPairsAreReached H.mac P.answers }
 {}

@@ -79,7 +79,7 @@ module _ {H P : Type 0} (mac : H → List ℕ → List ℕ → List ℕ) (answer
     ]
   sets side w (world.Stray s now via bytes) e y by has is = absurd has
 
-  timed : (side : Side) (pace delay : ℕ) (r : SideRound H P) (later : List (SideRound H P)) → IsTimed side pace delay r later
+  pub timed : (side : Side) (pace delay : ℕ) (r : SideRound H P) (later : List (SideRound H P)) → IsTimed side pace delay r later
       → law.IsTimed pace delay (at side r.timeout.before) (round_of mac answers side r) (rounds_of mac answers side later)
   timed side pace delay r later k = record {
     begins = search k.begins;

@@ -16,10 +16,10 @@ use Rattle.is_theorems.specs.FirstChecks.{CoursesCheckFromDue}
 use Rattle.is_theorems.specs.FirstTimeouts.{CoursesReachFromDue, CoursesReachUnanswered}
 use Rattle.is.specs.declared.world_events.Side.{Side}
 use Rattle.is.specs.Connections.{Asks, RoundIsAnswered}
-use Rattle.is.specs.Connects.{ChecksAreDelivered, BothSelect}
+use Rattle.is.specs.Connects.{ChecksAreDelivered, StartsToSelect, InRounds, Already, SelectsByOpening, BothSelect}
 use Rattle.is.specs.AcceptedNominationsIn.{Occurrence, HandedCheck, IsControlled, IsPlainTimeout, IsAskedOver, occurrences_in}
-use Rattle.is.specs.AcceptedNominations.{MayEndIn, SelectsIn, SelectsTop}
-use Rattle.is.specs.Selections.{SideRound, all_of, IsControlling, IsControllingSegment, IsAnsweredInTime, RoundChecks, MayEndInRounds}
+use Rattle.is.specs.AcceptedNominations.{MayEndIn, SelectsTop}
+use Rattle.is.specs.Selections.{SideRound, IsControlling, IsControllingSegment, IsAnsweredInTime, RoundChecks, MayEndInRounds}
 use Rattle.is.specs.World.{WorldRecord, LoggedEvent, at, other, Streams}
 use Rattle.is.proofs.SelectedPaths.BothSelectInRounds.{both_connect}
 use Rattle.is.proofs.ExternalViews.ViewsOfExecutions.{Has-front, Has-rear}
@@ -55,7 +55,7 @@ module _ {H P : Type 0} (mac : H → List ℕ → List ℕ → List ℕ) (answer
   pub both_select : PathTheorem {H = H} {P = P} mac answers → RoleTheorem {H = H} {P = P} mac answers → FreshIsSound H P → CarriedSettle {H = H} {P = P} mac answers
       → CarriedAsk {H = H} {P = P} mac answers → CarriedSucceedLater {H = H} {P = P} mac answers → AcceptedNominationsAreSelected {H = H} {P = P} mac answers → CoursesCheckFromDue {H = H} {P = P} mac answers
       → CoursesReachFromDue {H = H} {P = P} mac answers → CoursesReachUnanswered {H = H} {P = P} mac answers → SuccessesSelect {H = H} {P = P} mac answers → (first : WorldRecord H P) (s : Streams) (log : List (LoggedEvent P)) → BothSelect mac answers first s log
-  both_select paths roles new_sound resolves asks succeeds announce checks reach unanswered selects first s log last t run meeting opening part rest timeout side path its is = (opened, connected) where
+  both_select paths roles new_sound resolves asks succeeds announce checks reach unanswered selects first s log last t run meeting opening part rest timeout side path its is = (opened is.starts, connected) where
     following : List (Occurrence H P)
     following = opening ++ ((part ++ timeout ∷ []) ++ rest)
 
@@ -76,40 +76,34 @@ module _ {H P : Type 0} (mac : H → List ℕ → List ℕ → List ℕ) (answer
     all : List (Occurrence H P)
     all = occurrences_in mac answers first s 0 log last t run
 
-    split_opening : all ≡ meeting ++ ((all_of (is.opens.first ∷ is.opens.later) ++ is.opens.more) ++ ((part ++ timeout ∷ []) ++ rest))
-    split_opening = is.split ∙ ap (λ xs. meeting ++ (xs ++ ((part ++ timeout ∷ []) ++ rest))) is.opens.split
-
     split_part : all ≡ (meeting ++ opening) ++ ((part ++ timeout ∷ []) ++ rest)
     split_part = is.split ∙ sym (append_assoc meeting opening ((part ++ timeout ∷ []) ++ rest))
 
     plain : IsPlainTimeout side timeout
     plain = record { now = is.plain.now; event = is.plain.event; done = is.plain.done; serves_none = search is.plain.serves_none }
 
-    start : WorldRecord H P
-    start = is.opens.first.timeout.before
-
-    begins : IsControllingSegment first all meeting is.opens.more ((part ++ timeout ∷ []) ++ rest) (other side) is.opens.first is.opens.later is.opens.pair is.opens.by
-    begins = record {
-      new = is.fair.new;
-      split = split_opening;
-      role = (role is.opens.first.timeout (in_opening is.opens.first.timeout (subst (λ xs. Has xs is.opens.first.timeout) (sym is.opens.split) (inl refl)))).0.1;
-      controlling = subst (λ xs. IsControlling (other side) xs) is.opens.split steers;
-      waits = is.opens.waits;
-      unanswered = is.opens.unanswered;
-      kept = is.opens.kept;
-      enough = is.opens.enough;
-    }
-
-    opened : SelectsIn (other side) opening ⊎ MayEndInRounds answers (other side) its (is.opens.first ∷ is.opens.later)
-    opened =
-        elim (rounds_select mac answers paths new_sound succeeds checks unanswered selects first s log last t run meeting is.opens.more ((part ++ timeout ∷ []) ++ rest) (other side)
-        is.opens.first is.opens.later is.opens.pair is.opens.by begins
-        (λ r has sent. subst (λ xs. IsAnsweredInTime mac answers (other side) (path_of (at (other side) start) is.opens.pair) xs) is.opens.split
-        (subst (λ via. IsAnsweredInTime mac answers (other side) via opening) (sym is.opens.on)
-        (in_time (other side) its (reversed path) (is.opens.first ∷ is.opens.later) opening is.opens.delivers r has (subst (λ via. RoundChecks via r) is.opens.on sent))))) [
-          | inl (x, has, said) ↦ inl (x, subst (λ xs. Has xs x) (sym is.opens.split) has, said)
-          | inr ended ↦ inr (subst (λ via. MayEndInRounds answers (other side) via (is.opens.first ∷ is.opens.later)) is.opens.on ended)
-        ]
+    opened : (o : StartsToSelect mac answers (other side) its (reversed path) meeting opening) → SelectsByOpening mac answers (other side) its (reversed path) meeting opening o
+    opened (Already selected) = search selected
+    opened (InRounds opens) =
+        elim (rounds_select mac answers paths new_sound succeeds checks unanswered selects first s log last t run meeting opens.more ((part ++ timeout ∷ []) ++ rest) (other side)
+        opens.first opens.later opens.pair opens.by begins
+        (λ r has sent. subst (λ xs. IsAnsweredInTime mac answers (other side) (path_of (at (other side) opens.first.timeout.before) opens.pair) xs) opens.split
+        (subst (λ via. IsAnsweredInTime mac answers (other side) via opening) (sym opens.on)
+        (in_time (other side) its (reversed path) (opens.first ∷ opens.later) opening opens.delivers r has (subst (λ via. RoundChecks via r) opens.on sent))))) [
+          | inl (x, has, said) ↦ inl (x, subst (λ xs. Has xs x) (sym opens.split) has, search said)
+          | inr ended ↦ inr (subst (λ via. MayEndInRounds answers (other side) via (opens.first ∷ opens.later)) opens.on ended)
+        ] where
+          begins : IsControllingSegment first all meeting opens.more ((part ++ timeout ∷ []) ++ rest) (other side) opens.first opens.later opens.pair opens.by
+          begins = record {
+            new = is.fair.new;
+            split = is.split ∙ ap (λ xs. meeting ++ (xs ++ ((part ++ timeout ∷ []) ++ rest))) opens.split;
+            role = (role opens.first.timeout (in_opening opens.first.timeout (subst (λ xs. Has xs opens.first.timeout) (sym opens.split) (inl refl)))).0.1;
+            controlling = subst (λ xs. IsControlling (other side) xs) opens.split steers;
+            waits = search opens.waits;
+            unanswered = search opens.unanswered;
+            kept = search opens.kept;
+            enough = opens.enough;
+          }
 
     whole : List (Occurrence H P)
     whole = meeting ++ (opening ++ (part ++ timeout ∷ []))

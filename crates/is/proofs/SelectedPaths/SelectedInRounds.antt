@@ -25,7 +25,7 @@ use Rattle.is_rules.specs.Steps.{Entry, Done, quiet}
 use Rattle.is_theorems.specs.FirstChecks.{SufficeForDue, CoursesCheckFromDue, times_of}
 use Rattle.is.specs.declared.world_events.Side.{Side}
 use Rattle.is.specs.Connections.{Succeeds}
-use Rattle.is.specs.Deliveries.{SelectsPath}
+use Rattle.is.specs.Deliveries.{Hands, SelectsPath}
 use Rattle.is.specs.AcceptedNominationsIn.{Occurrence, HandedCheck, IsReturned, IsReturnedInTime, MayEndAt}
 use Rattle.is.specs.Selections.{SideRound, all_of, times_in, state_after, IsKept, AreKept, SideRoundsSuffice, AreEachPolled, IsControlling, IsAnsweredInTime, DeliveredRoundsSelect}
 use Rattle.is.specs.World as world
@@ -45,10 +45,10 @@ module _ {H P : Type 0} (mac : H → List ℕ → List ℕ → List ℕ) (answer
     -- ---- roles
 
     -- the side is controlling, and the other side is controlled
-    abbrev Leads : WorldRecord H P → Type 0
+    abbrev pub Leads : WorldRecord H P → Type 0
     Leads w = ((at side w).controlling ≡ true) × ((at (other side) w).controlling ≡ false)
 
-    leads_at : (all : List (Occurrence H P)) (x : Occurrence H P) → IsControlling side all → Has all x → Leads x.following
+    pub leads_at : (all : List (Occurrence H P)) (x : Occurrence H P) → IsControlling side all → Has all x → Leads x.following
     leads_at all x roles has = search (roles x has)
 
     -- a role after each entry, and so at the end
@@ -59,7 +59,7 @@ module _ {H P : Type 0} (mac : H → List ℕ → List ℕ → List ℕ) (answer
 
     -- ---- rounds of a controlling side
 
-    steered : (xs : List (Occurrence H P)) (w last : WorldRecord H P) → Follow mac answers w xs last → ((x : Occurrence H P) → Has xs x → (at side x.following).controlling ≡ true)
+    pub steered : (xs : List (Occurrence H P)) (w last : WorldRecord H P) → Follow mac answers w xs last → ((x : Occurrence H P) → Has xs x → (at side x.following).controlling ≡ true)
         → Steered mac answers (own mac answers side xs) (at side w) (at side last)
     steered [] w last is roles = (ap (λ (v : WorldRecord H P). at side v) is, tt)
     steered (x ∷ rest) w last (from, s, t, happens, more) roles =
@@ -67,7 +67,7 @@ module _ {H P : Type 0} (mac : H → List ℕ → List ℕ → List ℕ) (answer
         (steered_on mac answers (acts_at mac answers side x) (own mac answers side rest) (at side x.before) (at side x.following) (at side last)
         (acts_steered mac answers x.before x.following s t side x.entry happens (roles x (inl refl))) (steered rest x.following last more (λ y has. roles y (inr has))))
 
-    courses : (rounds : List (SideRound H P)) (w last : WorldRecord H P) → Follow mac answers w (all_of rounds) last → ((r : SideRound H P) → Has rounds r → Moves mac answers side r)
+    pub courses : (rounds : List (SideRound H P)) (w last : WorldRecord H P) → Follow mac answers w (all_of rounds) last → ((r : SideRound H P) → Has rounds r → Moves mac answers side r)
         → ((x : Occurrence H P) → Has (all_of rounds) x → (at side x.following).controlling ≡ true) → CourseRounds mac answers (rounds_of mac answers side rounds) (at side w) (at side last)
     courses [] w last is comes roles = ap (λ (v : WorldRecord H P). at side v) is
     courses (r ∷ later) w last (from, s, t, happens, more) comes roles =
@@ -148,8 +148,11 @@ module _ {H P : Type 0} (mac : H → List ℕ → List ℕ → List ℕ) (answer
             selected sp.0 sp.1 x z.in_flight.packet z.via z.now m.s m.t sp.2 m.led (succeeded x m.s m.t path z m.happens)
             (z.accepts.2, (refl, refl, z.accepts.3.2, z.accepts.3.3), z.accepts.4)
 
-        answered : (path : Path) → IsAnsweredInTime mac answers side path part → (x : Occurrence H P) × Has part x × SelectsPath side x.entry
-        answered path (over, k, returns) =
+        -- the success response to a check that is answered in the segment
+        pub returned : (path : Path) → IsAnsweredInTime mac answers side path part
+            → (ahead rest : List (Occurrence H P)) × (again : Occurrence H P) × (reply : Packet) × (via : Path) × (part ≡ ahead ++ again ∷ rest)
+            × (h : Hands side via reply again.before again.entry) × IsTaken mac answers (rewritten via reply) h.now again.entry.outcome.entry Success
+        returned path (over, k, returns) =
             let c = checked mac answers paths side path over part start last k sound follow in
             let handing = k.comes.handed in
             let one = meet mac answers k.before k.following k.sent start last (subst (λ xs. Follow mac answers start xs last) k.split follow) in
@@ -171,7 +174,8 @@ module _ {H P : Type 0} (mac : H → List ℕ → List ℕ → List ℕ) (answer
                   → (z : Awaited mac answers side path (k.comes.between ++ k.comes.handed ∷ r.comes.between) over part last k reply r)
                   → (IsTaken mac answers (rewritten r.via reply) r.comes.hands.now r.comes.handed.entry.outcome.entry Success × IsValidBy mac answers (at side r.comes.handed.following) r.via)
                   ⊎ EndsAlong mac answers (own mac answers side (k.comes.between ++ k.comes.handed ∷ r.comes.between)) (at side k.sent.following) (at side r.comes.handed.before) z.course.0 (via_out k.check)
-                  → (x : Occurrence H P) × Has part x × SelectsPath side x.entry
+                  → (ahead rest : List (Occurrence H P)) × (again : Occurrence H P) × (reply : Packet) × (via : Path) × (part ≡ ahead ++ again ∷ rest)
+                  × (h : Hands side via reply again.before again.entry) × IsTaken mac answers (rewritten via reply) h.now again.entry.outcome.entry Success
               by k reply r stays z (inr ends) =
                   let f = removed mac answers side path (k.comes.between ++ k.comes.handed ∷ r.comes.between) over part last k reply r z ends in absurd (stays f.0 f.1 f.2)
               by k reply r stays z (inl (taken, valid)) =
@@ -180,9 +184,13 @@ module _ {H P : Type 0} (mac : H → List ℕ → List ℕ → List ℕ) (answer
                   let split : part ≡ (k.before ++ k.sent ∷ between) ++ again ∷ r.comes.rest =
                   k.split ∙ (ap (λ xs. k.before ++ k.sent ∷ xs) (k.comes.split ∙ (ap (λ xs. k.comes.between ++ k.comes.handed ∷ xs) r.comes.split
                   ∙ sym (append_assoc k.comes.between (k.comes.handed ∷ r.comes.between) (again ∷ r.comes.rest)))) ∙ sym (append_assoc k.before (k.sent ∷ between) (again ∷ r.comes.rest))) in
-                  let m = meet mac answers (k.before ++ k.sent ∷ between) r.comes.rest again start last (subst (λ xs. Follow mac answers start xs last) split follow) in
-                  selected (k.before ++ k.sent ∷ between) r.comes.rest again reply r.via r.comes.hands.now m.s m.t split m.led
-                  (handed mac answers side r.via reply again.before again.following m.s m.t again.entry r.comes.hands m.happens) taken
+                  (k.before ++ k.sent ∷ between, r.comes.rest, again, reply, r.via, split, r.comes.hands, taken)
+
+        answered : (path : Path) → IsAnsweredInTime mac answers side path part → (x : Occurrence H P) × Has part x × SelectsPath side x.entry
+        answered path given =
+            let z = returned path given in
+            let m = meet mac answers z.0 z.1 z.2 start last (subst (λ xs. Follow mac answers start xs last) z.5 follow) in
+            selected z.0 z.1 z.2 z.3 z.4 z.6.now m.s m.t z.5 m.led (handed mac answers side z.4 z.3 z.2.before z.2.following m.s m.t z.2.entry z.6 m.happens) z.7
 
     -- ---- a check is sent in one of the rounds, or a path is selected
 

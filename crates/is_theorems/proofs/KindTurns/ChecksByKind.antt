@@ -90,7 +90,7 @@ precedence_by v = record { selected = if v.rules.selected_first then v.selected_
 abbrev pub kind_by : TurnView → PairRecord → ℕ
 kind_by v p = kind_of v.local v.remote p
 
-abbrev path_by : TurnView → PairRecord → Path
+abbrev pub path_by : TurnView → PairRecord → Path
 path_by v p = record {
   proto = (candidate_at v.local p.local).proto;
   source = base_of (candidate_at v.local p.local);

@@ -1,6 +1,6 @@
 -- Rounds in which kinds take turns: a pair that is due is checked in one of them, or they check as many pairs that go before it as they give
 -- turns to its kind.
-use Rattle.std.proofs.Common.{◌≡◌, ℕ, suc, ◌+◌, ◌-◌, ◌*◌, ◌<◌, ◌≤◌, zero, Bool, true, false, not, nat_le, List, [], ◌∷◌, ◌++◌, length, nat_lt, Some, None, inl, inr, ◌⊎◌, refl, ap, sym, ◌∙◌, subst, arith}
+use Rattle.std.proofs.Common.{◌≡◌, ℕ, suc, ◌+◌, ◌-◌, ◌*◌, ◌<◌, ◌≤◌, zero, ◌&&◌, Bool, true, false, not, List, [], ◌∷◌, ◌++◌, length, nat_lt, Option, Some, None, is_some, inl, inr, ◌⊎◌, refl, ap, sym, ◌∙◌, subst, arith}
 use Rattle.std.proofs.lemmas.Bool.Decides.{nat_tests}
 use Rattle.rand_core.specs.Stream.{Stream}
 use Rattle.is_proto.specs.Lists.{Has}
@@ -11,18 +11,18 @@ use Rattle.is_pair.specs.Due.{GoesBefore}
 use Rattle.is_pair.specs.Pairs.{PairRecord}
 use Rattle.is_stun.specs.declared.header.Class.TheVariants as class
 use Rattle.is_rules.specs.Agent.{AgentRecord}
-use Rattle.is_rules.specs.Checking.{all_asked, goes_ahead, precedence}
+use Rattle.is_rules.specs.Connecting.{is_connected}
+use Rattle.is_rules.specs.Checking.{all_asked, are_kinds_in_turn, goes_ahead, precedence}
 use Rattle.is_rules.specs.declared.emitted.Path.{Path}
 use Rattle.is_rules.specs.Emitted.{issued_as}
 use Rattle.is_rules.specs.Kinds.{goes_first, turn_of, KINDS}
 use Rattle.is_rules.specs.Nominating.{nominates_at_once}
-use Rattle.is_rules.specs.Owed.{one_if}
 use Rattle.is_rules.specs.Sending.{path_of}
 use Rattle.is_rules.specs.Sound.{IsSound, GivesBased}
 use Rattle.is_rules.specs.Steps.{Call, Entry, HandleTimeout, Step}
 use Rattle.is_rules.specs.Timeouts.{timeout_begun, MaintainsPairs}
 use Rattle.is_theorems.specs.Asked.{IsAnsweredIn}
-use Rattle.is_theorems.specs.KindsInTurn.{kind_in, IsDelayed, IsDelayedIn, KindsAreReachedInTurn, TakesTurns, TakeTurnsIn}
+use Rattle.is_theorems.specs.KindsInTurn.{kind_in, HasPathIn, IsDelayed, IsDelayedIn, KindsAreReachedInTurn, TakesTurns, TakeTurnsIn}
 use Rattle.is_theorems.specs.Logs.{Logged}
 use Rattle.is_theorems.specs.Progress.{ChecksOn}
 use Rattle.is_theorems.specs.Reached.{ChecksIn, IsEndedIn, IsPassing}
@@ -37,6 +37,7 @@ use Rattle.is_theorems.proofs.EarlierChecks.ChecksOfOtherPairs.{leads}
 use Rattle.is_theorems.proofs.ExecutionLogs.LogSegments.{passed as passed-at, run-on}
 use Rattle.is_theorems.proofs.ExecutionLogs.LogTheorems.{runs_sound}
 use Rattle.is_theorems.proofs.ExecutionLogs.SegmentsAsExecutions.{split-ended, split-run}
+use Rattle.is_theorems.proofs.KindTurns.CountedTurns.{enough-delays, progress-delay, progress-first, progress-none, progress-other, Progress}
 use Rattle.is_theorems.proofs.KindTurns.ChecksByKind.{kind-in-range, timeout-takes, Turns}
 use Rattle.is_theorems.proofs.KindTurns.OrderOfKinds.{fewer-before, kinds_before, others-before}
 use Rattle.is_theorems.proofs.PollingRounds.CountedSelections.{paid, paid-join}
@@ -45,89 +46,57 @@ use Rattle.is_theorems.proofs.PollingRounds.DuePairsInLogs.{answered-later, has-
 lt-is : (n m : ℕ) → n < m → nat_lt n m ≡ true
 lt-is n m h = grind (arith, nat_tests, h)
 
--- ---- how many rounds
-
--- After so many rounds a of them gave a turn to a kind, and c of these delayed the pair. Of k kinds, w have their turn before its kind.
-pub record Progress (rounds k w : ℕ) (turn : Bool) (a c : ℕ) : Type 0 where
-  pub halves : rounds ≤ 2 * a + one_if turn
-  pub turns : a + w + 1 ≤ k * c + k
-
-progress-none : (k w : ℕ) (turn : Bool) → w + 1 ≤ k → Progress 0 k w turn 0 0
-progress-none k w turn most = record {
-  halves = by turn;
-  turns = omega (arith, most);
-} where
-  by : (b : Bool) → 0 ≤ 2 * 0 + one_if b
-  by true = omega arith
-  by false = omega arith
-
--- a round whose check is of the pair that is due first
-progress-first : (rounds k w v a c : ℕ) (turn next : Bool) → Progress rounds k w turn a c → turn ≡ false → next ≡ true → v ≡ w → Progress (suc rounds) k v next a c
-progress-first rounds k w v a c turn next p off on same = record {
-  halves = (let h = subst (λ b. rounds ≤ 2 * a + one_if b) off p.halves in subst (λ b. suc rounds ≤ 2 * a + one_if b) (sym on) (omega (arith, h)));
-  turns = (let t = p.turns in omega (arith, t, same));
-}
-
-halved : (rounds a : ℕ) (turn next : Bool) → rounds ≤ 2 * a + one_if turn → turn ≡ true → next ≡ false → suc rounds ≤ 2 * suc a + one_if next
-halved rounds a turn next halves on off =
-    let h = subst (λ b. rounds ≤ 2 * a + one_if b) on halves in subst (λ b. suc rounds ≤ 2 * suc a + one_if b) (sym off) (omega (arith, h))
-
--- one whose check is in the turn of another kind
-progress-other : (rounds k w v a c : ℕ) (turn next : Bool) → Progress rounds k w turn a c → turn ≡ true → next ≡ false → v + 1 ≤ w → Progress (suc rounds) k v next (suc a) c
-progress-other rounds k w v a c turn next p on off fewer = record {
-  halves = halved rounds a turn next p.halves on off;
-  turns = (let t = p.turns in omega (arith, t, fewer));
-}
-
-next-delay : (k c : ℕ) → k * suc c ≡ k * c + k
-next-delay k c = omega arith
-
--- one that delays the pair
-progress-delay : (rounds k w v a c : ℕ) (turn next : Bool) → Progress rounds k w turn a c → turn ≡ true → next ≡ false → v + 1 ≤ k → Progress (suc rounds) k v next (suc a) (suc c)
-progress-delay rounds k w v a c turn next p on off most = record {
-  halves = halved rounds a turn next p.halves on off;
-  turns = subst (λ y. suc a + v + 1 ≤ y + k) (sym (next-delay k c)) (sums (k * c) p.turns most);
-} where
-  sums : (x : ℕ) → a + w + 1 ≤ x + k → v + 1 ≤ k → suc a + v + 1 ≤ (x + k) + k
-  sums x t most = omega (arith, t, most)
-
-times-le : (k a b : ℕ) → a ≤ b → k * a ≤ k * b
-times-le k zero b le = omega arith
-times-le k (suc a) zero le = absurd (none le) where
-  none : suc a ≤ 0 → ⊥
-  none h = omega (arith, h)
-times-le k (suc a) (suc b) le = let i : k * a ≤ k * b = times-le k a b (omega (arith, le)) in omega (arith, i)
-
-le-from : (n m : ℕ) → nat_le n m ≡ true → n ≤ m
-le-from n m h = grind (arith, nat_tests, h)
-
-le-fails : (n m : ℕ) → nat_le n m ≡ false → m < n
-le-fails n m h = grind (arith, nat_tests, h)
-
-one-at-most : (b : Bool) → one_if b ≤ 1
-one-at-most true = omega arith
-one-at-most false = omega arith
-
--- in 2 * k * m rounds m delay it
-enough-delays : (rounds k w a c m : ℕ) (turn : Bool) → Progress rounds k w turn a c → 2 * (k * m) ≤ rounds → m ≤ c
-enough-delays rounds k w a c m turn p enough = by (nat_le m c) refl where
-  none : (x y : ℕ) → x + k ≤ y → 2 * y ≤ rounds → rounds ≤ 2 * a + one_if turn → one_if turn ≤ 1 → a + w + 1 ≤ x + k → ⊥
-  none x y more enough halves one turns = omega (arith, more, enough, halves, one, turns)
-
-  by : (b : Bool) → nat_le m c ≡ b → m ≤ c
-  by true is = le-from m c is
-  by false is =
-      let over = le-fails m c is in
-      absurd (none (k * c) (k * m) (subst (λ z. z ≤ k * m) (next-delay k c) (times-le k (suc c) m (omega (arith, over)))) enough p.halves (one-at-most turn) p.turns)
-
 -- ---- segments
+
+-- a `handle_timeout` call at which kinds take turns, since no path is selected by its end
+record InTurn {H P : Type 0} (kinds : List ℕ) (kind number : ℕ) (old new : AgentRecord H P) : Type 0 where
+  turns : are_kinds_in_turn new ≡ true
+  unselected : new.selected_pair ≡ None
+  listed : (q : PairRecord) → Has old.pairs q → Has kinds (kind_in old q)
+  keeps : (q : PairRecord) → Has old.pairs q → q.number ≡ number → kind_in old q ≡ kind
+
+both-hold : (a b : Bool) → a ≡ true → b ≡ false → (a && not b) ≡ true
+both-hold true true on off = absurd (cc)
+both-hold true false on off = refl
+both-hold false b on off = absurd (cc)
+
+-- unless the agent has a path, they do
+in-turn : {H P : Type 0} (kinds : List ℕ) (kind number : ℕ) (old new : AgentRecord H P) → is_connected new.state ≡ false → new.selected_pair ≡ None → TakesTurns kinds kind number old new → InTurn kinds kind number old new
+in-turn kinds kind number old new off none t = record {
+  turns = both-hold new.rules.kinds_in_turn (is_connected new.state) (search (t.rule)) off;
+  unselected = none;
+  listed = λ q has. search (t.listed q has);
+  keeps = λ q has is. search (t.keeps q has is);
+}
 
 module _ {H P : Type 0} (mac : H → List ℕ → List ℕ → List ℕ) (answers : P → CandidateRecord → ℕ → ℕ → Type 0) where
   module _ (kinds : List ℕ) (kind n : ℕ) where
+    -- at each `handle_timeout` call of a segment they take turns
+    abbrev InTurnIn : (before : List (Logged P)) (start : AgentRecord H P) (s : Stream) (part : List (Logged P)) (last : AgentRecord H P) (t : Stream)
+        → RunsOn mac answers before start s part last t → Type 0
+    InTurnIn before start s [] last t run = Unit {0}
+    InTurnIn before start s (x ∷ part) last t run =
+        ((now : ℕ) → x.call ≡ HandleTimeout now → InTurn kinds kind n run.0 last) × InTurnIn before start s part run.0 run.1 run.2
+
+    has-path-or : (before : List (Logged P)) (start last : AgentRecord H P) (s t : Stream) (part : List (Logged P)) (run : RunsOn mac answers before start s part last t)
+        → TakeTurnsIn mac answers kinds kind n before start s part last t run
+        → HasPathIn mac answers before start s part last t run ⊎ InTurnIn before start s part last t run
+    has-path-or before start last s t [] run turns = inr tt
+    has-path-or before start last s t (x ∷ part) (mid, v, run, number, given, step) (here, older) =
+        elim (has-path-or before start mid s v part run older) [
+          | inl path ↦ inl (inr path)
+          | inr all ↦ by-state (is_connected last.state) last.selected_pair refl refl all
+        ] where
+          by-state : (b : Bool) (o : Option ℕ) → is_connected last.state ≡ b → last.selected_pair ≡ o → InTurnIn before start s part mid v run
+              → HasPathIn mac answers before start s (x ∷ part) last t (mid, v, run, number, given, step) ⊎ InTurnIn before start s (x ∷ part) last t (mid, v, run, number, given, step)
+          by-state true o on selected all = inl (inl (inr (search (on))))
+          by-state false (Some k) off selected all = (let some : is_some last.selected_pair ≡ true = ap is_some selected in inl (inl (inl (search (some)))))
+          by-state false None off none all = inr ((λ now called. in-turn kinds kind n mid last off none (here now called)), all)
+
     -- the older part of a segment
     split-turns : (before : List (Logged P)) (start last : AgentRecord H P) (u t : Stream) (xs older : List (Logged P)) (run : RunsOn mac answers before start u (xs ++ older) last t)
-        → TakeTurnsIn mac answers kinds kind n before start u (xs ++ older) last t run
-        → TakeTurnsIn mac answers kinds kind n before start u older (split-run mac answers before start last u t xs older run).0 (split-run mac answers before start last u t xs older run).1
+        → InTurnIn before start u (xs ++ older) last t run
+        → InTurnIn before start u older (split-run mac answers before start last u t xs older run).0 (split-run mac answers before start last u t xs older run).1
         (split-run mac answers before start last u t xs older run).2
     split-turns before start last u t [] older run turns = turns
     split-turns before start last u t (x ∷ xs) older (m, v, run, number, given, step) turns = split-turns before start m u v xs older run turns.1
@@ -182,18 +151,18 @@ module _ {H P : Type 0} (mac : H → List ℕ → List ℕ → List ℕ) (answer
       Sent e = (id : List ℕ) × (e.emitted.issued ≡ Some (issued_as path class.Request id))
 
       turns-at : (now k spent : ℕ) (e : Entry) (old new : AgentRecord H P) (s t : Stream) → IsSound old → keeps now ≡ true
-          → (st : PersistsAt now k spent old) → TakesTurns kinds kind n old new → (h : MaintainsPairs mac now (timeout_begun now old) s e.emitted new t)
+          → (st : PersistsAt now k spent old) → InTurn kinds kind n old new → (h : MaintainsPairs mac now (timeout_begun now old) s e.emitted new t)
           → (nominates_at_once (all_asked now h.4) ≡ false) × (ChecksOn old e.emitted st.pair ⊎ Turns now (timeout_begun now old) e.emitted.issued new st.pair)
       turns-at now k spent e old new s t sound lasting st takes h =
-          timeout-takes mac now (timeout_begun now old) new s t e.emitted st.checking.peer st.checking.full (distinct-sound mac old sound) (search (takes.turns)) (search (takes.unselected)) st.pair st.there
+          timeout-takes mac now (timeout_begun now old) new s t e.emitted st.checking.peer st.checking.full (distinct-sound mac old sound) takes.turns takes.unselected st.pair st.there
           (let due = st.ready.0 in let late = st.late in omega (arith, due, late))
           (stays-young old.lite now old.timing st.pair st.checking.full (st.lasts now lasting) st.young) h
 
       timeout-turns : (now k spent : ℕ) (e : Entry) (old new : AgentRecord H P) (s t : Stream) → IsSound old → keeps now ≡ true
-          → (st : PersistsAt now k spent old) → TakesTurns kinds kind n old new → MaintainsPairs mac now (timeout_begun now old) s e.emitted new t → Sent e ⊎ Goes-on now e old new
+          → (st : PersistsAt now k spent old) → InTurn kinds kind n old new → MaintainsPairs mac now (timeout_begun now old) s e.emitted new t → Sent e ⊎ Goes-on now e old new
       timeout-turns now k spent e old new s t sound lasting st takes p =
           let distinct = distinct-sound mac old sound in
-          let kind_is : kind_in old st.pair ≡ kind = search (takes.keeps st.pair st.there st.number) in
+          let kind_is : kind_in old st.pair ≡ kind = takes.keeps st.pair st.there st.number in
           let h = turns-at now k spent e old new s t sound lasting st takes p in
           elim h.1 [
             | inl (id, out) ↦ inl (id, out ∙ ap (λ w. Some (issued_as w class.Request id)) st.on)
@@ -220,7 +189,7 @@ module _ {H P : Type 0} (mac : H → List ℕ → List ℕ → List ℕ) (answer
               })
               taken (o, there, apart, sent, next, inr (inr led)) =
                   inr (subst (λ i. kinds_before i kind kinds + 1 ≤ kinds_before old.next_kind kind kinds) (sym next)
-                  (fewer-before old.next_kind kind (kind_in old o) kinds (subst (λ i. i < KINDS) kind_is (kind-in-range old st.pair)) (kind-in-range old o) (search (takes.listed o there))
+                  (fewer-before old.next_kind kind (kind_in old o) kinds (subst (λ i. i < KINDS) kind_is (kind-in-range old st.pair)) (kind-in-range old o) (takes.listed o there)
                   (subst (λ i. turn_of old.next_kind (kind_in old o) < turn_of old.next_kind i) kind_is led)))
 
       -- ---- rounds
@@ -304,7 +273,7 @@ module _ {H P : Type 0} (mac : H → List ℕ → List ℕ → List ℕ) (answer
         one-round : (r : LoggedRound P) (older : List (LoggedRound P)) (old mid last : AgentRecord H P) (z v t : Stream) (run_older : RunsOn mac answers before start u (entries_of older) old z)
             → (number : r.timeout.number ≡ length (entries_of older ++ before)) (given : GivesBased r.timeout.call) (step : Step mac answers old z r.timeout.call r.timeout.entry mid v)
             → (back : RunsOn mac answers ((r.timeout ∷ entries_of older) ++ before) mid v r.following last t)
-            → began_at (r ∷ older) ≡ Some at → IsPassing by r → keeps r.now ≡ true → TakesTurns kinds kind n old mid → After older old z run_older
+            → began_at (r ∷ older) ≡ Some at → IsPassing by r → keeps r.now ≡ true → InTurn kinds kind n old mid → After older old z run_older
             → Reached (r ∷ older)
             ⊎ (IsEndedIn mac answers ((r.timeout ∷ entries_of older) ++ before) mid v r.following last t back path
             ⊎ (WaitsAt r.now (length (r ∷ older)) (spent_in (r ∷ older)) last
@@ -317,8 +286,8 @@ module _ {H P : Type 0} (mac : H → List ℕ → List ℕ → List ℕ) (answer
             let st = persists-at r older old z run_older began passing done in
             let maintained : MaintainsPairs mac r.now (timeout_begun r.now old) z r.timeout.entry.emitted mid v =
             maintains_pairs-from mac r.now old z v r.timeout.entry.emitted mid st.queue (passed-at mac answers old mid z v r.now r.timeout.entry passing.done called) in
-            let kind_is : kind_in old st.pair ≡ kind = search (takes.keeps st.pair st.there st.number) in
-            let of_pair : Has kinds (kind_in old st.pair) = search (takes.listed st.pair st.there) in
+            let kind_is : kind_in old st.pair ≡ kind = takes.keeps st.pair st.there st.number in
+            let of_pair : Has kinds (kind_in old st.pair) = takes.listed st.pair st.there in
             let listed : Has kinds kind = subst (λ i. Has kinds i) kind_is of_pair in
             elim (timeout-turns r.now (length older) (spent_in older) r.timeout.entry old mid z v sound lasting st takes maintained) [
               | inl (id, out) ↦ inl (inl (r, id, inl refl, out))
@@ -345,7 +314,7 @@ module _ {H P : Type 0} (mac : H → List ℕ → List ℕ → List ℕ) (answer
 
         rounds-turn : (rounds : List (LoggedRound P)) (last : AgentRecord H P) (t : Stream) → (rounds ≡ [] ⊎ began_at rounds ≡ Some at) → ((r : LoggedRound P) → Has rounds r → IsPassing by r)
             → ((r : LoggedRound P) → Has rounds r → keeps r.now ≡ true) → (run : RunsOn mac answers before start u (entries_of rounds) last t)
-            → TakeTurnsIn mac answers kinds kind n before start u (entries_of rounds) last t run
+            → InTurnIn before start u (entries_of rounds) last t run
             → Reached rounds ⊎ (IsEndedIn mac answers before start u (entries_of rounds) last t run path ⊎ After rounds last t run)
         rounds-turn [] last t began are lasting run turns = inr (inr tt)
         rounds-turn (r ∷ older) last t began are lasting run turns =
@@ -366,7 +335,7 @@ module _ {H P : Type 0} (mac : H → List ℕ → List ℕ → List ℕ) (answer
               on-halves : began_at (r ∷ older) ≡ Some at → (mid : AgentRecord H P) (v : Stream) (old : AgentRecord H P) (z : Stream) (run_older : RunsOn mac answers before start u (entries_of older) old z)
                   → (number : r.timeout.number ≡ length (entries_of older ++ before)) (given : GivesBased r.timeout.call) (step : Step mac answers old z r.timeout.call r.timeout.entry mid v)
                   → (back : RunsOn mac answers ((r.timeout ∷ entries_of older) ++ before) mid v r.following last t)
-                  → ((now : ℕ) → r.timeout.call ≡ HandleTimeout now → TakesTurns kinds kind n old mid)
+                  → ((now : ℕ) → r.timeout.call ≡ HandleTimeout now → InTurn kinds kind n old mid)
                   → Reached older ⊎ (IsEndedIn mac answers before start u (entries_of older) old z run_older path ⊎ After older old z run_older)
                   → (IsEndedIn mac answers ((r.timeout ∷ entries_of older) ++ before) mid v r.following last t back path
                   ⊎ IsEndedIn mac answers before start u (r.timeout ∷ entries_of older) mid v (old, z, run_older, number, given, step) path
@@ -384,10 +353,13 @@ module _ {H P : Type 0} (mac : H → List ℕ → List ℕ → List ℕ) (answer
                   ]
 
   pub kinds-are-reached-in-turn : KindsAreReachedInTurn mac answers
-  kinds-are-reached-in-turn first s log fresh before start last rounds p by m kinds found w turns enough =
-      by-rounds rounds last found.following found.run w.began (omega (arith, enough))
-      (rounds-turn kinds (kind_in start p) p.number by (path_of start p) (answered_at start p) (goes_ahead start.rules) total start.next_number first s fresh before start found.at found.led w.at begin rounds last found.following
-      (inr w.began) w.passing (λ r has. lasts-at mac answers first s log fresh before start last (entries_of rounds) p found w.line.there r.now (search (w.lasting r has))) found.run turns) where
+  kinds-are-reached-in-turn first s log fresh before start last rounds p by m kinds found w takes enough =
+      elim (has-path-or kinds (kind_in start p) p.number before start last found.at found.following (entries_of rounds) found.run takes) [
+        | inl path ↦ inr (inr (inr (inl path)))
+        | inr turns ↦ by-rounds rounds last found.following found.run w.began (omega (arith, enough))
+            (rounds-turn kinds (kind_in start p) p.number by (path_of start p) (answered_at start p) (goes_ahead start.rules) total start.next_number first s fresh before start found.at found.led w.at begin rounds last found.following
+            (inr w.began) w.passing (λ r has. lasts-at mac answers first s log fresh before start last (entries_of rounds) p found w.line.there r.now (search (w.lasting r has))) found.run turns)
+      ] where
         total : ℕ
         total = calls_left (goes_ahead start.rules) start.ahead_turn (leads p.number by start.pairs) + times (goes_ahead start.rules) 0
 
@@ -418,14 +390,15 @@ module _ {H P : Type 0} (mac : H → List ℕ → List ℕ → List ℕ) (answer
             → ChecksIn rs (path_of start p)
             ⊎ (IsAnsweredIn (entries_of rs) (path_of start p)
             ⊎ (IsEndedIn mac answers before start found.at (entries_of rs) a t run (path_of start p)
-            ⊎ IsDelayedIn mac answers (kind_in start p) p.number m before start found.at (entries_of rs) a t run))
+            ⊎ (HasPathIn mac answers before start found.at (entries_of rs) a t run
+            ⊎ IsDelayedIn mac answers (kind_in start p) p.number m before start found.at (entries_of rs) a t run)))
         by-rounds rs a t run none enough (inl (inl checks)) = inl checks
         by-rounds rs a t run none enough (inl (inr answered)) = inr (inl answered)
         by-rounds rs a t run none enough (inr (inl ended)) = inr (inr (inl ended))
         by-rounds [] a t run none enough (inr (inr done)) = absurd (let no : None ≡ Some w.at = none in cc)
         by-rounds (r ∷ older) a t run none enough (inr (inr (waits, (turns, c, went, delayed)))) =
             let most : m ≤ c = enough-delays (length (r ∷ older)) (length kinds) (kinds_before a.next_kind (kind_in start p) kinds) turns c m a.ahead_turn went (omega (arith, enough)) in
-            inr (inr (inr (fewer-delays kinds (kind_in start p) p.number (c - m) m before start a found.at t (entries_of (r ∷ older)) run
-            (subst (λ i. IsDelayedIn mac answers (kind_in start p) p.number i before start found.at (entries_of (r ∷ older)) a t run) (rest most) delayed)))) where
+            inr (inr (inr (inr (fewer-delays kinds (kind_in start p) p.number (c - m) m before start a found.at t (entries_of (r ∷ older)) run
+            (subst (λ i. IsDelayedIn mac answers (kind_in start p) p.number i before start found.at (entries_of (r ∷ older)) a t run) (rest most) delayed))))) where
               rest : m ≤ c → c ≡ c - m + m
               rest le = omega (arith, le)

@@ -28,6 +28,9 @@ returns-clause-connect g c = c.both_connect.ensures _ _ _
 pub returns-clause-in_time : goal.returns-clause-in_time
 returns-clause-in_time g c = c.checks_come_in_time.ensures _ _ _
 
+pub returns-clause-selects_in_time : goal.returns-clause-selects_in_time
+returns-clause-selects_in_time g c = c.selections_come_in_time.ensures _ _ _
+
 pub returns-clause-mirror : goal.returns-clause-mirror
 returns-clause-mirror g c = c.lone_paths_mirror.ensures _ _ _
 

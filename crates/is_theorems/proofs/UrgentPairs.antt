@@ -1,0 +1,3 @@
+-- Urgent pairs are checked first.
+pub mod ChecksOfUrgentPairs
+pub mod RoundsOfUrgentPairs
