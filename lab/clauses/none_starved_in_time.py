@@ -47,19 +47,22 @@ def is_steady(call: str) -> bool:
 
 def greatest_limit(x: Execution, side: str) -> int | None:
     """Returns the greatest limit on what packets bring, whenever a packet or a timeout comes (`IsLimited`). None: there is none once."""
-    calls = x.indices(("serves", side), lambda s: s.entry.side == side and s.entry.call in SERVES)
-    limits = {x.state(at, side).max_discovered for at in calls}
-    return None if None in limits else max((limit for limit in limits if limit is not None), default=0)
+    def greatest() -> list[int]:
+        calls = x.indices(("serves", side), lambda s: s.entry.side == side and s.entry.call in SERVES)
+        limits = {x.state(at, side).max_discovered for at in calls}
+        return [] if None in limits else [max((limit for limit in limits if limit is not None), default=0)]
+
+    return next(iter(x.kept(("greatest_limit", side), greatest)), None)
 
 
 def pair_bound(x: Execution, side: str, first: int) -> int | None:
     """Returns as many pairs as the caller allows in rounds that begin with an entry (`bound_in`)."""
     most = greatest_limit(x, side)
     forms = x.indices(("forms", side), lambda s: s.entry.side == side and s.entry.call in FORMS)
+    limits = x.kept(("pair_limits", side), lambda: [max((x.state(at, side).max_pairs for at in forms), default=0)])
     local, remote = (x.indices(("adds", side, call), lambda s: s.entry.side == side and s.entry.call == call) for call in ADDS)
-    limit = max((x.state(at, side).max_pairs for at in forms), default=0)
     gathered, signaled = (sum(at < first for at in added) for added in (local, remote))
-    return None if most is None else limit + gathered * (most + signaled)
+    return None if most is None else limits[0] + gathered * (most + signaled)
 
 
 def least_rounds(rules: Rules, retransmits: int, checks: int) -> int | None:
@@ -123,33 +126,55 @@ def lacking(x: Execution, c: Choice) -> Lacks:
 
 # ---- the search
 
-def segments(x: Execution, side: str, place: int, is_early: bool) -> Iterator[tuple[int, int]]:
-    """Proposes a segment from the side's `handle_timeout` call at this place on: how many rounds after the first are enough, and its end.
-    It is the shortest in which so many come, or one begins after the time of the bound; if there is none, it has all rounds."""
+def may_be_long(x: Execution, side: str, place: int, most: int, least: int) -> bool:
+    """Whether among so many rounds from the side's `handle_timeout` call at this place on there may be enough, or one that begins after the
+    time of the bound, if at least so many after the first are enough."""
+    row, at = x.timeouts[side], x.timeouts[side][place]
+    return least < most or x.now(at) + least * x.state(at, side).advance < x.now(row[place + most - 1])
+
+
+def segment(x: Execution, side: str, place: int, is_early: bool) -> tuple[int, int] | None:
+    """Returns how many rounds after the first are enough, from the side's `handle_timeout` call at this place on, and the end of the
+    shortest segment in which so many come, or one begins after the time of the bound. None: there is no such segment."""
     row, bound = x.timeouts[side], pair_bound(x, side, x.timeouts[side][place])
     start, most = x.state(row[place], side), most_rounds(x, side, place, is_steady)
-    late, begin, many = 0, x.now(row[place]), None
-    for later in range(most if bound is not None else 0):
+    least = None if bound is None else least_later(start, is_early, bound, 0)
+    if bound is None or least is None or not may_be_long(x, side, place, max(most, 1), least):
+        return None
+    late, begin = 0, x.now(row[place])
+    for later in range(most):
         at = row[place + later]
-        many = None if bound is None else least_later(start, is_early, bound, selections_of(x, side, range(row[place], at + 1)))
+        many = least_later(start, is_early, bound, selections_of(x, side, range(row[place], at + 1)))
         if later:
             before = row[place + later - 1]
             deadline = latest_deadline(x, side, Round(x.now(before), before, range(before + 1, at)))
             late = max(late, x.now(at) - deadline) if deadline is not None else late
         if many is not None and (many <= later or begin + many * (start.advance + late) < x.now(at)):
-            yield many, at + 1
-            return
-    yield many or 0, row[place + max(most, 1) - 1] + 1
+            return many, at + 1
+    return None
 
 
 def choices(x: Execution) -> Iterator[Choice]:
-    """Proposes each `handle_timeout` call with the path of each pair that is due by then."""
+    """Proposes each `handle_timeout` call with the path of each pair that is due by then, if enough rounds follow; and the first such call
+    of each side with one round, which shows what lacks."""
     for side in SIDES:
         rows = Rows(x, side)
         for place, first in enumerate(rows.timeouts):
             for is_early in (True, False) if rows.lines(place) else ():
-                yield from (Choice(side, path, first, end, many) for many, end in segments(x, side, place, is_early)
-                            for path in rows.lines(place))
+                if (found := segment(x, side, place, is_early)) is not None:
+                    yield from (Choice(side, path, first, found[1], found[0]) for path in rows.lines(place))
+    for side in SIDES:
+        rows = Rows(x, side)
+        for place, first in enumerate(rows.timeouts):
+            if rows.lines(place):
+                yield Choice(side, next(iter(rows.lines(place))), first, first + 1, least_at(x, side, first))
+                break
+
+
+def least_at(x: Execution, side: str, first: int) -> int:
+    """Returns the least number of rounds that are enough after the side's `handle_timeout` call at this entry, by which a pair is due."""
+    bound = pair_bound(x, side, first)
+    return 0 if bound is None else least_later(x.state(first, side), False, bound, 0) or 0
 
 
 def verdict_of(x: Execution, c: Choice) -> Verdict:

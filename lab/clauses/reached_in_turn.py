@@ -20,8 +20,8 @@ from .single import is_passing
 from .staying import may_end_in_rounds
 from .verdict import Verdict, first_of_all
 
-# The greatest number of rounds that delay the pair, for which choices are proposed.
-MOST_DELAYS = 4
+# The greatest number of rounds that delay the pair, and of `handle_timeout` calls of a side, for which choices are proposed.
+MOST_DELAYS, MOST_CALLS = 4, 24
 _KINDS: WeakKeyDictionary[Execution, dict[tuple[str, int], frozenset[int]]] = WeakKeyDictionary()
 
 
@@ -135,10 +135,10 @@ def spans(x: Execution, side: str, place: int) -> Iterator[tuple[int, int]]:
 
 
 def choices(x: Execution) -> Iterator[Choice]:
-    """Proposes each pair that is due before a `handle_timeout` call, at which the side has no path, with such rounds."""
+    """Proposes each pair that is due before one of a side's first `handle_timeout` calls, at which it has no path, with such rounds."""
     for side in SIDES:
         row = x.timeouts[side]
-        for place, first in enumerate(row):
+        for place, first in enumerate(row[:MOST_CALLS]):
             agent, now = x.state(first, side), x.now(first)
             if has_path(agent):
                 continue

@@ -1,6 +1,6 @@
 """`World::run`, clause `selects_in_time` (`SelectionsComeInTime`): a pair of the controlling side is due by the first of k + 1 rounds,
-which suffice for it. Its caller is punctual, and the network answers a check on the pair's path within a round trip. Then the side selects a
-path in a round that begins at most k times the pacing interval and the caller's delay, and a round trip, after the first one."""
+which suffice for it. Its caller is punctual, and the network answers a check on the pair's path within a round trip. Then the side selects
+a path in a round that begins at most k times the pacing interval and the caller's delay, and a round trip, after the first one."""
 
 from __future__ import annotations
 

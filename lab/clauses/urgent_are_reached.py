@@ -1,5 +1,5 @@
-"""The theorem `urgent_are_reached` (`RoundsReachUrgent`): by the rule `triggered_checks` a pair is urgent in 2 * m rounds. Then it is checked
-in one of them, or m of them check the selected pair, or urgent pairs whose turn comes before."""
+"""The theorem `urgent_are_reached` (`RoundsReachUrgent`): by the rule `triggered_checks` a pair is urgent in 2 * m rounds. Then it is
+checked in one of them, or m of them check the selected pair, or urgent pairs whose turn comes before."""
 
 from __future__ import annotations
 
@@ -16,6 +16,7 @@ from .single import is_passing
 from .staying import may_end_in_rounds
 from .verdict import Verdict, first_of_all
 
+
 # ---- the preconditions
 
 def puts_urgent_first(x: Execution, side: str, number: int, r: Round) -> Lacks:
@@ -31,7 +32,8 @@ def lacking(x: Execution, c: Choice) -> Lacks:
     own, now = pair_of(agent, c.pair), x.now(c.first)
     by, path = min(own.due_at(now, agent.timing), now), agent.path(own)
     passing: Lacks = next((missing for r in rounds if (missing := is_passing(x, c.side, by, r))), [])
-    urgent: Lacks = next((missing for r in rounds if (missing := puts_urgent_first(x, c.side, c.pair, r))), [])
+    unanswered = [r for place, r in enumerate(rounds) if not succeeds_in(x, c.side, path, rounds[:place])]
+    urgent: Lacks = next((missing for r in unanswered if (missing := puts_urgent_first(x, c.side, c.pair, r))), [])
     is_reached = reached_at(x, c) is not None
     return lacks(IsFresh=is_new_agent(x.state(0, c.side)), line=is_in_line(now, by, agent, own), IsPassing=passing,
                  lasting=all(is_lasting(r.now, agent, own) for r in rounds), PutsUrgentFirst=urgent, enough=2 * c.delays <= len(rounds),
@@ -67,7 +69,7 @@ def reached_at(x: Execution, c: Choice) -> int | None:
 # ---- the search
 
 def choices(x: Execution) -> Iterator[Choice]:
-    """Proposes each urgent pair that is due at a `handle_timeout` call, with the fewest rounds for each number of them that check others."""
+    """Proposes each urgent pair that is due at a `handle_timeout`, with the fewest rounds for each number of them that check others."""
     for side in SIDES:
         row = x.timeouts[side]
         for place, first in enumerate(row):

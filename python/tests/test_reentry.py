@@ -45,6 +45,9 @@ class Library:
         due._obj.value = self._next()
         return self._ends()
 
+    def is_ice_poll_timeout_soon(self, agent: Any, due: Any) -> int:
+        return self.is_ice_poll_timeout(agent, due)
+
     def is_ice_poll_transmit(self, agent: Any, buffer: Any, size: Any, packet: Any) -> int:
         number = self._next()
         packet._obj.source.family = packet._obj.destination.family = 4
@@ -104,8 +107,9 @@ class Reentry(unittest.TestCase):
 
     def test_polls_before_the_result_is_read(self) -> None:
         self.assertEqual(self.nested(self.calls.poll_timeout), [1, 2])
-        self.assertEqual([event.kind for event in self.nested(self.calls.poll_event)], [3, 4])
-        self.assertEqual([(p.source.port, p.contents) for p in self.nested(self.calls.poll_transmit)], [(5, b"\5" * 5), (6, b"\6" * 6)])
+        self.assertEqual(self.nested(self.calls.poll_timeout_soon), [3, 4])
+        self.assertEqual([event.kind for event in self.nested(self.calls.poll_event)], [5, 6])
+        self.assertEqual([(p.source.port, p.contents) for p in self.nested(self.calls.poll_transmit)], [(7, b"\7" * 7), (8, b"\x08" * 8)])
 
 
 class SignalHandlers(unittest.TestCase):

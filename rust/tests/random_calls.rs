@@ -336,7 +336,7 @@ impl Session {
 
     fn poll(&mut self, side: usize) {
         let agent = &mut self.agents[side];
-        black_box(agent.poll_timeout());
+        black_box((agent.poll_timeout(), agent.poll_timeout_soon(), agent.early_requests()));
         while let Some(sent) = agent.poll_transmit() {
             assert!(sent.contents.len() <= 596 && StunMessage::parse_any(&sent.contents).is_ok());
             self.wire.push((1 - side, sent.proto, sent.source, sent.destination, sent.contents));

@@ -10,6 +10,7 @@ use Rattle.is_pair.specs.Pairs.{PairRecord}
 use Rattle.is_rules.specs.Agent.{AgentRecord}
 use Rattle.is_rules.specs.Checking.{precedence}
 use Rattle.is_rules.specs.declared.emitted.Emitted.{Emitted}
+use Rattle.is_rules.specs.declared.emitted.Path.{Path}
 use Rattle.is_rules.specs.Kinds.{TurnsBefore}
 use Rattle.is_rules.specs.Sending.{path_of}
 use Rattle.is_rules.specs.Steps.{Entry, HandleTimeout}
@@ -40,14 +41,14 @@ module _ {H P : Type 0} where
         → TurnsBefore old.local old.remote (precedence old) old.next_kind now old.timing other q))
 
   module _ (mac : H → List ℕ → List ℕ → List ℕ) (answers : P → CandidateRecord → ℕ → ℕ → Type 0) where
-    -- Each `handle_timeout` call of a segment puts urgent pairs first.
-    abbrev pub PutUrgentFirstIn : (number : ℕ) (before : List (Logged P)) (start : AgentRecord H P) (s : Stream) (part : List (Logged P))
-        (last : AgentRecord H P) (t : Stream)
+    -- Each `handle_timeout` call of a segment puts urgent pairs first, until a success response is received on the path.
+    abbrev pub PutUrgentFirstIn : (number : ℕ) (path : Path) (before : List (Logged P)) (start : AgentRecord H P) (s : Stream)
+        (part : List (Logged P)) (last : AgentRecord H P) (t : Stream)
         → RunsOn mac answers before start s part last t → Type 0
-    PutUrgentFirstIn number before start s [] last t run = Unit {0}
-    PutUrgentFirstIn number before start s (x ∷ part) last t run =
-        ((now : ℕ) → x.call ≡ HandleTimeout now → PutsUrgentFirst number run.0 x.entry)
-        × PutUrgentFirstIn number before start s part run.0 run.1 run.2
+    PutUrgentFirstIn number path before start s [] last t run = Unit {0}
+    PutUrgentFirstIn number path before start s (x ∷ part) last t run =
+        ((now : ℕ) → x.call ≡ HandleTimeout now → PutsUrgentFirst number run.0 x.entry ⊎ IsAnsweredIn part path)
+        × PutUrgentFirstIn number path before start s part run.0 run.1 run.2
 
     -- So many `handle_timeout` calls of a segment, or more, check another pair before the one with the number.
     abbrev pub IsOvertakenIn : (number n : ℕ) (before : List (Logged P)) (start : AgentRecord H P) (s : Stream) (part : List (Logged P))
@@ -59,13 +60,13 @@ module _ {H P : Type 0} where
         ⊎ ((now k : ℕ) × (n ≡ suc k) × (x.call ≡ HandleTimeout now) × IsOvertaken number now run.0 x.entry.emitted
         × IsOvertakenIn number k before start s part run.0 run.1 run.2)
 
-    -- The pair is urgent in the rounds. In 2 * m of them a check is sent on the pair's path, or m of them check the selected pair or urgent
-    -- pairs before it. The exceptions are those of `RoundsReach`.
+    -- The pair is urgent in the rounds, until its path is answered. In 2 * m of them a check is sent on the path, or m of them check the
+    -- selected pair or urgent pairs before it. The exceptions are those of `RoundsReach`.
     abbrev pub RoundsReachUrgent : AgentRecord H P → Stream → List (Logged P) → Type 0
     RoundsReachUrgent first s log =
         (before : List (Logged P)) (start last : AgentRecord H P) (rounds : List (LoggedRound P)) (p : PairRecord) (by m : ℕ)
         → (found : Part mac answers first s log before start (entries_of rounds) last) → WaitsInRounds by start rounds p
-        → PutUrgentFirstIn p.number before start found.at (entries_of rounds) last found.following found.run
+        → PutUrgentFirstIn p.number (path_of start p) before start found.at (entries_of rounds) last found.following found.run
         → 2 * m ≤ length rounds
         → ChecksIn rounds (path_of start p)
         ⊎ (IsAnsweredIn (entries_of rounds) (path_of start p)

@@ -42,6 +42,7 @@ use Rattle.is_theorems.proofs.CallEffects.PairsAndSelectedPaths.{Posted}
 use Rattle.is_theorems.proofs.CallEffects.PathEffects.{path_effect}
 use Rattle.is_theorems.proofs.CallEffects.ReceivedAndOwed.{accepts, leaves_unaccepted, rejects, waits_has, waits_short, brought_or_waited, owes, clears_pairs, clears_quiet}
 use Rattle.is_theorems.proofs.PathSelection.NominationPoints.{takes_valid, points_top}
+use Rattle.is_rules.specs.Nominating.{numbers}
 use Rattle.is_rules.specs.Roles.{keeps_role}
 
 module _ {H P : Type 0} (mac : H → List ℕ → List ℕ → List ℕ) (answers : P → CandidateRecord → ℕ → ℕ → Type 0) where

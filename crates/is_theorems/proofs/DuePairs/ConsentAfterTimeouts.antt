@@ -8,7 +8,7 @@ use Rattle.is_proto.specs.Lists.{Has}
 use Rattle.is_proto.specs.Times.{MAX, SECOND, later}
 use Rattle.is_pair.specs.Due.{asked, consent_end, has_consent, heard_until, is_answered_lately, is_heard, is_pair_expired, is_possible}
 use Rattle.is_pair.specs.Multiset.{change_at, is_numbered}
-use Rattle.is_pair.specs.Pairs.{PairRecord, is_recent}
+use Rattle.is_pair.specs.Pairs.{PairRecord, checked, is_recent}
 use Rattle.is_stun.specs.declared.timing.Consent.{Consent}
 use Rattle.is_stun.specs.declared.timing.StunTiming.{StunTiming}
 use Rattle.is_rules.specs.declared.credentials.IceCreds.{IceCreds}

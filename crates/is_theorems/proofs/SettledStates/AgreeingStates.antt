@@ -171,8 +171,7 @@ module _ {H P : Type 0} where
         let named : IsNamed None first = λ p has is. absurd (subst (λ (ps : List PairRecord). Has ps p) none has) in
         let k = along xs first last None sound named (ap (λ (a : AgentRecord H P). a.lite) fresh.2) never course rules (begins first none state) in
         let agrees = k.0 in
-        let named_last = k.1 in
-        (
+        let named_last = k.1 in (
           λ connected. (let on : is_connected last.state ≡ true = search connected in
               let s = agrees.selects (agrees.backed on) in
               let n = named_last s.0 s.1 s.2 in

@@ -72,12 +72,12 @@ enough-rounds rounds c m false p enough = omega (arith, p, enough)
 module _ {H P : Type 0} (mac : H → List ℕ → List ℕ → List ℕ) (answers : P → CandidateRecord → ℕ → ℕ → Type 0) where
   module _ (n : ℕ) where
     -- the older part of a segment
-    split-urgent : (before : List (Logged P)) (start last : AgentRecord H P) (u t : Stream) (xs older : List (Logged P)) (run : RunsOn mac answers before start u (xs ++ older) last t)
-        → PutUrgentFirstIn mac answers n before start u (xs ++ older) last t run
-        → PutUrgentFirstIn mac answers n before start u older (split-run mac answers before start last u t xs older run).0 (split-run mac answers before start last u t xs older run).1
+    split-urgent : (path : Path) (before : List (Logged P)) (start last : AgentRecord H P) (u t : Stream) (xs older : List (Logged P)) (run : RunsOn mac answers before start u (xs ++ older) last t)
+        → PutUrgentFirstIn mac answers n path before start u (xs ++ older) last t run
+        → PutUrgentFirstIn mac answers n path before start u older (split-run mac answers before start last u t xs older run).0 (split-run mac answers before start last u t xs older run).1
         (split-run mac answers before start last u t xs older run).2
-    split-urgent before start last u t [] older run turns = turns
-    split-urgent before start last u t (x ∷ xs) older (m, v, run, number, given, step) turns = split-urgent before start m u v xs older run turns.1
+    split-urgent path before start last u t [] older run turns = turns
+    split-urgent path before start last u t (x ∷ xs) older (m, v, run, number, given, step) turns = split-urgent path before start m u v xs older run turns.1
 
     split-overtaken : (c : ℕ) (before : List (Logged P)) (start last : AgentRecord H P) (u t : Stream) (xs older : List (Logged P)) (run : RunsOn mac answers before start u (xs ++ older) last t)
         → IsOvertakenIn mac answers n c before start u older (split-run mac answers before start last u t xs older run).0 (split-run mac answers before start last u t xs older run).1
@@ -94,7 +94,7 @@ module _ {H P : Type 0} (mac : H → List ℕ → List ℕ → List ℕ) (answer
       no h = omega (arith, h)
     one-less c before start last u t (x ∷ xs) (m, v, run, number, given, step) (inl overtaken) = inl (one-less c before start m u v xs run overtaken)
     one-less c before start last u t (x ∷ xs) (m, v, run, number, given, step) (inr (now, k, is, called, here, overtaken)) =
-        inl (subst (λ i. IsOvertakenIn mac answers n i before start u xs m v run) (same k is) overtaken) where
+        inl (subst (λ i. IsOvertakenIn mac answers n i before start u xs m v run) (same k (omega (arith, is))) overtaken) where
           same : (k : ℕ) → suc c ≡ suc k → k ≡ c
           same k h = omega (arith, h)
 
@@ -252,14 +252,14 @@ module _ {H P : Type 0} (mac : H → List ℕ → List ℕ → List ℕ) (answer
 
         rounds-urgent : (rounds : List (LoggedRound P)) (last : AgentRecord H P) (t : Stream) → (rounds ≡ [] ⊎ began_at rounds ≡ Some at) → ((r : LoggedRound P) → Has rounds r → IsPassing by r)
             → ((r : LoggedRound P) → Has rounds r → keeps r.now ≡ true) → (run : RunsOn mac answers before start u (entries_of rounds) last t)
-            → PutUrgentFirstIn mac answers n before start u (entries_of rounds) last t run
+            → PutUrgentFirstIn mac answers n path before start u (entries_of rounds) last t run
             → Reached rounds ⊎ (IsEndedIn mac answers before start u (entries_of rounds) last t run path ⊎ After rounds last t run)
         rounds-urgent [] last t began are lasting run turns = inr (inr tt)
         rounds-urgent (r ∷ older) last t began are lasting run turns =
             let h = split-run mac answers before start last u t r.following (r.timeout ∷ entries_of older) run in
-            on-halves (here-began began) h.0 h.1 h.2.0 h.2.1 h.2.2 h.2.3 h.2.4 h.2.5 h.3 (split-urgent before start last u t r.following (r.timeout ∷ entries_of older) run turns).0
+            on-halves (here-began began) h.0 h.1 h.2.0 h.2.1 h.2.2 h.2.3 h.2.4 h.2.5 h.3 (split-urgent path before start last u t r.following (r.timeout ∷ entries_of older) run turns).0
             (rounds-urgent older h.2.0 h.2.1 (older-began older (here-began began)) (λ x has. are x (inr has)) (λ x has. lasting x (inr has)) h.2.2
-            (split-urgent before start last u t r.following (r.timeout ∷ entries_of older) run turns).1)
+            (split-urgent path before start last u t r.following (r.timeout ∷ entries_of older) run turns).1)
             (λ ended. split-ended mac answers path before start last u t r.following (r.timeout ∷ entries_of older) run ended)
             (λ c overtaken. split-overtaken c before start last u t r.following (r.timeout ∷ entries_of older) run overtaken) where
               here-began : (r ∷ older ≡ [] ⊎ began_at (r ∷ older) ≡ Some at) → began_at (r ∷ older) ≡ Some at
@@ -273,7 +273,7 @@ module _ {H P : Type 0} (mac : H → List ℕ → List ℕ → List ℕ) (answer
               on-halves : began_at (r ∷ older) ≡ Some at → (mid : AgentRecord H P) (v : Stream) (old : AgentRecord H P) (z : Stream) (run_older : RunsOn mac answers before start u (entries_of older) old z)
                   → (number : r.timeout.number ≡ length (entries_of older ++ before)) (given : GivesBased r.timeout.call) (step : Step mac answers old z r.timeout.call r.timeout.entry mid v)
                   → (back : RunsOn mac answers ((r.timeout ∷ entries_of older) ++ before) mid v r.following last t)
-                  → ((now : ℕ) → r.timeout.call ≡ HandleTimeout now → PutsUrgentFirst n old r.timeout.entry)
+                  → ((now : ℕ) → r.timeout.call ≡ HandleTimeout now → PutsUrgentFirst n old r.timeout.entry ⊎ IsAnsweredIn (entries_of older) path)
                   → Reached older ⊎ (IsEndedIn mac answers before start u (entries_of older) old z run_older path ⊎ After older old z run_older)
                   → (IsEndedIn mac answers ((r.timeout ∷ entries_of older) ++ before) mid v r.following last t back path
                   ⊎ IsEndedIn mac answers before start u (r.timeout ∷ entries_of older) mid v (old, z, run_older, number, given, step) path
@@ -284,10 +284,14 @@ module _ {H P : Type 0} (mac : H → List ℕ → List ℕ → List ℕ) (answer
               on-halves began mid v old z run_older number given step back puts (inl reached) ends overtakes = inl (reached-later r older reached)
               on-halves began mid v old z run_older number given step back puts (inr (inl ended)) ends overtakes = inr (inl (ends (inr (inr ended))))
               on-halves began mid v old z run_older number given step back puts (inr (inr done)) ends overtakes =
-                  elim (one-round r older old mid last z v t run_older number given step back began (are r (inl refl)) (lasting r (inl refl)) (puts r.now (are r (inl refl)).comes) done) [
-                    | inl reached ↦ inl reached
-                    | inr (inl ended) ↦ inr (inl (ends (inl ended)))
-                    | inr (inr (waits, (c, p, overtaken))) ↦ inr (inr (waits, (c, p, overtakes c overtaken)))
+                  elim (puts r.now (are r (inl refl)).comes) [
+                    | inr answered ↦ inl (reached-later r older (inr answered))
+                    | inl first_urgent ↦
+                        elim (one-round r older old mid last z v t run_older number given step back began (are r (inl refl)) (lasting r (inl refl)) first_urgent done) [
+                          | inl reached ↦ inl reached
+                          | inr (inl ended) ↦ inr (inl (ends (inl ended)))
+                          | inr (inr (waits, (c, p, overtaken))) ↦ inr (inr (waits, (c, p, overtakes c overtaken)))
+                        ]
                   ]
 
   pub urgent-pairs-are-reached : UrgentPairsAreReached mac answers
