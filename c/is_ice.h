@@ -339,6 +339,8 @@ typedef struct is_ice_agent_rules {
     size_t early_retransmits;  /* so many early retransmissions without a response, */
     uint64_t early_interval;   /* and the time before each */
     uint64_t consent_timeout;  /* so long after its last answered check a pair is removed */
+    uint64_t suspicion_timeout; /* so long after its last answered check a pair is suspected, */
+    uint64_t suspicion_interval; /* and the time between its checks before that, once one has no response */
     bool kinds_in_turn;        /* until a path is selected, every second check goes to the next kind of pairs */
     bool selects_at_once;      /* a controlled agent selects a valid pair when the request that nominates it arrives */
     bool strict_consent;       /* the other agent's checks do not keep a pair */
@@ -508,14 +510,16 @@ IS_ICE_QUIET_CALL int32_t is_ice_retransmit_delay(
 
 /* is_ice_modern_rules, is_ice_original_rules - return the rules that connect sooner and end consent in time, and those of
  * the Rust crate `is` 0.12.0, of which each is off. The first are: 4 requests trigger checks; 4 early retransmissions,
- * each after 100 ms; consent for 29.6 s, not strict; and each other rule is on. On any thread. IS_ICE_OK. */
+ * each after 100 ms; consent for 29.6 s, not strict; no pair is suspected; and each other rule is on. On any thread.
+ * IS_ICE_OK. */
 IS_ICE_QUIET_CALL int32_t is_ice_modern_rules(is_ice_agent_rules *rules);
 IS_ICE_QUIET_CALL int32_t is_ice_original_rules(is_ice_agent_rules *rules);
 
 /* is_ice_set_rules - sets what the agent does beyond the behavior of the Rust crate `is` 0.12.0. To change one rule,
  * change its field in what is_ice_rules or is_ice_modern_rules returned: a later version of this header may have further
  * fields. The other agent may have other rules. The struct is copied. is_ice_rules returns what was set, except for
- * early_interval without early retransmissions, and strict_consent without consent_timeout: these are 0 and false.
+ * early_interval without early retransmissions, strict_consent without consent_timeout, and suspicion_interval without
+ * suspicion_timeout: these are 0, false and 0.
  * IS_ICE_OK. Value: is_ice_modern_rules.
  *
  * kinds_in_turn: until a path is selected, every second check goes to the next kind of pairs, and the others to the pair
@@ -541,6 +545,14 @@ IS_ICE_QUIET_CALL int32_t is_ice_original_rules(is_ice_agent_rules *rules);
  * are (RFC 7675, section 5.1). Unless strict_consent is true, the other agent's checks keep the pair too, each for 15 s.
  * is_ice_poll_timeout returns a time no later than this end, except for pacing. What removes a pair without this rule
  * still does. A browser gives a path up after 30 s, and does not nominate it again. 0: no such rule.
+ *
+ * suspicion_timeout: a pair is suspected so long after its last check that got a response was sent, as of the last
+ * is_ice_handle_timeout call. While another pair may be selected that is not suspected, a suspected one is not. So a path
+ * that died is left long before its consent ends, and selected again once it answers. A controlled agent with
+ * is_ice_set_renomination selects what the other agent nominates all the same. From the first check of a valid pair without a
+ * response until the pair is suspected, its checks come at most suspicion_interval apart, and at least 1 ms, as far as Ta
+ * allows. These checks end no pair sooner. The time should be longer than is_ice_set_max_rto, at which pairs are checked
+ * that answer. 0: no such rule.
  *
  * selected_first: every second check may go to the selected pair, if it is due, before all others. So its consent is
  * renewed in time, however many pairs there are.
@@ -1210,7 +1222,7 @@ IS_ICE_SIZE(is_ice_pair, 96);
 IS_ICE_SIZE(is_ice_removed_pair, 104);
 IS_ICE_SIZE(is_ice_kind_preferences, 8);
 IS_ICE_SIZE(is_ice_preference_table, 16);
-IS_ICE_SIZE(is_ice_agent_rules, 48);
+IS_ICE_SIZE(is_ice_agent_rules, 64);
 IS_ICE_SIZE(is_ice_stun_transaction, 12);
 IS_ICE_SIZE(is_ice_stun_result, 32);
 IS_ICE_SIZE(is_ice_stun_number, 16);

@@ -6,7 +6,8 @@ from dataclasses import replace
 from random import Random
 from typing import Protocol as Interface_, cast
 
-from is_ice import Candidate, Consent, EarlyRto, IceAgent, IceAgentEvent, IceCreds, Rules, SocketAddress, line_fields, new_creds
+from is_ice import (
+    Candidate, Consent, EarlyRto, IceAgent, IceAgentEvent, IceCreds, Rules, SocketAddress, Suspicion, line_fields, new_creds)
 
 from .clock import Clock, nanoseconds
 from .log import Beginning, Log, LoggedAgent
@@ -33,6 +34,9 @@ def rules_by(s: AgentSettings) -> Rules:
     if s.consent_ms is not None:
         consent = Consent(nanoseconds(s.consent_ms), s.strict_consent)
         rules = replace(rules, consent=consent if s.consent_ms else None)
+    if s.suspicion_ms is not None:
+        suspicion = Suspicion(nanoseconds(s.suspicion_ms), nanoseconds(s.probes_ms))
+        rules = replace(rules, suspicion=suspicion if s.suspicion_ms else None)
     names = ("selects_at_once", "selected_first", "timeout_after_requests", "lite_keeps_role", "numbered_nominations",
              "discovered_if_served", "state_after_nomination", "invalidates_listed")
     own = {name: getattr(s, name) for name in names}

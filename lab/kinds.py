@@ -10,7 +10,7 @@ from typing import Any
 from is_ice import SocketAddress
 
 from .clock import MILLISECOND
-from .pairs import Consent, EarlyRto, Pair, Place
+from .pairs import Consent, EarlyRto, Pair, Place, Suspicion
 
 # How many kinds of pairs there are.
 COUNT = 16
@@ -27,6 +27,7 @@ class Rules:
     early_rto: EarlyRto | None = None
     selects_at_once: bool = False
     consent: Consent | None = None
+    suspicion: Suspicion | None = None
     selected_first: bool = False
     timeout_after_requests: bool = False
     lite_keeps_role: bool = False
@@ -43,7 +44,7 @@ class Rules:
 
 ORIGINAL = Rules()
 # With these an agent that the library makes begins.
-MODERN = Rules(True, 4, EarlyRto(4, 100 * MILLISECOND), True, Consent(29600 * MILLISECOND), True, True, True, True, True, True, True)
+MODERN = Rules(True, 4, EarlyRto(4, 100 * MILLISECOND), True, Consent(29600 * MILLISECOND), None, True, True, True, True, True, True, True)
 
 
 def rules_of(given: Any) -> Rules:
@@ -52,7 +53,9 @@ def rules_of(given: Any) -> Rules:
     own = EarlyRto(early.retransmits, early.interval) if early is not None and early.retransmits else None
     consent = given.consent
     kept = Consent(consent.timeout, consent.strict) if consent is not None and consent.timeout else None
-    return Rules(given.kinds_in_turn, given.triggered_checks or None, own, given.selects_at_once, kept, given.selected_first,
+    suspicion = given.suspicion
+    suspects = Suspicion(suspicion.timeout, suspicion.interval) if suspicion is not None and suspicion.timeout else None
+    return Rules(given.kinds_in_turn, given.triggered_checks or None, own, given.selects_at_once, kept, suspects, given.selected_first,
                  given.timeout_after_requests, given.lite_keeps_role, given.numbered_nominations, given.discovered_if_served,
                  given.state_after_nomination, given.invalidates_listed)
 

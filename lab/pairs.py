@@ -35,6 +35,15 @@ class Consent:
 
 
 @dataclass(frozen=True)
+class Suspicion:
+    """When a pair is suspected, in nanoseconds after its last answered check was sent. Before that, once a check has no response, its
+    checks come at most an interval apart."""
+
+    timeout: int
+    interval: int
+
+
+@dataclass(frozen=True)
 class Timing:
     """The settings of retransmission. Durations are nanoseconds."""
 
@@ -44,6 +53,7 @@ class Timing:
     lite: int = 15 * SECOND
     early: EarlyRto | None = None
     consent: Consent | None = None
+    suspicion: Suspicion | None = None
 
     def delay(self, count: int) -> int:
         """Returns the delay after the last of `count` checks, in whole milliseconds: it doubles up to a bound."""
@@ -176,6 +186,16 @@ class Pair:
         return self.checks[-1].sent + self._delay(now, timing)
 
     def _delay(self, now: int, timing: Timing) -> int:
+        usual = self._usual_delay(now, timing)
+        if timing.suspicion is None or not self.is_probed(now, timing.suspicion):
+            return usual
+        return min(usual, max(MILLISECOND, timing.suspicion.interval))
+
+    def is_probed(self, now: int, suspicion: Suspicion) -> bool:
+        """Whether it had a response, its last check has none, and it is not suspected yet."""
+        return self.consented is not None and now < self.consented + suspicion.timeout and unanswered(self.checks) > 0
+
+    def _usual_delay(self, now: int, timing: Timing) -> int:
         silent = unanswered(self.checks)
         if timing.early is not None and self.awaits_response and self.is_young(timing):
             return timing.early_delay(timing.early, silent)
@@ -197,7 +217,7 @@ class Pair:
 
     def is_possible(self, now: int, timing: Timing) -> bool:
         """Whether the checks of a pair with this record may go on."""
-        if self.has_early_checks(now, timing) or self.is_young(timing):
+        if self.has_early_checks(now, timing) or self.is_young(timing) or self.is_kept_by_probes(now, timing):
             return True
         return self.is_heard(now) or now < self.checks[-1].sent + timing.delay(timing.retransmits)
 
@@ -230,6 +250,15 @@ class Pair:
             return max(self.sent - timing.early.retransmits, 0) < timing.retransmits
         silent = unanswered(self.checks)
         return silent > 0 and now < self.checks[-silent].sent + timing.timeout()
+
+    def is_kept_by_probes(self, now: int, timing: Timing) -> bool:
+        """Whether the path may still work since checks of the rule `suspicion` end no pair sooner: less time passed since its last answered
+        check than a whole series takes."""
+        return timing.suspicion is not None and self.consented is not None and now < self.consented + timing.timeout()
+
+    def is_suspected(self, last: int, timing: Timing) -> bool:
+        """Whether it is suspected as of the last `handle_timeout`: by the rule, its last answered check was sent so long before."""
+        return timing.suspicion is not None and self.consented is not None and self.consented + timing.suspicion.timeout <= last
 
     def is_young(self, timing: Timing) -> bool:
         """Whether fewer than `max_retransmits` checks follow its last answered one."""

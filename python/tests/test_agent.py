@@ -51,6 +51,7 @@ from is_ice import (
     RemovedPair,
     Rules,
     SocketAddress,
+    Suspicion,
     TooFewRandomBytes,
     TooManyCandidates,
     Unparsed,
@@ -518,17 +519,18 @@ class Errors(unittest.TestCase):
         self.assertEqual(self.agent.rules, Rules.modern())
         self.assertEqual(Rules.modern(), Rules(
             kinds_in_turn=True, triggered_checks=4, early_rto=early, selects_at_once=True, consent=Consent(29_600_000_000, strict=False),
-            selected_first=True, timeout_after_requests=True, lite_keeps_role=True, numbered_nominations=True, discovered_if_served=True,
+            suspicion=None, selected_first=True, timeout_after_requests=True, lite_keeps_role=True, numbered_nominations=True, discovered_if_served=True,
             state_after_nomination=True, invalidates_listed=True))
         self.assertEqual(Rules.original(), Rules(
-            kinds_in_turn=False, triggered_checks=None, early_rto=None, selects_at_once=False, consent=None, selected_first=False,
+            kinds_in_turn=False, triggered_checks=None, early_rto=None, selects_at_once=False, consent=None, suspicion=None, selected_first=False,
             timeout_after_requests=False, lite_keeps_role=False, numbered_nominations=False, discovered_if_served=False,
             state_after_nomination=False, invalidates_listed=False))
         most = (1 << 64) - 1
         changes: tuple[dict[str, Any], ...] = (
             {"kinds_in_turn": False}, {"triggered_checks": None}, {"triggered_checks": most}, {"early_rto": None},
             {"early_rto": EarlyRto(most, most)}, {"early_rto": EarlyRto(1, 0)}, {"selects_at_once": False}, {"consent": None},
-            {"consent": Consent(most, strict=True)}, {"consent": Consent(1)}, {"selected_first": False}, {"timeout_after_requests": False},
+            {"consent": Consent(most, strict=True)}, {"consent": Consent(1)}, {"suspicion": Suspicion(most, most)},
+            {"suspicion": Suspicion(1, 0)}, {"selected_first": False}, {"timeout_after_requests": False},
             {"lite_keeps_role": False}, {"numbered_nominations": False}, {"discovered_if_served": False}, {"state_after_nomination": False},
             {"invalidates_listed": False},
         )
@@ -539,13 +541,14 @@ class Errors(unittest.TestCase):
                 self.assertEqual(self.agent.rules, changed)
 
     def test_rules_that_count_to_0_are_none(self) -> None:
-        self.agent.set_rules(dataclasses.replace(Rules.original(), triggered_checks=0, early_rto=EarlyRto(0, 7), consent=Consent(0, True)))
+        self.agent.set_rules(dataclasses.replace(
+            Rules.original(), triggered_checks=0, early_rto=EarlyRto(0, 7), consent=Consent(0, True), suspicion=Suspicion(0, 7)))
         self.assertEqual(self.agent.rules, Rules.original())
 
     def test_rules_that_are_refused(self) -> None:
         refused: tuple[dict[str, Any], ...] = (
             {"triggered_checks": -1}, {"triggered_checks": 1 << 64}, {"early_rto": EarlyRto(1 << 64, 0)}, {"early_rto": EarlyRto(1, -1)},
-            {"consent": Consent(-1)}, {"consent": Consent(1 << 64)},
+            {"consent": Consent(-1)}, {"consent": Consent(1 << 64)}, {"suspicion": Suspicion(1 << 64, 0)}, {"suspicion": Suspicion(1, -1)},
         )
         for change in refused:
             self.assertRaises(ValueError, self.agent.set_rules, dataclasses.replace(Rules.modern(), **change))

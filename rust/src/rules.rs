@@ -44,6 +44,14 @@ pub struct Rules {
     /// 5.1). [`IceAgent::poll_timeout`] returns a time no later than this, except for pacing. What removes a pair without this rule
     /// still does.
     pub consent: Option<Consent>,
+    /// A pair is suspected this long after its last check that got a response was sent, as of the last [`IceAgent::handle_timeout`] call.
+    /// While another pair may be selected that is not suspected, a suspected one is not. So a path that died is left long before its
+    /// consent ends, and selected again once it answers. A controlled agent with [`IceAgent::set_renomination`] selects what the peer
+    /// nominates all the same.
+    ///
+    /// From the first check of a valid pair without a response until the pair is suspected, its checks come at most an interval apart, as
+    /// far as Ta allows. These checks end no pair sooner.
+    pub suspicion: Option<Suspicion>,
     /// Every second check may go to the selected pair, if it is due, before all others. So its consent is renewed in time, however many
     /// pairs there are.
     pub selected_first: bool,
@@ -81,6 +89,16 @@ pub struct Consent {
     pub strict: bool,
 }
 
+/// When a pair is suspected: see [`Rules::suspicion`].
+#[derive(Clone, Copy, Debug, PartialEq, Eq)]
+pub struct Suspicion {
+    /// How long after its last answered check was sent: longer than [`IceAgent::set_max_stun_rto`], at which pairs are checked that answer.
+    /// With 0 there is no such rule.
+    pub timeout: Duration,
+    /// The most between its checks before that, once one has no response. Less than a millisecond counts as one.
+    pub interval: Duration,
+}
+
 /// How checks are repeated before the RTO counts: see [`Rules::early_rto`].
 #[derive(Clone, Copy, Debug, PartialEq, Eq)]
 pub struct EarlyRto {
@@ -108,12 +126,17 @@ impl Rules {
         debug_assert_eq!(code, ffi::OK);
         let (retransmits, interval) = (rules.early_retransmits, Duration::from_nanos(rules.early_interval));
         let (timeout, strict) = (Duration::from_nanos(rules.consent_timeout), rules.strict_consent);
+        let suspicion = Suspicion {
+            timeout: Duration::from_nanos(rules.suspicion_timeout),
+            interval: Duration::from_nanos(rules.suspicion_interval),
+        };
         Rules {
             kinds_in_turn: rules.kinds_in_turn,
             triggered_checks: (rules.triggered_checks > 0).then_some(rules.triggered_checks),
             early_rto: (retransmits > 0).then_some(EarlyRto { retransmits, interval }),
             selects_at_once: rules.selects_at_once,
             consent: (rules.consent_timeout > 0).then_some(Consent { timeout, strict }),
+            suspicion: (rules.suspicion_timeout > 0).then_some(suspicion),
             selected_first: rules.selected_first,
             timeout_after_requests: rules.timeout_after_requests,
             lite_keeps_role: rules.lite_keeps_role,
@@ -130,6 +153,8 @@ impl Rules {
             early_retransmits: self.early_rto.map_or(0, |early| early.retransmits),
             early_interval: self.early_rto.map_or(0, |early| nanoseconds(early.interval)),
             consent_timeout: self.consent.map_or(0, |consent| nanoseconds(consent.timeout)),
+            suspicion_timeout: self.suspicion.map_or(0, |suspicion| nanoseconds(suspicion.timeout)),
+            suspicion_interval: self.suspicion.map_or(0, |suspicion| nanoseconds(suspicion.interval)),
             kinds_in_turn: self.kinds_in_turn,
             selects_at_once: self.selects_at_once,
             strict_consent: self.consent.is_some_and(|consent| consent.strict),

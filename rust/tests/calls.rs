@@ -4,7 +4,7 @@ mod world;
 
 use is::stun::{StunMessage, StunPacket};
 use is::{CallError, Candidate, CandidateKind, CheckState, Consent, EarlyRto, IceAgent, IceAgentEvent, IceConnectionState, IceCreds};
-use is::{IceError, KindPreferences, LocalPreference, PreferenceTable, Protocol, Rules, StunError, TcpType};
+use is::{IceError, KindPreferences, LocalPreference, PreferenceTable, Protocol, Rules, StunError, Suspicion, TcpType};
 use std::time::{Duration, Instant};
 use world::{at, creds, host, ms};
 
@@ -246,6 +246,7 @@ fn rules_begin_as_documented() {
     assert_eq!(modern.early_rto, Some(EarlyRto { retransmits: 4, interval: ms(100) }));
     assert!(!original.kinds_in_turn && !original.selects_at_once && !original.selected_first && !original.timeout_after_requests);
     assert_eq!((original.triggered_checks, original.early_rto, original.consent), (None, None, None));
+    assert_eq!((modern.suspicion, original.suspicion), (None, None));
 }
 
 /// The rules of an agent after these were set.
@@ -257,7 +258,7 @@ fn rules_after(rules: Rules) -> Rules {
 
 #[test]
 fn rules_are_set() {
-    let changes: [fn(&mut Rules); 15] = [
+    let changes: [fn(&mut Rules); 17] = [
         |rules| *rules = Rules::original(),
         |rules| rules.kinds_in_turn = !rules.kinds_in_turn,
         |rules| rules.triggered_checks = Some(u64::MAX),
@@ -266,6 +267,8 @@ fn rules_are_set() {
         |rules| rules.selects_at_once = !rules.selects_at_once,
         |rules| rules.consent = Some(Consent { timeout: Duration::from_nanos(u64::MAX), strict: true }),
         |rules| rules.consent = Some(Consent { timeout: Duration::from_nanos(1), strict: false }),
+        |rules| rules.suspicion = Some(Suspicion { timeout: Duration::from_nanos(u64::MAX), interval: Duration::from_nanos(u64::MAX) }),
+        |rules| rules.suspicion = Some(Suspicion { timeout: Duration::from_nanos(1), interval: Duration::ZERO }),
         |rules| rules.selected_first = !rules.selected_first,
         |rules| rules.timeout_after_requests = !rules.timeout_after_requests,
         |rules| rules.lite_keeps_role = !rules.lite_keeps_role,
@@ -288,6 +291,7 @@ fn rules_that_count_to_0_are_none() {
     rules.triggered_checks = Some(0);
     rules.early_rto = Some(EarlyRto { retransmits: 0, interval: ms(7) });
     rules.consent = Some(Consent { timeout: Duration::ZERO, strict: true });
+    rules.suspicion = Some(Suspicion { timeout: Duration::ZERO, interval: ms(7) });
     assert_eq!(rules_after(rules), Rules::original());
 }
 

@@ -3,6 +3,7 @@ use Rattle.std.specs.Prelude.{◌≡◌, ℕ, ℤ, ◌==◌, Bool, false, Option
 use Rattle.std.specs.Option.{option_map_or}
 use Rattle.is_stun.specs.declared.timing.Consent.{Consent}
 use Rattle.is_stun.specs.declared.timing.EarlyRto.{EarlyRto}
+use Rattle.is_stun.specs.declared.timing.Suspicion.{Suspicion}
 use Rattle.is_rules.specs.declared.rules.Rules.{Rules}
 use Rattle.is_c.specs.declared.rules.AgentRules.{AgentRules}
 use Rattle.is_c.specs.Codes.{OK}
@@ -19,6 +20,10 @@ early_of n interval = if n == 0 then None else Some (record { retransmits = n; i
 abbrev pub consent_of : ℕ → Bool → Option Consent
 consent_of timeout strict = if timeout == 0 then None else Some (record { timeout = record { 0 = timeout }; strict = strict })
 
+abbrev pub suspicion_of : ℕ → ℕ → Option Suspicion
+suspicion_of timeout interval =
+    if timeout == 0 then None else Some (record { timeout = record { 0 = timeout }; interval = record { 0 = interval } })
+
 -- the rules that a struct of C means
 abbrev pub rules_of : AgentRules → Rules
 rules_of r = record {
@@ -27,6 +32,7 @@ rules_of r = record {
   early_rto = early_of r.early_retransmits r.early_interval;
   selects_at_once = r.selects_at_once;
   consent = consent_of r.consent_timeout r.strict_consent;
+  suspicion = suspicion_of r.suspicion_timeout r.suspicion_interval;
   selected_first = r.selected_first;
   timeout_after_requests = r.timeout_after_requests;
   lite_keeps_role = r.lite_keeps_role;
@@ -43,6 +49,8 @@ reported_rules rules = record {
   early_retransmits = option_map_or (λ e. e.retransmits) rules.early_rto 0;
   early_interval = option_map_or (λ e. e.interval.0) rules.early_rto 0;
   consent_timeout = option_map_or (λ c. c.timeout.0) rules.consent 0;
+  suspicion_timeout = option_map_or (λ s. s.timeout.0) rules.suspicion 0;
+  suspicion_interval = option_map_or (λ s. s.interval.0) rules.suspicion 0;
   kinds_in_turn = rules.kinds_in_turn;
   selects_at_once = rules.selects_at_once;
   strict_consent = option_map_or (λ c. c.strict) rules.consent false;
@@ -55,11 +63,13 @@ reported_rules rules = record {
   invalidates_listed = rules.invalidates_listed;
 }
 
--- what C reads after it set this struct: without early retransmissions the interval is 0, and without a timeout consent is not strict
+-- what C reads after it set this struct: without early retransmissions the interval is 0, without a timeout consent is not strict, and
+-- without a timeout of suspicion its interval is 0
 abbrev pub as_read : AgentRules → AgentRules
 as_read r = record r {
   early_interval = if r.early_retransmits == 0 then 0 else r.early_interval;
   strict_consent = if r.consent_timeout == 0 then false else r.strict_consent;
+  suspicion_interval = if r.suspicion_timeout == 0 then 0 else r.suspicion_interval;
 }
 
 -- `is_ice_rules`

@@ -15,6 +15,7 @@ pub(crate) mod replacing;
 mod requests;
 mod states;
 mod statistics;
+pub(crate) mod suspicion;
 
 pub use attempt::BindingAttempt;
 use is_candidate::{Candidate, CandidateKind};

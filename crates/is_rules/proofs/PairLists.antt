@@ -1,6 +1,7 @@
 -- A list of pairs in the order of their numbers.
 pub mod RisingNumbers
 pub mod PairsByNumber
+pub mod FirstChoice
 pub mod ChosenPair
 pub mod PairsInLists
 pub mod VisitedPairs

@@ -85,6 +85,7 @@ original_rules = record {
   discovered_if_served = false;
   state_after_nomination = false;
   invalidates_listed = false;
+  suspicion = None;
 }
 
 -- what connects fastest, and ends consent in time: within the 30 s of RFC 7675, section 5.1
@@ -102,6 +103,7 @@ modern_rules = record {
   discovered_if_served = true;
   state_after_nomination = true;
   invalidates_listed = true;
+  suspicion = None;
 }
 
 abbrev pub no_stats : IceAgentStats
@@ -122,6 +124,7 @@ default_timing = record {
   lite_timeout = record { 0 = 15 * SECOND };
   early = None;
   consent = None;
+  suspicion = None;
 }
 
 module _ {H P : Type 0} where

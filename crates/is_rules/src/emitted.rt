@@ -75,9 +75,12 @@ impl Emitted {
     pub fn selected_only(path: Option<Path>) -> Emitted
         ensures { result ≡ selected_only path }
     {
-        Emitted {
-            issued: None,
-            selected_paths: [path, None],
+        match path {
+            None => Emitted::nothing(),
+            Some(_) => Emitted {
+                issued: None,
+                selected_paths: [path, None],
+            },
         }
     }
 

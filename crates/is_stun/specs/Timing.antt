@@ -4,6 +4,7 @@ use Rattle.std.specs.List.{range_with_len}
 use Rattle.is_proto.specs.Times.{MAX, MILLISECOND}
 use Rattle.is_stun.specs.declared.timing.StunTiming.{StunTiming}
 use Rattle.is_stun.specs.declared.timing.EarlyRto.{EarlyRto}
+use Rattle.is_stun.specs.declared.timing.Suspicion.{Suspicion}
 
 -- the delay after the last of n checks, in whole milliseconds: it doubles with each check, up to a bound
 unfoldable pub delay_millis : StunTiming → ℕ → ℕ
@@ -18,6 +19,10 @@ resend_delay t n = if n == 0 then 0 else delay_millis t n * MILLISECOND
 -- millisecond; then the delays as above
 abbrev pub early_delay : StunTiming → EarlyRto → ℕ → ℕ
 early_delay t e n = if nat_le n e.retransmits then max MILLISECOND e.interval.0 else resend_delay t (n - e.retransmits)
+
+-- the delay while the path is probed: the interval, at least a millisecond, and no longer than it would be otherwise
+abbrev pub probing_delay : Suspicion → ℕ → ℕ
+probing_delay s usual = min (max MILLISECOND s.interval.0) usual
 
 abbrev pub last_resend_delay : StunTiming → ℕ
 last_resend_delay t = resend_delay t t.max_retransmits

@@ -1,5 +1,6 @@
 -- Which path is selected, and after what.
 pub mod FirstNumbered
+pub mod SuspectedPairs
 pub mod GreatestEligiblePair
 pub mod SelectedPairIsNominated
 pub mod NominationPoints
@@ -11,3 +12,4 @@ pub mod NominatedByPeer
 pub mod NominatedByPeerPerAgent
 pub mod SelectedAtRequests
 pub mod SelectedInCall
+pub mod LeftPaths

@@ -33,6 +33,7 @@ pub(super) const ORIGINAL: Rules = Rules {
     discovered_if_served: false,
     state_after_nomination: false,
     invalidates_listed: false,
+    suspicion: None,
 };
 
 /// What connects fastest, keeps consent, and has a next timeout after each call.
@@ -55,6 +56,7 @@ pub(super) const MODERN: Rules = Rules {
     discovered_if_served: true,
     state_after_nomination: true,
     invalidates_listed: true,
+    suspicion: None,
 };
 
 const STORIES: [Story; 5] = [

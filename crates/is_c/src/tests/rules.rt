@@ -12,6 +12,8 @@ pub(super) const OFF: AgentRules = AgentRules {
     early_retransmits: 0,
     early_interval: 0,
     consent_timeout: 0,
+    suspicion_timeout: 0,
+    suspicion_interval: 0,
     kinds_in_turn: false,
     selects_at_once: false,
     strict_consent: false,
@@ -29,6 +31,8 @@ const ON: AgentRules = AgentRules {
     early_retransmits: 4,
     early_interval: 100_000_000,
     consent_timeout: 29_600_000_000,
+    suspicion_timeout: 0,
+    suspicion_interval: 0,
     kinds_in_turn: true,
     selects_at_once: true,
     strict_consent: false,
@@ -48,6 +52,8 @@ fn are_same(one: &AgentRules, other: &AgentRules) -> bool {
         && one.kinds_in_turn == other.kinds_in_turn
         && one.selects_at_once == other.selects_at_once
         && one.consent_timeout == other.consent_timeout
+        && one.suspicion_timeout == other.suspicion_timeout
+        && one.suspicion_interval == other.suspicion_interval
         && one.strict_consent == other.strict_consent
         && one.selected_first == other.selected_first
         && one.timeout_after_requests == other.timeout_after_requests
@@ -99,6 +105,7 @@ fn what_belongs_to_no_rule_is_not_kept(rt: HostRuntime) {
     let mut rules = OFF;
     rules.early_interval = 7;
     rules.strict_consent = true;
+    rules.suspicion_interval = 9;
     let set = is_ice_set_rules(alloc, &mut slot, &rules);
     assert!(rt; set == codes::OK);
     let asked = is_ice_rules(alloc, &mut slot, &mut rules);

@@ -5,6 +5,7 @@ ghost use Rattle.is_proto.specs.Times.{later};
 ghost use Rattle.is_pair.specs.Pairs.{is_valid, undue};
 ghost use Rattle.is_pair.specs.Due.{asked, delaying_count, due_time_of, is_heard, is_in_time, is_possible, long_before, next_due_time, computed_due_time};
 ghost use Rattle.is_pair.specs.Due.{awaits_response, delay_with, has_early_checks, is_early_silence, is_repeated_early, is_triggered, is_urgent, moved_up, triggered, usual_delay};
+ghost use Rattle.is_pair.specs.Due.{delay_of};
 
 use super::attempt::BindingAttempt;
 use super::requests::is_recent;
@@ -24,8 +25,8 @@ impl CandidatePair {
     /// A nominated pair without a check since its nomination is due before all others. A pair that was never checked is
     /// due now. Otherwise the check is due one RTO after the last one. The RTO depends on the number of pending
     /// transactions, or, if the peer has been silent for longer than half of `max_rto`, on the number of checks without a
-    /// response. With `early`, the first checks without a response are due after its interval. The due time is at most
-    /// `max_rto` from now.
+    /// response. With `early`, the first checks without a response are due after its interval. With `suspicion`, so are those of a pair
+    /// that had a response before. The due time is at most `max_rto` from now.
     pub fn next_binding_attempt(&mut self, now: Instant, timing_config: &StunTiming) -> Instant
         requires { 0 < timing_config.now.max_retransmits }
         ensures time { result.0 ≡ due_time_of now.0 timing_config.now self.old }
@@ -69,7 +70,8 @@ impl CandidatePair {
 
     /// Whether the path may still work. It fails if no check from the peer arrived for 15 s, `max_retransmits` checks
     /// had no response, and the delay after the last of them has passed. Early retransmissions end it no sooner: if there was
-    /// no response at all, they are not counted, and otherwise the time of a whole series of checks has to pass.
+    /// no response at all, they are not counted, and otherwise the time of a whole series of checks has to pass. It has to pass with
+    /// `suspicion` too.
     pub fn is_still_possible(&self, now: Instant, timing_config: &StunTiming) -> bool
         requires { 0 < timing_config.now.max_retransmits }
         ensures { result ≡ is_possible now.0 timing_config.now self.now }
@@ -79,6 +81,7 @@ impl CandidatePair {
             || attempts::unanswered(&self.binding_attempts) < timing_config.max_retransmits()
             || is_in_time(&self.binding_attempts, now, timing_config)
             || self.has_early_checks(now, timing_config)
+            || self.is_kept_by_series(now, timing_config)
     }
 
     /// Whether the path may still work because early retransmissions end no pair sooner: as long as no response arrived, they are not
@@ -111,8 +114,8 @@ impl CandidatePair {
             && attempts::unanswered(&self.binding_attempts) < timing.max_retransmits()
     }
 
-    /// Returns the delay after the last check.
-    fn delay(&self, now: Instant, timing: &StunTiming) -> Duration
+    /// Returns the delay after the last check, if the pair is not probed.
+    fn usual_delay(&self, now: Instant, timing: &StunTiming) -> Duration
         ensures { result.0 ≡ delay_with timing.now.early now.0 timing.now self.now }
     {
         match timing.early {
@@ -121,6 +124,13 @@ impl CandidatePair {
             }
             _ => usual_delay(&self.binding_attempts, now, timing),
         }
+    }
+
+    /// Returns the delay after the last check.
+    fn delay(&self, now: Instant, timing: &StunTiming) -> Duration
+        ensures { result.0 ≡ delay_of now.0 timing.now self.now }
+    {
+        self.delay_probed(now, timing, self.usual_delay(now, timing))
     }
 
     /// Returns the time that long after the last check, or now if there was none.

@@ -10,6 +10,7 @@ mod consent;
 mod due;
 mod early;
 mod order;
+mod suspicion;
 mod triggered;
 
 use is_candidate::CandidateKind;
