@@ -1,6 +1,7 @@
 """The theorem `courses_select_in_time` (`CoursesSelectInTime`): a pair of a controlling agent is due by the first of k + 1 rounds, which
-suffice for it. The caller is punctual, and checks on the pair's path are answered within a round trip. Then an accepted response selects a
-path. Its round begins at most k times the pacing interval and the caller's delay, and a round trip, after the first one."""
+suffice for it. Candidates may be added in them. The caller is punctual, and checks on the pair's path are answered within a round trip.
+Then an accepted response selects a path. Its round begins at most k times the pacing interval and the caller's delay, and a round trip,
+after the first one."""
 
 from __future__ import annotations
 
@@ -10,12 +11,13 @@ from itertools import groupby
 
 from ..pairs import Path
 from ..scenario import SIDES
-from .execution import MAX, Execution, Lacks, Round, any_in, lacks, part_of
+from .execution import MAX, Execution, Lacks, Round, any_in, entries_of, lacks, part_of
 from .fair import is_new_agent
 from .in_time import delay
 from .opening import Counts, controlling_calls, pair_of
-from .progress import awaits, is_unanswered, suffice_for_due
-from .single import are_plain
+from .progress import awaits, is_unanswered, suffice_for_due, suffices
+from .single import are_in_round, are_passing, are_plain
+from .staying import may_end_in_rounds
 from .verdict import Verdict, first_in, first_of_all
 
 
@@ -55,11 +57,22 @@ def trip(x: Execution, c: Choice) -> int | None:
 
 def limit(x: Execution, c: Choice) -> int | None:
     """Returns by when a round begins in which a path is selected."""
-    rounds, within = c.rounds(x)[:c.count], trip(x, c)
+    return limit_of(x, c, trip(x, c))
+
+
+def limit_of(x: Execution, c: Choice, within: int | None) -> int | None:
+    """Returns the same for this round trip."""
+    rounds = c.rounds(x)[:c.count]
     late = delay(x, c.side, rounds)
     if within is None or late is None:
         return None
-    return rounds[0].now + (len(rounds) - 1) * (x.state(c.first, c.side).advance + late) + within
+    return rounds[0].now + (len(rounds) - 1) * (pace(x, c.side, rounds) + late) + within
+
+
+def pace(x: Execution, side: str, rounds: list[Round]) -> int:
+    """Returns the greatest pacing interval in the rounds (`IsTimed`: `begins`, `keeps`)."""
+    sets = x.indices(("paces", side), lambda s: s.entry.side == side and s.entry.call == "set_timing_advance")
+    return max([x.state(rounds[0].moment, side).advance, *(x.state(at + 1, side).advance for at in part_of(sets, entries_of(rounds)))])
 
 
 def selected_at(x: Execution, c: Choice) -> int | None:
@@ -70,50 +83,62 @@ def selected_at(x: Execution, c: Choice) -> int | None:
 
 # ---- the preconditions
 
-def is_passed(x: Execution, side: str, by: int, r: Round) -> Lacks:
-    """The `handle_timeout` call is later than `by`, and only packets and polls follow (`IsPassed`)."""
-    return lacks(late=by < r.now, early=r.now < MAX, between=are_plain(x, side, [r]))
+def suffice_for_check(x: Execution, side: str, by: int, rounds: list[Round]) -> bool:
+    """Whether the later rounds suffice for a pair that is due by a time: fewer, if only packets and polls come in them and in the first
+    one (`SufficeForCheck`)."""
+    start, later, stop = rounds[0], rounds[1:], rounds[-1].behind.stop
+    first, second, end = x.state(start.moment, side), x.state(start.behind.stop, side), x.state(stop, side)
+    is_polled = are_plain(x, side, rounds) and suffice_for_due(by, start.now, first, second, [r.now for r in later])
+    return is_polled or suffices(by, start.now, first, second, end, len(later))
 
 
 def lacking(x: Execution, c: Choice) -> Lacks:
-    """Returns the preconditions that do not hold. No call of the rounds changes the pacing interval, so it is that of the first one."""
+    """Returns the preconditions that do not hold."""
     rounds, agent = c.rounds(x), x.state(c.first, c.side)
-    start, later, more = rounds[0], rounds[1:c.count], rounds[c.count:]
+    enough, start, more = rounds[:c.count], rounds[0], rounds[c.count:]
     pair = pair_of(agent, c.pair)
     by = min(pair.due_at(start.now, agent.timing), start.now)  # so `by` is no later than the first call
-    passed: Lacks = next((missing for r in later if (missing := is_passed(x, c.side, by, r))), [])
-    second = x.state(start.behind.stop, c.side)
     return lacks(IsFresh=is_new_agent(x.state(0, c.side)), controlling=agent.controlling, Awaits=awaits(start.now, by, agent, pair),
-                 IsUnanswered=is_unanswered(agent, pair), first=lacks(early=start.now < MAX, between=are_plain(x, c.side, [start])),
-                 CourseRounds=x.is_controlling_in(c.side, range(c.first + 1, c.end + 1)), IsPassed=passed,
-                 AreBetween=are_plain(x, c.side, more), SufficeForDue=suffice_for_due(by, start.now, agent, second, [r.now for r in later]),
-                 punctual=delay(x, c.side, rounds[:c.count]) is not None, IsAnsweredWithin=trip(x, c) is not None)
+                 IsUnanswered=is_unanswered(agent, pair), first=lacks(early=start.now < MAX, between=are_in_round(x, c.side, start)),
+                 CourseRounds=x.is_controlling_in(c.side, range(c.first + 1, c.end + 1)),
+                 IsOpenRound=are_passing(x, c.side, by, enough[1:]), AreInRound=all(are_in_round(x, c.side, r) for r in more),
+                 SufficeForCheck=suffice_for_check(x, c.side, by, enough), punctual=delay(x, c.side, enough) is not None,
+                 IsAnsweredWithin=trip(x, c) is not None, EndsAmong=not may_end_in_rounds(x, c.side, c.path(x), enough))
 
 
 # ---- the search
 
-def choice_of(x: Execution, side: str, pair: int, place: int, count: int) -> Choice:
-    """Returns the choice of so many rounds, or of all that there are, from the side's `handle_timeout` call at this place on. They go up to
-    the last of these calls, and up to the first success response."""
-    row = x.timeouts[side][place:]
-    last, answer = row[:count][-1], first_in(x.successes(side), range(row[0] + 1, len(x)))
-    return Choice(side, pair, row[0], count, max(last, answer or 0) + 1)
+class Search:
+    """The search for choices of one clause. Its checks are answered in a way of its own."""
 
+    def __init__(self, x: Execution) -> None:
+        self.x = x
 
-def choices_by_call(x: Execution, choice: Callable[[str, int, int, int], Choice],
-                    bound_of: Callable[[Choice], int | None]) -> Iterator[tuple[list[Choice], list[Choice]]]:
-    """Proposes choices for each first `handle_timeout` call: those with enough rounds, the earliest bound first; and those with a call
-    other than packets and polls before enough rounds, or with too few rounds. `choice` makes one of a side, a pair, the place of the call
-    and the number of rounds."""
-    counts = {side: Counts(x, side) for side in SIDES}
-    for (side, place), calls in groupby(controlling_calls(x, SIDES), key=lambda call: (call[1], call[0])):
-        enough: list[Choice] = []
-        hopeless: list[Choice] = []
-        for _, _, pair, due in calls:
-            count = counts[side].least_polled(place, due)
-            wanted = counts[side].rounds_for_due(place, due) if count is None else count
-            (hopeless if count is None else enough).append(choice(side, pair.number, place, wanted))
-        yield sorted(enough, key=lambda c: earliest(bound_of(c))), hopeless
+    def answer(self, side: str, path: Path, first: int) -> int | None:
+        """Returns at which entry the first answer comes after a `handle_timeout` call."""
+        return first_in(self.x.successes(side), range(first + 1, len(self.x)))
+
+    def limit(self, c: Choice) -> int | None:
+        """Returns by when a round begins in which a path is selected."""
+        return limit(self.x, c)
+
+    def choices(self) -> Iterator[tuple[list[Choice], list[Choice]]]:
+        """Proposes choices for each first `handle_timeout` call: those with enough rounds, the earliest bound first; and those with too few
+        rounds. They go up to the last of the rounds, and up to the first answer."""
+        counts = {side: Counts(self.x, side) for side in SIDES}
+        for (side, place), calls in groupby(controlling_calls(self.x, SIDES), key=lambda call: (call[1], call[0])):
+            row = self.x.timeouts[side][place:]
+            agent = self.x.state(row[0], side)
+            enough: list[Choice] = []
+            hopeless: list[Choice] = []
+            for _, _, pair, due in calls:
+                answer = self.answer(side, agent.path(pair), row[0])
+                until = 0 if answer is None else answer + 1
+                count = counts[side].least(place, due, until)
+                wanted = counts[side].rounds_for_due(place, due) if count is None else count
+                chosen = Choice(side, pair.number, row[0], wanted, max(row[:wanted][-1] + 1, until))
+                (hopeless if count is None else enough).append(chosen)
+            yield sorted(enough, key=lambda c: earliest(self.limit(c))), hopeless
 
 
 def earliest(bound: int | None) -> int:
@@ -130,14 +155,9 @@ def by_first_call(proposed: Iterable[tuple[list[Choice], list[Choice]]]) -> Iter
     yield from hopeless
 
 
-def own_choices(x: Execution) -> Iterator[tuple[list[Choice], list[Choice]]]:
-    """Proposes choices of one agent for each first call."""
-    return choices_by_call(x, lambda side, pair, place, count: choice_of(x, side, pair, place, count), lambda c: limit(x, c))
-
-
 def choices(x: Execution) -> Iterator[Choice]:
     """Proposes choices by the first call."""
-    return by_first_call(own_choices(x))
+    return by_first_call(Search(x).choices())
 
 
 def first_call_that_holds(found: Iterable[Choice], lacking_of: Callable[[Choice], Lacks], verdict: Callable[[Choice], Verdict]) -> Verdict:

@@ -13,8 +13,7 @@ from ..scenario import SIDES
 from .connections import Rows, has_rounds, side_rounds_reach, succeeds_in
 from .execution import Execution, Lacks, Round, is_in_round, lacks
 from .fair import are_new_agents
-from .opening import most_rounds
-from .progress import checks_for
+from .opening import least_later, most_rounds
 from .staying import may_end_in_rounds
 from .verdict import Verdict, first_that_holds
 
@@ -83,16 +82,6 @@ def lacking(x: Execution, c: Choice) -> Lacks:
 
 
 # ---- the search
-
-def least_later(x: Execution, side: str, place: int) -> int:
-    """Returns a number of rounds after the first one, which is at this place: fewer do not suffice."""
-    row = x.timeouts[side]
-    first = x.state(row[place], side)
-    if len(first.pairs) <= 1 or place + 1 == len(row):
-        return 0
-    second = x.state(row[place + 1], side)
-    return max(0, min(checks_for(first.rules, 2 * len(first.pairs)) - 2, checks_for(second.rules, 2 * len(second.pairs)) - 1))
-
 
 def least_count(x: Execution, side: str, place: int, is_early: bool) -> int | None:
     """Returns how many rounds suffice at least for a pair that is due by the call at this place among the side's, or before it."""

@@ -8,7 +8,7 @@ from dataclasses import dataclass
 
 from ..model import Agent
 from ..pairs import Pair, Path
-from .execution import Execution, Lacks, Round, is_between, is_in_round
+from .execution import Execution, Lacks, Round, any_in, is_between, is_in_round
 from .progress import awaits, checks_for, is_unanswered, suffices
 from .selections import are_kept, are_polled_or_enough
 from .staying import may_end_in_rounds
@@ -54,20 +54,40 @@ def controlling_calls(x: Execution, sides: Sequence[str]) -> Iterator[tuple[int,
                 yield from ((place, side, p, due) for p in agent.pairs if (due := p.due_at(now, agent.timing)) <= now)
 
 
+def rounds_end(x: Execution, side: str, place: int, count: int, until: int) -> int:
+    """Returns the end of so many rounds, from the side's `handle_timeout` call at this place on: the next such call, unless the execution
+    ends before: after the last one, or at the entry `until`, if this is later."""
+    row = x.timeouts[side]
+    following = row[place + count] if place + count < len(row) else len(x)
+    return min(following, max(row[place + count - 1] + 1, until))
+
+
+def least_later(x: Execution, side: str, place: int) -> int:
+    """Returns a number of rounds after the first one, which is at this place: fewer do not suffice."""
+    row = x.timeouts[side]
+    first = x.state(row[place], side)
+    if len(first.pairs) <= 1 or place + 1 == len(row):
+        return 0
+    second = x.state(row[place + 1], side)
+    return max(0, min(checks_for(first.rules, 2 * len(first.pairs)) - 2, checks_for(second.rules, 2 * len(second.pairs)) - 1))
+
+
 class Counts:
-    """The search for the least number of rounds that suffice for a pair of a side, from one of its `handle_timeout` calls on."""
+    """The search for the least number of rounds that suffice for a pair of a side, from one of its `handle_timeout` calls on.
+
+    The execution ends after the last of these calls, or at the entry `until`, if this is later."""
 
     def __init__(self, x: Execution, side: str) -> None:
         self.x, self.side, self.timeouts = x, side, x.timeouts[side]
-        self._open: dict[tuple[int, bool], int | None] = {}
+        self._open: dict[tuple[int, bool, int], int | None] = {}
         self._dues: dict[int, list[int]] = {}
 
-    def least(self, place: int, by: int) -> int | None:
+    def least(self, place: int, by: int, until: int = 0) -> int | None:
         """Returns the least number for a pair that is due by a time, from the call at this place among them."""
-        key = place, by < self.x.now(self.timeouts[place])
+        key = place, by < self.x.now(self.timeouts[place]), until
         if key not in self._open:
             self._open[key] = self._least_open(*key)
-        found = [self._open[key], self.least_polled(place, by)]
+        found = [self._open[key], self.least_polled(place, by, until)]
         return min((count for count in found if count is not None), default=None)
 
     def due_by(self, place: int, by: int) -> int:
@@ -84,20 +104,25 @@ class Counts:
     def _agent(self, place: int) -> Agent:
         return self.x.state(self.timeouts[place], self.side)
 
-    def least_polled(self, place: int, by: int) -> int | None:
+    def least_polled(self, place: int, by: int, until: int = 0) -> int | None:
         """Returns the least number in which the side only polls (`SufficeForDue`)."""
-        most = most_rounds(self.x, self.side, place, is_between)
         found = [1] if len(self._agent(place).pairs) <= 1 else []
         if by < self.x.now(self.timeouts[place]):
             found.append(self.rounds_for_due(place, by))
         if place + 1 < len(self.timeouts):
             found.append(1 + self.rounds_for_due(place + 1, by))
-        return min((count for count in found if count <= most), default=None)
+        return min((count for count in found if self._is_polled(place, count, until)), default=None)
 
-    def _least_open(self, place: int, is_early: bool) -> int | None:
+    def _is_polled(self, place: int, count: int, until: int) -> bool:
+        if len(self.timeouts) < place + count:
+            return False
+        part = range(self.timeouts[place], rounds_end(self.x, self.side, place, count, until))
+        return not any_in(self.x.calls_besides(self.side, is_between), part)
+
+    def _least_open(self, place: int, is_early: bool, until: int) -> int | None:
         first = self._agent(place)
-        for later in range(most_rounds(self.x, self.side, place, is_in_round)):
-            last = self.x.state(self.timeouts[place + later] + 1, self.side)
+        for later in range(least_later(self.x, self.side, place), most_rounds(self.x, self.side, place, is_in_round)):
+            last = self.x.state(rounds_end(self.x, self.side, place, later + 1, until), self.side)
             second = self._agent(place + 1) if later else last
             if suffices(0, int(is_early), first, second, last, later):
                 return later + 1

@@ -3,34 +3,33 @@ rounds are consecutive entries of the log, whatever the other agent is."""
 
 from __future__ import annotations
 
-from .courses_select_in_time import Choice, earliest, limit, own_choices, selected_at, trip
+from .courses_select_in_time import Choice, Search, earliest, limit, selected_at, suffice_for_check, trip
 from .execution import MAX, Execution, Lacks, lacks
 from .fair import is_new_agent
 from .in_time import delay
 from .opening import pair_of
-from .progress import awaits, is_unanswered, suffice_for_due
-from .single import are_passing, are_plain
+from .progress import awaits, is_unanswered
+from .single import are_in_round, are_passing
+from .staying import may_end_in_rounds
 from .verdict import Verdict, first_that_holds
 
 
 def lacking(x: Execution, c: Choice) -> Lacks:
-    """Returns the preconditions that do not hold (`PlainRounds`, `SufficeInTime`). Only packets and polls come in the rounds, so the
-    pacing interval is that of the first one."""
+    """Returns the preconditions that do not hold (`ControllingRounds`, `SufficeInTime`)."""
     rounds, agent = c.rounds(x), x.state(c.first, c.side)
-    opening, later = rounds[0], rounds[1:c.count]
+    enough, opening = rounds[:c.count], rounds[0]
     pair = pair_of(agent, c.pair)
     by = min(pair.due_at(opening.now, agent.timing), opening.now)  # so `by` is no later than the first call
-    second = x.state(opening.behind.stop, c.side)
-    return lacks(IsFresh=is_new_agent(x.state(0, c.side)), ArePlain=are_plain(x, c.side, rounds),
+    return lacks(IsFresh=is_new_agent(x.state(0, c.side)), between=all(are_in_round(x, c.side, r) for r in rounds),
                  IsControllingIn=x.is_controlling_in(c.side, range(c.first, c.end + 1)), Awaits=awaits(opening.now, by, agent, pair),
-                 IsUnanswered=is_unanswered(agent, pair), early=opening.now < MAX, IsPassing=are_passing(x, c.side, by, later),
-                 SufficeForDue=suffice_for_due(by, opening.now, agent, second, [r.now for r in later]),
-                 punctual=delay(x, c.side, rounds[:c.count]) is not None, IsAnsweredInBy=trip(x, c) is not None)
+                 IsUnanswered=is_unanswered(agent, pair), early=opening.now < MAX, IsPassing=are_passing(x, c.side, by, enough[1:]),
+                 LaterSuffice=suffice_for_check(x, c.side, by, enough), punctual=delay(x, c.side, enough) is not None,
+                 IsAnsweredInBy=trip(x, c) is not None, MayEndOver=not may_end_in_rounds(x, c.side, c.path(x), enough))
 
 
 def choices(x: Execution) -> list[Choice]:
     """Proposes choices of all `handle_timeout` calls, the earliest bound first. Those without enough rounds come last."""
-    found = list(own_choices(x))
+    found = list(Search(x).choices())
     enough = sorted((c for of_call, _ in found for c in of_call), key=lambda c: earliest(limit(x, c)))
     return [*enough, *(c for _, few in found for c in few)]
 

@@ -1,23 +1,35 @@
 """`World::run`, clause `selects_in_time` (`SelectionsComeInTime`): a pair of the controlling side is due by the first of k + 1 rounds,
-which suffice for it. Its caller is punctual, and the network answers a check on the pair's path within a round trip. Then the side selects
-a path in a round that begins at most k times the pacing interval and the caller's delay, and a round trip, after the first one."""
+which suffice for it. The side may add candidates in them, and the other one may begin in its role. Its caller is punctual, and the network
+answers a check on the pair's path within a round trip. Then the side selects a path in a round that begins at most k times the pacing
+interval and the caller's delay, and a round trip, after the first one."""
 
 from __future__ import annotations
 
 from collections.abc import Iterator
 
+from ..pairs import Path
+from ..replay import other
 from .accepted_nominations import SUCCESS, Network
-from .courses_select_in_time import Choice, by_first_call, choices_by_call, first_call_that_holds
+from .courses_select_in_time import Choice, Search, by_first_call, first_call_that_holds, limit_of
 from .execution import Execution, Lacks, any_in, lacks
 from .fair import are_new_agents
 from .in_time import delay
 from .opening import pair_of
 from .progress import awaits, is_unanswered
-from .selections import are_each_polled, are_kept, is_controlling, makes_polls_in
+from .selections import are_kept, are_polled_or_enough, makes_in_round
+from .staying import may_end_in_rounds
 from .verdict import Verdict
 
 
 # ---- the bound and the conclusion
+
+def first_answer(n: Network, side: str, path: Path, first: int) -> int | None:
+    """Returns when the first success response comes back in time to a check that the side sends on the path from an entry on. The other
+    side is controlled once it received the check (`IsAnsweredBy`)."""
+    backs = (n.back_at(h, SUCCESS, True) for h in n.handed[side]
+             if h.path == path and h.sent >= first and not n.x.state(h.arrived + 1, other(side)).controlling)
+    return min((at for at in backs if at is not None), default=None)
+
 
 def trip(n: Network, c: Choice) -> int | None:
     """Returns the least round trip within which a check on the path is answered whenever one is sent (`AreAnsweredWithin`): its response is
@@ -26,18 +38,14 @@ def trip(n: Network, c: Choice) -> int | None:
     sent = [r.now for r in rounds if n.x.steps[r.moment].checks(c.side, path)]
     if not sent:
         return 0
-    back = n.first_back(c.side, path, None, SUCCESS, c.first)
+    back = first_answer(n, c.side, path, c.first)
     place = next((place for place, r in enumerate(rounds) if back is not None and back in r.behind), None)
     return None if place is None else max(0, max(r.now for r in rounds[:place + 1]) - min(sent))
 
 
 def limit(n: Network, c: Choice) -> int | None:
     """Returns by when a round begins in which a path is selected."""
-    rounds, within = c.rounds(n.x)[:c.count], trip(n, c)
-    late = delay(n.x, c.side, rounds)
-    if within is None or late is None:
-        return None
-    return rounds[0].now + (len(rounds) - 1) * (n.x.state(c.first, c.side).advance + late) + within
+    return limit_of(n.x, c, trip(n, c))
 
 
 def selected_at(x: Execution, c: Choice) -> int | None:
@@ -48,32 +56,40 @@ def selected_at(x: Execution, c: Choice) -> int | None:
 # ---- the preconditions
 
 def lacking(n: Network, c: Choice) -> Lacks:
-    """Returns the preconditions that do not hold. No call of the rounds changes the pacing interval, so it is that of the first one."""
+    """Returns the preconditions that do not hold."""
     x, rounds, agent = n.x, c.rounds(n.x), n.x.state(c.first, c.side)
     enough, more = rounds[:c.count], rounds[c.count:]
     pair, now = pair_of(agent, c.pair), rounds[0].now
     by = min(pair.due_at(now, agent.timing), now)
-    return lacks(IsNewAgent=are_new_agents(x), role=agent.controlling, IsControlling=is_controlling(x, c.side, range(c.first, c.end)),
-                 Awaits=awaits(now, by, agent, pair), IsUnanswered=is_unanswered(agent, pair), AreKept=are_kept(x, c.side, by, enough),
-                 AreEachPolled=are_each_polled(x, c.side, by, enough), punctual=delay(x, c.side, enough) is not None,
-                 MakesPollsIn=makes_polls_in(x, c.side, more), AreAnsweredWithin=trip(n, c) is not None)
+    return lacks(IsNewAgent=are_new_agents(x), role=agent.controlling,
+                 StaysControlling=x.is_controlling_in(c.side, range(c.first + 1, c.end + 1)), Awaits=awaits(now, by, agent, pair),
+                 IsUnanswered=is_unanswered(agent, pair), AreKept=are_kept(x, c.side, by, enough),
+                 enough=are_polled_or_enough(x, c.side, by, enough), punctual=delay(x, c.side, enough) is not None,
+                 MakesInRound=all(makes_in_round(x, c.side, r.behind) for r in more), AreAnsweredWithin=trip(n, c) is not None,
+                 MayEndInRounds=not may_end_in_rounds(x, c.side, c.path(x), enough))
 
 
 # ---- the search
 
-def choice_of(n: Network, side: str, pair: int, place: int, count: int) -> Choice:
-    """Returns the choice of so many rounds, or of all that there are, from the side's `handle_timeout` call at this place on. They go up to
-    the last of these calls, and up to the first response to a check of the pair."""
-    row = n.x.timeouts[side][place:]
-    chosen = Choice(side, pair, row[0], count, row[:count][-1] + 1)
-    back = n.first_back(side, chosen.path(n.x), None, SUCCESS, row[0])
-    return Choice(side, pair, row[0], count, max(chosen.end, 0 if back is None else back + 1))
+class NetworkSearch(Search):
+    """The search for choices: an answer is a success response that the network delivers."""
+
+    def __init__(self, n: Network) -> None:
+        super().__init__(n.x)
+        self.n = n
+
+    def answer(self, side: str, path: Path, first: int) -> int | None:
+        """Returns at which entry the first answer comes to a check that is sent from a `handle_timeout` call on."""
+        return first_answer(self.n, side, path, first)
+
+    def limit(self, c: Choice) -> int | None:
+        """Returns by when a round begins in which a path is selected."""
+        return limit(self.n, c)
 
 
 def choices(n: Network) -> Iterator[Choice]:
     """Proposes choices by the first `handle_timeout` call, of one call those with the earliest bound first."""
-    found = choices_by_call(n.x, lambda side, pair, place, count: choice_of(n, side, pair, place, count), lambda c: limit(n, c))
-    return by_first_call(found)
+    return by_first_call(NetworkSearch(n).choices())
 
 
 def find(n: Network) -> Verdict:

@@ -16,8 +16,9 @@ from lab.kinds import Rules
 from lab.pairs import Check, Timing
 from lab.replay import replay
 from lab.requests import Request
-from lab.tests.stories import A, B, Story
+from lab.tests.stories import LINE, A, B, Story
 
+HOST = LINE.format(126 << 24 | 65535 << 8 | 255, "10.9.9.9", 9, "host")
 REQUEST = Request(BEGINNING, A, B, bytes(12), 1, False, "aaaa", 1, None)
 
 
@@ -42,10 +43,30 @@ def selecting(call: float | None = None, is_answered: bool = True, third: float 
     return story
 
 
+def adding(line: str = HOST, limit: int | None = None) -> Story:
+    """A has two pairs, and a timeout each 50 ms. It checks the second one at 50. After this timeout it adds a candidate, and so has a third
+    pair. The response arrives at 200 and selects the second pair."""
+    story = Story(hosts=(2, 1))
+    response = None
+    for time in (0, 50, 100, 150, 200, 250, 300):
+        check = story.timeout("a", time)
+        if time == 50:
+            response = story.deliver(check, "b", 100)
+            if limit is not None:
+                story.limit("a", limit, 50)
+            story.remote("a", line, 50)
+        if time == 200:
+            story.deliver(response, "a", 200)
+    return story
+
+
 class SelectsInTime(unittest.TestCase):
     of: Any = courses_select_in_time
-    controlling, controlling_on, late, first_early, early, answered = (
-        "controlling", "CourseRounds", "IsPassed.late", "first.early", "IsPassed.early", "IsAnsweredWithin")
+    controlling, controlling_on, late, first_early, early, answered, enough, ends = (
+        "controlling", "CourseRounds", "IsOpenRound.late", "first.early", "IsOpenRound.early", "IsAnsweredWithin", "SufficeForCheck",
+        "EndsAmong")
+
+    found_with_a_candidate = Verdict("", at(0), at(5 * 50 + 150), at(200), 6)
 
     def find(self, x: Execution) -> Verdict:
         found: Verdict = self.of.find(x)
@@ -64,12 +85,12 @@ class SelectsInTime(unittest.TestCase):
 
     def test_four_pairs(self) -> None:
         x = selecting().network().x
-        self.assertEqual([self.lacking(x, count) for count in (3, 4, 5)], [["SufficeForDue"], [], []])
+        self.assertEqual([self.lacking(x, count) for count in (3, 4, 5)], [[self.enough], [], []])
         self.assertEqual(self.find(x), Verdict("", at(0), at(3 * 50 + 100), at(250), 4))
 
     def test_pairs_that_are_due_before_the_first_round(self) -> None:
         x = selecting().network().x
-        self.assertEqual([self.lacking(x, count, first=1) for count in (2, 3)], [["SufficeForDue"], []])
+        self.assertEqual([self.lacking(x, count, first=1) for count in (2, 3)], [[self.enough], []])
         self.assertEqual(limit(x, self.choice(x, 3, first=1)), at(50 + 2 * 50 + 100))
 
     def test_a_single_pair(self) -> None:
@@ -120,10 +141,28 @@ class SelectsInTime(unittest.TestCase):
             self.assertEqual(self.altered(story, **fields), [f"IsUnanswered.{missing}"])
 
     def test_other_calls_in_the_rounds(self) -> None:
-        cases = ((0, "first.between"), (50, "IsPassed.between"), (150, "IsPassed.between"), (200, "AreBetween"))
+        inside = ["IsOpenRound.between", "SufficeForCheck"]
+        cases = ((0, ["first.between", "SufficeForCheck"]), (50, inside), (150, inside), (200, ["AreInRound"]))
         for call, missing in cases:
-            self.assertEqual(self.lacking(selecting(call).network().x), [missing])
+            self.assertEqual(self.lacking(selecting(call).network().x), missing)
         self.assertEqual(self.find(selecting(50).network().x), Verdict("", at(100), at(250), at(250), 2))
+
+    def test_a_candidate_is_added(self) -> None:
+        x = adding().network().x
+        self.assertEqual([self.lacking(x, count, 1) for count in (5, 6)], [[self.enough], []])
+        self.assertEqual(self.find(x), self.found_with_a_candidate)
+
+    def test_a_candidate_that_may_remove_the_pair(self) -> None:
+        self.assertEqual(self.lacking(adding(limit=1).network().x, 6, 1), [self.ends])
+
+    def test_a_setting_in_the_rounds(self) -> None:
+        for call in (0, 50, 150):
+            self.assertEqual(self.lacking(selecting(call, name="set_mtu", value=1200).network().x), [self.enough])
+        self.assertEqual(self.lacking(selecting(200, name="set_mtu", value=1200).network().x), [])
+
+    def test_a_longer_pacing_interval(self) -> None:
+        x = selecting(200, name="set_timing_advance", value=80 * MILLISECOND).network().x
+        self.assertEqual([limit(x, self.choice(x, count)) for count in (4, 5)], [at(3 * 50 + 100), at(4 * 80 + 100)])
 
     def test_later_rounds_begin_later(self) -> None:
         story = Story()
@@ -172,13 +211,14 @@ class SelectsInTimeInALog(SelectsInTime):
     """`run`: the rounds are entries of the log."""
 
     of = run_selects_in_time
-    controlling, controlling_on, late, first_early, early, answered = (
-        "IsControllingIn", "IsControllingIn", "IsPassing.late", "early", "IsPassing.early", "IsAnsweredInBy")
+    controlling, controlling_on, late, first_early, early, answered, enough, ends = (
+        "IsControllingIn", "IsControllingIn", "IsPassing.late", "early", "IsPassing.early", "IsAnsweredInBy", "LaterSuffice", "MayEndOver")
+    found_with_a_candidate = Verdict("", at(100), at(200), at(200), 2)
 
     def test_other_calls_in_the_rounds(self) -> None:
-        for call in (0, 50, 200):
-            self.assertEqual(self.lacking(selecting(call, name="set_mtu", value=1200).network().x), ["ArePlain"])
-        self.assertEqual(self.lacking(selecting(50).network().x), ["ArePlain", "IsPassing.between"])
+        inside = ["between", "IsPassing.between", "LaterSuffice"]
+        for call, missing in ((0, ["between", "LaterSuffice"]), (50, inside), (200, ["between"])):
+            self.assertEqual(self.lacking(selecting(call).network().x), missing)
         self.assertEqual(self.find(selecting(50).network().x), Verdict("", at(100), at(250), at(250), 2))
 
     def test_the_earliest_bound(self) -> None:
@@ -186,7 +226,7 @@ class SelectsInTimeInALog(SelectsInTime):
         found = run_selects_in_time.choices(x)
         bounds = [limit(x, c) for c in found if not self.of.lacking(x, c)]
         self.assertEqual(bounds, [at(time) for time in [250] * 4 + [300] * 3 + [350] * 2 + [400]])
-        self.assertEqual(self.of.lacking(x, found[-1]), ["SufficeForDue"])
+        self.assertEqual(self.of.lacking(x, found[-1]), ["LaterSuffice"])
 
     def test_the_other_agent(self) -> None:
         self.assertEqual(self.lacking(selecting().altered(0, "b", next_number=1).x), [])
@@ -205,7 +245,8 @@ class OfTwoAgents(unittest.TestCase):
 
     def test_four_pairs(self) -> None:
         n = selecting().network()
-        self.assertEqual([self.lacking(n, count) for count in (3, 4, 5)], [["AreEachPolled.few"], [], []])
+        missing = ["enough.AreEachPolled.few", "enough.SideRoundsSuffice"]
+        self.assertEqual([self.lacking(n, count) for count in (3, 4, 5)], [missing, [], []])
         self.assertEqual(selects_in_time.find(n), Verdict("", at(0), at(3 * 50 + 100), at(250), 4))
 
     def test_new_agents(self) -> None:
@@ -213,8 +254,20 @@ class OfTwoAgents(unittest.TestCase):
 
     def test_the_roles(self) -> None:
         self.assertEqual(self.altered("a", 0, controlling=False), ["role"])
-        for side, role in (("a", False), ("b", True)):
-            self.assertEqual(self.altered(side, 1, controlling=role), ["IsControlling"])
+        self.assertEqual(self.altered("a", 1, controlling=False), ["StaysControlling"])
+        self.assertEqual(self.altered("b", 1, controlling=True), [])
+
+    def test_the_other_side_is_not_controlled(self) -> None:
+        story = selecting()
+        delivery = next(n for n, e in enumerate(story.log.entries) if e.side == "b" and e.call == "handle_packet")
+        self.assertEqual(self.lacking(story.altered(delivery + 1, "b", controlling=True)), ["AreAnsweredWithin"])
+
+    def test_the_other_side_begins_in_the_same_role(self) -> None:
+        story = Story(roles=(True, True))
+        response = story.deliver(story.timeout("a", 0), "b", 50)
+        story.passes("a", 50, 100)
+        story.deliver(response, "a", 100)
+        self.assertEqual(selects_in_time.find(story.network()), Verdict("", at(0), at(100), at(100), 1))
 
     def test_the_pair_waits_and_none_is_valid(self) -> None:
         story = selecting()
@@ -223,8 +276,15 @@ class OfTwoAgents(unittest.TestCase):
         self.assertEqual(self.altered("a", 0, pairs=(replace(pairs[0], state="succeeded"), *pairs[1:])), ["IsUnanswered.invalid"])
 
     def test_other_calls_in_the_rounds(self) -> None:
-        for call, missing in ((50, ["AreKept.kept.between", "AreEachPolled.polls"]), (200, ["MakesPollsIn"])):
+        inside = ["AreKept.kept.between", "enough.AreEachPolled.polls", "enough.SideRoundsSuffice"]
+        for call, missing in ((50, inside), (200, ["MakesInRound"])):
             self.assertEqual(self.lacking(selecting(call).network()), missing)
+
+    def test_a_candidate_is_added(self) -> None:
+        n = adding().network()
+        missing = ["enough.AreEachPolled.polls", "enough.SideRoundsSuffice"]
+        self.assertEqual([self.lacking(n, count, 1) for count in (2, 6)], [missing, []])
+        self.assertEqual(self.lacking(adding(limit=1).network(), 6, 1), ["AreAnsweredWithin", "MayEndInRounds"])
 
     def test_later_rounds_begin_later(self) -> None:
         story = Story()

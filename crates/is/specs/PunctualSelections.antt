@@ -1,6 +1,6 @@
 -- When the controlling one of two agents selects its first path, in nanoseconds, if its caller is punctual and a check is answered within a
 -- round trip. The response may come several rounds after its check.
-use Rattle.std.specs.Prelude.{◌≡◌, ℕ, true, ◌+◌, ◌*◌, ◌≤◌, List, ◌∷◌, ◌++◌, length}
+use Rattle.std.specs.Prelude.{◌≡◌, ℕ, true, false, ◌+◌, ◌*◌, ◌≤◌, ◌⊎◌, List, ◌∷◌, ◌++◌, length}
 use Rattle.is_proto.specs.Lists.{Has}
 use Rattle.is_candidate.specs.Candidates.{CandidateRecord}
 use Rattle.is_pair.specs.Pairs.{PairRecord}
@@ -10,21 +10,22 @@ use Rattle.is_rules.specs.Steps as agent
 use Rattle.is_theorems.specs.Progress.{Awaits, IsUnanswered}
 use Rattle.is.specs.declared.world_events.Side.{Side}
 use Rattle.is.specs.AcceptedNominationsIn.{Occurrence, occurrences_in}
-use Rattle.is.specs.Deliveries.{SelectsPath}
+use Rattle.is.specs.Deliveries.{MakesInRound, SelectsPath}
 use Rattle.is.specs.Punctual.{IsTimed}
-use Rattle.is.specs.Selections.{SideRound, all_of, AreKept, AreEachPolled, MakesPollsIn, RoundChecks, IsControlling, IsAnsweredInTime}
-use Rattle.is.specs.World.{WorldRecord, Streams, Call, LoggedEvent, WorldRun, at}
+use Rattle.is.specs.Selections.{SideRound, all_of, state_after, AreKept, AreEachPolled, MayEndInRounds, SideRoundsSuffice, RoundChecks, IsAnsweredInTime}
+use Rattle.is.specs.World.{WorldRecord, Streams, Call, LoggedEvent, WorldRun, at, other}
 use Rattle.is.specs.WorldRoles.{IsNewAgent}
 
 module _ {H P : Type 0} where
-  -- In the first ones of these rounds a check on the path is sent, delivered and answered (`IsAnsweredInTime`). Each of them begins at this
-  -- time or earlier.
+  -- In the first ones of these rounds a check on the path is sent, delivered and answered (`IsAnsweredInTime`), and the other side is
+  -- controlled once it received the check: it was so before, or gives way in a role conflict. Each of them begins at this time or earlier.
   pub record IsAnsweredBy (mac : H → List ℕ → List ℕ → List ℕ) (answers : P → CandidateRecord → ℕ → ℕ → Type 0) (side : Side) (path : Path) (limit : ℕ) (rounds : List (SideRound H P)) : Type 0 where
     pub early : List (SideRound H P)
     pub others : List (SideRound H P)
     pub split : rounds ≡ early ++ others
     pub in_time : (r : SideRound H P) → Has early r → r.now ≤ limit
     pub answered : IsAnsweredInTime mac answers side path (all_of early)
+    pub role : (at (other side) answered.1.comes.handed.following).controlling ≡ false
 
   -- If the side sends a check on the path in one of the rounds, one is answered in a round that begins at most `trip` later.
   abbrev pub AreAnsweredWithin : (H → List ℕ → List ℕ → List ℕ) → (P → CandidateRecord → ℕ → ℕ → Type 0) → Side → Path → ℕ → List (SideRound H P) → Type 0
@@ -34,9 +35,14 @@ module _ {H P : Type 0} where
   abbrev pub SelectsBy : Side → ℕ → List (SideRound H P) → Type 0
   SelectsBy side limit rounds = (r : SideRound H P) × Has rounds r × ((x : Occurrence H P) × Has r.following x × SelectsPath side x.entry) × (r.now ≤ limit)
 
-  -- Two agents are newly created. A segment of their log consists of rounds of the side, in which it is controlling and makes only polls.
-  -- When they begin, no pair of it is valid, and one is due by the time `by`. The first round and the later ones suffice for this pair
-  -- (`AreEachPolled`), and in these the side's caller is punctual. More rounds may follow.
+  -- After each of these entries the side is controlling.
+  abbrev pub StaysControlling : Side → List (Occurrence H P) → Type 0
+  StaysControlling side all = (x : Occurrence H P) → Has all x → (at side x.following).controlling ≡ true
+
+  -- Two agents are newly created. A segment of their log consists of rounds of the side, in which it is controlling, whatever role the
+  -- other side has. Between its `handle_timeout` calls it may add candidates. When the rounds begin, no pair of it is valid, and one is due
+  -- by the time `by`. The first round and the later ones suffice for this pair: as in `rounds`, fewer of them if the side makes only polls
+  -- in these (`AreEachPolled`) than otherwise (`SideRoundsSuffice`). In them its caller is punctual. More rounds may follow.
   pub record OpensInTime (created : WorldRecord H P) (all : List (Occurrence H P)) (side : Side) (pace delay : ℕ) : Type 0 where
     pub new : (x : Side) → IsNewAgent (at x created)
     pub before : List (Occurrence H P)
@@ -46,16 +52,16 @@ module _ {H P : Type 0} where
     pub rest : List (Occurrence H P)
     pub split : all ≡ before ++ (all_of (first ∷ (later ++ more)) ++ rest)
     pub role : (at side first.timeout.before).controlling ≡ true
-    pub controlling : IsControlling side (all_of (first ∷ (later ++ more)))
+    pub controlling : StaysControlling side (all_of (first ∷ (later ++ more)))
     pub by : ℕ
     pub pair : PairRecord
     pub waits : Awaits first.now by (at side first.timeout.before) pair
     pub unanswered : IsUnanswered (at side first.timeout.before) pair
     pub kept : AreKept side by first later
-    pub enough : AreEachPolled side by first later
+    pub enough : AreEachPolled side by first later ⊎ SideRoundsSuffice side by first later (state_after first.timeout.before (all_of (first ∷ later)))
     pub timed : IsTimed side pace delay first later
     pub calls : (r : SideRound H P) → Has more r → r.timeout.entry.event ≡ Call side (agent.HandleTimeout r.now)
-    pub polls : MakesPollsIn side more
+    pub between : (r : SideRound H P) → Has more r → (x : Occurrence H P) → Has r.following x → MakesInRound side x.entry.event
 
   -- all of the rounds
   abbrev pub rounds_in : {created : WorldRecord H P} {all : List (Occurrence H P)} {side : Side} {pace delay : ℕ} → OpensInTime created all side pace delay → List (SideRound H P)
@@ -63,10 +69,12 @@ module _ {H P : Type 0} where
 
   module _ (mac : H → List ℕ → List ℕ → List ℕ) (answers : P → CandidateRecord → ℕ → ℕ → Type 0) where
     -- If in such a segment a check on the pair's path is answered within `trip`, whenever the side sends one, it selects a path. The round of
-    -- this begins after the first one by at most `pace + delay` for each of the later ones, and `trip`. This holds whatever else happens.
+    -- this begins after the first one by at most `pace + delay` for each of the later ones, and `trip`. The exception: a candidate that the
+    -- side adds in the first or in a later one may remove a pair of the path. This holds whatever else happens.
     abbrev pub SelectionsComeInTime : WorldRecord H P → Streams → List (LoggedEvent P) → Type 0
     SelectionsComeInTime first s log =
         (last : WorldRecord H P) (t : Streams) (run : WorldRun mac answers first s 0 log last t) (side : Side) (pace delay trip : ℕ)
         → (k : OpensInTime first (occurrences_in mac answers first s 0 log last t run) side pace delay)
         → AreAnsweredWithin mac answers side (path_of (at side k.first.timeout.before) k.pair) trip (rounds_in k)
         → SelectsBy side (k.first.now + length k.later * (pace + delay) + trip) (rounds_in k)
+        ⊎ MayEndInRounds answers side (path_of (at side k.first.timeout.before) k.pair) (k.first ∷ k.later)

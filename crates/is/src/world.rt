@@ -172,10 +172,10 @@ impl<H: Sha1HmacProvider + Drop, P: LocalPreference> TwoAgents<H, P> {
         // first round begins, for a pacing interval of at most `pace`, unless the path is answered earlier.
         ensures in_time { ChecksComeInTime H.mac P.answers (world_of self.old) (sources (R.stream rng_a.old) (S.stream rng_b.old)) (logged events.items result.entries.items) }
 
-        // In nanoseconds: no pair of the controlling agent is valid, and it has rounds that suffice as in `rounds`, k after the first, in
-        // which it makes only polls, with a punctual caller as in `in_time`. If each check on the path of the pair is answered in a round
-        // that begins at most `trip` later, it selects a path in a round that begins at most k times `pace + delay`, and `trip`, after
-        // the first.
+        // In nanoseconds: no pair of the controlling agent is valid, and it has rounds that suffice as in `rounds`, k after the first, with a
+        // punctual caller as in `in_time`. The other agent may begin in the same role. If each check on the path of the pair is answered in
+        // a round that begins at most `trip` later, it selects a path in a round that begins at most k times `pace + delay`, and `trip`,
+        // after the first, unless a candidate that it adds may remove a pair of the path.
         ensures selects_in_time { SelectionsComeInTime H.mac P.answers (world_of self.old) (sources (R.stream rng_a.old) (S.stream rng_b.old)) (logged events.items result.entries.items) }
 
         // Together, for two new agents with different tie-breakers, in whatever roles they begin: one check of either is delivered,

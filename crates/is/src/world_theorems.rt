@@ -103,7 +103,7 @@ pub(crate) fn checks_come_in_time<H: Sha1HmacProvider, P: LocalPreference>()
 
 /// If the caller of a controlling agent without a valid pair is punctual, and k rounds after the first suffice for a pair whose check is
 /// answered within a round trip, the agent selects a path in a round that begins at most k times one pacing interval and the caller's
-/// delay, and the round trip, after the first.
+/// delay, and the round trip, after the first. It may add candidates, and the other agent may begin in its role.
 pub(crate) fn selections_come_in_time<H: Sha1HmacProvider, P: LocalPreference>()
     ensures { SelectionsInTimeTheorem H.mac P.answers }
 {

@@ -20,11 +20,16 @@ use Rattle.is_rules.specs.Steps.{Entry, ReceivePacket}
 use Rattle.is_rules.specs.Emitted.{reversed}
 
 module _ {H P : Type 0} (mac : H → List ℕ → List ℕ → List ℕ) (answers : P → CandidateRecord → ℕ → ℕ → Type 0) where
+  -- The receiver of a check has the other role than its sender when it receives the check, or afterwards: then it switched, since its
+  -- tie-breaker is the smaller one.
+  abbrev pub AreApart : (sender receiver served : AgentRecord H P) → Type 0
+  AreApart a b served = (b.controlling ≡ not a.controlling) ⊎ (served.controlling ≡ not a.controlling)
+
   -- A check is served on the path on which it is received, and its success response is sent on the reverse of this path.
   abbrev pub CarriedAreServed : Type 0
   CarriedAreServed =
       (a sent b served : AgentRecord H P) (check came : Packet) (id : List ℕ) (at : ℕ) (e : Entry)
-      → IsSound a → IsSound b → KnowEachOther mac a b → b.controlling ≡ not a.controlling → IsReachedBy b (via_out came)
+      → IsSound a → IsSound b → KnowEachOther mac a b → AreApart a b served → IsReachedBy b (via_out came)
       → Issued mac answers Request id check a sent → came.contents ≡ check.contents → Delivered mac answers came at b e served
       → IsTaken mac answers came at e Request
       × ((reply : Packet) × (via_out reply ≡ reversed (via_out came)) × Sends b e Success id reply served)
@@ -52,11 +57,11 @@ module _ {H P : Type 0} (mac : H → List ℕ → List ℕ → List ℕ) (answer
     pub back : goes_back (via_out answer) (via_out k.check) ≡ true
     pub receipt : ReturnedWhilePending mac answers k c.receipt.receiver answer
 
-  -- If a check is sent, and received at any time in the other role than its sender's, it is served. If its success response is
-  -- returned while the check is pending, the exchange succeeds.
+  -- If a check is sent, and received at any time in the other role than its sender's, or its receiver switches to that, it is served. If
+  -- its success response is returned while the check is pending, the exchange succeeds.
   abbrev pub CarriedSucceedLater : Type 0
   CarriedSucceedLater =
-      (k : SentCheck mac answers) (c : CarriedCheck k) → c.receipt.receiver.controlling ≡ not k.sender.controlling
+      (k : SentCheck mac answers) (c : CarriedCheck k) → AreApart k.sender c.receipt.receiver c.receipt.served
       → (s : ServedCheck mac answers k c.came c.receipt)
       × ((r : CarriedBack k c s.reply) → SucceedsOrEnds mac answers k c.receipt.receiver r.answer r.receipt)
 

@@ -11,8 +11,8 @@ use is_proto::Sha1HmacProvider;
 use is_stun::theorems::{addresses_are_written_plain, checks_fit, replies_fit, written_is_read};
 
 /// A check that is delivered to the other of two agents that know each other, while their roles differ, is accepted and gets a
-/// success response. The `handle_timeout` call that sends it stores it as a pending transaction. The response, delivered while
-/// the transaction is pending, is accepted.
+/// success response. So it is if the other agent had the sender's role and switches. The `handle_timeout` call that sends the check
+/// stores it as a pending transaction. The response, delivered while the transaction is pending, is accepted.
 pub fn checks_are_answered<H: Sha1HmacProvider, P: LocalPreference>()
     ensures served { ChecksAreServed H.mac P.answers }
     ensures kept { ChecksAreKept H.mac P.answers }

@@ -8,7 +8,7 @@ ghost use Rattle.is_theorems.specs.TimedRounds.{PairsAreReachedInTime};
 ghost use Rattle.is_theorems.specs.TimedSelections.{PathsAreSelectedInTime};
 ghost use Rattle.is_theorems.specs.TimedSteadyRounds.{NoneIsStarvedInTime};
 
-use crate::reaching::{courses_check_from_due, courses_reach_from_due};
+use crate::reaching::{courses_check_from_due, courses_reach_from_due, courses_reach_unanswered};
 use crate::selecting::successes_select;
 use is_candidate::LocalPreference;
 use is_proto::Sha1HmacProvider;
@@ -69,11 +69,13 @@ pub fn courses_check_in_time<H: Sha1HmacProvider, P: LocalPreference>()
 
 /// The same agent selects a path, if a success response is accepted in a round that begins at most one round trip after a check on the
 /// pair's path: in a round that begins at most k times one pacing interval and δ, and one round trip, after the first. The response may
-/// come several rounds after its check.
+/// come several rounds after its check. Candidates may be added between the `handle_timeout` calls: then the k rounds suffice as in
+/// `courses_reach_unanswered`, and the exception is that such a candidate may remove a pair of the path.
 pub fn courses_select_in_time<H: Sha1HmacProvider, P: LocalPreference>()
     ensures { CoursesSelectInTime H.mac P.answers }
 {
     courses_check_from_due::<H, P>();
+    courses_reach_unanswered::<H, P>();
     successes_select::<H, P>();
 }
 

@@ -149,7 +149,7 @@ module _ {H P : Type 0} (mac : H → List ℕ → List ℕ → List ℕ) (answer
           let c = checked mac answers paths side path over part w last k sound follow in
           let handed = k.comes.handed in
           let there = succeeds (sent-check mac answers side path over part last k c) (carried-check mac answers side path over part last k c)
-          ((roles handed (following_in mac answers side path over part k handed (inl refl))).1 ∙ sym (ap not (roles k.sent (sent_in mac answers side path over part k)).0)) in
+          (inl ((roles handed (following_in mac answers side path over part k handed (inl refl))).1 ∙ sym (ap not (roles k.sent (sent_in mac answers side path over part k)).0))) in
           let reply : Packet = there.0.reply in
           let r : IsReturned mac side path over part k reply = search (returns reply there.0.sends) in
           let z = awaits mac answers side path whole over part last k reply r c.onward (λ x has. among x (awaited_in mac answers side path whole over part k reply r x has)) in

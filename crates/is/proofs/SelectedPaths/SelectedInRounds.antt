@@ -35,7 +35,7 @@ use Rattle.is.proofs.ExternalViews.ViewsOfExecutions.{Has-front, Has-rear, AreSo
 use Rattle.is.proofs.RolesAndChains.RolesAndChainsOfViews.{sound_new}
 use Rattle.is.proofs.TwoAgentEvents.OwnExecutions.{either_has, turn_step, Steered, steered_on, acts_steered}
 use Rattle.is.proofs.TwoAgentEvents.DeliveredPackets.{rewritten, handed}
-use Rattle.is.proofs.TwoAgentEvents.EventsOfSegments.{middle, Follow, follows, cut, state_is, meet, sound_along, acts_at, own, own_course, checked, sent_in, after_in, Awaited, awaits, removed}
+use Rattle.is.proofs.TwoAgentEvents.EventsOfSegments.{middle, Follow, follows, following_in, cut, state_is, meet, sound_along, acts_at, own, own_course, checked, Awaited, awaits, removed}
 use Rattle.is.proofs.TwoAgentEvents.ExchangedChecks.{sent-check, carried-check, carried-back}
 use Rattle.is.proofs.SelectedPaths.SelectedAfterNomination.{own_emitted}
 use Rattle.is.proofs.SelectedPaths.BothSelectInRounds.{round_of, rounds_of, Moves, moved, are_passed, only_polls, same_times, back, SomeChecks, reached_unanswered, in_rounds, succeeds_in}
@@ -118,7 +118,7 @@ module _ {H P : Type 0} (mac : H → List ℕ → List ℕ → List ℕ) (answer
     module _ (paths : PathTheorem {H = H} {P = P} mac answers) (succeeds : CarriedSucceedLater {H = H} {P = P} mac answers) (selects : SuccessesSelect {H = H} {P = P} mac answers) where
       module _ (first start last : WorldRecord H P) (s : Streams) (before part : List (Occurrence H P)) (new : IsNewAgent (at side first)) (sound : AreSound start)
           (led : Follow mac answers first before start) (follow : Follow mac answers start part last) (role : (at side start).controlling ≡ true)
-          (roles : (x : Occurrence H P) → Has part x → Leads x.following) (invalid : (p : PairRecord) → Has (at side start).pairs p → is_valid p ≡ false) where
+          (roles : (x : Occurrence H P) → Has part x → (at side x.following).controlling ≡ true) (invalid : (p : PairRecord) → Has (at side start).pairs p → is_valid p ≡ false) where
         -- what the success response selects
         selected : (ahead rest : List (Occurrence H P)) (again : Occurrence H P) (reply : Packet) (via : Path) (now : ℕ) (u v : Streams) → part ≡ ahead ++ again ∷ rest → Follow mac answers start ahead again.before
             → TakesTurn mac answers again.before u side (agent.ReceivePacket now via reply.contents) again.entry.outcome again.following v
@@ -129,7 +129,7 @@ module _ {H P : Type 0} (mac : H → List ℕ → List ℕ → List ℕ) (answer
             let said = selects (fresh (at side first).provider n.0 n.1) (at side start) (at side again.before) (at side again.following)
             ((agent.SetControlling n.2, quiet Done) ∷ own mac answers side before) (own mac answers side ahead) (source_of side u) turn.left now via reply.contents again.entry.outcome.entry m (n.0, n.1, refl)
             (at side first, source_of side s, source_of side s, tt, (Ok _, refl, (refl, n.3), refl), own_course mac answers side before first start led) invalid (own_course mac answers side ahead start again.before on)
-            (turn_step mac answers again.before again.following u v side call again.entry.outcome turn) brings success (roles again (subst (λ xs. Has xs again) (sym split) (middle ahead rest again))).0 in
+            (turn_step mac answers again.before again.following u v side call again.entry.outcome turn) brings success (roles again (subst (λ xs. Has xs again) (sym split) (middle ahead rest again))) in
             let y = said.0 in
             elim (either_has (own mac answers side ahead) ((call, again.entry.outcome.entry) ∷ []) y.0 y.1) [
               | inl h ↦
@@ -148,21 +148,16 @@ module _ {H P : Type 0} (mac : H → List ℕ → List ℕ → List ℕ) (answer
             selected sp.0 sp.1 x z.in_flight.packet z.via z.now m.s m.t sp.2 m.led (succeeded x m.s m.t path z m.happens)
             (z.accepts.2, (refl, refl, z.accepts.3.2, z.accepts.3.3), z.accepts.4)
 
-        -- the success response to a check that is answered in the segment
-        pub returned : (path : Path) → IsAnsweredInTime mac answers side path part
+        -- the success response to a check that is answered in the segment, if the other side is controlled once it received the check
+        pub returned : (path : Path) → (given : IsAnsweredInTime mac answers side path part) → (at (other side) given.1.comes.handed.following).controlling ≡ false
             → (ahead rest : List (Occurrence H P)) × (again : Occurrence H P) × (reply : Packet) × (via : Path) × (part ≡ ahead ++ again ∷ rest)
             × (h : Hands side via reply again.before again.entry) × IsTaken mac answers (rewritten via reply) h.now again.entry.outcome.entry Success
-        returned path (over, k, returns) =
+        returned path (over, k, returns) controlled =
             let c = checked mac answers paths side path over part start last k sound follow in
             let handing = k.comes.handed in
             let one = meet mac answers k.before k.following k.sent start last (subst (λ xs. Follow mac answers start xs last) k.split follow) in
-            let two = meet mac answers k.comes.between k.comes.rest handing k.sent.following last (subst (λ xs. Follow mac answers k.sent.following xs last) k.comes.split c.onward) in
-            let steers = role_along side true k.before start k.sent.before one.led
-            (λ x has. (roles x (subst (λ xs. Has xs x) (sym k.split) (Has-front k.before (k.sent ∷ k.following) x has))).0) role in
-            let controlled = role_along (other side) false k.comes.between k.sent.following handing.before two.led
-            (λ x has. (roles x (after_in mac answers side path over part k x (subst (λ xs. Has xs x) (sym k.comes.split) (Has-front k.comes.between (handing ∷ k.comes.rest) x has)))).1)
-            (roles k.sent (sent_in mac answers side path over part k)).1 in
-            let there = succeeds (sent-check mac answers side path over part last k c) (carried-check mac answers side path over part last k c) (controlled ∙ sym (ap not steers)) in
+            let steers = role_along side true k.before start k.sent.before one.led (λ x has. roles x (subst (λ xs. Has xs x) (sym k.split) (Has-front k.before (k.sent ∷ k.following) x has))) role in
+            let there = succeeds (sent-check mac answers side path over part last k c) (carried-check mac answers side path over part last k c) (inr (controlled ∙ sym (ap not steers))) in
             let reply : Packet = there.0.reply in
             let in_time : IsReturnedInTime mac answers side path over part k reply = search (returns reply there.0.sends) in
             let r = in_time.returned in
@@ -186,9 +181,10 @@ module _ {H P : Type 0} (mac : H → List ℕ → List ℕ → List ℕ) (answer
                   ∙ sym (append_assoc k.comes.between (k.comes.handed ∷ r.comes.between) (again ∷ r.comes.rest)))) ∙ sym (append_assoc k.before (k.sent ∷ between) (again ∷ r.comes.rest))) in
                   (k.before ++ k.sent ∷ between, r.comes.rest, again, reply, r.via, split, r.comes.hands, taken)
 
-        answered : (path : Path) → IsAnsweredInTime mac answers side path part → (x : Occurrence H P) × Has part x × SelectsPath side x.entry
-        answered path given =
-            let z = returned path given in
+        answered : (path : Path) → (given : IsAnsweredInTime mac answers side path part) → (at (other side) given.1.comes.handed.following).controlling ≡ false
+            → (x : Occurrence H P) × Has part x × SelectsPath side x.entry
+        answered path given controlled =
+            let z = returned path given controlled in
             let m = meet mac answers z.0 z.1 z.2 start last (subst (λ xs. Follow mac answers start xs last) z.5 follow) in
             selected z.0 z.1 z.2 z.3 z.4 z.6.now m.s m.t z.5 m.led (handed mac answers side z.4 z.3 z.2.before z.2.following m.s m.t z.2.entry z.6 m.happens) z.7
 
@@ -276,8 +272,13 @@ module _ {H P : Type 0} (mac : H → List ℕ → List ℕ → List ℕ) (answer
         succeeded_on : (its : Path) (x : SideRound H P) → Has (r ∷ rounds) x → IsAnsweredAlong (own mac answers side x.following) its → (y : Occurrence H P) × Has part y × SelectsPath side y.entry
         succeeded_on its x has is =
             let y = succeeds_in mac answers side its x.following is in
-            accepted side paths succeeds selects first start on.0 s before part (segment.new side) sound to on.1 segment.role steady segment.unanswered.invalid its y.0
+            accepted side paths succeeds selects first start on.0 s before part (segment.new side) sound to on.1 segment.role (λ z there. (steady z there).0) segment.unanswered.invalid its y.0
             (Has-front (all_of (r ∷ rounds)) more y.0 (in_rounds mac answers (r ∷ rounds) x y.0 has y.1)) y.2
 
         sends : SomeChecks mac answers path (r ∷ rounds) → (x : Occurrence H P) × Has part x × SelectsPath side x.entry
-        sends (x, has, sent) = answered side paths succeeds selects first start on.0 s before part (segment.new side) sound to on.1 segment.role steady segment.unanswered.invalid path (search (answers_so x has sent))
+        sends (x, has, sent) = by_answer (search (answers_so x has sent)) where
+          by_answer : IsAnsweredInTime mac answers side path part → (x : Occurrence H P) × Has part x × SelectsPath side x.entry
+          by_answer given =
+              let k = given.1 in
+              answered side paths succeeds selects first start on.0 s before part (segment.new side) sound to on.1 segment.role (λ z there. (steady z there).0) segment.unanswered.invalid path given
+              (steady k.comes.handed (following_in mac answers side path given.0 part k k.comes.handed (inl refl))).1

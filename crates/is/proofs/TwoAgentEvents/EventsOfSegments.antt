@@ -253,7 +253,7 @@ module _ {H P : Type 0} (mac : H → List ℕ → List ℕ → List ℕ) (answer
     ends_polled _ ps a b course (inl (p, has, joins, none)) = none
     ends_polled _ ps a b course (inr none) = none
 
-    ends_at : (w : WorldRecord H P) (v : Event P) (e : Entry) (b : AgentRecord H P) → (course : Course mac answers (acts side w v e) (at side w) b)
+    pub ends_at : (w : WorldRecord H P) (v : Event P) (e : Entry) (b : AgentRecord H P) → (course : Course mac answers (acts side w v e) (at side w) b)
         → EndsAlong mac answers (acts side w v e) (at side w) b course path → (c : agent.Call P) × (v ≡ world.Call side c) × Ends answers (at side w) c e path
     ends_at w (world.Call s c) e b course ends = by (in_world c) course ends where
       by : (within : Bool) (on : Course mac answers (only side s (if within then (c, e) ∷ [] else [])) (at side w) b)

@@ -1,5 +1,5 @@
 -- A check that is delivered is served, and its response is accepted.
-use Rattle.std.proofs.Common.{◌≡◌, ℕ, ◌+◌, ◌≤◌, ◌==◌, ◌&&◌, Bool, true, false, not, List, [], ◌∷◌, ◌++◌, length, position, Option, Some, None, Result, Ok, Err, inl, inr, refl, ap, sym, ◌∙◌, subst, arith, bytes_eq, if◌then◌else◌}
+use Rattle.std.proofs.Common.{◌≡◌, ℕ, ◌+◌, ◌≤◌, ◌==◌, ◌&&◌, ◌||◌, Bool, true, false, not, List, [], ◌∷◌, ◌++◌, length, map, position, Option, Some, None, is_some, Result, Ok, Err, inl, inr, refl, ap, sym, ◌∙◌, subst, arith, bytes_eq, if◌then◌else◌}
 use Rattle.std.specs.Prelude.{MatchBool, MatchOption, IsSomeAnd, IfSome}
 use Rattle.std.specs.List.{list_any, position_or_len}
 use Rattle.std.specs.Option.{option_or, option_map_or}
@@ -11,7 +11,9 @@ use Rattle.is_proto.specs.Packets.{Packet}
 use Rattle.is_proto.specs.declared.error.IceError.{IceError}
 use Rattle.is_proto.specs.declared.error.ParseFault.{ParseFault}
 use Rattle.is_candidate.specs.Candidates.{CandidateRecord, candidate_at}
+use Rattle.is_candidate.specs.Equality.{is_temporary}
 use Rattle.is_candidate.specs.Priorities.{check_priority}
+use Rattle.is_pair.specs.Pairs.{PairRecord}
 use Rattle.is_stun.specs.declared.header.Class.{Class}
 use Rattle.is_stun.specs.declared.header.Class.TheVariants as class
 use Rattle.is_stun.specs.Checks.{binding_request, binding_reply, with_nomination}
@@ -23,32 +25,33 @@ use Rattle.is_stun.specs.Writing.{written}
 use Rattle.is_rules.specs.declared.credentials.IceCreds.{IceCreds}
 use Rattle.is_rules.specs.declared.places.RemotePlace.{RemotePlace}
 use Rattle.is_rules.specs.declared.places.RemotePlace.TheVariants.{Known, Barred, Unknown, Vacant, Full}
-use Rattle.is_rules.specs.declared.roles.Conflict.TheVariants.{Absent}
+use Rattle.is_rules.specs.declared.roles.Conflict.{Conflict}
+use Rattle.is_rules.specs.declared.roles.Conflict.TheVariants.{Absent, Send487, SwitchRole}
 use Rattle.is_rules.specs.declared.emitted.Path.{Path}
 use Rattle.is_rules.specs.declared.emitted.Issued as code
 use Rattle.is_rules.specs.declared.emitted.Emitted.{Emitted}
 use Rattle.is_rules.specs.Agent.{AgentRecord}
 use Rattle.is_rules.specs.Accepting.{HandlesPacket, IsAcceptedAs, IsAcceptedOn, IsAddressed, Takes}
 use Rattle.is_rules.specs.Answers.{keeps_check_on}
-use Rattle.is_rules.specs.Brought.{IsServing}
+use Rattle.is_rules.specs.Brought.{IsServing, role_once}
 use Rattle.is_rules.specs.Checking.{username_between}
-use Rattle.is_theorems.specs.Carried.{CarriedAreServed, CarriedAreAccepted}
+use Rattle.is_theorems.specs.Carried.{AreApart, CarriedAreServed, CarriedAreAccepted}
 use Rattle.is_theorems.specs.Delivery.{IsFragment, KnowEachOther, IsReachedBy, Sends, Delivered, Issued, IsTaken, ChecksAreServed, RepliesAreAccepted, receives, is_gone_at}
 use Rattle.is_rules.specs.Fitting.{USERNAME_LIMIT, are_too_long}
 use Rattle.is_rules.specs.Issuing.{Says, IsIssued, key_for, via_out}
-use Rattle.is_rules.specs.Limit.{has_room, IsVacancy, IsSenderPlace, HasPlaceFor}
+use Rattle.is_rules.specs.Limit.{has_room, is_on, IsVacancy, IsSenderPlace, HasPlaceFor}
 use Rattle.is_rules.specs.Places.{is_live, is_reached, is_sender, local_place, place_by, IsRemotePlace, IsGreatestPlace}
 use Rattle.is_rules.specs.Request.{RequestRecord, request_in, rival_in}
-use Rattle.is_rules.specs.Roles.{conflict_by, conflict_of, keeps_role}
+use Rattle.is_rules.specs.Roles.{conflict_by, conflict_of, keeps_role, switched, switched_sides, with_priority_in}
 use Rattle.is_rules.specs.Sending.{carried, path_between}
-use Rattle.is_rules.specs.Forming.{formed, with_pair}
+use Rattle.is_rules.specs.Forming.{formed, SidesRecord, with_pair}
 use Rattle.is_rules.specs.Serving.{is_misled, names_another, request_counted, with_sender, with_sender_at, Drops, Queues, TakesRequest, RecordsAndResponds, AddsPairAndResponds, FindsOrAddsPair, AddsUnknownSender, FindsSender, CountsAndServes, ResolvesRoleConflictBy, ResolvesRoleConflict, ServesHere, Serves}
 use Rattle.is_rules.specs.Sound.{IsSound}
 use Rattle.is_rules.specs.Steps.{answer_by, Call, Entry, Flag, ReceivePacket, Receives, is_rejection}
 use Rattle.is_rules.specs.Emitted.{issued_as, reversed}
 use Rattle.is_theorems.proofs.RuleEffects.UnchangedSettings.{either}
 use Rattle.is_theorems.proofs.BasicLemmas.EqualAddresses.{both}
-use Rattle.is_theorems.proofs.CallEffects.PathAndTradeEffects.{issues}
+use Rattle.is_theorems.proofs.CallEffects.PathAndTradeEffects.{issues, trade_theorem}
 use Rattle.is_theorems.proofs.BasicLemmas.UsernamesAndFirstMatches.{splits, first_found, any_has}
 use Rattle.is_theorems.proofs.CallEffects.PathEffects.{path_effect}
 use Rattle.is_rules.proofs.PollsAndResponses.AddressesInResponses.{plain-reply}
@@ -231,18 +234,42 @@ module _ {H P : Type 0} (mac : H → List ℕ → List ℕ → List ℕ) (answer
               let no : true ≡ false = sym e ∙ rw (is-unknown s is, filled) refl in cc
           lacks filled none (inr (k, lt, vacant)) = let no : true ≡ false = sym vacant ∙ none k lt in cc
 
-    -- the roles differ, USE-CANDIDATE comes only from a controlling agent, and the candidates exist: so the request
-    -- is served
+    -- USE-CANDIDATE comes only from a controlling agent, and the candidates exist: so the request is served
+    admitted : (l : ℕ) (s new : AgentRecord H P) (emitted : Emitted) → (candidate_at s.local l).discarded ≡ false → list_any (is_gone_at q.path) s.remote ≡ false → HasPlaceFor s q.path
+        → is_misled s.controlling q ≡ false → CountsAndServes mac q l s emitted new → Replied emitted
+    admitted l s new emitted live from room led n =
+        let o : FindsSender mac q l (request_counted s) emitted new = subst (λ b. MatchBool b (Drops s emitted new) (FindsSender mac q l (request_counted s) emitted new)) led n in
+        joins_at l o.0 (request_counted s) new emitted live (is-met s o.0 from o.1) (fits-in s o.0 room o.1) o.2
+
+    -- a candidate that no pair has is free after the role has switched, too
+    still-free : (sides : SidesRecord) (k : ℕ) (pairs : List PairRecord) → list_any (is_on k) (map (with_priority_in sides) pairs) ≡ list_any (is_on k) pairs
+    still-free sides k [] = refl
+    still-free sides k (p ∷ pairs) = ap (λ b. is_on k p || b) (still-free sides k pairs)
+
+    still-room : (s : AgentRecord H P) → HasPlaceFor s q.path → HasPlaceFor (switched s) q.path
+    still-room s (inl known) = inl known
+    still-room s (inr (k, lt, vacant)) =
+        inr (k, omega (arith, lt), subst (λ b. (is_temporary (candidate_at s.remote k) && not b) ≡ true) (sym (still-free (switched_sides s) k s.pairs)) vacant)
+
+    resolved : (s new : AgentRecord H P) (emitted : Emitted) → names_another s q ≡ false → (l : ℕ) → local_place s.local q ≡ Some l → Serves mac q s emitted new → ResolvesRoleConflict mac q l s emitted new
+    resolved s new emitted named l place h =
+        let k : ServesHere mac q s emitted new = subst (λ b. MatchBool b (Drops s emitted new) (ServesHere mac q s emitted new)) named h in
+        subst (λ o. MatchOption o (Drops s emitted new) (λ l. ResolvesRoleConflict mac q l s emitted new)) place k
+
+    -- the roles differ
     serves : (s new : AgentRecord H P) (emitted : Emitted) → names_another s q ≡ false → IsReachedBy s q.path → conflict_of s q ≡ Absent
         → is_misled s.controlling q ≡ false → Serves mac q s emitted new → Replied emitted
     serves s new emitted named reached apart led h =
-        let k : ServesHere mac q s emitted new = subst (λ b. MatchBool b (Drops s emitted new) (ServesHere mac q s emitted new)) named h in
         let place = live_place s q reached.there in
-        let l = place.0 in
-        let m : ResolvesRoleConflict mac q l s emitted new = subst (λ o. MatchOption o (Drops s emitted new) (λ l. ResolvesRoleConflict mac q l s emitted new)) place.1 k in
-        let n : CountsAndServes mac q l s emitted new = subst (λ c. ResolvesRoleConflictBy mac c q l s emitted new) apart m in
-        let o : FindsSender mac q l (request_counted s) emitted new = subst (λ b. MatchBool b (Drops s emitted new) (FindsSender mac q l (request_counted s) emitted new)) led n in
-        joins_at l o.0 (request_counted s) new emitted place.2 (is-met s o.0 reached.from o.1) (fits-in s o.0 reached.room o.1) o.2
+        admitted place.0 s new emitted place.2 reached.from reached.room led (subst (λ c. ResolvesRoleConflictBy mac c q place.0 s emitted new) apart (resolved s new emitted named place.0 place.1 h))
+
+    -- the agent switches its role
+    serves-switched : (s new : AgentRecord H P) (emitted : Emitted) → names_another s q ≡ false → IsReachedBy s q.path → conflict_of s q ≡ SwitchRole
+        → is_misled (not s.controlling) q ≡ false → Serves mac q s emitted new → Replied emitted
+    serves-switched s new emitted named reached switches led h =
+        let place = live_place s q reached.there in
+        admitted place.0 (switched s) new emitted place.2 reached.from (still-room s reached.room) led
+        (subst (λ c. ResolvesRoleConflictBy mac c q place.0 s emitted new) switches (resolved s new emitted named place.0 place.1 h))
 
   -- ---- the result of a packet
 
@@ -357,20 +384,41 @@ module _ {H P : Type 0} (mac : H → List ℕ → List ℕ → List ℕ) (answer
 
     pub carried-are-served : CarriedAreServed mac answers
     carried-are-served a sent b served check came id at e sound_a sound_b know apart reached issued unaltered delivered =
-        let k = check-comes a sent b served check came id at e sound_a know issued unaltered delivered in
-        let q : RequestRecord = request_in at (via_out came) k.message in
-        let rival_of : rival_in b.controlling q ≡ None =
-        subst (λ r. rival_in r q ≡ None) (sym apart) (no_rival a.controlling q a.tie_breaker k.controlling k.controlled) in
-        let led : is_misled b.controlling q ≡ false = subst (λ r. (r && q.use_candidate) ≡ false) (sym apart) (not_misled a.controlling q.use_candidate k.leads) in
-        let reply = serves q b k.mid e.emitted k.named reached (ap (λ o. conflict_by (keeps_role b) b.tie_breaker o) rival_of) led k.serves in (
+        let reply = replied (conflict_of b q) refl apart in (
           (k.message, (refl, refl, k.reads, k.accepted), k.request),
           goes-back class.Success b served came id at e sound_b delivered (λ packet m says. says.3 ∙ ap reversed (brought-by b came at e says.0 says.1))
               reply.0 (reply.1 ∙ ap (λ i. Some (issued_as reply.0 class.Success i)) k.id_is),
-        )
+        ) where
+          k : Comes mac a b came id at e
+          k = check-comes a sent b served check came id at e sound_a know issued unaltered delivered
+
+          q : RequestRecord
+          q = request_in at (via_out came) k.message
+
+          role : served.controlling ≡ role_once (conflict_of b q) b.controlling
+          role =
+              let place = live_place b q reached.there in
+              (trade_theorem mac answers b served delivered.before delivered.following (ReceivePacket at (via_out came) came.contents) e sound_b tt delivered.step).settled q
+              (at, via_out came, k.message, (refl, refl, k.reads, k.accepted), k.request, ap (λ o. is_some o) know.its, refl) (k.named, (place.0, place.1))
+
+          led : (r : Bool) → r ≡ not a.controlling → is_misled r q ≡ false
+          led r other = subst (λ z. (z && q.use_candidate) ≡ false) (sym other) (not_misled a.controlling q.use_candidate k.leads)
+
+          differ : b.controlling ≡ not a.controlling → Replied q e.emitted
+          differ other =
+              let rival_of : rival_in b.controlling q ≡ None = subst (λ r. rival_in r q ≡ None) (sym other) (no_rival a.controlling q a.tie_breaker k.controlling k.controlled) in
+              serves q b k.mid e.emitted k.named reached (ap (λ o. conflict_by (keeps_role b) b.tie_breaker o) rival_of) (led b.controlling other) k.serves
+
+          replied : (c : Conflict) → conflict_of b q ≡ c → AreApart mac answers a b served → Replied q e.emitted
+          replied c is (inl other) = differ other
+          replied Absent is (inr after) = differ (sym (role ∙ ap (λ c. role_once c b.controlling) is) ∙ after)
+          replied Send487 is (inr after) = differ (sym (role ∙ ap (λ c. role_once c b.controlling) is) ∙ after)
+          replied SwitchRole is (inr after) =
+              serves-switched q b k.mid e.emitted k.named reached is (led (not b.controlling) (sym (role ∙ ap (λ c. role_once c b.controlling) is) ∙ after)) k.serves
 
     pub checks-are-served : ChecksAreServed mac answers
     checks-are-served a sent b served check id at e sound_a sound_b know apart reached issued delivered =
-        carried-are-served a sent b served check check id at e sound_a sound_b know apart reached issued refl delivered
+        carried-are-served a sent b served check check id at e sound_a sound_b know (inl apart) reached issued refl delivered
 
   -- ---- its response
 

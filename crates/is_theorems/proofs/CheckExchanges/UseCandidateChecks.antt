@@ -1,5 +1,5 @@
 -- A check on a nominated path has USE-CANDIDATE.
-use Rattle.std.proofs.Common.{◌≡◌, ℕ, ◌≤◌, ◌&&◌, ◌||◌, Bool, true, false, not, List, [], ◌∷◌, ◌++◌, length, Some, is_some, refl, ap, sym, ◌∙◌, subst, if◌then◌else◌, Option, None, ◌==◌, max, unwrap_or, arith}
+use Rattle.std.proofs.Common.{◌≡◌, ℕ, ◌≤◌, ◌&&◌, ◌||◌, Bool, true, false, not, List, [], ◌∷◌, ◌++◌, length, Some, is_some, inl, refl, ap, sym, ◌∙◌, subst, if◌then◌else◌, Option, None, ◌==◌, max, unwrap_or, arith}
 use Rattle.is_proto.specs.Lists.{Has}
 use Rattle.is_proto.specs.Packets.{Packet}
 use Rattle.is_candidate.specs.Candidates.{CandidateRecord, candidate_at}
@@ -79,7 +79,7 @@ module _ {H P : Type 0} (mac : H → List ℕ → List ℕ → List ℕ) (answer
       → length username ≤ USERNAME_LIMIT → FitsInto key LONGEST_NUMBERED_CHECK (with_nomination number (binding_request username id controlling tie_breaker priority nominates))) where
     pub carried-ask : CarriedAreServed mac answers → CarriedAsk mac answers
     carried-ask served_law k c role other nominated =
-        let taken = served_law k.sender k.sent b got.served k.check c.came k.id got.at got.handed (search k.sound) (search got.sound) (search c.know) (search other ∙ ap not (sym role)) (search got.reached)
+        let taken = served_law k.sender k.sent b got.served k.check c.came k.id got.at got.handed (search k.sound) (search got.sound) (search c.know) (inl (search other ∙ ap not (sym role))) (search got.reached)
         (issued-check mac answers k) (search c.unaltered) (search got.delivered) in
         let x = checks-as mac answers k.sender k.sent k.before k.following k.now (via_out k.check) k.id k.timeout k.sends.emitted k.step in
         let know_old : KnowEachOther mac x.old b =

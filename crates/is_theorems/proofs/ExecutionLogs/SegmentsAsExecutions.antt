@@ -121,7 +121,7 @@ module _ {H P : Type 0} (mac : H → List ℕ → List ℕ → List ℕ) (answer
 
   -- ---- the rounds of a segment
 
-  abbrev pass_from : (more : List (CourseRound P)) (a b last : AgentRecord H P) → a ≡ b → PassRounds mac answers more a last → PassRounds mac answers more b last
+  abbrev pub pass_from : (more : List (CourseRound P)) (a b last : AgentRecord H P) → a ≡ b → PassRounds mac answers more a last → PassRounds mac answers more b last
   pass_from [] a b last same is = is ∙ same
   pass_from (r ∷ later) a b last same (mid, next, s, t, step, course, more) =
       (mid, next, s, t, subst (λ (z : AgentRecord H P). Step mac answers z s (HandleTimeout r.now) r.timeout mid t) same step, course, more)

@@ -1,5 +1,4 @@
--- A controlling agent without a valid pair selects a path at the first success response that it accepts: in a call, and in rounds in which
--- only packets and polls come.
+-- A controlling agent without a valid pair selects a path at the first success response that it accepts: in a call, and in rounds.
 use Rattle.std.proofs.Common.{◌≡◌, ℕ, true, List, [], ◌∷◌, ◌++◌, None, is_some, inl, inr, ◌⊎◌, refl, ap, sym, ◌∙◌, subst, arith}
 use Rattle.rand_core.specs.Stream.{Stream}
 use Rattle.is_proto.specs.Lists.{Has}
@@ -15,14 +14,14 @@ use Rattle.is_rules.specs.Sound.{IsSound}
 use Rattle.is_rules.specs.Steps.{Call, Entry, Flag, ReceivePacket, HandleTimeout, Step}
 use Rattle.is_theorems.specs.AskedCourses.{selected_along, SelectsAlong, SuccessesSelect}
 use Rattle.is_theorems.specs.Courses.{AcceptsSuccess, ControlsAlong, CourseRound, CourseRounds}
-use Rattle.is_theorems.specs.Exchange.{AreBetween, Course}
+use Rattle.is_theorems.specs.Exchange.{Course}
+use Rattle.is_theorems.specs.FirstTimeouts.{AreInRound}
 use Rattle.is_theorems.specs.Runs.{IsFresh}
 use Rattle.is_theorems.specs.SelectedInTime.{AcceptsBy, SelectsBy}
 use Rattle.is_theorems.proofs.CallEffects.PathAndTradeEffects.{path_theorem}
 use Rattle.is_theorems.proofs.DuePairs.AfterPackets.{NoneValid}
 use Rattle.is_theorems.proofs.DuePairs.NoNominationDue.{Quiet, quiet-call, quiet-timeout}
 use Rattle.is_theorems.proofs.PathSelection.NominatedByPeerPerAgent.{course_on}
-use Rattle.is_theorems.proofs.PollingRounds.DuePairsPerAgent.{between_in}
 use Rattle.is_theorems.proofs.StoredPairs.TransactionsOverPackets.{sound-course}
 
 -- The call accepts a success response and selects a path.
@@ -55,12 +54,12 @@ module _ {H P : Type 0} (mac : H → List ℕ → List ℕ → List ℕ) (answer
   SelectsHere xs = (x : Call P × Entry) × Has xs x × SelectsBySuccess x.0 x.1
 
   -- a path is selected, or no pair is valid afterwards
-  quiet-round : (xs : List (Call P × Entry)) (old new : AgentRecord H P) (zs : List (Call P × Entry)) → Course mac answers zs first old → AreBetween xs → IsSound old
+  quiet-round : (xs : List (Call P × Entry)) (old new : AgentRecord H P) (zs : List (Call P × Entry)) → Course mac answers zs first old → AreInRound xs → IsSound old
       → (course : Course mac answers xs old new) → ControlsAlong mac answers xs old new course → Quiet old → SelectsHere xs ⊎ Quiet new
   quiet-round [] old new zs led fits sound is along q = inr (subst (λ (a : AgentRecord H P). Quiet a) (sym is) q)
   quiet-round (x ∷ rest) old new zs led fits sound (mid, s, t, given, step, more) along q =
       let sound_mid : IsSound mid = (path_theorem mac answers old mid s t x.0 x.1 sound given step).1 in
-      elim (quiet-call mac answers x.0 x.1 old mid s t (between_in x.0 (fits x (inl refl))) sound given q step) [
+      elim (quiet-call mac answers x.0 x.1 old mid s t (fits x (inl refl)) sound given q step) [
         | inl success ↦ inl (x, inl refl, selects-at x.0 x.1 old mid s t zs led q.invalid step along.0 success)
         | inr still ↦
             elim (quiet-round rest mid new (zs ++ x ∷ []) (course_on mac answers zs (x ∷ []) first old mid led (mid, s, t, given, step, refl)) (λ y has. fits y (inr has)) sound_mid more along.1 still) [
@@ -70,14 +69,14 @@ module _ {H P : Type 0} (mac : H → List ℕ → List ℕ → List ℕ) (answer
       ]
 
   -- a path is selected, if a success response is accepted
-  success-in-round : (y : Call P × Entry) (xs : List (Call P × Entry)) (old new : AgentRecord H P) (zs : List (Call P × Entry)) → Course mac answers zs first old → AreBetween xs → IsSound old
+  success-in-round : (y : Call P × Entry) (xs : List (Call P × Entry)) (old new : AgentRecord H P) (zs : List (Call P × Entry)) → Course mac answers zs first old → AreInRound xs → IsSound old
       → (course : Course mac answers xs old new) → ControlsAlong mac answers xs old new course → Quiet old → Has xs y → AcceptsSuccess y.0 y.1 → SelectsHere xs
   success-in-round y [] old new zs led fits sound is along q has success = absurd has
   success-in-round y (x ∷ rest) old new zs led fits sound (mid, s, t, given, step, more) along q (inl is) success =
       (x, inl refl, selects-at x.0 x.1 old mid s t zs led q.invalid step along.0 (subst (λ (z : Call P × Entry). AcceptsSuccess z.0 z.1) (sym is) success))
   success-in-round y (x ∷ rest) old new zs led fits sound (mid, s, t, given, step, more) along q (inr has) success =
       let sound_mid : IsSound mid = (path_theorem mac answers old mid s t x.0 x.1 sound given step).1 in
-      elim (quiet-call mac answers x.0 x.1 old mid s t (between_in x.0 (fits x (inl refl))) sound given q step) [
+      elim (quiet-call mac answers x.0 x.1 old mid s t (fits x (inl refl)) sound given q step) [
         | inl first_success ↦ (x, inl refl, selects-at x.0 x.1 old mid s t zs led q.invalid step along.0 first_success)
         | inr still ↦
             (let k = success-in-round y rest mid new (zs ++ x ∷ []) (course_on mac answers zs (x ∷ []) first old mid led (mid, s, t, given, step, refl)) (λ z there. fits z (inr there)) sound_mid more along.1 still has success in
@@ -87,7 +86,7 @@ module _ {H P : Type 0} (mac : H → List ℕ → List ℕ → List ℕ) (answer
   -- ---- rounds
 
   pub selects-by : (limit : ℕ) (rounds : List (CourseRound P)) (old last : AgentRecord H P) (zs : List (Call P × Entry)) → Course mac answers zs first old → IsSound old → Quiet old
-      → CourseRounds mac answers rounds old last → ((x : CourseRound P) → Has rounds x → AreBetween x.following) → AcceptsBy limit rounds → SelectsBy limit rounds
+      → CourseRounds mac answers rounds old last → ((x : CourseRound P) → Has rounds x → AreInRound x.following) → AcceptsBy limit rounds → SelectsBy limit rounds
   selects-by limit [] old last zs led sound q run fits accepts = absurd accepts
   selects-by limit (r ∷ later) old last zs led sound q (mid, next, s, t, step, role, course, along, more) fits (in_time, accepts) =
       let sound_mid : IsSound mid = (path_theorem mac answers old mid s t (HandleTimeout r.now) r.timeout sound tt step).1 in

@@ -21,7 +21,7 @@ use Rattle.is_theorems.specs.Exchange.{AreBetween, Course}
 use Rattle.is_rules.specs.Polls.{PollsTimeout, soon}
 use Rattle.is_theorems.specs.Progress.{Awaits, IsUnanswered}
 use Rattle.is_theorems.specs.Reached.{IsInLine, IsLasting, nominations_ahead}
-use Rattle.is_theorems.specs.ReachedCourses.{IsPassed, PassRounds, selections_among}
+use Rattle.is_theorems.specs.ReachedCourses.{IsAnsweredAmong, IsPassed, PassRounds, selections_among}
 use Rattle.is_theorems.specs.Runs.{IsFresh}
 use Rattle.is_theorems.specs.SelectedInTime.{SelectsBy}
 use Rattle.is_rules.specs.Sending.{path_of}
@@ -62,7 +62,7 @@ deadline-is : (a b : Option ℕ) → NextTimeout a ≡ NextTimeout b → a ≡ b
 deadline-is a b h = cc
 
 -- what is both valid and not
-never : {X : Type 0} {b : Bool} → b ≡ true → b ≡ false → X
+pub never : {X : Type 0} {b : Bool} → b ≡ true → b ≡ false → X
 never is isnt = let no : true ≡ false = sym is ∙ isnt in absurd (cc)
 
 -- ---- the times of rounds
@@ -84,7 +84,31 @@ module _ {P : Type 0} where
       let m : suc (length later) * each ≡ length later * each + each = suc-mul (length later) each in
       omega (arith, k, m)
 
+  -- ---- a success response on the path
+
+  -- It is received in one of the rounds. This round, and each one before it, begins at this time or earlier.
+  abbrev pub IsAnsweredBy : Path → ℕ → List (CourseRound P) → Type 0
+  IsAnsweredBy path limit [] = ⊥
+  IsAnsweredBy path limit (r ∷ later) = (r.now ≤ limit) × (IsAnsweredAlong r.following path ⊎ IsAnsweredBy path limit later)
+
+  answered-later : (path : Path) (one two : ℕ) (rounds : List (CourseRound P)) → one ≤ two → IsAnsweredBy path one rounds → IsAnsweredBy path two rounds
+  answered-later path one two [] le answered = absurd answered
+  answered-later path one two (r ∷ later) le (here, answered) = (
+    omega (arith, here, le),
+    elim answered [ inl in_it ↦ inl in_it | inr after ↦ inr (answered-later path one two later (omega (arith, le)) after) ],
+  )
+
+  answered-among : (path : Path) (limit : ℕ) (rounds : List (CourseRound P)) → IsAnsweredBy path limit rounds → IsAnsweredAmong rounds path
+  answered-among path limit [] answered = absurd answered
+  answered-among path limit (r ∷ later) (here, inl in_it) = (r, inl refl, in_it)
+  answered-among path limit (r ∷ later) (here, inr after) = let k = answered-among path limit later after in (k.0, inr k.1, k.2)
+
 module _ {H P : Type 0} where
+  -- the path is reached (`IsReachedBy`), and if by a success response, in a round that begins by this time
+  abbrev pub IsReachedSoon : (mac : H → List ℕ → List ℕ → List ℕ) (answers : P → CandidateRecord → ℕ → ℕ → Type 0) (limit : ℕ) (rounds : List (CourseRound P)) (old new : AgentRecord H P)
+      → PassRounds mac answers rounds old new → Path → Type 0
+  IsReachedSoon mac answers limit rounds old new run path = ChecksBy limit rounds path ⊎ (IsAnsweredBy path limit rounds ⊎ EndsAmong mac answers rounds old new run path)
+
   module _ (mac : H → List ℕ → List ℕ → List ℕ) (answers : P → CandidateRecord → ℕ → ℕ → Type 0) (pace delay by n : ℕ) (path : Path) (keeps : ℕ → Bool) where
     -- ---- one round
 
@@ -173,7 +197,7 @@ module _ {H P : Type 0} where
         → ((m : ℕ) → keeps m ≡ true → answered_at old p m ≡ true) → p.number ≡ n → path_of old p ≡ path
         → by ≤ r.now → r.timeout.answer ≡ Done → AreInRound r.following → (run : PassRounds mac answers (r ∷ later) old last) → ((x : CourseRound P) → Has later x → IsOpenRound by x)
         → ((x : CourseRound P) → Has later x → keeps x.now ≡ true) → old.timing_advance ≤ pace → ((x : CourseRound P) → Has (r ∷ later) x → KeepsPace pace x.following) → IsPunctual delay r later
-        → ComeBy r.now (pace + delay) (r ∷ later) ⊎ IsReachedBy mac answers (r.now + length later * (pace + delay)) (r ∷ later) old last run path
+        → ComeBy r.now (pace + delay) (r ∷ later) ⊎ IsReachedSoon mac answers (r.now + length later * (pace + delay)) (r ∷ later) old last run path
     timely r [] old last p sound line lasts number on from done between run opens lasting slow keeping punctual = inl (omega arith, tt)
     timely r (x ∷ later) old last p sound line lasts number on from done between (mid, after, s, t, step, course, more) opens lasting slow keeping (prompt, punctual) =
         let sound_mid : IsSound mid = (path_theorem mac answers old mid s t (HandleTimeout r.now) r.timeout sound tt step).1 in
@@ -182,7 +206,7 @@ module _ {H P : Type 0} where
         elim (timeout-on mac answers by n path keeps r.now (omega (arith, from)) r.timeout old mid s t p done step sound sound_mid line lasts number on) [
           | inl (id, out) ↦ inr (inl (r, inl refl, (id, out), omega arith))
           | inr (other, w) ↦ elim (walk r.now (omega (arith, from)) r.following mid after w sound_mid (omega (arith, slow, same)) (keeping r (inl refl)) (λ y has. between y has) course) [
-            | inl answered ↦ inr (inr (inl (r, inl refl, answered)))
+            | inl answered ↦ inr (inr (inl (omega arith, inl answered)))
             | inr (inl ends) ↦ inr (inr (inr (inl ends)))
             | inr (inr (v, slow_after, in_time)) ↦
                 (let close : x.now ≤ r.now + (pace + delay) = in_time x.now prompt in
@@ -193,7 +217,7 @@ module _ {H P : Type 0} where
                 (λ y has. lasting y (inr has)) (omega (arith, slow_after)) (λ y has. keeping y (inr has)) punctual) [
                   | inl come ↦ inl (omega arith, come-later x.now (r.now + (pace + delay)) (pace + delay) (x ∷ later) (omega (arith, close)) come)
                   | inr (inl (y, has, out, by_then)) ↦ inr (inl (y, inr has, out, omega (arith, by_then, close, m)))
-                  | inr (inr (inl (y, has, is))) ↦ inr (inr (inl (y, inr has, is)))
+                  | inr (inr (inl answered)) ↦ inr (inr (inl (omega arith, inr (answered-later path _ _ (x ∷ later) (omega (arith, close, m)) answered))))
                   | inr (inr (inr ends)) ↦ inr (inr (inr (inr ends)))
                 ])
           ]
@@ -220,10 +244,24 @@ module _ {H P : Type 0} where
           ]
         ]
 
+    -- the same, with a bound on the round of a success response
+    pub rounds-come-soon : (first start last : AgentRecord H P) (xs : List (Call P × Entry)) (r : CourseRound P) (later : List (CourseRound P)) (p : PairRecord) (by pace delay : ℕ)
+        → IsFresh first → Course mac answers xs first start → Lined r.now by start p → by ≤ r.now → r.timeout.answer ≡ Done → AreInRound r.following
+        → (run : PassRounds mac answers (r ∷ later) start last) → ((x : CourseRound P) → Has later x → IsOpenRound by x)
+        → ((x : CourseRound P) → Has later x → IsLasting x.now start p) → IsTimed pace delay start r later
+        → ComeBy r.now (pace + delay) (r ∷ later) ⊎ IsReachedSoon mac answers (r.now + length later * (pace + delay)) (r ∷ later) start last run (path_of start p)
+    rounds-come-soon first start last xs r later p by pace delay fresh course line from done between run opens lasting timed =
+        timely mac answers pace delay by p.number (path_of start p) (answered_at start p) r later start last p (sound-after first start xs fresh course) line (λ m is. is) refl refl (omega (arith, from)) done
+        (λ y has. between y has) run opens (λ x has. answered-if start p x.now (sound-after first start xs fresh course) line.there (lasting x has)) (let begins = timed.begins in omega (arith, begins)) timed.keeps timed.punctual
+
     pub rounds-come-in-time : RoundsComeInTime {H = H} {P = P} mac answers
     rounds-come-in-time first start last xs r later p by pace delay fresh course line from done early between run opens lasting timed =
-        timely mac answers pace delay by p.number (path_of start p) (answered_at start p) r later start last p (sound-after first start xs fresh course) (lined r.now by start p line) (λ m is. is) refl refl (omega (arith, from)) done
-        (λ y has. between y has) run opens (λ x has. answered-if start p x.now (sound-after first start xs fresh course) line.there (lasting x has)) (let begins = timed.begins in omega (arith, begins)) timed.keeps timed.punctual
+        elim (rounds-come-soon first start last xs r later p by pace delay fresh course (lined r.now by start p line) (omega (arith, from)) done (λ y has. between y has) run (λ x has. opens x has) (λ x has. lasting x has) timed) [
+          | inl come ↦ inl come
+          | inr (inl checks) ↦ inr (inl checks)
+          | inr (inr (inl answered)) ↦ inr (inr (inl (answered-among (path_of start p) _ (r ∷ later) answered)))
+          | inr (inr (inr ends)) ↦ inr (inr (inr ends))
+        ]
 
     -- ---- the rounds that suffice
 

@@ -1,21 +1,34 @@
--- In the rounds in which the check is due, a path is selected or the check is sent. Then a success response comes within the round trip, and
--- the first one selects a path.
-use Rattle.std.proofs.Common.{◌≡◌, ℕ, ◌+◌, ◌*◌, ◌≤◌, true, List, [], ◌∷◌, ◌++◌, length, inl, inr, refl, subst, arith}
+-- In the rounds in which the check is due, a success response is accepted or the check is sent. Then a success response comes within the
+-- round trip, and the first one selects a path. What mutants/specifications changes is read by tactics.
+use Rattle.std.proofs.Common.{◌≡◌, ℕ, ◌+◌, ◌*◌, ◌<◌, ◌≤◌, true, List, [], ◌∷◌, ◌++◌, length, inl, inr, ◌⊎◌, refl, sym, subst, arith}
 use Rattle.is_proto.specs.Lists.{Has}
+use Rattle.is_proto.specs.Times.{MAX}
 use Rattle.is_candidate.specs.Candidates.{CandidateRecord}
+use Rattle.is_pair.specs.Pairs.{PairRecord}
+use Rattle.is_rules.specs.declared.emitted.Path.{Path}
 use Rattle.is_rules.specs.Agent.{AgentRecord}
+use Rattle.is_rules.specs.Sending.{path_of}
 use Rattle.is_rules.specs.Sound.{IsSound}
-use Rattle.is_theorems.specs.AskedCourses.{SuccessesSelect}
+use Rattle.is_rules.specs.Steps.{Call, Entry, Done}
+use Rattle.is_theorems.specs.AskedCourses.{IsAnsweredAlong, SuccessesSelect}
 use Rattle.is_theorems.specs.Courses.{CourseRound, CourseRounds}
-use Rattle.is_theorems.specs.Exchange.{AreBetween}
+use Rattle.is_theorems.specs.Exchange.{AreBetween, Course}
 use Rattle.is_theorems.specs.FirstChecks.{CoursesCheckFromDue}
-use Rattle.is_theorems.specs.SelectedInTime.{AcceptsBy, CoursesSelectInTime}
+use Rattle.is_theorems.specs.FirstTimeouts.{AreInRound, CoursesReachUnanswered, EndsAmong, IsOpenRound, Suffices}
+use Rattle.is_theorems.specs.InTime.{ChecksBy, ComeBy, IsTimed}
+use Rattle.is_theorems.specs.Progress.{Awaits, IsUnanswered}
+use Rattle.is_theorems.specs.ReachedCourses.{IsPassed, PassRounds}
+use Rattle.is_theorems.specs.Runs.{IsFresh}
+use Rattle.is_theorems.specs.SelectedInTime.{AcceptsBy, AcceptsSuccessAlong, CoursesSelectInTime, in_any_role, SelectsBy}
 use Rattle.is_theorems.proofs.DuePairs.NoNominationDue.{Quiet, due-none}
 use Rattle.is_theorems.proofs.ExecutionLogs.PerAgentExecutions.{either_has, front_has}
 use Rattle.is_theorems.proofs.PathSelection.FirstSuccessInRounds.{selects-by}
-use Rattle.is_theorems.proofs.PunctualTimeouts.ChecksInTime.{check-or-select, sound-after}
+use Rattle.is_theorems.proofs.PollingRounds.InTurnAlong.{lined-unanswered}
+use Rattle.is_theorems.proofs.PunctualTimeouts.ChecksInTime.{check-or-select, come-all, IsAnsweredBy, never, rounds-come-soon, sound-after}
 
 module _ {P : Type 0} where
+  -- ---- an accepted success response
+
   accepts-later : (one two : ℕ) (rounds : List (CourseRound P)) → one ≤ two → AcceptsBy one rounds → AcceptsBy two rounds
   accepts-later one two [] le accepts = absurd accepts
   accepts-later one two (r ∷ later) le (in_time, accepts) = (
@@ -23,27 +36,97 @@ module _ {P : Type 0} where
     elim accepts [ inl here ↦ inl here | inr after ↦ inr (accepts-later one two later (omega (arith, le)) after) ],
   )
 
-module _ {H P : Type 0} (mac : H → List ℕ → List ℕ → List ℕ) (answers : P → CandidateRecord → ℕ → ℕ → Type 0) where
-  -- the first of the rounds
-  front-rounds : (front back : List (CourseRound P)) (old last : AgentRecord H P) → CourseRounds mac answers (front ++ back) old last → (end : AgentRecord H P) × CourseRounds mac answers front old end
-  front-rounds [] back old last run = (old, refl)
-  front-rounds (r ∷ front) back old last (mid, next, s, t, step, role, course, along, more) =
-      let k = front-rounds front back next last more in
-      (k.0, (mid, next, s, t, step, role, course, along, k.1))
+  -- in the first ones of the rounds
+  accepts-before : (limit : ℕ) (front more : List (CourseRound P)) → AcceptsBy limit front → AcceptsBy limit (front ++ more)
+  accepts-before limit [] more accepts = absurd accepts
+  accepts-before limit (r ∷ front) more (in_time, accepts) = (
+    omega (arith, in_time),
+    elim accepts [ inl here ↦ inl here | inr after ↦ inr (accepts-before limit front more after) ],
+  )
 
-  pub courses-select-in-time : CoursesCheckFromDue {H = H} {P = P} mac answers → SuccessesSelect {H = H} {P = P} mac answers → CoursesSelectInTime {H = H} {P = P} mac answers
-  courses-select-in-time check select first start last xs r later more p by pace delay trip fresh course role waits unanswered from done early between run passing after enough timed answered =
-      elim (check-or-select mac answers check select first start front.0 xs r later p by pace delay fresh course controls waits unanswered (omega (arith, from)) done (omega (arith, early)) (λ x has. between x has)
-      (run.0, run.1, run.2, run.3, run.4, run.5, run.6, run.7, front.1) (λ x has. passing x has) enough timed) [
-        | inl (c, has, checks, by_then) ↦
-            (let k = selects-by mac answers select first fresh (r.now + length later * (pace + delay) + trip) (r ∷ (later ++ more)) start last xs course sound quiet run (λ x there. plain x there)
-            (accepts-later _ (r.now + length later * (pace + delay) + trip) (r ∷ (later ++ more)) (omega (arith, by_then)) (answered c (front_has (r ∷ later) more c has) checks)) in
-            let in_time = k.3 in
-            (k.0, k.1, k.2, omega (arith, in_time)))
-        | inr (c, has, selected, by_then) ↦ (c, front_has (r ∷ later) more c has, selected, omega (arith, by_then))
+  along-path : (path : Path) (xs : List (Call P × Entry)) → IsAnsweredAlong xs path → AcceptsSuccessAlong xs
+  along-path path xs (x, has, (at, by, m, brings, success, on)) = (x, has, (at, by, m, brings, success))
+
+  on-path : (path : Path) (limit : ℕ) (rounds : List (CourseRound P)) → IsAnsweredBy path limit rounds → AcceptsBy limit rounds
+  on-path path limit [] answered = absurd answered
+  on-path path limit (r ∷ later) (in_time, answered) = (
+    omega (arith, in_time),
+    elim answered [ inl here ↦ inl (along-path path r.following here) | inr after ↦ inr (on-path path limit later after) ],
+  )
+
+  -- each of the rounds begins by this time
+  among-rounds : (limit : ℕ) (rounds : List (CourseRound P)) → ((x : CourseRound P) → Has rounds x → x.now ≤ limit) → (y : CourseRound P) → Has rounds y → AcceptsSuccessAlong y.following
+      → AcceptsBy limit rounds
+  among-rounds limit [] begin y has accepts = absurd has
+  among-rounds limit (r ∷ later) begin y (inl is) accepts =
+      (begin r (inl refl), inl (subst (λ (x : CourseRound P). AcceptsSuccessAlong x.following) (sym is) accepts))
+  among-rounds limit (r ∷ later) begin y (inr has) accepts =
+      (begin r (inl refl), inr (among-rounds limit later (λ x there. begin x (inr there)) y has accepts))
+
+module _ {H P : Type 0} (mac : H → List ℕ → List ℕ → List ℕ) (answers : P → CandidateRecord → ℕ → ℕ → Type 0) where
+  -- rounds after rounds
+  rounds-on : (front back : List (CourseRound P)) (old end last : AgentRecord H P) → CourseRounds mac answers front old end → CourseRounds mac answers back end last
+      → CourseRounds mac answers (front ++ back) old last
+  rounds-on [] back old end last is more = subst (λ (a : AgentRecord H P). CourseRounds mac answers back a last) is more
+  rounds-on (r ∷ front) back old end last (mid, next, s, t, step, role, course, along, rest) more =
+      (mid, next, s, t, step, role, course, along, rounds-on front back next end last rest more)
+
+  -- ---- the check is sent, or a success response is accepted, in time
+
+  abbrev Reached : (limit : ℕ) (r : CourseRound P) (later : List (CourseRound P)) (start end : AgentRecord H P) → CourseRounds mac answers (r ∷ later) start end → Path → Type 0
+  Reached limit r later start end run path =
+      ChecksBy limit (r ∷ later) path
+      ⊎ (AcceptsBy limit (r ∷ later) ⊎ EndsAmong mac answers (r ∷ later) start end (in_any_role mac answers (r ∷ later) start end run) path)
+
+  reached-open : CoursesReachUnanswered {H = H} {P = P} mac answers
+      → (first start end : AgentRecord H P) (xs : List (Call P × Entry)) (r : CourseRound P) (later : List (CourseRound P)) (p : PairRecord) (by pace delay : ℕ)
+      → IsFresh first → Course mac answers xs first start → start.controlling ≡ true → Awaits r.now by start p → IsUnanswered start p
+      → by ≤ r.now → r.timeout.answer ≡ Done → r.now < MAX → AreInRound r.following → (run : CourseRounds mac answers (r ∷ later) start end)
+      → ((x : CourseRound P) → Has later x → IsOpenRound by x) → Suffices by r.now start run.1 end (length later) 0 0 → IsTimed pace delay start r later
+      → Reached (r.now + length later * (pace + delay)) r later start end run (path_of start p)
+  reached-open reach first start end xs r later p by pace delay fresh course role waits unanswered from done early between run opens enough timed =
+      elim (rounds-come-soon mac answers first start end xs r later p by pace delay fresh course (lined-unanswered r.now by start p waits unanswered) (omega (arith, from)) done (λ y has. between y has)
+      pass (λ x has. opens x has) (λ x has valid. never valid (unanswered.invalid p waits.there)) timed) [
+        | inr (inl checks) ↦ inl checks
+        | inr (inr (inl answered)) ↦ inr (inl (on-path (path_of start p) _ (r ∷ later) answered))
+        | inr (inr (inr ends)) ↦ inr (inr ends)
+        | inl come ↦ elim (reach first start end xs r later p by fresh course role waits unanswered (omega (arith, from)) done (omega (arith, early)) (λ y has. between y has) pass (λ x has. opens x has) enough) [
+          | inl (x, has, accepts) ↦ inr (inl (among-rounds _ (r ∷ later) (in-time come) x has accepts))
+          | inr (inl (y, id, has, out)) ↦ inl (y, has, (id, out), in-time come y has)
+          | inr (inr (inl (x, has, answered))) ↦ inr (inl (among-rounds _ (r ∷ later) (in-time come) x has (along-path (path_of start p) x.following answered)))
+          | inr (inr (inr ends)) ↦ inr (inr ends)
+        ]
       ] where
-        front : (end : AgentRecord H P) × CourseRounds mac answers later run.1 end
-        front = front-rounds later more run.1 last run.8
+        pass : PassRounds mac answers (r ∷ later) start end
+        pass = in_any_role mac answers (r ∷ later) start end run
+
+        in-time : ComeBy r.now (pace + delay) (r ∷ later) → (x : CourseRound P) → Has (r ∷ later) x → x.now ≤ r.now + length later * (pace + delay)
+        in-time come x has = come-all r.now (pace + delay) r later x has come
+
+  -- ---- the theorem
+
+  pub courses-select-in-time : CoursesCheckFromDue {H = H} {P = P} mac answers → CoursesReachUnanswered {H = H} {P = P} mac answers → SuccessesSelect {H = H} {P = P} mac answers
+      → CoursesSelectInTime {H = H} {P = P} mac answers
+  courses-select-in-time check reach select first start end last xs r later more p by pace delay trip fresh course role waits unanswered from done early between run on opens after enough timed answered =
+      elim enough [
+        | inl (plain, few) ↦
+            elim (check-or-select mac answers check select first start end xs r later p by pace delay fresh course controls waits unanswered (omega (arith, from)) done (omega (arith, early)) (λ x has. (let fits = plain r (inl refl) x has in search fits))
+            run (λ x has. passed (λ y there z inside. (let fits = plain y there z inside in search fits)) x has) (search few) timed) [
+              | inl checks ↦ inl (by-check checks)
+              | inr (c, has, selected, by_then) ↦ inl (c, front_has (r ∷ later) more c has, selected, omega (arith, by_then))
+            ]
+        | inr many ↦
+            elim (reached-open reach first start end xs r later p by pace delay fresh course controls waits unanswered (omega (arith, from)) done (omega (arith, early)) (λ x has. between x has) run (λ x has. opens x has) (search many) timed) [
+              | inl checks ↦ inl (by-check checks)
+              | inr (inl accepts) ↦ inl (by-success (accepts-later _ limit rounds (omega arith) (accepts-before _ (r ∷ later) more accepts)))
+              | inr (inr ends) ↦ inr (search ends)
+            ]
+      ] where
+        rounds : List (CourseRound P)
+        rounds = r ∷ (later ++ more)
+
+        limit : ℕ
+        limit = r.now + length later * (pace + delay) + trip
 
         controls : start.controlling ≡ true
         controls = cc
@@ -58,9 +141,27 @@ module _ {H P : Type 0} (mac : H → List ℕ → List ℕ → List ℕ) (answer
           quiet = due-none start sound controls waits.checking.full unanswered.calm;
         }
 
-        plain : (x : CourseRound P) → Has (r ∷ (later ++ more)) x → AreBetween x.following
-        plain x (inl is) = subst (λ (y : CourseRound P). AreBetween y.following) is (λ y there. between y there)
-        plain x (inr has) = elim (either_has later more x has) [
-          | inl one_of_them ↦ (let passed = passing x one_of_them in λ y there. (let fits = passed.between in fits y there))
-          | inr later_one ↦ λ y there. (let fits = after x later_one in fits y there)
+        passed : ((x : CourseRound P) → Has (r ∷ later) x → AreBetween x.following) → (x : CourseRound P) → Has later x → IsPassed by x
+        passed plain x has =
+            let round = opens x has in
+            record {
+              done = round.done;
+              late = (let late = round.late in omega (arith, late));
+              early = (let early = round.early in omega (arith, early));
+              between = λ y there. plain x (inr has) y there;
+            }
+
+        fits : (x : CourseRound P) → Has rounds x → AreInRound x.following
+        fits x (inl is) = subst (λ (y : CourseRound P). AreInRound y.following) is (λ y there. between y there)
+        fits x (inr has) = elim (either_has later more x has) [
+          | inl one_of_them ↦ (let round = opens x one_of_them in λ y there. (let in_round = round.between in in_round y there))
+          | inr later_one ↦ λ y there. (let in_round = after x later_one in in_round y there)
         ]
+
+        -- a success response that is accepted selects a path
+        by-success : AcceptsBy limit rounds → SelectsBy limit rounds
+        by-success accepts =
+            selects-by mac answers select first fresh limit rounds start last xs course sound quiet (rounds-on (r ∷ later) more start end last run on) (λ x there. fits x there) accepts
+
+        by-check : ChecksBy (r.now + length later * (pace + delay)) (r ∷ later) (path_of start p) → SelectsBy limit rounds
+        by-check (c, has, checks, by_then) = by-success (accepts-later _ limit rounds (omega (arith, by_then)) (answered c (front_has (r ∷ later) more c has) checks))

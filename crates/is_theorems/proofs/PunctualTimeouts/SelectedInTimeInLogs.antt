@@ -1,9 +1,10 @@
 -- A path is selected in time in the rounds of a log. What mutants/specifications changes is read by tactics.
-use Rattle.std.proofs.Common.{◌≡◌, ℕ, ◌+◌, ◌*◌, ◌≤◌, true, List, [], ◌∷◌, ◌++◌, length, is_some, inl, inr, refl, ap, sym, ◌∙◌, subst, arith, append_assoc}
+use Rattle.std.proofs.Common.{◌≡◌, ℕ, ◌+◌, ◌*◌, ◌≤◌, ◌⊎◌, true, List, [], ◌∷◌, ◌++◌, length, is_some, inl, inr, refl, ap, sym, ◌∙◌, subst, arith, append_assoc}
 use Rattle.std.proofs.lemmas.List.{append-nil}
 use Rattle.rand_core.specs.Stream.{Stream}
 use Rattle.is_proto.specs.Lists.{Has}
 use Rattle.is_candidate.specs.Candidates.{CandidateRecord}
+use Rattle.is_rules.specs.declared.emitted.Path.{Path}
 use Rattle.is_rules.specs.Agent.{AgentRecord}
 use Rattle.is_rules.specs.Effects.{last_of}
 use Rattle.is_rules.specs.Sending.{path_of}
@@ -11,17 +12,18 @@ use Rattle.is_rules.specs.Steps.{Call, Entry, HandleTimeout, Done, Step}
 use Rattle.is_theorems.specs.Courses.{AcceptsSuccess, ControlsAlong, CourseRound, CourseRounds}
 use Rattle.is_theorems.specs.Exchange.{AreBetween, Course}
 use Rattle.is_theorems.specs.FirstChecks.{SufficeForDue, times_of}
+use Rattle.is_theorems.specs.FirstTimeouts.{AreInRound, EndsAmong, IsOpenRound, Suffices}
 use Rattle.is_theorems.specs.InTime.{SendsCheckOn}
 use Rattle.is_theorems.specs.Logs.{Logged}
 use Rattle.is_theorems.specs.OpenRounds.{ArePlain}
-use Rattle.is_theorems.specs.Reached.{IsPassing}
-use Rattle.is_theorems.specs.ReachedCourses.{IsPassed}
+use Rattle.is_theorems.specs.Reached.{is_in_round, IsEndedIn, IsPassing}
+use Rattle.is_theorems.specs.ReachedCourses.{PassRounds}
 use Rattle.is_theorems.specs.Rounds.{LoggedRound, entries_of, is_between, RunsOn, IsControllingIn}
-use Rattle.is_theorems.specs.SelectedInTime.{AcceptsBy, CoursesSelectInTime, IsAnsweredWithin, SelectsBy}
+use Rattle.is_theorems.specs.SelectedInTime.{AcceptsBy, CoursesSelectInTime, in_any_role, IsAnsweredWithin, SelectsBy, SufficeForCheck}
 use Rattle.is_theorems.specs.TimedSelections.{AcceptsInBy, logged_times, PathsAreSelectedInTime, SelectsInBy}
 use Rattle.is_theorems.proofs.CallEffects.ExternalViews.{Has-front, Has-rear}
-use Rattle.is_theorems.proofs.ExecutionLogs.LogSegments.{halves, starts-controlling}
-use Rattle.is_theorems.proofs.ExecutionLogs.SegmentsAsExecutions.{calls_onto, course_from, course_onto, course_to, onto_has, round_from, rounds_count, rounds_is, rounds_onto}
+use Rattle.is_theorems.proofs.ExecutionLogs.LogSegments.{now-controlling, starts-controlling}
+use Rattle.is_theorems.proofs.ExecutionLogs.SegmentsAsExecutions.{among_onto, calls_onto, course_from, course_onto, course_to, onto_has, pass_from, pass_onto, round_from, rounds_count, rounds_is, rounds_onto, split-run}
 use Rattle.is_theorems.proofs.PunctualTimeouts.ChecksInTimeInLogs.{call-is, timed}
 
 module _ {P : Type 0} where
@@ -38,12 +40,12 @@ module _ {P : Type 0} where
       ∙ (sym (append_assoc (rounds_onto older []) (round_from x ∷ []) more)
       ∙ ap (λ (l : List (CourseRound P)). l ++ more) (sym (onto-front older (round_from x ∷ []))))
 
-  two-parts : (more later : List (LoggedRound P)) → rounds_onto (more ++ later) [] ≡ rounds_onto later [] ++ rounds_onto more []
-  two-parts more later = onto-join more later [] ∙ onto-front later (rounds_onto more [])
-
-  -- all rounds, with the first one
-  whole : (r : LoggedRound P) (later more : List (LoggedRound P)) → rounds_onto ((more ++ later) ++ r ∷ []) [] ≡ round_from r ∷ (rounds_onto later [] ++ rounds_onto more [])
-  whole r later more = onto-join (more ++ later) (r ∷ []) [] ∙ ap (λ (l : List (CourseRound P)). round_from r ∷ l) (two-parts more later)
+  -- all rounds: a first one, later ones, and more
+  whole : (r : LoggedRound P) (later more : List (LoggedRound P)) → rounds_onto (more ++ (later ++ r ∷ [])) [] ≡ round_from r ∷ (rounds_onto later [] ++ rounds_onto more [])
+  whole r later more =
+      onto-join more (later ++ r ∷ []) []
+      ∙ (onto-join later (r ∷ []) (rounds_onto more [])
+      ∙ ap (λ (l : List (CourseRound P)). round_from r ∷ l) (onto-front later (rounds_onto more [])))
 
   round-of : (rounds : List (LoggedRound P)) (y : CourseRound P) → Has (rounds_onto rounds []) y → (x : LoggedRound P) × Has rounds x × (round_from x ≡ y)
   round-of rounds y has = elim (rounds_is rounds [] y has) [ inl found ↦ found | inr none ↦ absurd none ]
@@ -57,18 +59,25 @@ module _ {P : Type 0} where
 
   -- ---- what comes in a round
 
-  fits : (rounds : List (LoggedRound P)) → ArePlain rounds → (x : LoggedRound P) → Has rounds x → (c : CourseRound P) → round_from x ≡ c → AreBetween c.following
-  fits rounds plain x has c same y there =
+  fits : (rounds : List (LoggedRound P)) → ((x : LoggedRound P) → Has rounds x → (y : Logged P) → Has x.following y → is_in_round y.call ≡ true)
+      → (x : LoggedRound P) → Has rounds x → (c : CourseRound P) → round_from x ≡ c → AreInRound c.following
+  fits rounds between x has c same y there =
+      let z = call-is x c same y there in
+      let in_round = between x has z.0 z.1 in
+      subst (λ (v : Call P × Entry). is_in_round v.0 ≡ true) z.2 (search in_round)
+
+  plain-fits : (rounds : List (LoggedRound P)) → ArePlain rounds → (x : LoggedRound P) → Has rounds x → (c : CourseRound P) → round_from x ≡ c → AreBetween c.following
+  plain-fits rounds plain x has c same y there =
       let z = call-is x c same y there in
       let between = plain x has z.0 z.1 in
       subst (λ (v : Call P × Entry). is_between v.0 ≡ true) z.2 (search between)
 
-  passes : (by : ℕ) (x : LoggedRound P) (c : CourseRound P) → round_from x ≡ c → AreBetween c.following → IsPassing by x → IsPassed by c
+  passes : (by : ℕ) (x : LoggedRound P) (c : CourseRound P) → round_from x ≡ c → AreInRound c.following → IsPassing by x → IsOpenRound by c
   passes by x c same between passing = record {
     done = subst (λ (d : CourseRound P). d.timeout.answer ≡ Done) same passing.done;
     late = (let late = passing.late in let at = ap (λ (d : CourseRound P). d.now) same in omega (arith, late, at));
     early = (let early = passing.early in let at = ap (λ (d : CourseRound P). d.now) same in omega (arith, early, at));
-    between = between;
+    between = λ y has. between y has;
   }
 
   -- ---- a success response
@@ -119,51 +128,104 @@ module _ {H P : Type 0} (mac : H → List ℕ → List ℕ → List ℕ) (answer
   along-onto (x ∷ older) more before start mid last s t (old, u, run, number, given, step) role course along =
       along-onto older ((x.call, x.entry) ∷ more) before start old last s u run role.1 (mid, u, t, given, step, course) (role.0, along)
 
+  -- so it is in two parts of a segment
+  both-control : (before : List (Logged P)) (start last : AgentRecord H P) (u t : Stream) (xs older : List (Logged P)) → (run : RunsOn mac answers before start u (xs ++ older) last t)
+      → IsControllingIn mac answers before start u (xs ++ older) last t run
+      → IsControllingIn mac answers before start u older (split-run mac answers before start last u t xs older run).0 (split-run mac answers before start last u t xs older run).1 (split-run mac answers before start last u t xs older run).2
+      × IsControllingIn mac answers (older ++ before) (split-run mac answers before start last u t xs older run).0 (split-run mac answers before start last u t xs older run).1 xs last t (split-run mac answers before start last u t xs older run).3
+  both-control before start last u t [] older run role = (role, now-controlling mac answers before start last u t older run role)
+  both-control before start last u t (x ∷ xs) older (m, v, run, number, given, step) role =
+      let k = both-control before start m u v xs older run role.1 in
+      (k.0, (role.0, k.1))
+
   abbrev rounds-from : (more : List (CourseRound P)) (a b last : AgentRecord H P) → a ≡ b → CourseRounds mac answers more a last → CourseRounds mac answers more b last
   rounds-from [] a b last same is = is ∙ same
   rounds-from (r ∷ later) a b last same (mid, next, s, t, step, role, course, along, more) =
       (mid, next, s, t, subst (λ (z : AgentRecord H P). Step mac answers z s (HandleTimeout r.now) r.timeout mid t) same step, role, course, along, more)
 
-  abbrev rounds-onto : (rounds : List (LoggedRound P)) (more : List (CourseRound P)) (before : List (Logged P)) (start mid last : AgentRecord H P) (s t : Stream)
-      → ((r : LoggedRound P) → Has rounds r → r.timeout.call ≡ HandleTimeout r.now)
+  abbrev Comes : List (LoggedRound P) → Type 0
+  Comes rounds = (r : LoggedRound P) → Has rounds r → r.timeout.call ≡ HandleTimeout r.now
+
+  abbrev rounds-onto : (rounds : List (LoggedRound P)) (more : List (CourseRound P)) (before : List (Logged P)) (start mid last : AgentRecord H P) (s t : Stream) → Comes rounds
       → (run : RunsOn mac answers before start s (entries_of rounds) mid t) → IsControllingIn mac answers before start s (entries_of rounds) mid t run
       → CourseRounds mac answers more mid last → CourseRounds mac answers (rounds_onto rounds more) start last
   rounds-onto [] more before start mid last s t comes is role course = rounds-from more mid start last is.0 course
   rounds-onto (r ∷ older) more before start mid last s t comes run role course =
-      let h = halves mac answers before start mid s t r.following (r.timeout ∷ entries_of older) run role in
-      rounds-onto older (round_from r ∷ more) before start h.2.0 last s h.2.1 (λ x has. comes x (inr has)) h.2.2 h.3.1 (
+      let h = split-run mac answers before start mid s t r.following (r.timeout ∷ entries_of older) run in
+      let roles = both-control before start mid s t r.following (r.timeout ∷ entries_of older) run role in
+      rounds-onto older (round_from r ∷ more) before start h.2.0 last s h.2.1 (λ x has. comes x (inr has)) h.2.2 roles.0.1 (
         h.0,
         mid,
         h.2.1,
         h.1,
         subst (λ (c : Call P). Step mac answers h.2.0 h.2.1 c r.timeout.entry h.0 h.1) (comes r (inl refl)) h.2.5,
-        h.3.0,
-        course_onto mac answers r.following [] ((r.timeout ∷ entries_of older) ++ before) h.0 mid mid h.1 t h.4 refl,
-        along-onto r.following [] ((r.timeout ∷ entries_of older) ++ before) h.0 mid mid h.1 t h.4 h.5 refl tt,
+        roles.0.0,
+        course_onto mac answers r.following [] ((r.timeout ∷ entries_of older) ++ before) h.0 mid mid h.1 t h.3 refl,
+        along-onto r.following [] ((r.timeout ∷ entries_of older) ++ before) h.0 mid mid h.1 t h.3 roles.1 refl tt,
         course,
       )
+
+  -- ---- the same rounds in any role
+
+  any-from : (more : List (CourseRound P)) (a b last : AgentRecord H P) (same : a ≡ b) (course : CourseRounds mac answers more a last)
+      → in_any_role mac answers more b last (rounds-from more a b last same course) ≡ pass_from mac answers more a b last same (in_any_role mac answers more a last course)
+  any-from [] a b last same course = refl
+  any-from (r ∷ later) a b last same course = refl
+
+  any-onto : (rounds : List (LoggedRound P)) (more : List (CourseRound P)) (before : List (Logged P)) (start mid last : AgentRecord H P) (s t : Stream) (comes : Comes rounds)
+      → (run : RunsOn mac answers before start s (entries_of rounds) mid t) (role : IsControllingIn mac answers before start s (entries_of rounds) mid t run)
+      → (course : CourseRounds mac answers more mid last)
+      → in_any_role mac answers (rounds_onto rounds more) start last (rounds-onto rounds more before start mid last s t comes run role course)
+      ≡ pass_onto mac answers rounds more before start mid last s t comes run (in_any_role mac answers more mid last course)
+  any-onto [] more before start mid last s t comes is role course = any-from more mid start last is.0 course
+  any-onto (r ∷ older) more before start mid last s t comes run role course =
+      let h = split-run mac answers before start mid s t r.following (r.timeout ∷ entries_of older) run in
+      let roles = both-control before start mid s t r.following (r.timeout ∷ entries_of older) run role in
+      any-onto older (round_from r ∷ more) before start h.2.0 last s h.2.1 (λ x has. comes x (inr has)) h.2.2 roles.0.1 (
+        h.0,
+        mid,
+        h.2.1,
+        h.1,
+        subst (λ (c : Call P). Step mac answers h.2.0 h.2.1 c r.timeout.entry h.0 h.1) (comes r (inl refl)) h.2.5,
+        roles.0.0,
+        course_onto mac answers r.following [] ((r.timeout ∷ entries_of older) ++ before) h.0 mid mid h.1 t h.3 refl,
+        along-onto r.following [] ((r.timeout ∷ entries_of older) ++ before) h.0 mid mid h.1 t h.3 roles.1 refl tt,
+        course,
+      )
+
+  -- what may remove a pair in the rounds of the execution may do so in the segment
+  ended-in : (path : Path) (rounds : List (LoggedRound P)) (more : List (CourseRound P)) (before : List (Logged P)) (start mid last : AgentRecord H P) (s t : Stream) (comes : Comes rounds)
+      → ((r : LoggedRound P) → Has rounds r → (x : Logged P) → Has r.following x → is_in_round x.call ≡ true)
+      → (run : RunsOn mac answers before start s (entries_of rounds) mid t) (role : IsControllingIn mac answers before start s (entries_of rounds) mid t run) (course : CourseRounds mac answers more mid last)
+      → EndsAmong mac answers (rounds_onto rounds more) start last (in_any_role mac answers (rounds_onto rounds more) start last (rounds-onto rounds more before start mid last s t comes run role course)) path
+      → IsEndedIn mac answers before start s (entries_of rounds) mid t run path ⊎ EndsAmong mac answers more mid last (in_any_role mac answers more mid last course) path
+  ended-in path rounds more before start mid last s t comes between run role course ended =
+      among_onto mac answers path rounds more before start mid last s t comes between run (in_any_role mac answers more mid last course)
+      (subst (λ (z : PassRounds mac answers (rounds_onto rounds more) start last). EndsAmong mac answers (rounds_onto rounds more) start last z path)
+      (any-onto rounds more before start mid last s t comes run role course) ended)
 
   -- ---- the theorem
 
   pub selected-in-time : CoursesSelectInTime {H = H} {P = P} mac answers → PathsAreSelectedInTime {H = H} {P = P} mac answers
   selected-in-time select first s log fresh k p by pace delay trip f =
-      let found = selects-in limit rounds (subst (λ (l : List (CourseRound P)). SelectsBy limit l) (sym all) (subst (λ n. SelectsBy (r.now + n * (pace + delay) + trip) course_rounds) count
-      (select first k.start k.last (calls_onto k.before []) r later more p by pace delay trip fresh
+      elim (select first k.start k.end k.last (calls_onto k.before []) r later more p by pace delay trip fresh
       (course_to mac answers k.before first k.start k.start [] s k.one.at k.one.led refl) (starts-controlling mac answers k.before k.start k.second k.one.at k.one.following (entries_of (k.opening ∷ [])) k.one.run (search k.controls))
       f.waits f.unanswered (let due = f.due in omega (arith, due)) f.done (let early = f.early in omega (arith, early))
-      (between r (inl refl)) run (λ y has. passed y has) (λ y has. between y (inr (Has-rear later more y has)))
-      (subst (λ ts. SufficeForDue by r.now k.start k.second ts) (sym (times-are k.later)) f.enough) (timed pace delay k.start k.opening k.later f.timed) answered))) in
-      record {
-        round = found.round;
-        there = found.there;
-        response = found.response;
-        received = found.received;
-        accepted = found.accepted;
-        selected = found.selected;
-        in_time = (let in_time = found.in_time in omega (arith, in_time));
-      } where
+      (λ y has. between r (inl refl) y has) run onward (λ y has. passed y has) (λ y has. between y (inr (Has-rear later more y has))) enough (timed pace delay k.start k.opening k.later f.timed) answered) [
+        | inl selected_by ↦ inl (bounded (selects-in limit rounds (subst (λ (l : List (CourseRound P)). SelectsBy limit l) (sym all) (subst (λ n. SelectsBy (r.now + n * (pace + delay) + trip) course_rounds) count selected_by))))
+        | inr ended ↦ inr (elim (ended-in path (k.opening ∷ []) later k.before k.start k.second k.end k.one.at k.one.following opens (λ x has. fits_at x (opening-in x has)) k.one.run k.controls run_later ended) [
+          | inl here ↦ inl (search here)
+          | inr others ↦ elim (ended-in path k.later [] (entries_of (k.opening ∷ []) ++ k.before) k.second k.end k.end k.others.at k.others.following comes_later (λ x has. fits_at x (later-in x has)) k.others.run role_later refl others) [
+            | inl there ↦ inr (search there)
+            | inr none ↦ absurd none
+          ]
+        ])
+      ] where
+        path : Path
+        path = path_of k.start p
+
         rounds : List (LoggedRound P)
-        rounds = (k.more ++ k.later) ++ k.opening ∷ []
+        rounds = k.more ++ (k.later ++ k.opening ∷ [])
 
         limit : ℕ
         limit = k.opening.now + length k.later * (pace + delay) + trip
@@ -186,16 +248,42 @@ module _ {H P : Type 0} (mac : H → List ℕ → List ℕ → List ℕ) (answer
         count : length later ≡ length k.later
         count = let same : length later ≡ length k.later + 0 = rounds_count k.later [] in omega (arith, same)
 
+        bounded : SelectsInBy limit rounds → SelectsInBy (k.opening.now + length k.later * (pace + delay) + trip) (k.more ++ (k.later ++ k.opening ∷ []))
+        bounded found = record {
+          round = found.round;
+          there = found.there;
+          response = found.response;
+          received = found.received;
+          accepted = found.accepted;
+          selected = found.selected;
+          in_time = (let in_time = found.in_time in omega (arith, in_time));
+        }
+
+        fits_at : (x : LoggedRound P) → Has rounds x → (y : Logged P) → Has x.following y → is_in_round y.call ≡ true
+        fits_at x has y there = search (k.between x has y there)
+
+        later-in : (x : LoggedRound P) → Has k.later x → Has rounds x
+        later-in x has = Has-rear k.more (k.later ++ k.opening ∷ []) x (Has-front k.later (k.opening ∷ []) x has)
+
+        opening-in : (x : LoggedRound P) → Has (k.opening ∷ []) x → Has rounds x
+        opening-in x has = Has-rear k.more (k.later ++ k.opening ∷ []) x (Has-rear k.later (k.opening ∷ []) x has)
+
+        opens : Comes (k.opening ∷ [])
+        opens x has = k.comes x (opening-in x has)
+
+        comes_later : Comes k.later
+        comes_later x has = k.comes x (later-in x has)
+
         round-at : (y : CourseRound P) → Has course_rounds y → (x : LoggedRound P) × Has rounds x × (round_from x ≡ y)
         round-at y has = round-of rounds y (subst (λ (l : List (CourseRound P)). Has l y) (sym all) has)
 
-        between : (y : CourseRound P) → Has course_rounds y → AreBetween y.following
-        between y has = let x = round-at y has in fits rounds k.plain x.0 x.1 y x.2
+        between : (y : CourseRound P) → Has course_rounds y → AreInRound y.following
+        between y has = let x = round-at y has in fits rounds (λ z there v inside. fits_at z there v inside) x.0 x.1 y x.2
 
-        passed : (y : CourseRound P) → Has later y → IsPassed by y
+        passed : (y : CourseRound P) → Has later y → IsOpenRound by y
         passed y has =
             let x = round-of k.later y has in
-            passes by x.0 y x.2 (between y (inr (Has-front later more y has))) (f.passing x.0 x.1)
+            passes by x.0 y x.2 (λ v inside. between y (inr (Has-front later more y has)) v inside) (f.passing x.0 x.1)
 
         answered : IsAnsweredWithin trip course_rounds (path_of k.start p)
         answered y has sends =
@@ -204,11 +292,26 @@ module _ {H P : Type 0} (mac : H → List ℕ → List ℕ → List ℕ) (answer
             (subst (λ (c : CourseRound P). AcceptsBy (c.now + trip) (rounds_onto rounds [])) x.2
             (accepts (x.0.now + trip) rounds (search (f.answered x.0 x.1 (subst (λ (c : CourseRound P). SendsCheckOn c.timeout (path_of k.start p)) (sym x.2) sends)))))
 
-        rest : CourseRounds mac answers (later ++ more) k.second k.last
-        rest = subst (λ (l : List (CourseRound P)). CourseRounds mac answers l k.second k.last) (two-parts k.more k.later)
-            (rounds-onto (k.more ++ k.later) [] (entries_of (k.opening ∷ []) ++ k.before) k.second k.last k.last k.others.at k.others.following
-            (λ x has. k.comes x (Has-front (k.more ++ k.later) (k.opening ∷ []) x has)) k.others.run k.controls_on refl)
+        role_later : IsControllingIn mac answers (entries_of (k.opening ∷ []) ++ k.before) k.second k.others.at (entries_of k.later) k.end k.others.following k.others.run
+        role_later = search k.controls_later
 
-        run : CourseRounds mac answers course_rounds k.start k.last
-        run = rounds-onto (k.opening ∷ []) (later ++ more) k.before k.start k.second k.last k.one.at k.one.following
-            (λ x has. k.comes x (Has-rear (k.more ++ k.later) (k.opening ∷ []) x has)) k.one.run k.controls rest
+        run_later : CourseRounds mac answers later k.second k.end
+        run_later = rounds-onto k.later [] (entries_of (k.opening ∷ []) ++ k.before) k.second k.end k.end k.others.at k.others.following comes_later k.others.run role_later refl
+
+        run : CourseRounds mac answers (r ∷ later) k.start k.end
+        run = rounds-onto (k.opening ∷ []) later k.before k.start k.second k.end k.one.at k.one.following opens k.one.run k.controls run_later
+
+        onward : CourseRounds mac answers more k.end k.last
+        onward =
+            rounds-onto k.more [] (entries_of k.later ++ (entries_of (k.opening ∷ []) ++ k.before)) k.end k.last k.last k.onward.at k.onward.following
+            (λ x has. k.comes x (Has-front k.more (k.later ++ k.opening ∷ []) x has)) k.onward.run (search k.controls_onward) refl
+
+        plain-round : ArePlain (k.later ++ k.opening ∷ []) → (x : CourseRound P) → Has (r ∷ later) x → AreBetween x.following
+        plain-round plain x (inl is) = plain-fits (k.later ++ k.opening ∷ []) plain k.opening (Has-rear k.later (k.opening ∷ []) k.opening (inl refl)) x is
+        plain-round plain x (inr has) = let z = round-of k.later x has in plain-fits (k.later ++ k.opening ∷ []) plain z.0 (Has-front k.later (k.opening ∷ []) z.0 z.1) x z.2
+
+        enough : SufficeForCheck by k.start k.second k.end r later
+        enough = elim f.enough [
+          | inl (plain, few) ↦ inl (λ x has. plain-round plain x has, subst (λ ts. SufficeForDue by r.now k.start k.second ts) (sym (times-are k.later)) (search few))
+          | inr many ↦ inr (subst (λ n. Suffices by r.now k.start k.second k.end n 0 0) (sym count) (search many))
+        ]

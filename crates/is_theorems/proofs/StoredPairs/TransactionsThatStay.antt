@@ -450,7 +450,7 @@ module _ {H P : Type 0} where
     -- the network of today is the one that rewrites nothing
     pub exchanges-succeed-later : CarriedSucceedLater {H = H} {P = P} mac answers → ExchangesSucceedLater {H = H} {P = P} mac answers
     exchanges-succeed-later law k c know apart =
-        let e = law k (record { came = k.check; unaltered = refl; receipt = c; know = know }) apart in (
+        let e = law k (record { came = k.check; unaltered = refl; receipt = c; know = know }) (inl apart) in (
           e.0,
           λ r. e.1 (record {
             answer = e.0.reply;
