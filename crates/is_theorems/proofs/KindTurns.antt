@@ -2,4 +2,6 @@
 pub mod OrderOfKinds
 pub mod ChecksByKind
 pub mod CountedTurns
+pub mod SegmentsInTurn
 pub mod RoundsByKind
+pub mod RoundsInKind

@@ -4,6 +4,7 @@ pub mod AnsweredRoundsInLogs
 pub mod CountedSelections
 pub mod InTurnAlong
 pub mod DuePairsInLogs
+pub mod WaitingPairs
 pub mod DuePairsPerAgent
 pub mod FirstRound
 pub mod AddedCandidatesPerAgent

@@ -1,3 +1,5 @@
 -- Urgent pairs are checked first.
 pub mod ChecksOfUrgentPairs
 pub mod RoundsOfUrgentPairs
+pub mod RoundsOfServedPairs
+pub mod SelectedByServedPairs

@@ -55,14 +55,19 @@ module _ {H P : Type 0} where
     pub lasting : (r : LoggedRound P) → Has rounds r → IsLasting r.now start p
 
   module _ (mac : H → List ℕ → List ℕ → List ℕ) (answers : P → CandidateRecord → ℕ → ℕ → Type 0) where
+    -- This holds of the states before and after each `handle_timeout` call of a segment.
+    abbrev pub AtTimeoutsIn : (Holds : AgentRecord H P → AgentRecord H P → Type 0) (before : List (Logged P)) (start : AgentRecord H P) (s : Stream)
+        (part : List (Logged P)) (last : AgentRecord H P) (t : Stream)
+        → RunsOn mac answers before start s part last t → Type 0
+    AtTimeoutsIn Holds before start s [] last t run = Unit {0}
+    AtTimeoutsIn Holds before start s (x ∷ part) last t run =
+        ((now : ℕ) → x.call ≡ HandleTimeout now → Holds run.0 last) × AtTimeoutsIn Holds before start s part run.0 run.1 run.2
+
     -- At each `handle_timeout` call of a segment kinds take turns, if no path is selected.
     abbrev pub TakeTurnsIn : (kinds : List ℕ) (kind number : ℕ) (before : List (Logged P)) (start : AgentRecord H P) (s : Stream) (part : List (Logged P))
         (last : AgentRecord H P) (t : Stream)
         → RunsOn mac answers before start s part last t → Type 0
-    TakeTurnsIn kinds kind number before start s [] last t run = Unit {0}
-    TakeTurnsIn kinds kind number before start s (x ∷ part) last t run =
-        ((now : ℕ) → x.call ≡ HandleTimeout now → TakesTurns kinds kind number run.0 last)
-        × TakeTurnsIn kinds kind number before start s part run.0 run.1 run.2
+    TakeTurnsIn kinds kind number = AtTimeoutsIn (TakesTurns kinds kind number)
 
     -- After one of the calls of a segment the agent has a path, so kinds take no turns.
     abbrev pub HasPathIn : (before : List (Logged P)) (start : AgentRecord H P) (s : Stream) (part : List (Logged P)) (last : AgentRecord H P) (t : Stream)
@@ -70,15 +75,20 @@ module _ {H P : Type 0} where
     HasPathIn before start s [] last t run = ⊥
     HasPathIn before start s (x ∷ part) last t run = HasPath last ⊎ HasPathIn before start s part run.0 run.1 run.2
 
+    -- This holds of so many `handle_timeout` calls of a segment, or more: of their times, the states before them, and what they emit.
+    abbrev pub OfTimeoutsIn : (Holds : ℕ → AgentRecord H P → Emitted → Type 0) (n : ℕ) (before : List (Logged P)) (start : AgentRecord H P) (s : Stream)
+        (part : List (Logged P)) (last : AgentRecord H P) (t : Stream)
+        → RunsOn mac answers before start s part last t → Type 0
+    OfTimeoutsIn Holds n before start s [] last t run = n ≡ 0
+    OfTimeoutsIn Holds n before start s (x ∷ part) last t run =
+        OfTimeoutsIn Holds n before start s part run.0 run.1 run.2
+        ⊎ ((now k : ℕ) × (n ≡ suc k) × (x.call ≡ HandleTimeout now) × Holds now run.0 x.entry.emitted × OfTimeoutsIn Holds k before start s part run.0 run.1 run.2)
+
     -- So many `handle_timeout` calls of a segment, or more, delay the pair.
     abbrev pub IsDelayedIn : (kind number n : ℕ) (before : List (Logged P)) (start : AgentRecord H P) (s : Stream) (part : List (Logged P))
         (last : AgentRecord H P) (t : Stream)
         → RunsOn mac answers before start s part last t → Type 0
-    IsDelayedIn kind number n before start s [] last t run = n ≡ 0
-    IsDelayedIn kind number n before start s (x ∷ part) last t run =
-        IsDelayedIn kind number n before start s part run.0 run.1 run.2
-        ⊎ ((now k : ℕ) × (n ≡ suc k) × (x.call ≡ HandleTimeout now) × IsDelayed kind number now run.0 x.entry.emitted
-        × IsDelayedIn kind number k before start s part run.0 run.1 run.2)
+    IsDelayedIn kind number = OfTimeoutsIn (IsDelayed kind number)
 
     -- Kinds take turns in the rounds, and pairs have k kinds. In 2 * k * m rounds a check is sent on the pair's path, or m of them delay it:
     -- they check pairs that go before all kinds, or pairs of its kind that go before it. Or the agent has a path after a call of the rounds.

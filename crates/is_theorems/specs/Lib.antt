@@ -19,7 +19,9 @@ pub mod Asked
 pub mod AtOnce
 pub mod Reached
 pub mod KindsInTurn
+pub mod OwnKind
 pub mod UrgentFirst
+pub mod ServedSoon
 pub mod BoundedRounds
 pub mod ReachedCourses
 pub mod Pending

@@ -1,5 +1,6 @@
--- How long a pair exists: a valid pair stays valid, and a nominated pair stays nominated, until it is removed.
-use Rattle.std.specs.Prelude.{◌≡◌, ℕ, ◌⊎◌, true, List, Some, None}
+-- How long a pair exists: a valid pair stays valid, a nominated pair stays nominated, and one that a request came to keeps it, until it is
+-- removed.
+use Rattle.std.specs.Prelude.{◌≡◌, ℕ, ◌⊎◌, true, nat_lt, List, Some, None}
 use Rattle.rand_core.specs.Stream.{Stream}
 use Rattle.is_proto.specs.Lists.{Has}
 use Rattle.is_candidate.specs.Candidates.{CandidateRecord}
@@ -18,7 +19,7 @@ use Rattle.is_rules.specs.Steps.{Call, AddLocalCandidate, AddRemoteCandidate, In
 use Rattle.is_rules.specs.Timeouts.{is_expired}
 
 module _ {H P : Type 0} where
-  -- The pair still exists, on its path. It is valid if it was valid, and nominated if it was nominated.
+  -- The pair still exists, on its path. It is valid if it was valid, nominated if it was nominated, and a request came to it if one had come.
   pub record Stays (old : AgentRecord H P) (p : PairRecord) (new : AgentRecord H P) : Type 0 where
     pub pair : PairRecord
     pub there : Has new.pairs pair
@@ -26,6 +27,7 @@ module _ {H P : Type 0} where
     pub path : path_of new pair ≡ path_of old p
     pub valid : is_valid p ≡ true → is_valid pair ≡ true
     pub nominated : is_nominated p ≡ true → is_nominated pair ≡ true
+    pub requested : nat_lt 0 p.requests ≡ true → nat_lt 0 pair.requests ≡ true
 
   -- The pair's local candidate is discarded, or its remote one.
   abbrev pub IsOfDiscarded : AgentRecord H P → CandidateRecord → PairRecord → Type 0

@@ -12,11 +12,13 @@ ghost use Rattle.is_theorems.specs.BoundedRounds.{LimitsReach};
 ghost use Rattle.is_theorems.specs.FirstChecks.{CoursesCheckFromDue};
 ghost use Rattle.is_theorems.specs.FirstTimeouts.{OpenCoursesReach, PairsAreReachedFromDue, CoursesReachFromDue, CoursesReachUnanswered};
 ghost use Rattle.is_theorems.specs.KindsInTurn.{KindsAreReachedInTurn};
+ghost use Rattle.is_theorems.specs.OwnKind.{PairsAreReachedInKind};
 ghost use Rattle.is_theorems.specs.Reached.{PairsAreReached};
 ghost use Rattle.is_theorems.specs.ReachedCourses.{CoursesReach, CoursesCheck};
+ghost use Rattle.is_theorems.specs.ServedSoon.{ServedAreCheckedSoon, ServedSelectSoon};
 ghost use Rattle.is_theorems.specs.UrgentFirst.{UrgentPairsAreReached};
 
-use crate::selecting::successes_select;
+use crate::selecting::{answers_select, successes_select};
 use is_candidate::LocalPreference;
 use is_proto::Sha1HmacProvider;
 
@@ -93,6 +95,14 @@ pub fn reached_in_turn<H: Sha1HmacProvider, P: LocalPreference>()
     ensures { KindsAreReachedInTurn H.mac P.answers }
 {}
 
+/// From a newly created agent: kinds of pairs take turns in some rounds and urgent pairs go first, and pairs have k kinds. When the rounds
+/// begin, n other pairs exist that have the kind of a pair that is due. Then in 2 * k * (n + m) rounds a check is sent on its path, or m of
+/// the rounds check another pair that goes before all kinds, or a path is selected in them. So each of the n pairs goes before it
+/// only once, and pairs that are formed in the rounds never do. The exceptions are those of `reached_in_turn`.
+pub fn reached_in_kind<H: Sha1HmacProvider, P: LocalPreference>()
+    ensures { PairsAreReachedInKind H.mac P.answers }
+{}
+
 /// From a newly created agent with the rule `triggered_checks`: a pair that is due is urgent in some rounds, since a request was served on it
 /// and it is not valid yet. Then in 2 * m rounds a check is sent on its path, or m of the rounds check the selected pair or urgent pairs whose
 /// turn comes before, however many pairs there are. So one that comes first is checked in two rounds. This holds in either role, whatever
@@ -101,3 +111,19 @@ pub fn reached_in_turn<H: Sha1HmacProvider, P: LocalPreference>()
 pub fn urgent_are_reached<H: Sha1HmacProvider, P: LocalPreference>()
     ensures { UrgentPairsAreReached H.mac P.answers }
 {}
+
+/// From a newly created agent with the rule `triggered_checks`: a request was served on a pair that is due, and no pair on its path is valid.
+/// Then in 2 * m rounds a check is sent on the path, or m of the rounds check the selected pair or urgent pairs whose turn comes before,
+/// however many pairs there are. This holds in either role, whatever the agent receives and adds in the rounds, as long as no
+/// `handle_timeout` of them selects a path; the exceptions are a success response on the path, and a candidate that may remove a pair of it.
+pub fn served_are_checked_soon<H: Sha1HmacProvider, P: LocalPreference>()
+    ensures { ServedAreCheckedSoon H.mac P.answers }
+{}
+
+/// If the agent is controlling besides, and each check on the path is answered in its round, a path is selected in these rounds.
+pub fn served_select_soon<H: Sha1HmacProvider, P: LocalPreference>()
+    ensures { ServedSelectSoon H.mac P.answers }
+{
+    served_are_checked_soon::<H, P>();
+    answers_select::<H, P>();
+}

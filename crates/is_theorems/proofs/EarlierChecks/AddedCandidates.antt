@@ -1,6 +1,6 @@
 -- A candidate that is added between two `handle_timeout` calls leaves no more checks of other pairs before a pair, except for
 -- one by each pair that it adds.
-use Rattle.std.proofs.Common.{◌≡◌, ℕ, ◌+◌, ◌≤◌, ◌==◌, Bool, true, false, not, nat_lt, List, [], ◌∷◌, ◌++◌, Some, None, Ok, inl, inr, ◌⊎◌, refl, sym, ◌∙◌, subst, arith, if◌then◌else◌}
+use Rattle.std.proofs.Common.{◌≡◌, ℕ, ◌+◌, ◌≤◌, Bool, true, false, not, nat_lt, List, [], ◌∷◌, ◌++◌, Some, None, Ok, inl, inr, ◌⊎◌, refl, ap, sym, ◌∙◌, subst, arith, if◌then◌else◌}
 use Rattle.is_proto.specs.Lists.{Has}
 use Rattle.is_candidate.specs.Candidates.{CandidateRecord}
 use Rattle.is_pair.specs.Multiset.{is_numbered, without}
@@ -11,13 +11,14 @@ use Rattle.is_rules.specs.Agent.{AgentRecord}
 use Rattle.is_rules.specs.Discarding.{is_local_at, local_discarded}
 use Rattle.is_rules.specs.Each.{Each}
 use Rattle.is_rules.specs.Forming.{SidesRecord, Formed, Combination, combined_priority, pair_of, sides_of, formed_of, Tries, FormsAll}
+use Rattle.is_rules.specs.Owed.{one_if}
 use Rattle.is_rules.specs.Local.{appended, enabled_again, AddsLocal}
 use Rattle.is_rules.specs.Remote.{as_remote, with_remote, AddsRemote}
 use Rattle.is_theorems.specs.Removing.{MayEndByLocal, MayEndByRemote}
 use Rattle.is_rules.specs.Sound.{IsSound}
 use Rattle.is_theorems.proofs.CallEffects.AddedCandidates.{by_adding_local, by_adding_remote}
 use Rattle.is_theorems.proofs.DuePairs.AfterNominationAndRemoval.{kept_of}
-use Rattle.is_theorems.proofs.EarlierChecks.ChecksOfOtherPairs.{own, leads, leads-filter, leads-push, weight}
+use Rattle.is_theorems.proofs.EarlierChecks.ChecksOfOtherPairs.{formed_by, own, leads, Measure, leads-filter, leads-push, weight}
 use Rattle.is_theorems.proofs.EarlierChecks.BetweenTimeouts.{ground_of, Goes, goes-same}
 use Rattle.is_theorems.proofs.StoredPairs.PairsAfterForming.{local-leaves, remote-leaves}
 use Rattle.is_rules.proofs.PairLists.RemovedInTurn.{removes, RemovesInTurn}
@@ -26,34 +27,37 @@ use Rattle.is_theorems.proofs.RuleEffects.SelectedPaths.{one_pair}
 
 -- ---- one pair
 
-weight-new : (n : NominationState) → weight n false ≤ 1
-weight-new Unnominated = omega arith
-weight-new Nominated = omega arith
-weight-new Attempt = omega arith
-weight-new Success = omega arith
+weight-new : (both : Bool) (n : NominationState) → weight both n false ≤ one_if both
+weight-new both Unnominated = omega arith
+weight-new both Nominated = omega arith
+weight-new both Attempt = omega arith
+weight-new both Success = omega arith
 
-unless-one : (b : Bool) (x : ℕ) → x ≤ 1 → (if b then 0 else x) ≤ 1
-unless-one true x le = omega arith
-unless-one false x le = le
+unless-one : (b : Bool) (x one : ℕ) → x ≤ one → (if b then 0 else x) ≤ one
+unless-one true x one le = omega arith
+unless-one false x one le = le
 
-module _ (n by : ℕ) where
-  own-taken : (lite : Bool) (found : PairRecord) (s : SidesRecord) (at : Combination) (k : ℕ) → own n by (taking_over lite found (pair_of s at k)) ≤ 1
-  own-taken true found s at k = unless-one (k == n) _ (weight-new (taking_over true found (pair_of s at k)).nomination)
-  own-taken false found s at k = unless-one (k == n) _ (weight-new (taking_over false found (pair_of s at k)).nomination)
+module _ (w : Measure) (by : ℕ) where
+  own-taken : (lite : Bool) (found : PairRecord) (s : SidesRecord) (at : Combination) (k : ℕ) → own w by (taking_over lite found (pair_of s at k)) ≤ one_if w.both
+  own-taken true found s at k = unless-one (w.skips k) _ (one_if w.both) (weight-new w.both (taking_over true found (pair_of s at k)).nomination)
+  own-taken false found s at k = unless-one (w.skips k) _ (one_if w.both) (weight-new w.both (taking_over false found (pair_of s at k)).nomination)
 
-  own-new : (s : SidesRecord) (at : Combination) (k : ℕ) → own n by (pair_of s at k) ≤ 1
-  own-new s at k = unless-one (k == n) 1 (omega arith)
+  own-new : (s : SidesRecord) (at : Combination) (k : ℕ) → own w by (pair_of s at k) ≤ one_if w.both
+  own-new s at k = unless-one (w.skips k) (0 + one_if w.both) (one_if w.both) (omega arith)
 
   -- ---- forming
 
   abbrev Fewer : Formed → Formed → Type 0
-  Fewer old new = leads n by new.pairs + old.next_number ≤ leads n by old.pairs + new.next_number
+  Fewer old new = leads w by new.pairs + formed_by w old.next_number ≤ leads w by old.pairs + formed_by w new.next_number
 
-  pushes : (old : Formed) (rest : List PairRecord) (q : PairRecord) (new : Formed) → leads n by rest ≤ leads n by old.pairs → own n by q ≤ 1 → new ≡ record { pairs = rest ++ q ∷ []; next_number = old.next_number + 1 }
+  pushes : (old : Formed) (rest : List PairRecord) (q : PairRecord) (new : Formed) → leads w by rest ≤ leads w by old.pairs → own w by q ≤ one_if w.both → new ≡ record { pairs = rest ++ q ∷ []; next_number = old.next_number + 1 }
       → Fewer old new
   pushes old rest q new fewer one made =
-      let more : leads n by (rest ++ q ∷ []) ≤ leads n by rest + 1 = leads-push n by q rest one in
-      subst (λ (f : Formed). Fewer old f) (sym made) (omega (arith, more, fewer))
+      let more : leads w by (rest ++ q ∷ []) ≤ leads w by rest + one_if w.both = leads-push w by (one_if w.both) q rest one in
+      subst (λ (f : Formed). Fewer old f) (sym made) (counted w.both (leads w by (rest ++ q ∷ [])) (leads w by rest) (leads w by old.pairs) more fewer) where
+        counted : (both : Bool) (x y z : ℕ) → x ≤ y + one_if both → y ≤ z → x + (if both then old.next_number else 0) ≤ z + (if both then old.next_number + 1 else 0)
+        counted true x y z le less = omega (arith, le, less)
+        counted false x y z le less = omega (arith, le, less)
 
   tries-leads : (s : SidesRecord) (at : Combination) (old new : Formed) → Tries s at old new → Fewer old new
   tries-leads s at old new (None, none, made) = pushes old old.pairs (pair_of s at old.next_number) new (omega arith) (own-new s at old.next_number) made
@@ -62,7 +66,7 @@ module _ (n by : ℕ) where
         → Fewer old new
     chosen true replaced =
         pushes old (without (is_numbered found.number) old.pairs) (taking_over s.lite found (pair_of s at old.next_number)) new
-        (leads-filter n by (λ q. not (is_numbered found.number q)) old.pairs) (own-taken s.lite found s at old.next_number) replaced
+        (leads-filter w by (λ q. not (is_numbered found.number q)) old.pairs) (own-taken s.lite found s at old.next_number) replaced
     chosen false same = subst (λ (f : Formed). Fewer old f) (sym same) (omega arith)
 
   each-leads : (s : SidesRecord) (all : List Combination) (old new : Formed) → Each (Tries s) all old new → Fewer old new
@@ -72,24 +76,28 @@ module _ (n by : ℕ) where
       let b : Fewer mid new = each-leads s all mid new others in
       omega (arith, a, b)
 
-  drops-leads : (limit : ℕ) (gone old new : List PairRecord) → RemovesInTurn limit gone old new → leads n by new ≤ leads n by old
-  drops-leads limit [] old new (within, same) = subst (λ ps. leads n by ps ≤ leads n by old) (sym same) (omega arith)
+  drops-leads : (limit : ℕ) (gone old new : List PairRecord) → RemovesInTurn limit gone old new → leads w by new ≤ leads w by old
+  drops-leads limit [] old new (within, same) = subst (λ ps. leads w by ps ≤ leads w by old) (sym same) (omega arith)
   drops-leads limit (p ∷ gone) old new (over, has, others) =
-      let a : leads n by (without (is_numbered p.number) old) ≤ leads n by old = leads-filter n by (λ q. not (is_numbered p.number q)) old in
-      let b : leads n by new ≤ leads n by (without (is_numbered p.number) old) = drops-leads limit gone (without (is_numbered p.number) old) new others in
+      let a : leads w by (without (is_numbered p.number) old) ≤ leads w by old = leads-filter w by (λ q. not (is_numbered p.number q)) old in
+      let b : leads w by new ≤ leads w by (without (is_numbered p.number) old) = drops-leads limit gone (without (is_numbered p.number) old) new others in
       omega (arith, a, b)
 
+module _ (n by : ℕ) where
   module _ {H P : Type 0} where
-    -- the agent, and how many checks go before the pair
+    -- the agent, and how many checks are left of the pairs that count
     abbrev Leads : AgentRecord H P → AgentRecord H P → Type 0
-    Leads old new = (ground_of new ≡ ground_of old) × (leads n by new.pairs + old.next_number ≤ leads n by old.pairs + new.next_number)
+    Leads old new =
+        (ground_of new ≡ ground_of old)
+        × ((w : Measure) → leads w by new.pairs + formed_by w old.next_number ≤ leads w by old.pairs + formed_by w new.next_number)
 
     forms-leads : (mid new : AgentRecord H P) (all : List Combination) → FormsAll mid all new → Leads mid new
     forms-leads mid new all (f, (tried, each, evicts, next_is), made) = subst (λ (a : AgentRecord H P). Leads mid a) (sym made) (
       refl,
-      (let a : Fewer (formed_of mid) tried = each-leads (sides_of mid) all (formed_of mid) tried each in
-          let b : leads n by f.pairs ≤ leads n by tried.pairs = (let all_gone = removes (sides_of mid) mid.max_pairs tried.pairs f.pairs evicts in drops-leads mid.max_pairs all_gone.0 tried.pairs f.pairs all_gone.1) in
-          omega (arith, a, b, next_is)),
+      (λ w. (let a : Fewer w by (formed_of mid) tried = each-leads w by (sides_of mid) all (formed_of mid) tried each in
+          let b : leads w by f.pairs ≤ leads w by tried.pairs = (let all_gone = removes (sides_of mid) mid.max_pairs tried.pairs f.pairs evicts in drops-leads w by mid.max_pairs all_gone.0 tried.pairs f.pairs all_gone.1) in
+          let same : formed_by w f.next_number ≡ formed_by w tried.next_number = ap (formed_by w) next_is in
+          omega (arith, a, b, same))),
     )
 
     -- the pair is still there, as it was
@@ -97,7 +105,7 @@ module _ (n by : ℕ) where
     goes old new p sound has number l there = (
       l.0,
       record {
-        less = λ late. l.1;
+        less = λ w late. l.1 w;
         fixed = λ d cs le (q, q_there, is, due, checks). (
             let one : q ≡ p = one_pair old.pairs q p (rising-each old.pairs sound.rising) q_there has (is ∙ sym number) in
             (p, there, number, subst (λ (x : PairRecord). x.due ≡ Some d) one due, subst (λ (x : PairRecord). kept_of x ≡ cs) one checks));
@@ -126,4 +134,4 @@ module _ (n by : ℕ) where
       | inr ends ↦ inl ends
     ] where
       superseded : (x : CandidateRecord) (k : ℕ) → Leads (appended x (local_discarded k old)) new → Leads old new
-      superseded x k l = (l.0, (let a = l.1 in let b : leads n by (without (is_local_at k) old.pairs) ≤ leads n by old.pairs = leads-filter n by (λ q. not (is_local_at k q)) old.pairs in omega (arith, a, b)))
+      superseded x k l = (l.0, λ w. (let a = l.1 w in let b : leads w by (without (is_local_at k) old.pairs) ≤ leads w by old.pairs = leads-filter w by (λ q. not (is_local_at k q)) old.pairs in omega (arith, a, b)))

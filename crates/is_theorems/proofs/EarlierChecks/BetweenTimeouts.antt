@@ -137,7 +137,7 @@ module _ {H P : Type 0} where
           (goes-to old _ recorded (
             refl,
             onward-set n by (last_time_of old) old.pairs old.next_number place p after at (λ one. (let no : true ≡ false = sym (eq-eqb p.number n one) ∙ numbered in cc))
-                (own-le n by p after (ap (λ (x : PairRecord). x.number) is) (subst (λ (x : PairRecord). lead by x ≤ lead by p) (sym is) (lead-answered by now i c p c_at))),
+                (λ w. own-le w by p after (ap (λ (x : PairRecord). x.number) is) (subst (λ (x : PairRecord). lead w.both by x ≤ lead w.both by p) (sym is) (lead-answered w.both by now i c p c_at))),
           ) made)
           (goes-to recorded (evaluated now mid) new (let k = nominates-goes recorded mid named nominates in (k.0, k.1)) done))
 

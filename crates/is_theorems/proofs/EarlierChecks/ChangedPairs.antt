@@ -1,6 +1,6 @@
 -- The effects of nomination and of requests on a pair. Which changes of a list of pairs leave no more checks of other
 -- pairs before one, except for one by each added pair.
-use Rattle.std.proofs.Common.{◌≡◌, ℕ, zero, suc, ◌+◌, ◌<◌, ◌≤◌, ◌==◌, ◌&&◌, ◌||◌, Bool, true, false, not, nat_le, List, [], ◌∷◌, ◌++◌, map, min, Option, Some, None, option_map, unwrap_or, inl, inr, ◌⊎◌, refl, ap, sym, ◌∙◌, subst, arith, if◌then◌else◌}
+use Rattle.std.proofs.Common.{◌≡◌, ℕ, zero, suc, ◌+◌, ◌<◌, ◌≤◌, ◌&&◌, ◌||◌, Bool, true, false, not, nat_le, List, [], ◌∷◌, ◌++◌, map, min, Option, Some, None, option_map, unwrap_or, inl, inr, ◌⊎◌, refl, ap, sym, ◌∙◌, subst, arith, if◌then◌else◌}
 use Rattle.std.specs.Prelude.{slice_get, slice_set}
 use Rattle.std.specs.Option.{option_map_or}
 use Rattle.is_proto.specs.Lists.{Has}
@@ -10,10 +10,11 @@ use Rattle.is_pair.specs.States.{is_nominated_state}
 use Rattle.is_pair.specs.declared.pair.states.NominationState.{NominationState}
 use Rattle.is_pair.specs.declared.pair.states.NominationState.TheVariants.{None as Unnominated, Nominated, Attempt, Success}
 use Rattle.is_pair.specs.Due.{is_triggered, moved_up, triggered}
+use Rattle.is_rules.specs.Owed.{one_if}
 use Rattle.is_rules.specs.Request.{RequestRecord}
 use Rattle.is_rules.specs.Serving.{served, nominated_by_peer, validated_by_peer}
 use Rattle.is_theorems.proofs.DuePairs.AfterNominationAndRemoval.{Kept, kept_of}
-use Rattle.is_theorems.proofs.EarlierChecks.ChecksOfOtherPairs.{Becomes, le-from, le-is, le-fails, le-not, lead, leads, own, own-le, sent_by, weight-becomes, is_early, weight, leads-map, leads-push, leads-set}
+use Rattle.is_theorems.proofs.EarlierChecks.ChecksOfOtherPairs.{Becomes, le-from, le-is, le-fails, le-not, lead, leads, own, own-le, formed_by, Measure, sent_by, weight-becomes, is_early, weight, leads-map, leads-push, leads-set}
 use Rattle.is_theorems.proofs.CallEffects.ServedRequests.{Has-mapped}
 use Rattle.is_theorems.proofs.RuleEffects.SelectedPaths.{some_is}
 use Rattle.is_theorems.proofs.BasicLemmas.ServedPairs.{numbered-by}
@@ -137,10 +138,10 @@ at-moved by at n f p m = from (is_numbered n p) where
   from true = m
   from false = moved-mild by at p p (mild-same p)
 
-lead-moved : (by at : ℕ) (p q : PairRecord) → by < at → MovedUp by at p q → lead by q ≤ lead by p
-lead-moved by at p q late m =
+lead-moved : (both : Bool) (by at : ℕ) (p q : PairRecord) → by < at → MovedUp by at p q → lead both by q ≤ lead both by p
+lead-moved both by at p q late m =
     let e : is_early by q.due q.checks ≡ is_early by p.due p.checks = ap (λ b. b || sent_by by q.checks) (m.early late) ∙ ap (λ k. is_early by p.due k.0) m.kept in
-    subst (λ b. weight q.nomination b ≤ lead by p) (sym e) (weight-becomes p.nomination q.nomination (is_early by p.due p.checks) m.nomination)
+    subst (λ b. weight both q.nomination b ≤ lead both by p) (sym e) (weight-becomes both p.nomination q.nomination (is_early by p.due p.checks) m.nomination)
 
 -- ---- lists of pairs
 
@@ -148,27 +149,27 @@ lead-moved by at p q late m =
 abbrev pub Fixed : ℕ → ℕ → Kept → List PairRecord → Type 0
 Fixed n d k ps = (q : PairRecord) × Has ps q × (q.number ≡ n) × (q.due ≡ Some d) × (kept_of q ≡ k)
 
--- If the time is before `at`, no more checks go before the pair with the number than before, except for one by each added pair. If the pair
--- was due by then, it is due as it was.
+-- If the time is before `at`, no more checks of the pairs that count are left than before, except for one by each added pair if nominations
+-- count. If the pair with the number was due by then, it is due as it was.
 pub record Onward (n by at : ℕ) (xs : List PairRecord) (k : ℕ) (ys : List PairRecord) (m : ℕ) : Type 0 where
-  pub less : by < at → leads n by ys + k ≤ leads n by xs + m
+  pub less : (w : Measure) → by < at → leads w by ys + formed_by w k ≤ leads w by xs + formed_by w m
   pub fixed : (d : ℕ) (k : Kept) → d ≤ at → Fixed n d k xs → Fixed n d k ys
 
 module _ (n by at : ℕ) where
   pub onward-same : (xs : List PairRecord) (k : ℕ) → Onward n by at xs k xs k
-  onward-same xs k = record { less = λ late. omega arith; fixed = λ d cs le f. f }
+  onward-same xs k = record { less = λ w late. omega arith; fixed = λ d cs le f. f }
 
   pub onward-on : (xs ys zs : List PairRecord) (i k m : ℕ) → Onward n by at xs i ys k → Onward n by at ys k zs m → Onward n by at xs i zs m
   onward-on xs ys zs i k m a b = record {
-    less = λ late. joined (leads n by xs) (leads n by ys) (leads n by zs) (a.less late) (b.less late);
+    less = λ w late. joined (formed_by w i) (formed_by w k) (formed_by w m) (leads w by xs) (leads w by ys) (leads w by zs) (a.less w late) (b.less w late);
     fixed = λ d cs le f. b.fixed d cs le (a.fixed d cs le f);
   } where
-    joined : (x y z : ℕ) → y + i ≤ x + k → z + k ≤ y + m → z + i ≤ x + m
-    joined x y z h l = omega (arith, h, l)
+    joined : (i k m x y z : ℕ) → y + i ≤ x + k → z + k ≤ y + m → z + i ≤ x + m
+    joined i k m x y z h l = omega (arith, h, l)
 
   pub onward-each : (f : PairRecord → PairRecord) (xs : List PairRecord) (k : ℕ) → ((p : PairRecord) → MovedUp by at p (f p)) → Onward n by at xs k (map f xs) k
   onward-each f xs k moved = record {
-    less = λ late. (let le : leads n by (map f xs) ≤ leads n by xs = leads-map n by f xs (λ p. own-le n by p (f p) (moved p).number (lead-moved by at p (f p) late (moved p))) in omega (arith, le));
+    less = λ w late. (let le : leads w by (map f xs) ≤ leads w by xs = leads-map w by f xs (λ p. own-le w by p (f p) (moved p).number (lead-moved w.both by at p (f p) late (moved p))) in omega (arith, le));
     fixed = λ d cs le (q, has, is, due, checks). (f q, Has-mapped f xs q has, (moved q).number ∙ is, (moved q).fixed d le due, (moved q).kept ∙ checks);
   }
 
@@ -179,12 +180,16 @@ module _ (n by at : ℕ) where
 
   pub onward-adds : (xs : List PairRecord) (k l r priority : ℕ) → Onward n by at xs k (xs ++ new_pair k l r priority ∷ []) (k + 1)
   onward-adds xs k l r priority = record {
-    less = λ late. (let le : leads n by (xs ++ new_pair k l r priority ∷ []) ≤ leads n by xs + 1 = leads-push n by (new_pair k l r priority) xs (one (k == n)) in omega (arith, le));
+    less = λ w late. (let le : leads w by (xs ++ new_pair k l r priority ∷ []) ≤ leads w by xs + one_if w.both = leads-push w by (one_if w.both) (new_pair k l r priority) xs (one (w.skips k) w.both) in counted w.both (leads w by (xs ++ new_pair k l r priority ∷ [])) (leads w by xs) le);
     fixed = λ d cs le (q, has, is, due, checks). (q, has-front xs (new_pair k l r priority) q has, is, due, checks);
   } where
-    one : (b : Bool) → (if b then 0 else 1) ≤ 1
-    one true = omega arith
-    one false = omega arith
+    one : (b both : Bool) → (if b then 0 else 0 + one_if both) ≤ one_if both
+    one true both = omega arith
+    one false both = omega arith
+
+    counted : (both : Bool) (x y : ℕ) → x ≤ y + one_if both → x + (if both then k else 0) ≤ y + (if both then k + 1 else 0)
+    counted true x y le = omega (arith, le)
+    counted false x y le = omega (arith, le)
 
   has-set : (xs : List PairRecord) (i : ℕ) (p after q : PairRecord) → slice_get xs i ≡ Some p → (q ≡ p → ⊥) → Has xs q → Has (slice_set xs i after) q
   has-set [] i p after q at apart has = absurd has
@@ -193,9 +198,9 @@ module _ (n by at : ℕ) where
   has-set (x ∷ xs) (suc i) p after q at apart (inl e) = inl e
   has-set (x ∷ xs) (suc i) p after q at apart (inr has) = inr (has-set xs i p after q at apart has)
 
-  pub onward-set : (xs : List PairRecord) (k i : ℕ) (p after : PairRecord) → slice_get xs i ≡ Some p → (p.number ≡ n → ⊥) → own n by after ≤ own n by p
+  pub onward-set : (xs : List PairRecord) (k i : ℕ) (p after : PairRecord) → slice_get xs i ≡ Some p → (p.number ≡ n → ⊥) → ((w : Measure) → own w by after ≤ own w by p)
       → Onward n by at xs k (slice_set xs i after) k
   onward-set xs k i p after place apart le = record {
-    less = λ late. (let less : leads n by (slice_set xs i after) ≤ leads n by xs = leads-set n by xs i p after place le in omega (arith, less));
+    less = λ w late. (let less : leads w by (slice_set xs i after) ≤ leads w by xs = leads-set w by xs i p after place (le w) in omega (arith, less));
     fixed = λ d cs before (q, has, is, due, checks). (q, has-set xs i p after q place (λ one. apart (sym (ap (λ (x : PairRecord). x.number) one) ∙ is)) has, is, due, checks);
   }

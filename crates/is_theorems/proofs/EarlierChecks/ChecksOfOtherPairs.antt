@@ -85,70 +85,80 @@ sent-answered by xs i x y at same =
 abbrev pub is_early : ℕ → Option ℕ → List Check → Bool
 is_early by due cs = option_map_or (λ at. nat_le at by) due false || sent_by by cs
 
--- one check if the pair may be due by then itself, and one when it is nominated, because it goes first then
-abbrev pub weight : NominationState → Bool → ℕ
-weight Unnominated early = one_if early + 1
-weight Nominated early = 1
-weight Attempt early = one_if early
-weight Success early = one_if early
+-- one check if the pair may be due by then itself, and one when it is nominated, because it goes first then: that one counts only if
+-- nominations do
+abbrev pub weight : Bool → NominationState → Bool → ℕ
+weight both Unnominated early = one_if early + one_if both
+weight both Nominated early = one_if both
+weight both Attempt early = one_if early
+weight both Success early = one_if early
 
-abbrev pub lead : ℕ → PairRecord → ℕ
-lead by p = weight p.nomination (is_early by p.due p.checks)
+abbrev pub lead : Bool → ℕ → PairRecord → ℕ
+lead both by p = weight both p.nomination (is_early by p.due p.checks)
 
-less-early : (n : NominationState) (a b : Bool) → (a ≡ true → b ≡ true) → weight n a ≤ weight n b
-less-early n true false h = let no : false ≡ true = h refl in absurd (cc)
-less-early n true true h = omega arith
-less-early n false false h = omega arith
-less-early Unnominated false true h = omega arith
-less-early Nominated false true h = omega arith
-less-early Attempt false true h = omega arith
-less-early Success false true h = omega arith
+less-early : (both : Bool) (n : NominationState) (a b : Bool) → (a ≡ true → b ≡ true) → weight both n a ≤ weight both n b
+less-early both n true false h = let no : false ≡ true = h refl in absurd (cc)
+less-early both n true true h = omega arith
+less-early both n false false h = omega arith
+less-early both Unnominated false true h = omega arith
+less-early both Nominated false true h = omega arith
+less-early both Attempt false true h = omega arith
+less-early both Success false true h = omega arith
 
 -- it was not nominated, and is
 abbrev pub Becomes : NominationState → NominationState → Type 0
 Becomes n m = (n ≡ Unnominated) × ((m ≡ Nominated) ⊎ (m ≡ Success))
 
-pub weight-becomes : (n m : NominationState) (e : Bool) → (m ≡ n) ⊎ Becomes n m → weight m e ≤ weight n e
-weight-becomes n m e (inl same) = subst (λ k. weight k e ≤ weight n e) (sym same) (omega arith)
-weight-becomes n m e (inr (was, inl now)) = subst (λ k. weight k e ≤ weight n e) (sym now) (subst (λ k. 1 ≤ weight k e) (sym was) (omega arith))
-weight-becomes n m e (inr (was, inr now)) = subst (λ k. weight k e ≤ weight n e) (sym now) (subst (λ k. one_if e ≤ weight k e) (sym was) (omega arith))
+pub weight-becomes : (both : Bool) (n m : NominationState) (e : Bool) → (m ≡ n) ⊎ Becomes n m → weight both m e ≤ weight both n e
+weight-becomes both n m e (inl same) = subst (λ k. weight both k e ≤ weight both n e) (sym same) (omega arith)
+weight-becomes both n m e (inr (was, inl now)) =
+    subst (λ k. weight both k e ≤ weight both n e) (sym now) (subst (λ k. one_if both ≤ weight both k e) (sym was) (omega arith))
+weight-becomes both n m e (inr (was, inr now)) =
+    subst (λ k. weight both k e ≤ weight both n e) (sym now) (subst (λ k. one_if e ≤ weight both k e) (sym was) (omega arith))
 
-weight-answered : (b : Bool) (n : NominationState) (e : Bool) → weight (nomination_once_answered b n) e ≤ weight n e
-weight-answered true Unnominated e = omega arith
-weight-answered true Nominated e = omega arith
-weight-answered true Attempt e = omega arith
-weight-answered true Success e = omega arith
-weight-answered false n e = omega arith
+weight-answered : (both b : Bool) (n : NominationState) (e : Bool) → weight both (nomination_once_answered b n) e ≤ weight both n e
+weight-answered both true Unnominated e = omega arith
+weight-answered both true Nominated e = omega arith
+weight-answered both true Attempt e = omega arith
+weight-answered both true Success e = omega arith
+weight-answered both false n e = omega arith
 
-pub weight-sent : (n : NominationState) → weight (nomination_once_sent n) false + 1 ≤ weight n true
-weight-sent Unnominated = omega arith
-weight-sent Nominated = omega arith
-weight-sent Attempt = omega arith
-weight-sent Success = omega arith
+-- a check uses one up, also one of a pair that is nominated, if that counts
+abbrev pub Counts : Bool → NominationState → Type 0
+Counts both n = (both ≡ true) ⊎ (n ≡ Nominated → ⊥)
 
-pub weight-sent-no-more : (n : NominationState) (e : Bool) → weight (nomination_once_sent n) false ≤ weight n e
-weight-sent-no-more Unnominated true = omega arith
-weight-sent-no-more Unnominated false = omega arith
-weight-sent-no-more Nominated e = omega arith
-weight-sent-no-more Attempt e = omega arith
-weight-sent-no-more Success e = omega arith
+pub weight-sent : (both : Bool) (n : NominationState) → Counts both n → weight both (nomination_once_sent n) false + 1 ≤ weight both n true
+weight-sent true Unnominated counts = omega arith
+weight-sent false Unnominated counts = omega arith
+weight-sent true Nominated counts = omega arith
+weight-sent false Nominated (inl counted) = absurd (let none : false ≡ true = counted in cc)
+weight-sent false Nominated (inr apart) = absurd (apart refl)
+weight-sent both Attempt counts = omega arith
+weight-sent both Success counts = omega arith
+
+pub weight-sent-no-more : (both : Bool) (n : NominationState) (e : Bool) → weight both (nomination_once_sent n) false ≤ weight both n e
+weight-sent-no-more both Unnominated true = omega arith
+weight-sent-no-more both Unnominated false = omega arith
+weight-sent-no-more both Nominated e = omega arith
+weight-sent-no-more both Attempt e = omega arith
+weight-sent-no-more both Success e = omega arith
 
 -- also if its nomination begins again before
-pub weight-again-no-more : (n : NominationState) (e : Bool) → weight (nomination_once_sent (nomination_again n)) false ≤ weight n e
-weight-again-no-more Unnominated true = omega arith
-weight-again-no-more Unnominated false = omega arith
-weight-again-no-more Nominated e = omega arith
-weight-again-no-more Attempt e = omega arith
-weight-again-no-more Success e = omega arith
+pub weight-again-no-more : (both : Bool) (n : NominationState) (e : Bool) → weight both (nomination_once_sent (nomination_again n)) false ≤ weight both n e
+weight-again-no-more both Unnominated true = omega arith
+weight-again-no-more both Unnominated false = omega arith
+weight-again-no-more both Nominated e = omega arith
+weight-again-no-more both Attempt e = omega arith
+weight-again-no-more both Success e = omega arith
 
-weight-two : (n : NominationState) (e : Bool) → weight n e ≤ 2
-weight-two Unnominated true = omega arith
-weight-two Unnominated false = omega arith
-weight-two Nominated e = omega arith
-weight-two Attempt true = omega arith
-weight-two Attempt false = omega arith
-weight-two Success true = omega arith
-weight-two Success false = omega arith
+pub weight-two : (both : Bool) (n : NominationState) (e : Bool) → weight both n e ≤ 1 + one_if both
+weight-two both Unnominated true = omega arith
+weight-two both Unnominated false = omega arith
+weight-two both Nominated e = omega arith
+weight-two both Attempt true = omega arith
+weight-two both Attempt false = omega arith
+weight-two both Success true = omega arith
+weight-two both Success false = omega arith
 
 -- if its due time is computed later, a pair is due by a time only if its last check was sent by then
 unfixed-early : (by now most : ℕ) (t : StunTiming) (p : PairRecord) → by < now → now < MAX → nat_le (min (next_due_time now t p) (later now most)) by ≡ true → sent_by by p.checks ≡ true
@@ -165,47 +175,60 @@ or-left : (a b : Bool) → (a ≡ true → b ≡ true) → (a || b) ≡ true →
 or-left true b h is = h refl
 or-left false b h is = is
 
-asked-weight : (by now : ℕ) (t : StunTiming) (n : NominationState) (o : Option ℕ) (p : PairRecord) → by < now → now < MAX
-    → weight n (is_early by (Some (unwrap_or o (min (computed_due_time n now t p) (later now t.max_rto.0)))) p.checks) ≤ weight n (is_early by o p.checks)
-asked-weight by now t n (Some d) p late early = omega arith
-asked-weight by now t Nominated None p late early = omega arith
-asked-weight by now t Unnominated None p late early = less-early Unnominated _ _ (or-left _ _ (unfixed-early by now t.max_rto.0 t p late early))
-asked-weight by now t Attempt None p late early = less-early Attempt _ _ (or-left _ _ (unfixed-early by now t.max_rto.0 t p late early))
-asked-weight by now t Success None p late early = less-early Success _ _ (or-left _ _ (unfixed-early by now t.max_rto.0 t p late early))
+asked-weight : (both : Bool) (by now : ℕ) (t : StunTiming) (n : NominationState) (o : Option ℕ) (p : PairRecord) → by < now → now < MAX
+    → weight both n (is_early by (Some (unwrap_or o (min (computed_due_time n now t p) (later now t.max_rto.0)))) p.checks) ≤ weight both n (is_early by o p.checks)
+asked-weight both by now t n (Some d) p late early = omega arith
+asked-weight both by now t Nominated None p late early = omega arith
+asked-weight both by now t Unnominated None p late early = less-early both Unnominated _ _ (or-left _ _ (unfixed-early by now t.max_rto.0 t p late early))
+asked-weight both by now t Attempt None p late early = less-early both Attempt _ _ (or-left _ _ (unfixed-early by now t.max_rto.0 t p late early))
+asked-weight both by now t Success None p late early = less-early both Success _ _ (or-left _ _ (unfixed-early by now t.max_rto.0 t p late early))
 
-pub lead-asked : (by now : ℕ) (t : StunTiming) (p : PairRecord) → by < now → now < MAX → lead by (asked now t p) ≤ lead by p
-lead-asked by now t p late early = asked-weight by now t p.nomination p.due p late early
+pub lead-asked : (both : Bool) (by now : ℕ) (t : StunTiming) (p : PairRecord) → by < now → now < MAX → lead both by (asked now t p) ≤ lead both by p
+lead-asked both by now t p late early = asked-weight both by now t p.nomination p.due p late early
 
-pub lead-checked-is : (by now : ℕ) (t : StunTiming) (c : Bool) (id : List ℕ) (p : PairRecord) → by < now → 0 < t.max_retransmits
-    → lead by (checked now t c id p) ≡ weight (nomination_once_sent p.nomination) false
-lead-checked-is by now t c id p late some =
-    ap (λ b. weight (nomination_once_sent p.nomination) b) (sent-late by now t.max_retransmits p.checks (check_of now c id p) late some refl)
+pub lead-checked-is : (both : Bool) (by now : ℕ) (t : StunTiming) (c : Bool) (id : List ℕ) (p : PairRecord) → by < now → 0 < t.max_retransmits
+    → lead both by (checked now t c id p) ≡ weight both (nomination_once_sent p.nomination) false
+lead-checked-is both by now t c id p late some =
+    ap (λ b. weight both (nomination_once_sent p.nomination) b) (sent-late by now t.max_retransmits p.checks (check_of now c id p) late some refl)
 
 -- a response makes no pair early
 or-right : (a b : Bool) → b ≡ true → (a || b) ≡ true
 or-right true b is = refl
 or-right false b is = is
 
-pub lead-answered : (by now place : ℕ) (c : Check) (p : PairRecord) → slice_get p.checks place ≡ Some c → lead by (answered now place c p) ≤ lead by p
-lead-answered by now place c p at =
+pub lead-answered : (both : Bool) (by now place : ℕ) (c : Check) (p : PairRecord) → slice_get p.checks place ≡ Some c → lead both by (answered now place c p) ≤ lead both by p
+lead-answered both by now place c p at =
     let sent : sent_by by (slice_set p.checks place (answered_at now c)) ≡ sent_by by p.checks = sent-answered by p.checks place c (answered_at now c) at refl in
-    let a : weight (nomination_once_answered c.nominated p.nomination) (sent_by by p.checks) ≤ weight p.nomination (sent_by by p.checks) =
-    weight-answered c.nominated p.nomination (sent_by by p.checks) in
-    let b : weight p.nomination (sent_by by p.checks) ≤ lead by p =
-    less-early p.nomination (sent_by by p.checks) (is_early by p.due p.checks) (or-right (option_map_or (λ at. nat_le at by) p.due false) (sent_by by p.checks)) in
-    subst (λ e. weight (nomination_once_answered c.nominated p.nomination) e ≤ lead by p) (sym sent)
-    (joined (weight (nomination_once_answered c.nominated p.nomination) (sent_by by p.checks)) (weight p.nomination (sent_by by p.checks)) (lead by p) a b) where
+    let a : weight both (nomination_once_answered c.nominated p.nomination) (sent_by by p.checks) ≤ weight both p.nomination (sent_by by p.checks) =
+    weight-answered both c.nominated p.nomination (sent_by by p.checks) in
+    let b : weight both p.nomination (sent_by by p.checks) ≤ lead both by p =
+    less-early both p.nomination (sent_by by p.checks) (is_early by p.due p.checks) (or-right (option_map_or (λ at. nat_le at by) p.due false) (sent_by by p.checks)) in
+    subst (λ e. weight both (nomination_once_answered c.nominated p.nomination) e ≤ lead both by p) (sym sent)
+    (joined (weight both (nomination_once_answered c.nominated p.nomination) (sent_by by p.checks)) (weight both p.nomination (sent_by by p.checks)) (lead both by p) a b) where
       joined : (x y z : ℕ) → x ≤ y → y ≤ z → x ≤ z
       joined x y z h k = omega (arith, h, k)
 
--- ---- all except the pair with the number
+-- ---- the pairs that count
 
-abbrev pub own : ℕ → ℕ → PairRecord → ℕ
-own n by p = if is_numbered n p then 0 else lead by p
+-- Which pairs count, by their numbers, and whether they also count when they are nominated.
+pub record Measure : Type 0 where
+  pub skips : ℕ → Bool
+  pub both : Bool
 
-abbrev pub leads : ℕ → ℕ → List PairRecord → ℕ
-leads n by [] = 0
-leads n by (p ∷ ps) = own n by p + leads n by ps
+-- all except the pair with the number
+abbrev pub all-but : ℕ → Measure
+all-but n = record { skips = λ k. k == n; both = true }
+
+-- A new pair counts when it is nominated. So many were formed before.
+abbrev pub formed_by : Measure → ℕ → ℕ
+formed_by m next = if m.both then next else 0
+
+abbrev pub own : Measure → ℕ → PairRecord → ℕ
+own m by p = if m.skips p.number then 0 else lead m.both by p
+
+abbrev pub leads : Measure → ℕ → List PairRecord → ℕ
+leads m by [] = 0
+leads m by (p ∷ ps) = own m by p + leads m by ps
 
 unless-le : (a b : Bool) (x y : ℕ) → a ≡ b → x ≤ y → (if a then 0 else x) ≤ (if b then 0 else y)
 unless-le true true x y same le = omega arith
@@ -213,8 +236,8 @@ unless-le true false x y same le = absurd (cc)
 unless-le false true x y same le = absurd (cc)
 unless-le false false x y same le = le
 
-pub own-le : (n by : ℕ) (p q : PairRecord) → q.number ≡ p.number → lead by q ≤ lead by p → own n by q ≤ own n by p
-own-le n by p q same le = unless-le (is_numbered n q) (is_numbered n p) (lead by q) (lead by p) (ap (λ k. k == n) same) le
+pub own-le : (m : Measure) (by : ℕ) (p q : PairRecord) → q.number ≡ p.number → lead m.both by q ≤ lead m.both by p → own m by q ≤ own m by p
+own-le m by p q same le = unless-le (m.skips q.number) (m.skips p.number) (lead m.both by q) (lead m.both by p) (ap m.skips same) le
 
 sums : (a b c d : ℕ) → a ≤ b → c ≤ d → a + c ≤ b + d
 sums a b c d h k = omega (arith, h, k)
@@ -225,63 +248,63 @@ sums-left a b c d h k = omega (arith, h, k)
 sums-right : (a b c d : ℕ) → a ≤ b → c + 1 ≤ d → a + c + 1 ≤ b + d
 sums-right a b c d h k = omega (arith, h, k)
 
-pub leads-map : (n by : ℕ) (f : PairRecord → PairRecord) (xs : List PairRecord) → ((p : PairRecord) → own n by (f p) ≤ own n by p) → leads n by (map f xs) ≤ leads n by xs
-leads-map n by f [] h = omega arith
-leads-map n by f (x ∷ xs) h = sums (own n by (f x)) (own n by x) (leads n by (map f xs)) (leads n by xs) (h x) (leads-map n by f xs h)
+pub leads-map : (m : Measure) (by : ℕ) (f : PairRecord → PairRecord) (xs : List PairRecord) → ((p : PairRecord) → own m by (f p) ≤ own m by p) → leads m by (map f xs) ≤ leads m by xs
+leads-map m by f [] h = omega arith
+leads-map m by f (x ∷ xs) h = sums (own m by (f x)) (own m by x) (leads m by (map f xs)) (leads m by xs) (h x) (leads-map m by f xs h)
 
-pub leads-less : (n by : ℕ) (f : PairRecord → PairRecord) (xs : List PairRecord) (x : PairRecord) → ((p : PairRecord) → own n by (f p) ≤ own n by p)
-    → Has xs x → own n by (f x) + 1 ≤ own n by x → leads n by (map f xs) + 1 ≤ leads n by xs
-leads-less n by f [] x h has less = absurd has
-leads-less n by f (y ∷ ys) x h (inl e) less =
-    sums-left (own n by (f y)) (own n by y) (leads n by (map f ys)) (leads n by ys) (subst (λ (z : PairRecord). own n by (f z) + 1 ≤ own n by z) (sym e) less) (leads-map n by f ys h)
-leads-less n by f (y ∷ ys) x h (inr has) less =
-    sums-right (own n by (f y)) (own n by y) (leads n by (map f ys)) (leads n by ys) (h y) (leads-less n by f ys x h has less)
+pub leads-less : (m : Measure) (by : ℕ) (f : PairRecord → PairRecord) (xs : List PairRecord) (x : PairRecord) → ((p : PairRecord) → own m by (f p) ≤ own m by p)
+    → Has xs x → own m by (f x) + 1 ≤ own m by x → leads m by (map f xs) + 1 ≤ leads m by xs
+leads-less m by f [] x h has less = absurd has
+leads-less m by f (y ∷ ys) x h (inl e) less =
+    sums-left (own m by (f y)) (own m by y) (leads m by (map f ys)) (leads m by ys) (subst (λ (z : PairRecord). own m by (f z) + 1 ≤ own m by z) (sym e) less) (leads-map m by f ys h)
+leads-less m by f (y ∷ ys) x h (inr has) less =
+    sums-right (own m by (f y)) (own m by y) (leads m by (map f ys)) (leads m by ys) (h y) (leads-less m by f ys x h has less)
 
-pub leads-filter : (n by : ℕ) (keep : PairRecord → Bool) (xs : List PairRecord) → leads n by (filter keep xs) ≤ leads n by xs
-leads-filter n by keep [] = omega arith
-leads-filter n by keep (x ∷ xs) = kept (keep x) (leads-filter n by keep xs) where
-  kept : (b : Bool) → leads n by (filter keep xs) ≤ leads n by xs → leads n by (if b then x ∷ filter keep xs else filter keep xs) ≤ own n by x + leads n by xs
-  kept true le = sums (own n by x) (own n by x) (leads n by (filter keep xs)) (leads n by xs) (omega arith) le
-  kept false le = following (own n by x) (leads n by (filter keep xs)) (leads n by xs) le where
+pub leads-filter : (m : Measure) (by : ℕ) (keep : PairRecord → Bool) (xs : List PairRecord) → leads m by (filter keep xs) ≤ leads m by xs
+leads-filter m by keep [] = omega arith
+leads-filter m by keep (x ∷ xs) = kept (keep x) (leads-filter m by keep xs) where
+  kept : (b : Bool) → leads m by (filter keep xs) ≤ leads m by xs → leads m by (if b then x ∷ filter keep xs else filter keep xs) ≤ own m by x + leads m by xs
+  kept true le = sums (own m by x) (own m by x) (leads m by (filter keep xs)) (leads m by xs) (omega arith) le
+  kept false le = following (own m by x) (leads m by (filter keep xs)) (leads m by xs) le where
     following : (a b c : ℕ) → b ≤ c → b ≤ a + c
     following a b c h = omega (arith, h)
 
-pub leads-push : (n by : ℕ) (x : PairRecord) (xs : List PairRecord) → own n by x ≤ 1 → leads n by (xs ++ x ∷ []) ≤ leads n by xs + 1
-leads-push n by x [] one = one-more (own n by x) one where
-  one-more : (a : ℕ) → a ≤ 1 → a + 0 ≤ 0 + 1
+pub leads-push : (m : Measure) (by one : ℕ) (x : PairRecord) (xs : List PairRecord) → own m by x ≤ one → leads m by (xs ++ x ∷ []) ≤ leads m by xs + one
+leads-push m by one x [] le = one-more (own m by x) le where
+  one-more : (a : ℕ) → a ≤ one → a + 0 ≤ 0 + one
   one-more a h = omega (arith, h)
-leads-push n by x (y ∷ ys) one = further (own n by y) (leads n by (ys ++ x ∷ [])) (leads n by ys) (leads-push n by x ys one) where
-  further : (a b c : ℕ) → b ≤ c + 1 → a + b ≤ a + c + 1
+leads-push m by one x (y ∷ ys) le = further (own m by y) (leads m by (ys ++ x ∷ [])) (leads m by ys) (leads-push m by one x ys le) where
+  further : (a b c : ℕ) → b ≤ c + one → a + b ≤ a + c + one
   further a b c h = omega (arith, h)
 
-pub leads-set : (n by : ℕ) (xs : List PairRecord) (i : ℕ) (p after : PairRecord) → slice_get xs i ≡ Some p → own n by after ≤ own n by p → leads n by (slice_set xs i after) ≤ leads n by xs
-leads-set n by [] i p after at le = omega arith
-leads-set n by (x ∷ xs) zero p after at le =
-    sums (own n by after) (own n by x) (leads n by xs) (leads n by xs) (subst (λ (y : PairRecord). own n by after ≤ own n by y) (sym (some_is x p at)) le) (omega arith)
-leads-set n by (x ∷ xs) (suc i) p after at le =
-    sums (own n by x) (own n by x) (leads n by (slice_set xs i after)) (leads n by xs) (omega arith) (leads-set n by xs i p after at le)
+pub leads-set : (m : Measure) (by : ℕ) (xs : List PairRecord) (i : ℕ) (p after : PairRecord) → slice_get xs i ≡ Some p → own m by after ≤ own m by p → leads m by (slice_set xs i after) ≤ leads m by xs
+leads-set m by [] i p after at le = omega arith
+leads-set m by (x ∷ xs) zero p after at le =
+    sums (own m by after) (own m by x) (leads m by xs) (leads m by xs) (subst (λ (y : PairRecord). own m by after ≤ own m by y) (sym (some_is x p at)) le) (omega arith)
+leads-set m by (x ∷ xs) (suc i) p after at le =
+    sums (own m by x) (own m by x) (leads m by (slice_set xs i after)) (leads m by xs) (omega arith) (leads-set m by xs i p after at le)
 
-own-two : (n by : ℕ) (p : PairRecord) → own n by p ≤ 2
-own-two n by p = unless (is_numbered n p) (weight-two p.nomination (is_early by p.due p.checks)) where
-  unless : (b : Bool) → lead by p ≤ 2 → (if b then 0 else lead by p) ≤ 2
+own-two : (n by : ℕ) (p : PairRecord) → own (all-but n) by p ≤ 2
+own-two n by p = unless (is_numbered n p) (weight-two true p.nomination (is_early by p.due p.checks)) where
+  unless : (b : Bool) → lead true by p ≤ 2 → (if b then 0 else lead true by p) ≤ 2
   unless true le = omega arith
   unless false le = le
 
-leads-all : (n by : ℕ) (xs : List PairRecord) → leads n by xs ≤ 2 * length xs
+leads-all : (n by : ℕ) (xs : List PairRecord) → leads (all-but n) by xs ≤ 2 * length xs
 leads-all n by [] = omega arith
-leads-all n by (x ∷ xs) = twice (own n by x) (leads n by xs) (length xs) (own-two n by x) (leads-all n by xs) where
+leads-all n by (x ∷ xs) = twice (own (all-but n) by x) (leads (all-but n) by xs) (length xs) (own-two n by x) (leads-all n by xs) where
   twice : (a b c : ℕ) → a ≤ 2 → b ≤ 2 * c → a + b ≤ 2 * suc c
   twice a b c h k = omega (arith, h, k)
 
 -- the pair itself does not count
-pub leads-others : (by : ℕ) (xs : List PairRecord) (p : PairRecord) → Has xs p → leads p.number by xs + 2 ≤ 2 * length xs
+pub leads-others : (by : ℕ) (xs : List PairRecord) (p : PairRecord) → Has xs p → leads (all-but p.number) by xs + 2 ≤ 2 * length xs
 leads-others by [] p has = absurd has
 leads-others by (x ∷ xs) p (inl e) = none (is_numbered p.number x) (ap (λ (y : PairRecord). y.number == p.number) e ∙ eq-eqb p.number p.number refl) (leads-all p.number by xs) where
-  none : (b : Bool) → b ≡ true → leads p.number by xs ≤ 2 * length xs → (if b then 0 else lead by x) + leads p.number by xs + 2 ≤ 2 * suc (length xs)
-  none true is le = count (leads p.number by xs) (length xs) le where
+  none : (b : Bool) → b ≡ true → leads (all-but p.number) by xs ≤ 2 * length xs → (if b then 0 else lead true by x) + leads (all-but p.number) by xs + 2 ≤ 2 * suc (length xs)
+  none true is le = count (leads (all-but p.number) by xs) (length xs) le where
     count : (a b : ℕ) → a ≤ 2 * b → 0 + a + 2 ≤ 2 * suc b
     count a b h = omega (arith, h)
   none false is le = absurd (cc)
-leads-others by (x ∷ xs) p (inr has) = count (own p.number by x) (leads p.number by xs) (length xs) (own-two p.number by x) (leads-others by xs p has) where
+leads-others by (x ∷ xs) p (inr has) = count (own (all-but p.number) by x) (leads (all-but p.number) by xs) (length xs) (own-two p.number by x) (leads-others by xs p has) where
   count : (a b c : ℕ) → a ≤ 2 → b + 2 ≤ 2 * c → a + b + 2 ≤ 2 * suc c
   count a b c h k = omega (arith, h, k)

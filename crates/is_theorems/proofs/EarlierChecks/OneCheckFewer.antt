@@ -27,7 +27,7 @@ use Rattle.is_rules.specs.Sending.{path_of}
 use Rattle.is_rules.specs.Timeouts.{at_timeout, is_expired, expired_gone, RemovesExpired, MaintainsPairs}
 use Rattle.is_rules.specs.Emitted.{issued_as}
 use Rattle.is_theorems.proofs.RuleEffects.UnchangedSettings.{either}
-use Rattle.is_theorems.proofs.EarlierChecks.ChecksOfOtherPairs.{lead, leads, own, own-le, weight, weight-again-no-more, weight-sent, weight-sent-no-more, lead-asked, lead-checked-is, leads-map, leads-less, leads-filter, is_early, sent_by}
+use Rattle.is_theorems.proofs.EarlierChecks.ChecksOfOtherPairs.{all-but, formed_by, Counts, Measure, lead, leads, own, own-le, weight, weight-again-no-more, weight-sent, weight-sent-no-more, lead-asked, lead-checked-is, leads-map, leads-less, leads-filter, is_early, sent_by}
 use Rattle.is_theorems.proofs.EarlierChecks.ChangedPairs.{Fixed}
 use Rattle.is_theorems.proofs.EarlierChecks.BetweenTimeouts.{nominates-onward}
 use Rattle.is_theorems.proofs.RuleEffects.ChangedPairs.{Has-map}
@@ -78,48 +78,68 @@ module _ (now by : ℕ) (late : by < now) (early : now < MAX) where
   first-due x y p q (inl less) le = omega (arith, less, le)
   first-due x y p q (inr same) le = let e = same.0 in omega (arith, e, le)
 
-  module _ (t : StunTiming) (c : Bool) (id : List ℕ) (some : 0 < t.max_retransmits) (n : ℕ) where
-    checked-no-more : (y : PairRecord) → own n by (checked now t c id y) ≤ own n by y
+  module _ (t : StunTiming) (c : Bool) (id : List ℕ) (some : 0 < t.max_retransmits) (w : Measure) where
+    checked-no-more : (y : PairRecord) → own w by (checked now t c id y) ≤ own w by y
     checked-no-more y =
-        own-le n by y (checked now t c id y) refl
-        (subst (λ k. k ≤ lead by y) (sym (lead-checked-is by now t c id y late some)) (weight-sent-no-more y.nomination (is_early by y.due y.checks)))
+        own-le w by y (checked now t c id y) refl
+        (subst (λ k. k ≤ lead w.both by y) (sym (lead-checked-is w.both by now t c id y late some)) (weight-sent-no-more w.both y.nomination (is_early by y.due y.checks)))
 
-    change-no-more : (m : ℕ) (y : PairRecord) → own n by (change_at m (checked now t c id) y) ≤ own n by y
+    change-no-more : (m : ℕ) (y : PairRecord) → own w by (change_at m (checked now t c id) y) ≤ own w by y
     change-no-more m y = at (is_numbered m y) where
-      at : (b : Bool) → own n by (if b then checked now t c id y else y) ≤ own n by y
+      at : (b : Bool) → own w by (if b then checked now t c id y else y) ≤ own w by y
       at true = checked-no-more y
       at false = omega arith
 
     -- whether its nomination begins again or not
-    sent-no-more : (begins : Bool) (m : ℕ) (y : PairRecord) → own n by (change_at m (sent_at begins now t c id) y) ≤ own n by y
+    sent-no-more : (begins : Bool) (m : ℕ) (y : PairRecord) → own w by (change_at m (sent_at begins now t c id) y) ≤ own w by y
     sent-no-more true m y = at (is_numbered m y) where
-      again : own n by (checked now t c id (renominated y)) ≤ own n by y
+      again : own w by (checked now t c id (renominated y)) ≤ own w by y
       again =
-          own-le n by y (checked now t c id (renominated y)) refl
-          (subst (λ k. k ≤ lead by y) (sym (lead-checked-is by now t c id (renominated y) late some)) (weight-again-no-more y.nomination (is_early by y.due y.checks)))
+          own-le w by y (checked now t c id (renominated y)) refl
+          (subst (λ k. k ≤ lead w.both by y) (sym (lead-checked-is w.both by now t c id (renominated y) late some)) (weight-again-no-more w.both y.nomination (is_early by y.due y.checks)))
 
-      at : (b : Bool) → own n by (if b then checked now t c id (renominated y) else y) ≤ own n by y
+      at : (b : Bool) → own w by (if b then checked now t c id (renominated y) else y) ≤ own w by y
       at true = again
       at false = omega arith
     sent-no-more false m y = change-no-more m y
 
+    asked-no-more : (ps : List PairRecord) → leads w by (map (asked now t) ps) ≤ leads w by ps
+    asked-no-more ps = leads-map w by (asked now t) ps (λ y. own-le w by y (asked now t y) refl (lead-asked w.both by now t y late early))
+
+    -- no more checks are left after a check
+    pub after-check : (begins : Bool) (m : ℕ) (ps : List PairRecord) → leads w by (change_pair m (sent_at begins now t c id) (map (asked now t) ps)) ≤ leads w by ps
+    after-check begins m ps =
+        let a : leads w by (change_pair m (sent_at begins now t c id) (map (asked now t) ps)) ≤ leads w by (map (asked now t) ps) =
+        leads-map w by (change_at m (sent_at begins now t c id)) (map (asked now t) ps) (sent-no-more begins m) in
+        let b : leads w by (map (asked now t) ps) ≤ leads w by ps = asked-no-more ps in
+        omega (arith, a, b)
+
     -- the one that is checked
-    change-less : (d : ℕ) (q : PairRecord) → q.due ≡ Some d → d ≤ by → (q.number == n) ≡ false → own n by (change_at q.number (checked now t c id) q) + 1 ≤ own n by q
-    change-less d q fixed due other = at (is_numbered q.number q) (eq-eqb q.number q.number refl) where
+    change-less : (d : ℕ) (q : PairRecord) → q.due ≡ Some d → d ≤ by → w.skips q.number ≡ false → Counts w.both q.nomination → own w by (change_at q.number (checked now t c id) q) + 1 ≤ own w by q
+    change-less d q fixed due other counts = at (is_numbered q.number q) (eq-eqb q.number q.number refl) where
       fixed-early : is_early by q.due q.checks ≡ true
       fixed-early = ap (λ o. is_early by o q.checks) fixed ∙ ap (λ b. b || sent_by by q.checks) (le-is d by due)
 
-      less : lead by (checked now t c id q) + 1 ≤ lead by q
-      less = subst (λ k. k + 1 ≤ lead by q) (sym (lead-checked-is by now t c id q late some))
-          (subst (λ e. weight (nomination_once_sent q.nomination) false + 1 ≤ weight q.nomination e) (sym fixed-early) (weight-sent q.nomination))
+      less : lead w.both by (checked now t c id q) + 1 ≤ lead w.both by q
+      less = subst (λ k. k + 1 ≤ lead w.both by q) (sym (lead-checked-is w.both by now t c id q late some))
+          (subst (λ e. weight w.both (nomination_once_sent q.nomination) false + 1 ≤ weight w.both q.nomination e) (sym fixed-early) (weight-sent w.both q.nomination counts))
 
-      unless : (b : Bool) → b ≡ false → (if b then 0 else lead by (checked now t c id q)) + 1 ≤ (if b then 0 else lead by q)
+      unless : (b : Bool) → b ≡ false → (if b then 0 else lead w.both by (checked now t c id q)) + 1 ≤ (if b then 0 else lead w.both by q)
       unless true is = absurd (cc)
       unless false is = less
 
-      at : (b : Bool) → b ≡ true → own n by (if b then checked now t c id q else q) + 1 ≤ own n by q
-      at true is = unless (q.number == n) other
+      at : (b : Bool) → b ≡ true → own w by (if b then checked now t c id q else q) + 1 ≤ own w by q
+      at true is = unless (w.skips q.number) other
       at false is = absurd (cc)
+
+    -- of a pair that counts and is due by the time, one check fewer is left after its check
+    pub one-fewer-left : (ps : List PairRecord) (q : PairRecord) → Has (map (asked now t) ps) q → (d : ℕ) → q.due ≡ Some d → d ≤ by → w.skips q.number ≡ false → Counts w.both q.nomination
+        → leads w by (change_pair q.number (checked now t c id) (map (asked now t) ps)) + 1 ≤ leads w by ps
+    one-fewer-left ps q there d fixed due other counts =
+        let a : leads w by (change_pair q.number (checked now t c id) (map (asked now t) ps)) + 1 ≤ leads w by (map (asked now t) ps) =
+        leads-less w by (change_at q.number (checked now t c id)) (map (asked now t) ps) q (change-no-more q.number) there (change-less d q fixed due other counts) in
+        let b : leads w by (map (asked now t) ps) ≤ leads w by ps = asked-no-more ps in
+        omega (arith, a, b)
 
   module _ {H P : Type 0} where
     -- ---- nomination, and removed pairs
@@ -156,28 +176,28 @@ module _ (now by : ℕ) (late : by < now) (early : now < MAX) where
         subst (λ (a : AgentRecord H P). (q : PairRecord) × Has a.pairs q × Alike p q × Ready old.timing q) (sym k.2) (q.0, q.1, q.2, q.3)))
         (λ _ k. subst (λ (a : AgentRecord H P). (q : PairRecord) × Has a.pairs q × Alike p q × Ready old.timing q) (sym k.1) (p, has, alike-none p, ready))
 
-    module _ (n : ℕ) where
-      named-less : (old new : AgentRecord H P) (path : Option Path) → Nominates old path new → leads n by new.pairs ≤ leads n by old.pairs
+    module _ (w : Measure) where
+      pub named-less : (old new : AgentRecord H P) (path : Option Path) → Nominates old path new → leads w by new.pairs ≤ leads w by old.pairs
       named-less old new path h =
-          let le : leads n by new.pairs + old.next_number ≤ leads n by old.pairs + new.next_number = (nominates-onward n by (suc by) old new path h).1.less (omega arith) in
-          let same : new.next_number ≡ old.next_number = ap (λ (b : Base). b.next_number) (nominates-thins 0 old new path h).0 in
+          let le : leads w by new.pairs + formed_by w old.next_number ≤ leads w by old.pairs + formed_by w new.next_number = (nominates-onward 0 by (suc by) old new path h).1.less w (omega arith) in
+          let same : formed_by w new.next_number ≡ formed_by w old.next_number = ap (λ (b : Base). formed_by w b.next_number) (nominates-thins 0 old new path h).0 in
           omega (arith, le, same)
 
-      given-less : (old new : AgentRecord H P) (path : Option Path) → RemovesExpired now old path new → leads n by new.pairs ≤ leads n by old.pairs
+      pub given-less : (old new : AgentRecord H P) (path : Option Path) → RemovesExpired now old path new → leads w by new.pairs ≤ leads w by old.pairs
       given-less old new path h = either (list_any (is_expired now old) old.pairs) h
-          (λ _ k. subst (λ (a : AgentRecord H P). leads n by a.pairs ≤ leads n by old.pairs) (sym k.2)
-          (let a : leads n by k.0.pairs ≤ leads n by (expired_gone now old).pairs = named-less (expired_gone now old) k.0 path k.1 in
-          let b : leads n by (expired_gone now old).pairs ≤ leads n by old.pairs = leads-filter n by (λ q. not (is_expired now old q)) old.pairs in
+          (λ _ k. subst (λ (a : AgentRecord H P). leads w by a.pairs ≤ leads w by old.pairs) (sym k.2)
+          (let a : leads w by k.0.pairs ≤ leads w by (expired_gone now old).pairs = named-less (expired_gone now old) k.0 path k.1 in
+          let b : leads w by (expired_gone now old).pairs ≤ leads w by old.pairs = leads-filter w by (λ q. not (is_expired now old q)) old.pairs in
           omega (arith, a, b)))
-          (λ _ k. subst (λ (a : AgentRecord H P). leads n by a.pairs ≤ leads n by old.pairs) (sym k.1) (omega arith))
+          (λ _ k. subst (λ (a : AgentRecord H P). leads w by a.pairs ≤ leads w by old.pairs) (sym k.1) (omega arith))
 
     -- ---- the check
 
     -- its due time is fixed, and no more checks go before it; one check fewer does, or a check went ahead, if the check is in turn
     abbrev pub WaitsOn : Type 0 → AgentRecord H P → AgentRecord H P → PairRecord → Type 0
     WaitsOn InTurn old new p =
-        (d : ℕ) × (d ≤ by) × Fixed p.number d (kept_of p) new.pairs × (leads p.number by new.pairs ≤ leads p.number by old.pairs)
-        × (InTurn → Falls (goes_ahead old.rules) old.ahead_turn new.ahead_turn (leads p.number by old.pairs) (leads p.number by new.pairs))
+        (d : ℕ) × (d ≤ by) × Fixed p.number d (kept_of p) new.pairs × ((w : Measure) → leads w by new.pairs ≤ leads w by old.pairs)
+        × (InTurn → Falls (goes_ahead old.rules) old.ahead_turn new.ahead_turn (leads (all-but p.number) by old.pairs) (leads (all-but p.number) by new.pairs))
 
     -- the check goes ahead, or the pair is due by the time
     abbrev Chosen : AgentRecord H P → PairRecord → Type 0
@@ -238,34 +258,21 @@ module _ (now by : ℕ) (late : by < now) (early : now < MAX) where
                     not-same true same = (let no : true ≡ false = sym (eq-eqb p.number q.number (sym (eqb-true q.number p.number same))) ∙ apart in absurd (cc))
                     not-same false same = same
 
-                  asked-less : leads p.number by (map (asked now old.timing) old.pairs) ≤ leads p.number by old.pairs
-                  asked-less = leads-map p.number by (asked now old.timing) old.pairs (λ y. own-le p.number by y (asked now old.timing y) refl (lead-asked by now old.timing y late early))
-
-                  no-more : leads p.number by new.pairs ≤ leads p.number by old.pairs
-                  no-more =
-                      let a : leads p.number by (change_pair q.number change (map (asked now old.timing) old.pairs)) ≤ leads p.number by (map (asked now old.timing) old.pairs) =
-                      leads-map p.number by (change_at q.number change) (map (asked now old.timing) old.pairs)
-                      (sent-no-more old.timing old.controlling id some p.number begins q.number) in
-                      let b = asked-less in
-                      subst (λ ps. leads p.number by ps ≤ leads p.number by old.pairs) (sym sent) (omega (arith, a, b))
+                  no-more : (w : Measure) → leads w by new.pairs ≤ leads w by old.pairs
+                  no-more w = subst (λ ps. leads w by ps ≤ leads w by old.pairs) (sym sent) (after-check old.timing old.controlling id some w begins q.number old.pairs)
 
                   one-fewer : new.pairs ≡ change_pair q.number (checked now old.timing old.controlling id) (map (asked now old.timing) old.pairs) → due_time_of now old.timing q ≤ by
-                      → leads p.number by new.pairs < leads p.number by old.pairs
+                      → leads (all-but p.number) by new.pairs < leads (all-but p.number) by old.pairs
                   one-fewer made q_due =
-                      let a : leads p.number by (change_pair q.number (checked now old.timing old.controlling id) (map (asked now old.timing) old.pairs)) + 1
-                      ≤ leads p.number by (map (asked now old.timing) old.pairs) =
-                      leads-less p.number by (change_at q.number (checked now old.timing old.controlling id)) (map (asked now old.timing) old.pairs) q
-                      (change-no-more old.timing old.controlling id some p.number q.number) there
-                      (change-less old.timing old.controlling id some p.number (due_time_of now old.timing o) q q_fixed (o_due q_due) other) in
-                      let b = asked-less in
-                      subst (λ ps. leads p.number by ps < leads p.number by old.pairs) (sym made) (omega (arith, a, b))
+                      let a = one-fewer-left old.timing old.controlling id some (all-but p.number) old.pairs q there (due_time_of now old.timing o) q_fixed (o_due q_due) other (inl refl) in
+                      subst (λ ps. leads (all-but p.number) by ps < leads (all-but p.number) by old.pairs) (sym made) (omega (arith, a))
 
                   falls : new.pairs ≡ change_pair q.number (checked now old.timing old.controlling id) (map (asked now old.timing) old.pairs) → Chosen old q
-                      → Falls (goes_ahead old.rules) old.ahead_turn new.ahead_turn (leads p.number by old.pairs) (leads p.number by new.pairs)
+                      → Falls (goes_ahead old.rules) old.ahead_turn new.ahead_turn (leads (all-but p.number) by old.pairs) (leads (all-but p.number) by new.pairs)
                   falls made which = elim which [
                     | inl on ↦
                         (let turn = is-turn (goes_ahead old.rules) old.ahead_turn (are_kinds_in_turn (all_asked now old) || has_first now (all_asked now old)) on in
-                        inr (no-more, turn.0, turn.1, turned ∙ ap not on))
+                        inr (no-more (all-but p.number), turn.0, turn.1, turned ∙ ap not on))
                     | inr q_due ↦ inl (one-fewer made q_due)
                   ]
 
@@ -302,10 +309,10 @@ module _ (now by : ℕ) (late : by < now) (early : now < MAX) where
           let base : agent_base kept ≡ agent_base (at_timeout now old) = b.0 ∙ a.0 in
           let alike = joins p x.0 y.0 x.2 y.2 in
           let same : kept.timing ≡ named.timing = ap (λ (z : Base). z.timing) b.0 in
-          let lessened : leads p.number by kept.pairs ≤ leads p.number by old.pairs =
-          (let l : leads p.number by named.pairs ≤ leads p.number by old.pairs = named-less p.number (at_timeout now old) named first nominating in
-          let m : leads p.number by kept.pairs ≤ leads p.number by named.pairs = given-less p.number named kept second giving in
-          omega (arith, l, m)) in
+          let lessened : (w : Measure) → leads w by kept.pairs ≤ leads w by old.pairs =
+          (λ w. (let l : leads w by named.pairs ≤ leads w by old.pairs = named-less w (at_timeout now old) named first nominating in
+          let m : leads w by kept.pairs ≤ leads w by named.pairs = given-less w named kept second giving in
+          omega (arith, l, m))) in
           elim (check-goes kept new s u issued kept.remote_creds (ap (λ (z : Base). is_some z.remote_creds) base ∙ known) (ap (λ (z : Base). z.lite) base ∙ full)
           (b.1.distinct (a.1.distinct distinct)) (subst (λ (z : StunTiming). 0 < z.max_retransmits) (sym (same ∙ timing)) some) y.0 y.1
           (subst (λ (z : StunTiming). due_time_of now z y.0 ≤ by) (sym same) y.3.0) checking) [
@@ -317,17 +324,16 @@ module _ (now by : ℕ) (late : by < now) (early : now < MAX) where
                       (record { number = alike.number; local = alike.local; remote = alike.remote; valid = alike.valid }))),
                 )
             | inr (d, due, fixed, fewer, falls) ↦
-                (let falls_for : NoneAtCheck now kept → Falls (goes_ahead kept.rules) kept.ahead_turn new.ahead_turn (leads p.number by kept.pairs) (leads p.number by new.pairs) =
-                λ turn. subst (λ k. Falls (goes_ahead kept.rules) kept.ahead_turn new.ahead_turn (leads k by kept.pairs) (leads k by new.pairs)) alike.number
+                (let falls_for : NoneAtCheck now kept → Falls (goes_ahead kept.rules) kept.ahead_turn new.ahead_turn (leads (all-but p.number) by kept.pairs) (leads (all-but p.number) by new.pairs) =
+                λ turn. subst (λ k. Falls (goes_ahead kept.rules) kept.ahead_turn new.ahead_turn (leads (all-but k) by kept.pairs) (leads (all-but k) by new.pairs)) alike.number
                 (falls turn) in
-                let fewer_for : leads p.number by new.pairs ≤ leads p.number by kept.pairs = subst (λ k. leads k by new.pairs ≤ leads k by kept.pairs) alike.number fewer in
                 inr (
                   d,
                   due,
                   subst (λ k. Fixed p.number d k new.pairs) (alike-kept p y.0 alike) (subst (λ k. Fixed k d (kept_of y.0) new.pairs) alike.number fixed),
-                  omega (arith, fewer_for, lessened),
+                  λ w. (let few = fewer w in let l = lessened w in omega (arith, few, l)),
                   λ turn. falls-from (goes_ahead kept.rules) (goes_ahead old.rules) kept.ahead_turn old.ahead_turn new.ahead_turn
-                      (leads p.number by kept.pairs) (leads p.number by old.pairs) (leads p.number by new.pairs)
-                      (ap (λ (z : Base). goes_ahead z.rules) (sym base)) (ap (λ (z : Base). z.ahead_turn) (sym base)) lessened (falls_for turn),
+                      (leads (all-but p.number) by kept.pairs) (leads (all-but p.number) by old.pairs) (leads (all-but p.number) by new.pairs)
+                      (ap (λ (z : Base). goes_ahead z.rules) (sym base)) (ap (λ (z : Base). z.ahead_turn) (sym base)) (lessened (all-but p.number)) (falls_for turn),
                 ))
           ]

@@ -7,10 +7,11 @@ use Rattle.std.proofs.lemmas.Bool.{eq-eqb, eqb-true}
 use Rattle.std.proofs.lemmas.Bool.Decides.{nat_tests}
 use Rattle.rand_core.specs.Stream.{Stream}
 use Rattle.is_proto.specs.Lists.{Has}
+use Rattle.is_proto.specs.Times.{MAX}
 use Rattle.is_candidate.specs.Candidates.{CandidateRecord, base_of, candidate_at}
 use Rattle.is_pair.specs.Due.{asked, due_time_of, is_due, is_urgent, GoesBefore, IsNextDue}
-use Rattle.is_pair.specs.Multiset.{is_named_by}
-use Rattle.is_pair.specs.Pairs.{PairRecord}
+use Rattle.is_pair.specs.Multiset.{is_named_by, change_pair}
+use Rattle.is_pair.specs.Pairs.{PairRecord, checked}
 use Rattle.is_stun.specs.declared.header.Class.TheVariants as class
 use Rattle.is_stun.specs.declared.timing.StunTiming.{StunTiming}
 use Rattle.is_rules.specs.Agent.{AgentRecord}
@@ -28,10 +29,12 @@ use Rattle.is_rules.specs.Sending.{path_of}
 use Rattle.is_rules.specs.Timeouts.{at_timeout, expired_gone, is_expired, MaintainsPairs, RemovesExpired}
 use Rattle.is_rules.proofs.PairLists.ChosenPair.{none_pass}
 use Rattle.is_theorems.specs.KindsInTurn.{kind_in}
-use Rattle.is_theorems.proofs.BasicLemmas.PairsInTurn.{in-turn, next-has, none-is-due}
+use Rattle.is_theorems.proofs.BasicLemmas.PairsInTurn.{in-turn, next-has, none-is-due, pairs-sent, sent_at}
 use Rattle.is_theorems.proofs.CallEffects.ServedRequests.{Has-mapped}
 use Rattle.is_theorems.proofs.DuePairs.AfterNominationAndRemoval.{Base, Distinct, Has-kept, base_of as agent_base, gives-up-thins, nominates-thins}
 use Rattle.is_theorems.proofs.DuePairs.FirstDuePair.{next-check}
+use Rattle.is_theorems.proofs.EarlierChecks.ChecksOfOtherPairs.{leads, Counts, Measure}
+use Rattle.is_theorems.proofs.EarlierChecks.OneCheckFewer.{after-check, given-less, named-less, one-fewer-left}
 use Rattle.is_theorems.proofs.KindTurns.OrderOfKinds.{kind-within, same-kind}
 use Rattle.is_theorems.proofs.RuleEffects.ChangedPairs.{Has-map}
 use Rattle.is_theorems.proofs.RuleEffects.EarlierAndNewPairs.{Has-filter}
@@ -159,41 +162,47 @@ module _ {H P : Type 0} where
 
   -- ---- the check
 
+  -- the check uses up one of those that are left, if the pair counts and is due by the time
+  abbrev pub UsesUp : ℕ → ℕ → AgentRecord H P → AgentRecord H P → PairRecord → Type 0
+  UsesUp by now old new o =
+      (w : Measure) → w.skips o.number ≡ false → due_time_of now old.timing o ≤ by → Counts w.both o.nomination → leads w by new.pairs + 1 ≤ leads w by old.pairs
+
   -- a pair o is checked, which precedes p in the turn of a kind; after it the turn is that of the next kind
-  abbrev pub TakesTurn : ℕ → AgentRecord H P → Option Issued → AgentRecord H P → PairRecord → Type 0
-  TakesTurn now old issued new p =
+  abbrev pub TakesTurn : ℕ → ℕ → AgentRecord H P → Option Issued → AgentRecord H P → PairRecord → Type 0
+  TakesTurn by now old issued new p =
       (o : PairRecord) × Has old.pairs o × ((o.number ≡ p.number) → ⊥) × ((id : List ℕ) × (issued ≡ Some (issued_as (path_of old o) class.Request id)))
-      × (new.next_kind ≡ kind_in old o + 1) × Precedes (view_of old) now p o
+      × (new.next_kind ≡ kind_in old o + 1) × Precedes (view_of old) now p o × UsesUp by now old new o
 
   -- each second check is in the turn of a kind; the others leave the turn
-  pub record Turns (now : ℕ) (old : AgentRecord H P) (issued : Option Issued) (new : AgentRecord H P) (p : PairRecord) : Type 0 where
+  pub record Turns (by now : ℕ) (old : AgentRecord H P) (issued : Option Issued) (new : AgentRecord H P) (p : PairRecord) : Type 0 where
     pub alternates : new.ahead_turn ≡ not old.ahead_turn
     pub waits : old.ahead_turn ≡ false → new.next_kind ≡ old.next_kind
-    pub takes : old.ahead_turn ≡ true → TakesTurn now old issued new p
+    pub takes : old.ahead_turn ≡ true → TakesTurn by now old issued new p
+    pub lessens : (w : Measure) → leads w by new.pairs ≤ leads w by old.pairs
 
   abbrev pub Checks : AgentRecord H P → Option Issued → PairRecord → Type 0
   Checks old issued p = (id : List ℕ) × (issued ≡ Some (issued_as (path_of old p) class.Request id))
 
-  module _ (mac : H → List ℕ → List ℕ → List ℕ) (now : ℕ) where
+  module _ (mac : H → List ℕ → List ℕ → List ℕ) (now by : ℕ) (late : by < now) (early : now < MAX) where
     -- a check leaves whether kinds take turns, and the selected pair
     check-keeps : (old new : AgentRecord H P) (s u : Stream) (issued : Option Issued) → is_some old.remote_creds ≡ true → old.lite ≡ false
         → MayCheck mac now old.remote_creds old s issued new u → (are_kinds_in_turn new ≡ are_kinds_in_turn old) × (new.selected_pair ≡ old.selected_pair)
-    check-keeps old new s u issued known full h = let k = next-check mac now old.remote_creds old new s u issued known full h in by k.0 k.1 k.3 where
-      by : (peer : IceCreds) (next : Option PairRecord) → ChecksTop mac now peer next (all_asked now old) s issued new u
+    check-keeps old new s u issued known full h = let k = next-check mac now old.remote_creds old new s u issued known full h in by-next k.0 k.1 k.3 where
+      by-next : (peer : IceCreds) (next : Option PairRecord) → ChecksTop mac now peer next (all_asked now old) s issued new u
           → (are_kinds_in_turn new ≡ are_kinds_in_turn old) × (new.selected_pair ≡ old.selected_pair)
-      by peer None (is, made, drawn) = (ap (λ (a : AgentRecord H P). are_kinds_in_turn a) made, ap (λ (a : AgentRecord H P). a.selected_pair) made)
-      by peer (Some q) (id, drawn, values, is, made) = (ap (λ (a : AgentRecord H P). are_kinds_in_turn a) made, ap (λ (a : AgentRecord H P). a.selected_pair) made)
+      by-next peer None (is, made, drawn) = (ap (λ (a : AgentRecord H P). are_kinds_in_turn a) made, ap (λ (a : AgentRecord H P). a.selected_pair) made)
+      by-next peer (Some q) (id, drawn, values, is, made) = (ap (λ (a : AgentRecord H P). are_kinds_in_turn a) made, ap (λ (a : AgentRecord H P). a.selected_pair) made)
 
     check-takes : (old new : AgentRecord H P) (s u : Stream) (issued : Option Issued) → is_some old.remote_creds ≡ true → old.lite ≡ false → Distinct old.pairs
-        → are_kinds_in_turn old ≡ true → old.selected_pair ≡ None → (p : PairRecord) → Has old.pairs p → due_time_of now old.timing p ≤ now
-        → MayCheck mac now old.remote_creds old s issued new u → Checks old issued p ⊎ Turns now old issued new p
-    check-takes old new s u issued known full distinct turns none p has due h =
+        → 0 < old.timing.max_retransmits → are_kinds_in_turn old ≡ true → old.selected_pair ≡ None → (p : PairRecord) → Has old.pairs p → due_time_of now old.timing p ≤ by
+        → MayCheck mac now old.remote_creds old s issued new u → Checks old issued p ⊎ Turns by now old issued new p
+    check-takes old new s u issued known full distinct some turns none p has due h =
         let k = next-check mac now old.remote_creds old new s u issued known full h in by-next k.0 k.1 k.2 k.3 where
           in_asked : Has (map (asked now old.timing) old.pairs) (asked now old.timing p)
           in_asked = Has-mapped (asked now old.timing) old.pairs p has
 
           p_due : is_due now old.timing (asked now old.timing p) ≡ true
-          p_due = le-is (due_time_of now old.timing p) now (omega (arith, due))
+          p_due = le-is (due_time_of now old.timing p) now (omega (arith, due, late))
 
           calm : nominates_at_once (all_asked now old) ≡ false
           calm = unselected-calm now old none
@@ -225,14 +234,21 @@ module _ {H P : Type 0} where
               → new.next_kind ≡ (if b then kind_of old.local old.remote q + 1 else old.next_kind)
           kind-next q is b same = is ∙ ap (λ c. if c then kind_of old.local old.remote q + 1 else old.next_kind) same
 
+          plain : (q : PairRecord) (id : List ℕ)
+              → new.pairs ≡ change_pair q.number (sent_at (nominates_at_once (all_asked now old)) now old.timing old.controlling id) (map (asked now old.timing) old.pairs)
+              → new.pairs ≡ change_pair q.number (checked now old.timing old.controlling id) (map (asked now old.timing) old.pairs)
+          plain q id sent = sent ∙ ap (λ b. change_pair q.number (sent_at b now old.timing old.controlling id) (map (asked now old.timing) old.pairs)) calm
+
           whose : (q : PairRecord) (id : List ℕ) → IsNextToCheck now (all_asked now old) (Some q) → issued ≡ Some (issued_as (path_of old q) class.Request id)
               → new.ahead_turn ≡ not (is_ahead_turn now (all_asked now old)) → new.next_kind ≡ next_kind_after now q (all_asked now old)
+              → new.pairs ≡ change_pair q.number (sent_at (nominates_at_once (all_asked now old)) now old.timing old.controlling id) (map (asked now old.timing) old.pairs)
+              → Has (map (asked now old.timing) old.pairs) q
               → (o : PairRecord) → Has old.pairs o → asked now old.timing o ≡ q → (b : Bool) → (o.number == p.number) ≡ b
-              → Checks old issued p ⊎ Turns now old issued new p
-          whose q id chosen is alternates kinds o o_has o_is true same =
+              → Checks old issued p ⊎ Turns by now old issued new p
+          whose q id chosen is alternates kinds sent there o o_has o_is true same =
               let one : o ≡ p = distinct o p o_has has (eqb-true o.number p.number same) in
               inl (id, is ∙ ap (λ (x : PairRecord). Some (issued_as (path_of old x) class.Request id)) (sym o_is ∙ ap (asked now old.timing) one))
-          whose q id chosen is alternates kinds o o_has o_is false apart = inr (record {
+          whose q id chosen is alternates kinds sent there o o_has o_is false apart = inr (record {
             alternates = alternates ∙ ap not ahead;
             waits = λ off. kind-next q kinds false (ahead ∙ off);
             takes = λ on. (
@@ -243,15 +259,21 @@ module _ {H P : Type 0} where
               kind-next q kinds true (ahead ∙ on) ∙ ap (λ (x : PairRecord). kind_of old.local old.remote x + 1) (sym o_is),
               precedes o (subst (λ (x : PairRecord). TurnsBefore old.local old.remote (precedence old) old.next_kind now old.timing x (asked now old.timing p)) (sym o_is)
                   ((in-kind-turn q chosen on).2 (asked now old.timing p) in_asked p_due)),
+              λ w counted o_due counts. subst (λ ps. leads w by ps + 1 ≤ leads w by old.pairs) (sym (plain q id sent))
+                  (one-fewer-left now by late early old.timing old.controlling id some w old.pairs q there (due_time_of now old.timing o) (ap (λ (x : PairRecord). x.due) (sym o_is)) o_due
+                  (subst (λ (x : PairRecord). w.skips x.number ≡ false) o_is counted) (subst (λ (x : PairRecord). Counts w.both x.nomination) o_is counts)),
             );
+            lessens = λ w. subst (λ ps. leads w by ps ≤ leads w by old.pairs) (sym sent)
+                (after-check now by late early old.timing old.controlling id some w (nominates_at_once (all_asked now old)) q.number old.pairs);
           })
 
           by-next : (peer : IceCreds) (next : Option PairRecord) → IsNextToCheck now (all_asked now old) next → ChecksTop mac now peer next (all_asked now old) s issued new u
-              → Checks old issued p ⊎ Turns now old issued new p
+              → Checks old issued p ⊎ Turns by now old issued new p
           by-next peer None chosen h = absurd (none_pass (is_due now old.timing) (map (asked now old.timing) old.pairs) (asked now old.timing p) (none-is-due now (all_asked now old) chosen) in_asked p_due)
           by-next peer (Some q) chosen (id, drawn, values, is, made) =
               let o = Has-map (asked now old.timing) old.pairs q (next-has now (all_asked now old) q chosen) in
-              whose q id chosen is (ap (λ (a : AgentRecord H P). a.ahead_turn) made) (ap (λ (a : AgentRecord H P). a.next_kind) made) o.0 o.1 o.2 (o.0.number == p.number) refl
+              whose q id chosen is (ap (λ (a : AgentRecord H P). a.ahead_turn) made) (ap (λ (a : AgentRecord H P). a.next_kind) made)
+              (pairs-sent mac now peer q id (all_asked now old) new made) (next-has now (all_asked now old) q chosen) o.0 o.1 o.2 (o.0.number == p.number) refl
 
     -- ---- nomination, and removed pairs
 
@@ -287,11 +309,11 @@ module _ {H P : Type 0} where
     -- ---- the `handle_timeout` call
 
     pub timeout-takes : (old new : AgentRecord H P) (s u : Stream) (emitted : Emitted) → is_some old.remote_creds ≡ true → old.lite ≡ false → Distinct old.pairs
-        → are_kinds_in_turn new ≡ true → new.selected_pair ≡ None → (p : PairRecord) → Has old.pairs p → due_time_of now old.timing p ≤ now
+        → 0 < old.timing.max_retransmits → are_kinds_in_turn new ≡ true → new.selected_pair ≡ None → (p : PairRecord) → Has old.pairs p → due_time_of now old.timing p ≤ by
         → not (is_expired now old p) ≡ true
         → (h : MaintainsPairs mac now old s emitted new u)
-        → (nominates_at_once (all_asked now h.4) ≡ false) × (Checks old emitted.issued p ⊎ Turns now old emitted.issued new p)
-    timeout-takes old new s u emitted known full distinct turns none p has due stays (first, second, issued, named, kept, nominating, giving, checking, is) =
+        → (nominates_at_once (all_asked now h.4) ≡ false) × (Checks old emitted.issued p ⊎ Turns by now old emitted.issued new p)
+    timeout-takes old new s u emitted known full distinct some turns none p has due stays (first, second, issued, named, kept, nominating, giving, checking, is) =
         let a = nominates-thins 0 (at_timeout now old) named first nominating in
         let b = gives-up-thins 0 now named kept second giving in
         let base : agent_base kept ≡ agent_base (at_timeout now old) = b.0 ∙ a.0 in
@@ -303,27 +325,34 @@ module _ {H P : Type 0} where
         let same : named ≡ at_timeout now old = nominates-none (at_timeout now old) named first nominating none_named in
         let left : Leaves (at_timeout now old) kept = removes-none (at_timeout now old) kept second (subst (λ (x : AgentRecord H P). RemovesExpired now x second kept) same giving) none_kept in
         let view : view_of kept ≡ view_of old = left.0 in
-        let issues : emitted.issued ≡ issued = ap (λ (x : Emitted). x.issued) is in (
+        let issues : emitted.issued ≡ issued = ap (λ (x : Emitted). x.issued) is in
+        let fewer : (w : Measure) → leads w by kept.pairs ≤ leads w by old.pairs =
+        (λ w. (let l : leads w by named.pairs ≤ leads w by old.pairs = named-less now by late early w (at_timeout now old) named first nominating in
+        let m : leads w by kept.pairs ≤ leads w by named.pairs = given-less now by late early w named kept second giving in
+        omega (arith, l, m))) in (
           unselected-calm now kept none_kept,
-          taken kept left.1 view issues
-              (check-takes kept new s u issued known_kept full_kept (λ x y x_has y_has one. distinct x y (left.1 x x_has) (left.1 y y_has) one) (sym keeps.0 ∙ turns) none_kept p (left.2 p has stays)
-              (subst (λ (v : TurnView). due_time_of now v.timing p ≤ now) (sym view) due) checking),
+          taken kept left.1 view issues fewer
+              (check-takes kept new s u issued known_kept full_kept (λ x y x_has y_has one. distinct x y (left.1 x x_has) (left.1 y y_has) one)
+              (subst (λ (v : TurnView). 0 < v.timing.max_retransmits) (sym view) some) (sym keeps.0 ∙ turns) none_kept p (left.2 p has stays)
+              (subst (λ (v : TurnView). due_time_of now v.timing p ≤ by) (sym view) due) checking),
         ) where
           on-path : (kept : AgentRecord H P) (issued : Option Issued) → view_of kept ≡ view_of old → emitted.issued ≡ issued → (q : PairRecord) → Checks kept issued q → Checks old emitted.issued q
           on-path kept issued view issues q (id, out) = (id, issues ∙ (out ∙ ap (λ (v : TurnView). Some (issued_as (path_by v q) class.Request id)) view))
 
           taken : (kept : AgentRecord H P) → ((q : PairRecord) → Has kept.pairs q → Has old.pairs q) → view_of kept ≡ view_of old → emitted.issued ≡ issued
-              → Checks kept issued p ⊎ Turns now kept issued new p → Checks old emitted.issued p ⊎ Turns now old emitted.issued new p
-          taken kept back view issues (inl checks) = inl (on-path kept issued view issues p checks)
-          taken kept back view issues (inr t) = inr (record {
+              → ((w : Measure) → leads w by kept.pairs ≤ leads w by old.pairs) → Checks kept issued p ⊎ Turns by now kept issued new p → Checks old emitted.issued p ⊎ Turns by now old emitted.issued new p
+          taken kept back view issues fewer (inl checks) = inl (on-path kept issued view issues p checks)
+          taken kept back view issues fewer (inr t) = inr (record {
             alternates = t.alternates ∙ ap (λ (v : TurnView). not v.ahead_turn) view;
             waits = λ off. t.waits (ap (λ (v : TurnView). v.ahead_turn) view ∙ off) ∙ ap (λ (v : TurnView). v.next_kind) view;
-            takes = λ on. (let (o, there, apart, sent, next, precedes) = t.takes (ap (λ (v : TurnView). v.ahead_turn) view ∙ on) in (
+            takes = λ on. (let (o, there, apart, sent, next, precedes, uses) = t.takes (ap (λ (v : TurnView). v.ahead_turn) view ∙ on) in (
               o,
               back o there,
               apart,
               on-path kept issued view issues o sent,
               next ∙ ap (λ (v : TurnView). kind_by v o + 1) view,
               subst (λ (v : TurnView). Precedes v now p o) view precedes,
+              λ w counted due counts. (let less = uses w counted (subst (λ (v : TurnView). due_time_of now v.timing o ≤ by) (sym view) due) counts in let l = fewer w in omega (arith, less, l)),
             ));
+            lessens = λ w. (let less = t.lessens w in let l = fewer w in omega (arith, less, l));
           })

@@ -35,7 +35,7 @@ use Rattle.is_rules.specs.Emitted.{issued_as}
 use Rattle.is_theorems.proofs.PathSelection.NominatedByPeer.{asked-are-selected_paths}
 use Rattle.is_theorems.proofs.CallEffects.PathAndTradeEffects.{path_theorem}
 use Rattle.is_theorems.proofs.RuleEffects.UnchangedSettings.{either}
-use Rattle.is_theorems.proofs.EarlierChecks.ChecksOfOtherPairs.{leads, own-le, lead-asked, leads-map, leads-others}
+use Rattle.is_theorems.proofs.EarlierChecks.ChecksOfOtherPairs.{all-but, leads, own-le, lead-asked, leads-map, leads-others}
 use Rattle.is_theorems.proofs.ExecutionLogs.LogTheorems.{runs_sound}
 use Rattle.is_theorems.proofs.ExecutionLogs.LogSegments.{no-case, run-on, passed as passed-at}
 use Rattle.is_theorems.proofs.ExecutionLogs.SegmentsAsExecutions.{split-ended, split-run}
@@ -101,8 +101,8 @@ module _ {H P : Type 0} where
     fixed made = goes-to n by old _ new (
       refl,
       record {
-        less = λ late. (let le : leads n by (map (asked at old.timing) old.pairs) ≤ leads n by old.pairs =
-            leads-map n by (asked at old.timing) old.pairs (λ y. own-le n by y (asked at old.timing y) refl (lead-asked by at old.timing y following early)) in
+        less = λ w late. (let le : leads w by (map (asked at old.timing) old.pairs) ≤ leads w by old.pairs =
+            leads-map w by (asked at old.timing) old.pairs (λ y. own-le w by y (asked at old.timing y) refl (lead-asked w.both by at old.timing y following early)) in
             omega (arith, le));
         fixed = λ d cs le (q, has, is, due, checks).
             (asked at old.timing q, Has-mapped (asked at old.timing) old.pairs q has, is, ap Some (due-at at d old.timing q due), checks);
@@ -138,7 +138,7 @@ module _ {H P : Type 0} where
     pub early : now < MAX
     pub ready : Ready now by late early a.timing pair
     pub rules : goes_ahead a.rules ≡ ahead
-    pub count : calls_left ahead a.ahead_turn (leads n by a.pairs) + k + times ahead (base + owes a) ≤ total + times ahead (a.next_number + spent)
+    pub count : calls_left ahead a.ahead_turn (leads (all-but n) by a.pairs) + k + times ahead (base + owes a) ≤ total + times ahead (a.next_number + spent)
 
   -- after it
   pub record Waits (by n : ℕ) (path : Path) (keeps : ℕ → Bool) (ahead : Bool) (owes : AgentRecord H P → ℕ) (total base at k spent : ℕ) (a : AgentRecord H P) : Type 0 where
@@ -155,7 +155,7 @@ module _ {H P : Type 0} where
     pub before : timeout ≤ by
     pub due : pair.due ≡ Some timeout
     pub rules : goes_ahead a.rules ≡ ahead
-    pub count : calls_left ahead a.ahead_turn (leads n by a.pairs) + k + times ahead (base + owes a) ≤ total + times ahead (a.next_number + spent)
+    pub count : calls_left ahead a.ahead_turn (leads (all-but n) by a.pairs) + k + times ahead (base + owes a) ≤ total + times ahead (a.next_number + spent)
 
   pub persists : (by n : ℕ) (path : Path) (keeps : ℕ → Bool) (ahead : Bool) (owes : AgentRecord H P → ℕ) (total base at k spent now : ℕ) (a : AgentRecord H P) → by < now → now < MAX → Waits by n path keeps ahead owes total base at k spent a
       → Persists by n path keeps ahead owes total base now k spent a
@@ -203,10 +203,10 @@ module _ {H P : Type 0} where
           before = w.before;
           due = f.3;
           rules = ap (λ (g : Ground). goes_ahead g.rules) ground ∙ w.rules;
-          count = subst (λ b. calls_left ahead b (leads n by new.pairs) + k + times ahead (base + owes new) ≤ total + times ahead (new.next_number + (pays e + spent)))
+          count = subst (λ b. calls_left ahead b (leads (all-but n) by new.pairs) + k + times ahead (base + owes new) ≤ total + times ahead (new.next_number + (pays e + spent)))
               (sym (ap (λ (g : Ground). g.ahead_turn) ground))
-              (calls-added ahead old.ahead_turn (leads n by old.pairs) (leads n by new.pairs) (old.next_number + spent) (new.next_number + (pays e + spent)) k (base + owes old) (base + owes new) total
-              (let less = goes.less (omega (arith, at_last, following)) in omega (arith, less, owing)) w.count);
+              (calls-added ahead old.ahead_turn (leads (all-but n) by old.pairs) (leads (all-but n) by new.pairs) (old.next_number + spent) (new.next_number + (pays e + spent)) k (base + owes old) (base + owes new) total
+              (let less = goes.less (all-but n) (omega (arith, at_last, following)) in omega (arith, less, owing)) w.count);
         }
 
     none-more : (a : ℕ) → a ≡ 0 + a
@@ -315,10 +315,10 @@ module _ {H P : Type 0} where
               let one : stays.pair ≡ q = one_pair new.pairs stays.pair q (rising-each new.pairs sound_new.rising) stays.there has (stays.number ∙ sym is) in
               let next : new.next_number ≡ old.next_number = ap (λ (b : Base). b.next_number) m.0 in
               let timing : new.timing ≡ old.timing = ap (λ (b : Base). b.timing) m.0 in
-              let fewer_for : leads n by new.pairs ≤ leads n by old.pairs = subst (λ i. leads i by new.pairs ≤ leads i by old.pairs) st.number fewer in
-              let falls_for : nominates_at_once (all_asked now p.4) ≡ false → Falls ahead old.ahead_turn new.ahead_turn (leads n by old.pairs) (leads n by new.pairs) =
-              λ in_turn. subst (λ b. Falls b old.ahead_turn new.ahead_turn (leads n by old.pairs) (leads n by new.pairs)) st.rules
-              (subst (λ i. Falls (goes_ahead old.rules) old.ahead_turn new.ahead_turn (leads i by old.pairs) (leads i by new.pairs)) st.number (falls in_turn)) in
+              let fewer_for : leads (all-but n) by new.pairs ≤ leads (all-but n) by old.pairs = fewer (all-but n) in
+              let falls_for : nominates_at_once (all_asked now p.4) ≡ false → Falls ahead old.ahead_turn new.ahead_turn (leads (all-but n) by old.pairs) (leads (all-but n) by new.pairs) =
+              λ in_turn. subst (λ b. Falls b old.ahead_turn new.ahead_turn (leads (all-but n) by old.pairs) (leads (all-but n) by new.pairs)) st.rules
+              (subst (λ i. Falls (goes_ahead old.rules) old.ahead_turn new.ahead_turn (leads (all-but i) by old.pairs) (leads (all-but i) by new.pairs)) st.number (falls in_turn)) in
               inr (record {
                 checking = record {
                   full = ap (λ (b : Base). b.lite) m.0 ∙ st.checking.full;
@@ -340,15 +340,15 @@ module _ {H P : Type 0} where
               }))
         ] where
           -- the check is in turn, or sends a nomination at once
-          counted-on : new.next_number ≡ old.next_number → leads n by new.pairs ≤ leads n by old.pairs → (b : Bool)
-              → (b ≡ false → Falls ahead old.ahead_turn new.ahead_turn (leads n by old.pairs) (leads n by new.pairs)) → (b ≡ true → owes new + 1 ≤ owes old + pays e)
-              → calls_left ahead new.ahead_turn (leads n by new.pairs) + suc k + times ahead (base + owes new) ≤ total + times ahead (new.next_number + (pays e + spent))
+          counted-on : new.next_number ≡ old.next_number → leads (all-but n) by new.pairs ≤ leads (all-but n) by old.pairs → (b : Bool)
+              → (b ≡ false → Falls ahead old.ahead_turn new.ahead_turn (leads (all-but n) by old.pairs) (leads (all-but n) by new.pairs)) → (b ≡ true → owes new + 1 ≤ owes old + pays e)
+              → calls_left ahead new.ahead_turn (leads (all-but n) by new.pairs) + suc k + times ahead (base + owes new) ≤ total + times ahead (new.next_number + (pays e + spent))
           counted-on next fewer false falls less =
-              calls-in-turn ahead old.ahead_turn new.ahead_turn (leads n by old.pairs) (leads n by new.pairs) (old.next_number + spent) (new.next_number + (pays e + spent)) k (base + owes old) (base + owes new) total
+              calls-in-turn ahead old.ahead_turn new.ahead_turn (leads (all-but n) by old.pairs) (leads (all-but n) by new.pairs) (old.next_number + spent) (new.next_number + (pays e + spent)) k (base + owes old) (base + owes new) total
               (falls refl) (omega (arith, next, owing)) st.count
           counted-on next fewer true falls less =
               let k_less = less refl in
-              calls-at-once ahead old.ahead_turn new.ahead_turn (leads n by old.pairs) (leads n by new.pairs) (old.next_number + spent) (new.next_number + (pays e + spent)) k (base + owes old) (base + owes new) total
+              calls-at-once ahead old.ahead_turn new.ahead_turn (leads (all-but n) by old.pairs) (leads (all-but n) by new.pairs) (old.next_number + spent) (new.next_number + (pays e + spent)) k (base + owes old) (base + owes new) total
               fewer (omega (arith, next, k_less)) st.count
 
     -- ---- rounds
@@ -461,7 +461,7 @@ module _ {H P : Type 0} where
         by-rounds (IsEndedIn mac answers before start found.at (entries_of rounds) last found.following found.run (path_of start p)) rounds f.began (omega (arith, within)) (let enough = f.enough in omega (arith, enough))
         (rounds-go mac answers by p.number (path_of start p) (answered_at start p) (goes_ahead start.rules) owes pays total start.next_number Keeps Off turns first s fresh before start found.at found.led f.at start-keeps begin rounds last found.following (inr f.began) f.passing (λ r has. lasts-at first s log fresh before start last (entries_of rounds) p found f.line.there r.now (search (f.lasting r has))) found.run) where
           total : ℕ
-          total = calls_left (goes_ahead start.rules) start.ahead_turn (leads p.number by start.pairs) + times (goes_ahead start.rules) (owes start)
+          total = calls_left (goes_ahead start.rules) start.ahead_turn (leads (all-but p.number) by start.pairs) + times (goes_ahead start.rules) (owes start)
 
           begin : (late : by < f.at) (early : f.at < MAX) → Persists by p.number (path_of start p) (answered_at start p) (goes_ahead start.rules) owes total start.next_number f.at 0 0 start
           begin late early = record {
@@ -477,7 +477,7 @@ module _ {H P : Type 0} where
             early = early;
             ready = (let due = f.line.due in omega (arith, due), f.line.settled);
             rules = refl;
-            count = at-first (goes_ahead start.rules) (calls_left (goes_ahead start.rules) start.ahead_turn (leads p.number by start.pairs)) start.next_number (owes start);
+            count = at-first (goes_ahead start.rules) (calls_left (goes_ahead start.rules) start.ahead_turn (leads (all-but p.number) by start.pairs)) start.next_number (owes start);
           } where
             at-first : (ahead : Bool) (x i j : ℕ) → x + 0 + times ahead (i + j) ≤ x + times ahead j + times ahead (i + 0)
             at-first true x i j = omega arith
@@ -494,7 +494,7 @@ module _ {H P : Type 0} where
           by-rounds Gone rs none within enough (inr (inr (inl gone))) = inr (inr (inr gone))
           by-rounds Gone [] none within enough (inr (inr (inr w))) = absurd (cc)
           by-rounds Gone (r ∷ older) began within enough (inr (inr (inr w))) =
-              absurd (calls-over (goes_ahead start.rules) start.ahead_turn last.ahead_turn (leads p.number by start.pairs) (leads p.number by last.pairs) (length start.pairs) start.next_number last.next_number
+              absurd (calls-over (goes_ahead start.rules) start.ahead_turn last.ahead_turn (leads (all-but p.number) by start.pairs) (leads (all-but p.number) by last.pairs) (length start.pairs) start.next_number last.next_number
               (length (r ∷ older)) (owes start) (paid pays (entries_of (r ∷ older))) (owes last) most w.count within (leads-others by start.pairs p f.line.there) enough)
 
     pub pairs-are-reached : PairsAreReached {H = H} {P = P} mac answers

@@ -1,9 +1,11 @@
--- Each step leaves each pair its number, except for steps that remove pairs.
-use Rattle.std.proofs.Common.{◌≡◌, ℕ, zero, suc, ◌&&◌, ◌||◌, Bool, true, false, not, List, [], ◌∷◌, ◌++◌, map, Option, Some, None, inl, inr, ◌⊎◌, refl, ap, sym, ◌∙◌, subst, if◌then◌else◌}
-use Rattle.std.specs.Prelude.{MatchOption, slice_get, slice_set}
+-- Each step leaves each pair its number, and whether a request came to it, except for steps that remove pairs.
+use Rattle.std.proofs.Common.{◌≡◌, ℕ, zero, suc, ◌&&◌, ◌||◌, Bool, true, false, not, List, [], ◌∷◌, ◌++◌, map, Option, Some, None, inl, inr, ◌⊎◌, refl, ap, sym, ◌∙◌, subst, arith, if◌then◌else◌}
+use Rattle.std.specs.Prelude.{MatchOption, slice_get, slice_set, nat_lt}
+use Rattle.std.proofs.lemmas.Bool.Decides.{nat_tests}
 use Rattle.std.specs.List.{list_any}
 use Rattle.rand_core.specs.Stream.{Stream}
 use Rattle.is_proto.specs.Lists.{Has, same}
+use Rattle.is_proto.specs.Times.{counted}
 use Rattle.is_candidate.specs.Candidates.{candidate_at}
 use Rattle.is_pair.specs.Pairs.{PairRecord, is_nominated, with_request, validated, nominated, heard, heard_at}
 use Rattle.is_pair.specs.Due as due
@@ -40,24 +42,38 @@ use Rattle.is_theorems.proofs.RuleEffects.SelectedPaths.{some_is}
 use Rattle.is_theorems.proofs.DuePairs.AfterNominationAndRemoval.{Base, Has-kept, nominates-thins}
 use Rattle.is_theorems.proofs.RuleEffects.Reselection.{by-reselecting}
 use Rattle.is_theorems.proofs.RuleEffects.TriggeredPairs.{triggered_by, by_trigger}
-use Rattle.is_theorems.proofs.BasicLemmas.PairsInTurn.{sent-number, sent-pairs, sent_at}
+use Rattle.is_theorems.proofs.BasicLemmas.PairsInTurn.{by-begins, sent-pairs, sent_at}
 use Rattle.is_theorems.proofs.BasicLemmas.ServedPairs.{numbered-by}
 
 -- ---- lists
 
--- a pair with the number exists
-abbrev pub Persists : ℕ → List PairRecord → Type 0
-Persists n ps = (q : PairRecord) × Has ps q × (q.number ≡ n)
+-- a request came to the pair
+abbrev pub is_asked : PairRecord → Bool
+is_asked p = nat_lt 0 p.requests
+
+-- a pair with the number exists; a request came to it, if `asks` says so
+abbrev pub Persists : ℕ → Bool → List PairRecord → Type 0
+Persists n asks ps = (q : PairRecord) × Has ps q × (q.number ≡ n) × (asks ≡ true → is_asked q ≡ true)
 
 -- each number stays
 abbrev pub Keeps : List PairRecord → List PairRecord → Type 0
-Keeps xs ys = (n : ℕ) → Persists n xs → Persists n ys
+Keeps xs ys = (n : ℕ) (asks : Bool) → Persists n asks xs → Persists n asks ys
+
+-- the same pair, and its requests are not forgotten
+abbrev pub Follows : PairRecord → PairRecord → Type 0
+Follows p q = (q.number ≡ p.number) × (is_asked p ≡ true → is_asked q ≡ true)
+
+follows-same : (p : PairRecord) → Follows p p
+follows-same p = (refl, λ is. is)
+
+follows-on : (x y z : PairRecord) → Follows x y → Follows y z → Follows x z
+follows-on x y z a b = (b.0 ∙ a.0, λ is. b.1 (a.1 is))
 
 keeps-on : (xs ys zs : List PairRecord) → Keeps xs ys → Keeps ys zs → Keeps xs zs
-keeps-on xs ys zs a b n h = b n (a n h)
+keeps-on xs ys zs a b n asks h = b n asks (a n asks h)
 
-pub keeps-map : (f : PairRecord → PairRecord) (xs : List PairRecord) → ((p : PairRecord) → (f p).number ≡ p.number) → Keeps xs (map f xs)
-keeps-map f xs kept n (q, has, is) = (f q, Has-mapped f xs q has, kept q ∙ is)
+pub keeps-map : (f : PairRecord → PairRecord) (xs : List PairRecord) → ((p : PairRecord) → Follows p (f p)) → Keeps xs (map f xs)
+keeps-map f xs kept n asks (q, has, is, asked) = (f q, Has-mapped f xs q has, (kept q).0 ∙ is, λ on. (kept q).1 (asked on))
 
 Has-front : (xs ys : List PairRecord) (x : PairRecord) → Has xs x → Has (xs ++ ys) x
 Has-front [] ys x has = absurd has
@@ -65,58 +81,77 @@ Has-front (y ∷ xs) ys x (inl e) = inl e
 Has-front (y ∷ xs) ys x (inr has) = inr (Has-front xs ys x has)
 
 keeps-push : (xs ys : List PairRecord) → Keeps xs (xs ++ ys)
-keeps-push xs ys n (q, has, is) = (q, Has-front xs ys q has, is)
+keeps-push xs ys n asks (q, has, is, asked) = (q, Has-front xs ys q has, is, asked)
 
-keeps-set : (xs : List PairRecord) (i : ℕ) (p after : PairRecord) → slice_get xs i ≡ Some p → after.number ≡ p.number → Keeps xs (slice_set xs i after)
-keeps-set [] i p after at kept n (q, has, is) = absurd has
-keeps-set (x ∷ xs) zero p after at kept n (q, inl e, is) =
-    (after, inl refl, kept ∙ (ap (λ (y : PairRecord). y.number) (sym (some_is x p at) ∙ e) ∙ is))
-keeps-set (x ∷ xs) zero p after at kept n (q, inr has, is) = (q, inr has, is)
-keeps-set (x ∷ xs) (suc i) p after at kept n (q, inl e, is) = (q, inl e, is)
-keeps-set (x ∷ xs) (suc i) p after at kept n (q, inr has, is) =
-    let k = keeps-set xs i p after at kept n (q, has, is) in (k.0, inr k.1, k.2)
+keeps-set : (xs : List PairRecord) (i : ℕ) (p after : PairRecord) → slice_get xs i ≡ Some p → Follows p after → Keeps xs (slice_set xs i after)
+keeps-set [] i p after at kept n asks (q, has, is, asked) = absurd has
+keeps-set (x ∷ xs) zero p after at kept n asks (q, inl e, is, asked) =
+    let one : q ≡ p = sym e ∙ some_is x p at in
+    (after, inl refl, kept.0 ∙ (ap (λ (y : PairRecord). y.number) (sym one) ∙ is), λ on. kept.1 (subst (λ (y : PairRecord). is_asked y ≡ true) one (asked on)))
+keeps-set (x ∷ xs) zero p after at kept n asks (q, inr has, is, asked) = (q, inr has, is, asked)
+keeps-set (x ∷ xs) (suc i) p after at kept n asks (q, inl e, is, asked) = (q, inl e, is, asked)
+keeps-set (x ∷ xs) (suc i) p after at kept n asks (q, inr has, is, asked) =
+    let k = keeps-set xs i p after at kept n asks (q, has, is, asked) in (k.0, inr k.1, k.2, k.3)
 
 -- ---- numbers
 
-if-number : (b : Bool) (x y : PairRecord) → x.number ≡ y.number → (if b then x else y).number ≡ y.number
-if-number true x y kept = kept
-if-number false x y kept = refl
+if-follows : (b : Bool) (p x y : PairRecord) → Follows p x → Follows p y → Follows p (if b then x else y)
+if-follows true p x y on off = on
+if-follows false p x y on off = off
 
-nominated-number : (lite : Bool) (p : PairRecord) → (nominated lite p).number ≡ p.number
-nominated-number true p = refl
-nominated-number false p = refl
+nominated-follows : (lite : Bool) (p q : PairRecord) → Follows p q → Follows p (nominated lite q)
+nominated-follows true p q k = k
+nominated-follows false p q k = k
 
-served-number : (c l : Bool) (q : RequestRecord) (p : PairRecord) → (served c l q p).number ≡ p.number
-served-number c l q p =
-    let v : PairRecord = validated_by_peer c l (with_request q.time p) in
-    let same : (nominated_by_peer c l q v).number ≡ p.number =
-    if-number (not c && q.use_candidate && not (is_nominated v)) (nominated l v) v (nominated-number l v)
-    ∙ if-number (l && not c) (validated (with_request q.time p)) (with_request q.time p) refl in
-    numbered-by (λ x. x.number ≡ p.number) c q.nomination (nominated_by_peer c l q v) same (λ n. same)
+-- a request counts
+counts : (n : ℕ) → nat_lt 0 (counted n) ≡ true
+counts n = grind (arith, nat_tests)
+
+served-follows : (c l : Bool) (q : RequestRecord) (p : PairRecord) → ((served c l q p).number ≡ p.number) × (is_asked (served c l q p) ≡ true)
+served-follows c l q p = let k = by in (k.0, k.1 (counts p.requests)) where
+  w : PairRecord
+  w = with_request q.time p
+
+  v : PairRecord
+  v = validated_by_peer c l w
+
+  by : Follows w (served c l q p)
+  by =
+      let valid : Follows w v = if-follows (l && not c) w (validated w) w (refl, λ is. is) (follows-same w) in
+      numbered-by (λ x. Follows w x) c q.nomination (nominated_by_peer c l q v)
+      (if-follows (not c && q.use_candidate && not (is_nominated v)) w (nominated l v) v (nominated-follows l w v valid) valid) (λ n. (if-follows (not c && q.use_candidate && not (is_nominated v)) w (nominated l v) v (nominated-follows l w v valid) valid))
+
+pub request-follows : {H P : Type 0} (q : RequestRecord) (s : AgentRecord H P) (p : PairRecord) → ((after_request q s p).number ≡ p.number) × (is_asked (after_request q s p) ≡ true)
+request-follows q s p =
+    let k = served-follows s.controlling s.lite (as_taken (numbers s) q) (triggered_by q s p) in
+    (k.0 ∙ by_trigger (λ (x : PairRecord). x.number ≡ p.number) q s p (λ due. refl), k.1)
 
 pub request-number : {H P : Type 0} (q : RequestRecord) (s : AgentRecord H P) (p : PairRecord) → (after_request q s p).number ≡ p.number
-request-number q s p = served-number s.controlling s.lite (as_taken (numbers s) q) (triggered_by q s p) ∙ by_trigger (λ (x : PairRecord). x.number ≡ p.number) q s p (λ due. refl)
+request-number q s p = (request-follows q s p).0
 
-heard-number : (now : ℕ) (at : Option ℕ) (p : PairRecord) → (heard_at now at p).number ≡ p.number
-heard-number now None p = refl
-heard-number now (Some at) p = refl
+heard-follows : (now : ℕ) (at : Option ℕ) (p : PairRecord) → Follows p (heard_at now at p)
+heard-follows now None p = (refl, λ is. counts p.requests)
+heard-follows now (Some at) p = follows-same p
+
+sent-follows : (begins : Bool) (now : ℕ) (t : StunTiming) (c : Bool) (id : List ℕ) (p : PairRecord) → Follows p (sent_at begins now t c id p)
+sent-follows begins now t c id p = by-begins begins (λ x. Follows p x) now t c id p (refl, λ is. is) (refl, λ is. is)
 
 -- nomination does not change whether the pair is to be removed
 self-kept : (c l : Bool) (n : ℕ) (p : PairRecord) (lite : Bool) (now : ℕ) (t : StunTiming)
-    → ((change_at n (nominated_by_self c l) p).number ≡ p.number) × (due.is_pair_expired lite now t (change_at n (nominated_by_self c l) p) ≡ due.is_pair_expired lite now t p)
+    → Follows p (change_at n (nominated_by_self c l) p) × (due.is_pair_expired lite now t (change_at n (nominated_by_self c l) p) ≡ due.is_pair_expired lite now t p)
 self-kept c l n p lite now t = apart (is_numbered n p) (not (is_nominated p) && (c || l)) l where
-  apart : (a b l : Bool) → ((if a then (if b then nominated l p else p) else p).number ≡ p.number)
+  apart : (a b l : Bool) → Follows p (if a then (if b then nominated l p else p) else p)
       × (due.is_pair_expired lite now t (if a then (if b then nominated l p else p) else p) ≡ due.is_pair_expired lite now t p)
-  apart true true l = (nominated-number l p, expired_nominated lite l now t p)
-  apart true false l = (refl, refl)
-  apart false b l = (refl, refl)
+  apart true true l = (nominated-follows l p p (follows-same p), expired_nominated lite l now t p)
+  apart true false l = (follows-same p, refl)
+  apart false b l = (follows-same p, refl)
 
 module _ {H P : Type 0} where
   abbrev pub Keep : AgentRecord H P → AgentRecord H P → Type 0
   Keep old new = Keeps old.pairs new.pairs
 
   pub keep-same : (old new : AgentRecord H P) → new ≡ old → Keep old new
-  keep-same old new made = subst (λ (a : AgentRecord H P). Keeps old.pairs a.pairs) (sym made) (λ n h. h)
+  keep-same old new made = subst (λ (a : AgentRecord H P). Keeps old.pairs a.pairs) (sym made) (λ n asks h. h)
 
   -- as this abstract state stores them
   pub keep-as : (old needed new : AgentRecord H P) → Keep old needed → new ≡ needed → Keep old new
@@ -127,12 +162,12 @@ module _ {H P : Type 0} where
   -- the pair is there, and `is_expired` has the same value for it
   abbrev Left : ℕ → AgentRecord H P → PairRecord → AgentRecord H P → Type 0
   Left now old p new =
-      (q : PairRecord) × Has new.pairs q × (q.number ≡ p.number) × (due.is_pair_expired old.lite now old.timing q ≡ due.is_pair_expired old.lite now old.timing p)
+      (q : PairRecord) × Has new.pairs q × Follows p q × (due.is_pair_expired old.lite now old.timing q ≡ due.is_pair_expired old.lite now old.timing p)
 
   nominates-leaves : (now : ℕ) (old new : AgentRecord H P) (path : Option Path) → Nominates old path new → (p : PairRecord) → Has old.pairs p → Left now old p new
   nominates-leaves now old new path h p has = from (selects_path old new path h) where
     as-it-was : new ≡ old → Left now old p new
-    as-it-was made = subst (λ (a : AgentRecord H P). Left now old p a) (sym made) (p, has, refl, refl)
+    as-it-was made = subst (λ (a : AgentRecord H P). Left now old p a) (sym made) (p, has, follows-same p, refl)
 
     from : SelectsPath old path new → Left now old p new
     from (None, greatest, (is, made)) = as-it-was made
@@ -144,24 +179,24 @@ module _ {H P : Type 0} where
         (change_at top.number (nominated_by_self old.controlling old.lite) p, Has-mapped (change_at top.number (nominated_by_self old.controlling old.lite)) old.pairs p has, s.0, s.1)))
 
   keep-nominates : (old new : AgentRecord H P) (path : Option Path) → Nominates old path new → Keep old new
-  keep-nominates old new path h n (p, has, is) = let k = nominates-leaves 0 old new path h p has in (k.0, k.1, k.2 ∙ is)
+  keep-nominates old new path h n asks (p, has, is, asked) = let k = nominates-leaves 0 old new path h p has in (k.0, k.1, k.2.0 ∙ is, λ on. k.2.1 (asked on))
 
   pub keep-reselects : (loses : Bool) (old new : AgentRecord H P) (path : Option Path) → Reselects loses old path new → Keep old new
   keep-reselects loses old new path h =
-      by-reselecting (λ (a : AgentRecord H P). Keeps old.pairs a.pairs) loses old new path h (λ n k. k) (λ mid nominates. keep-nominates old mid path nominates)
+      by-reselecting (λ (a : AgentRecord H P). Keeps old.pairs a.pairs) loses old new path h (λ n asks k. k) (λ mid nominates. keep-nominates old mid path nominates)
 
   gives-up-leaves : (now : ℕ) (old new : AgentRecord H P) (path : Option Path) → RemovesExpired now old path new → (p : PairRecord) → Has old.pairs p
-      → Persists p.number new.pairs ⊎ (is_expired now old p ≡ true)
+      → Persists p.number (is_asked p) new.pairs ⊎ (is_expired now old p ≡ true)
   gives-up-leaves now old new path h p has = either (list_any (is_expired now old) old.pairs) h
       (λ _ k. by (is_expired now old p) refl k)
-      (λ _ k. inl (keep-as old (settled true now old) new (λ n x. x) k.1 p.number (p, has, refl))) where
+      (λ _ k. inl (keep-as old (settled true now old) new (λ n asks x. x) k.1 p.number (is_asked p) (p, has, refl, λ on. on))) where
         by : (b : Bool) → is_expired now old p ≡ b → (mid : AgentRecord H P) × Nominates (expired_gone now old) path mid × (new ≡ evaluated now mid)
-            → Persists p.number new.pairs ⊎ (is_expired now old p ≡ true)
+            → Persists p.number (is_asked p) new.pairs ⊎ (is_expired now old p ≡ true)
         by true is k = inr is
         by false is (mid, nominates, made) =
-            inl (keep-as mid (evaluated now mid) new (λ n x. x) made p.number
-            (keep-nominates (expired_gone now old) mid path nominates p.number
-            (p, Has-kept (λ q. not (is_expired now old q)) old.pairs p has (ap not is), refl)))
+            inl (keep-as mid (evaluated now mid) new (λ n asks x. x) made p.number (is_asked p)
+            (keep-nominates (expired_gone now old) mid path nominates p.number (is_asked p)
+            (p, Has-kept (λ q. not (is_expired now old q)) old.pairs p has (ap not is), refl, λ on. on)))
 
   module _ (mac : H → List ℕ → List ℕ → List ℕ) where
     -- ---- `handle_timeout` calls
@@ -169,10 +204,10 @@ module _ {H P : Type 0} where
     keep-check : (now : ℕ) (remote : Option IceCreds) (old new : AgentRecord H P) (s t : Stream) (issued : Option Issued) → MayCheck mac now remote old s issued new t → Keep old new
     keep-check now None old new s t issued (is, made, drawn) = keep-same old new made
     keep-check now (Some peer) old new s t issued h = either old.lite h
-        (λ _ k. keep-as old _ new (keeps-map (heard now) old.pairs (λ p. heard-number now p.last_request p)) k.1)
+        (λ _ k. keep-as old _ new (keeps-map (heard now) old.pairs (λ p. heard-follows now p.last_request p)) k.1)
         (λ _ k. next k.0 k.2) where
           all : Keep old (all_asked now old)
-          all = keeps-map (due.asked now old.timing) old.pairs (λ p. refl)
+          all = keeps-map (due.asked now old.timing) old.pairs (λ p. (refl, λ is. is))
 
           next : (top : Option PairRecord) → ChecksTop mac now peer top (all_asked now old) s issued new t → Keep old new
           next None (is, made, drawn) = keep-as old (all_asked now old) new all made
@@ -183,19 +218,21 @@ module _ {H P : Type 0} where
               (subst (λ ps. Keeps old.pairs ps) (sym (sent-pairs begins p.number now old.timing old.controlling id (all_asked now old).pairs))
               (keeps-on old.pairs (all_asked now old).pairs (change_pair p.number change (all_asked now old).pairs) all
               (keeps-map (change_at p.number change) (all_asked now old).pairs
-              (λ q. if-number (is_numbered p.number q) (change q) q (sent-number begins now old.timing old.controlling id q))))) made
+              (λ q. if-follows (is_numbered p.number q) q (change q) q (sent-follows begins now old.timing old.controlling id q) (follows-same q))))) made
 
     pub maintains_pairs-leaves : (now : ℕ) (old new : AgentRecord H P) (s t : Stream) (emitted : Emitted) → MaintainsPairs mac now old s emitted new t → (p : PairRecord) → Has old.pairs p
-        → Persists p.number new.pairs ⊎ (is_expired now old p ≡ true)
+        → Persists p.number (is_asked p) new.pairs ⊎ (is_expired now old p ≡ true)
     maintains_pairs-leaves now old new s t emitted (first, second, issued, named, kept, nominating, giving, checking, is) p has =
         let n = nominates-leaves now (at_timeout now old) named first nominating p has in
         let base = (nominates-thins 0 (at_timeout now old) named first nominating).0 in
         elim (gives-up-leaves now named kept second giving n.0 n.1) [
-          | inl k ↦ inl (keep-check now kept.remote_creds kept new s t issued checking p.number (subst (λ i. Persists i kept.pairs) n.2 k))
+          | inl k ↦ inl (keep-check now kept.remote_creds kept new s t issued checking p.number (is_asked p) (moved kept.pairs n.0 n.2 k))
           | inr gone ↦
               inr (sym n.3
               ∙ (sym (ap (λ (b : Base). due.is_pair_expired b.lite now b.timing n.0) base) ∙ gone))
-        ]
+        ] where
+          moved : (ps : List PairRecord) (o : PairRecord) → Follows p o → Persists o.number (is_asked o) ps → Persists p.number (is_asked p) ps
+          moved ps o f (r, there, number, asked) = (r, there, number ∙ f.0, λ on. asked (f.1 on))
 
     -- ---- requests
 
@@ -205,7 +242,7 @@ module _ {H P : Type 0} where
           keep-as s _ new
           (keeps-on s.pairs (pair_served q number s).pairs mid.pairs
           (keeps-map (change_at number (after_request q s)) s.pairs
-          (λ p. if-number (is_numbered number p) (after_request q s p) p (request-number q s p)))
+          (λ p. if-follows (is_numbered number p) p (after_request q s p) p ((request-follows q s p).0, λ is. (request-follows q s p).1) (follows-same p)))
           (either (selects_at_requests s && is_valid_at number s.pairs) nominates
           (λ _ k. keep-nominates (pair_served q number s) mid path k)
           (λ _ k. keep-same (pair_served q number s) mid k.1))) made
@@ -230,11 +267,11 @@ module _ {H P : Type 0} where
           (λ _ k. joins l k.0 (request_counted s) new emitted k.2)
 
       keep-switched : (s : AgentRecord H P) → Keep s (switched s)
-      keep-switched s = keeps-map (with_priority_in (switched_sides s)) s.pairs (λ p. refl)
+      keep-switched s = keeps-map (with_priority_in (switched_sides s)) s.pairs (λ p. (refl, λ is. is))
 
       resolves : (conflict : Conflict) (l : ℕ) (s new : AgentRecord H P) (emitted : Emitted) → ResolvesRoleConflictBy mac conflict q l s emitted new → Keep s new
       resolves Absent l s new emitted h = admitted l s new emitted h
-      resolves Send487 l s new emitted (values, is, made) = keep-as s _ new (λ n x. x) made
+      resolves Send487 l s new emitted (values, is, made) = keep-as s _ new (λ n asks x. x) made
       resolves SwitchRole l s new emitted h = keeps-on s.pairs (switched s).pairs new.pairs (keep-switched s) (admitted l (switched s) new emitted h)
 
       here : (place : Option ℕ) (s new : AgentRecord H P) (emitted : Emitted) → MatchOption place (Drops s emitted new) (λ l. ResolvesRoleConflict mac q l s emitted new) → Keep s new
@@ -247,7 +284,7 @@ module _ {H P : Type 0} where
           (λ _ k. here (local_place s.local q) s new emitted k)
 
       requested : (remote : Option IceCreds) (s new : AgentRecord H P) (emitted : Emitted) → MatchOption remote (Queues q s emitted new) (λ _. Serves mac q s emitted new) → Keep s new
-      requested None s new emitted h = keep-as s _ new (λ n x. x) h.1
+      requested None s new emitted h = keep-as s _ new (λ n asks x. x) h.1
       requested (Some peer) s new emitted h = keep-serves s new emitted h
 
     -- ---- responses
@@ -256,7 +293,7 @@ module _ {H P : Type 0} where
     success now old new via m emitted (recorded, (place, p, after, at, keeps, (k, c, is_at, is), made), (path, mid, nominates, emitted_is, done)) =
         keep-as old (evaluated now mid) new
         (keeps-on old.pairs recorded.pairs mid.pairs
-        (keep-as old _ recorded (keeps-set old.pairs place p after at (ap (λ (x : PairRecord). x.number) is)) made)
+        (keep-as old _ recorded (keeps-set old.pairs place p after at (ap (λ (x : PairRecord). x.number) is, λ on. subst (λ (x : PairRecord). is_asked x ≡ true) (sym is) on)) made)
         (keep-nominates recorded mid path nominates)) done
 
     failure : (old new : AgentRecord H P) (via : Path) (m : Message) (emitted : Emitted) → TakesFailure old via m emitted new → Keep old new
@@ -265,7 +302,7 @@ module _ {H P : Type 0} where
         (λ _ k. keep-same old new k.1) where
           expired : LeavesRole old via m emitted new → Keep old new
           expired (p, c, has, keeps, kept, is, acts) = either (same c.controlling old.controlling && not (keeps_role old)) acts
-              (λ _ k. keep-as old (switched old) new (keeps-map (with_priority_in (switched_sides old)) old.pairs (λ p. refl)) k.1)
+              (λ _ k. keep-as old (switched old) new (keeps-map (with_priority_in (switched_sides old)) old.pairs (λ p. (refl, λ is. is))) k.1)
               (λ _ k. keep-same old new k.1)
 
     -- ---- packets

@@ -36,13 +36,13 @@ use Rattle.is_theorems.proofs.ExecutionLogs.LogSegments.{run-on}
 use Rattle.is_theorems.proofs.CallEffects.FailedCallsAndNewAgents.{mtu_kept, controlling_kept, local_kept, remote_kept, restart_kept, recreation_kept, enrolment_kept, storing_kept}
 use Rattle.is_theorems.proofs.StoredPairs.PairsAfterForming.{local-leaves, remote-leaves}
 use Rattle.is_rules.proofs.PairLists.RisingNumbers.{below-each, rising-each}
-use Rattle.is_theorems.proofs.StoredPairs.NumbersThatStay.{Persists, Keeps, Keep, keeps-map, keep-same, keep-as, keep-reselects, by-class, keep-serves, maintains_pairs-leaves}
+use Rattle.is_theorems.proofs.StoredPairs.NumbersThatStay.{is_asked, Persists, Keeps, Keep, keeps-map, keep-same, keep-as, keep-reselects, by-class, keep-serves, maintains_pairs-leaves}
 use Rattle.is_theorems.proofs.RuleEffects.SelectedPaths.{one_pair}
 use Rattle.is_theorems.proofs.DuePairs.AfterNominationAndRemoval.{Has-kept}
 
 keeps-if : (b : Bool) (xs ys : List PairRecord) → Keeps xs ys → Keeps xs (if b then xs else ys)
-keeps-if true xs ys k n h = h
-keeps-if false xs ys k n h = k n h
+keeps-if true xs ys k n asks h = h
+keeps-if false xs ys k n asks h = k n asks h
 
 not-found : {A : Type 0} (place : ℕ) → None ≡ Some place → A
 not-found place h = absurd (cc)
@@ -71,47 +71,47 @@ module _ {H P : Type 0} where
   -- ---- a candidate is discarded
 
   module _ (old new : AgentRecord H P) (c : CandidateRecord) (p : PairRecord) (has : Has old.pairs p) where
-    of-local : (place : ℕ) → local_to_discard c old ≡ Some place → new ≡ local_discarded place old → Persists p.number new.pairs ⊎ IsOfDiscarded old c p
+    of-local : (place : ℕ) → local_to_discard c old ≡ Some place → new ≡ local_discarded place old → Persists p.number (is_asked p) new.pairs ⊎ IsOfDiscarded old c p
     of-local place at made = by (is_local_at place p) refl where
-      by : (b : Bool) → is_local_at place p ≡ b → Persists p.number new.pairs ⊎ IsOfDiscarded old c p
+      by : (b : Bool) → is_local_at place p ≡ b → Persists p.number (is_asked p) new.pairs ⊎ IsOfDiscarded old c p
       by true is = inr (inl (at ∙ ap Some (sym (eqb-true p.local place is))))
-      by false is = inl (subst (λ (a : AgentRecord H P). Persists p.number a.pairs) (sym made) (p, Has-kept (λ q. not (is_local_at place q)) old.pairs p has (ap not is), refl))
+      by false is = inl (subst (λ (a : AgentRecord H P). Persists p.number (is_asked p) a.pairs) (sym made) (p, Has-kept (λ q. not (is_local_at place q)) old.pairs p has (ap not is), refl, λ on. on))
 
     of-remote : (place : ℕ) → local_to_discard c old ≡ None → remote_to_discard c old ≡ Some place → new ≡ remote_discarded place old
-        → Persists p.number new.pairs ⊎ IsOfDiscarded old c p
+        → Persists p.number (is_asked p) new.pairs ⊎ IsOfDiscarded old c p
     of-remote place none at made = by (is_remote_at place p) refl where
-      by : (b : Bool) → is_remote_at place p ≡ b → Persists p.number new.pairs ⊎ IsOfDiscarded old c p
+      by : (b : Bool) → is_remote_at place p ≡ b → Persists p.number (is_asked p) new.pairs ⊎ IsOfDiscarded old c p
       by true is = inr (inr (none, at ∙ ap Some (sym (eqb-true p.remote place is))))
-      by false is = inl (subst (λ (a : AgentRecord H P). Persists p.number a.pairs) (sym made) (p, Has-kept (λ q. not (is_remote_at place q)) old.pairs p has (ap not is), refl))
+      by false is = inl (subst (λ (a : AgentRecord H P). Persists p.number (is_asked p) a.pairs) (sym made) (p, Has-kept (λ q. not (is_remote_at place q)) old.pairs p has (ap not is), refl, λ on. on))
 
     discards : (l r : Option ℕ) (found : Bool) → local_to_discard c old ≡ l → remote_to_discard c old ≡ r → InvalidatesAt l r old found new
-        → Persists p.number new.pairs ⊎ ((found ≡ true) × IsOfDiscarded old c p)
+        → Persists p.number (is_asked p) new.pairs ⊎ ((found ≡ true) × IsOfDiscarded old c p)
     discards (Some place) r found l_is r_is h = elim (of-local place l_is h.1) [ inl k ↦ inl k | inr gone ↦ inr (h.0, gone) ]
     discards None (Some place) found l_is r_is h = elim (of-remote place l_is r_is h.1) [ inl k ↦ inl k | inr gone ↦ inr (h.0, gone) ]
-    discards None None found l_is r_is h = inl (keep-same old new h.1 p.number (p, has, refl))
+    discards None None found l_is r_is h = inl (keep-same old new h.1 p.number (is_asked p) (p, has, refl, λ on. on))
 
   module _ (mac : H → List ℕ → List ℕ → List ℕ) (answers : P → CandidateRecord → ℕ → ℕ → Type 0) where
     module _ (old new : AgentRecord H P) (s t : Stream) (e : Entry) (p : PairRecord) (sound : IsSound old) (has : Has old.pairs p) where
       -- ---- each call
 
-      kept : Keep old new → Persists p.number new.pairs
-      kept k = k p.number (p, has, refl)
+      kept : Keep old new → Persists p.number (is_asked p) new.pairs
+      kept k = k p.number (is_asked p) (p, has, refl, λ on. on)
 
-      as-it-was : new ≡ old → Persists p.number new.pairs
+      as-it-was : new ≡ old → Persists p.number (is_asked p) new.pairs
       as-it-was made = kept (keep-same old new made)
 
-      becomes : (needed : AgentRecord H P) → Keep old needed → new ≡ needed → Persists p.number new.pairs
+      becomes : (needed : AgentRecord H P) → Keep old needed → new ≡ needed → Persists p.number (is_asked p) new.pairs
       becomes needed k made = kept (keep-as old needed new k made)
 
       -- a path may be selected after it
-      selects : (mid : AgentRecord H P) (path : Option Path) → Reselects (loses_selected old mid) mid path new → Persists p.number mid.pairs
-          → Persists p.number new.pairs
-      selects mid path h k = keep-reselects (loses_selected old mid) mid new path h p.number k
+      selects : (mid : AgentRecord H P) (path : Option Path) → Reselects (loses_selected old mid) mid path new → Persists p.number (is_asked p) mid.pairs
+          → Persists p.number (is_asked p) new.pairs
+      selects mid path h k = keep-reselects (loses_selected old mid) mid new path h p.number (is_asked p) k
 
-      as-before : (mid : AgentRecord H P) (path : Option Path) → Reselects (loses_selected old mid) mid path new → mid ≡ old → Persists p.number new.pairs
-      as-before mid path h made = selects mid path h (keep-same old mid made p.number (p, has, refl))
+      as-before : (mid : AgentRecord H P) (path : Option Path) → Reselects (loses_selected old mid) mid path new → mid ≡ old → Persists p.number (is_asked p) new.pairs
+      as-before mid path h made = selects mid path h (keep-same old mid made p.number (is_asked p) (p, has, refl, λ on. on))
 
-      packet : (now : ℕ) (path : Path) (bytes : List ℕ) → Receives mac answers now old path bytes e new → Persists p.number new.pairs
+      packet : (now : ℕ) (path : Path) (bytes : List ℕ) → Receives mac answers now old path bytes e new → Persists p.number (is_asked p) new.pairs
       packet now path bytes (inl (fault, has_fault, is, made)) = as-it-was made
       packet now path bytes (inr (m, reads, (Ok true, emitted, is, (accepted, (mid, takes, made))))) = becomes (discovered_emitted m.class emitted path mid) (by-class mac m.class now old mid path m emitted takes) made
       packet now path bytes (inr (m, reads, (Ok false, emitted, is, (no_one, nothing, made)))) = as-it-was made
@@ -119,44 +119,44 @@ module _ {H P : Type 0} where
 
       timeout-by : (now : ℕ) (emitted : Emitted) (o : Option RequestRecord) → request_at now old ≡ o → e.answer ≡ Done
           → MatchOption o (MaintainsPairs mac now (timeout_begun now old) s emitted new t) (λ q. ServesQueued mac q (at_request now (timeout_begun now old)) s emitted new t)
-          → Persists p.number new.pairs ⊎ ((e.answer ≡ Done) × (request_at now old ≡ None) × (is_expired now old p ≡ true))
+          → Persists p.number (is_asked p) new.pairs ⊎ ((e.answer ≡ Done) × (request_at now old ≡ None) × (is_expired now old p ≡ true))
       timeout-by now emitted None none is_done h = elim (maintains_pairs-leaves mac now (timeout_begun now old) new s t emitted h p has) [
         | inl persists ↦ inl persists
         | inr gone ↦ inr (is_done, none, gone)
       ]
       timeout-by now emitted (Some q) is is_done (h, drawn) = inl (kept (keep-serves mac q (first_taken (at_request now (timeout_begun now old))) new emitted h))
 
-      lasts : (call : Call P) → Step mac answers old s call e new t → Persists p.number new.pairs ⊎ MayEnd answers old call e p
-      lasts (SetMtu target warn) (Ok _, is, h, drawn) = inl (becomes _ (λ n x. x) h.1)
+      lasts : (call : Call P) → Step mac answers old s call e new t → Persists p.number (is_asked p) new.pairs ⊎ MayEnd answers old call e p
+      lasts (SetMtu target warn) (Ok _, is, h, drawn) = inl (becomes _ (λ n asks x. x) h.1)
       lasts (SetMtu target warn) (Err error, is, h, drawn) = inl (as-it-was (mtu_kept old new target warn error h))
-      lasts (SetControlTieBreaker tie) (is, made, drawn) = inl (becomes _ (λ n x. x) made)
-      lasts (SetMaxCandidatePairs n) (is, made, drawn) = inl (becomes _ (λ n x. x) made)
-      lasts (SetMaxDiscovered n) (is, made, drawn) = inl (becomes _ (λ n x. x) made)
-      lasts (SetIceLite lite) (is, made, drawn) = inl (becomes _ (λ n x. x) made)
-      lasts (SetRenomination on) (is, made, drawn) = inl (becomes _ (λ n x. x) made)
-      lasts (SetRules rules) (is, made, drawn) = inl (becomes _ (λ n x. x) made)
-      lasts (SetTimingAdvance by) (is, made, drawn) = inl (becomes _ (λ n x. x) made)
+      lasts (SetControlTieBreaker tie) (is, made, drawn) = inl (becomes _ (λ n asks x. x) made)
+      lasts (SetMaxCandidatePairs n) (is, made, drawn) = inl (becomes _ (λ n asks x. x) made)
+      lasts (SetMaxDiscovered n) (is, made, drawn) = inl (becomes _ (λ n asks x. x) made)
+      lasts (SetIceLite lite) (is, made, drawn) = inl (becomes _ (λ n asks x. x) made)
+      lasts (SetRenomination on) (is, made, drawn) = inl (becomes _ (λ n asks x. x) made)
+      lasts (SetRules rules) (is, made, drawn) = inl (becomes _ (λ n asks x. x) made)
+      lasts (SetTimingAdvance by) (is, made, drawn) = inl (becomes _ (λ n asks x. x) made)
       lasts (SetInitialStunRto rto) (is, made, drawn) =
           inl (becomes (with_rtos rto old.timing.max_rto.0 old)
-          (keeps-if (old.timing.initial_rto.0 == rto && old.timing.max_rto.0 == old.timing.max_rto.0) old.pairs (map undue old.pairs) (keeps-map undue old.pairs (λ q. refl))) made)
+          (keeps-if (old.timing.initial_rto.0 == rto && old.timing.max_rto.0 == old.timing.max_rto.0) old.pairs (map undue old.pairs) (keeps-map undue old.pairs (λ q. (refl, λ is. is)))) made)
       lasts (SetMaxStunRto rto) (is, made, drawn) =
           inl (becomes (with_rtos old.timing.initial_rto.0 rto old)
-          (keeps-if (old.timing.initial_rto.0 == old.timing.initial_rto.0 && old.timing.max_rto.0 == rto) old.pairs (map undue old.pairs) (keeps-map undue old.pairs (λ q. refl))) made)
+          (keeps-if (old.timing.initial_rto.0 == old.timing.initial_rto.0 && old.timing.max_rto.0 == rto) old.pairs (map undue old.pairs) (keeps-map undue old.pairs (λ q. (refl, λ is. is)))) made)
       lasts (SetMaxStunRetransmits n) h = either (n == 0) h
           (λ _ k. inl (as-it-was k.1))
-          (λ _ k. inl (becomes _ (λ n x. x) k.1))
-      lasts (SetLiteTimeout by) (is, made, drawn) = inl (becomes _ (λ n x. x) made)
-      lasts (SetLocalPreference object) (is, made, drawn) = inl (becomes _ (λ n x. x) made)
-      lasts (SetControlling controlling) (Ok _, is, h, drawn) = inl (becomes _ (λ n x. x) h.1)
+          (λ _ k. inl (becomes _ (λ n asks x. x) k.1))
+      lasts (SetLiteTimeout by) (is, made, drawn) = inl (becomes _ (λ n asks x. x) made)
+      lasts (SetLocalPreference object) (is, made, drawn) = inl (becomes _ (λ n asks x. x) made)
+      lasts (SetControlling controlling) (Ok _, is, h, drawn) = inl (becomes _ (λ n asks x. x) h.1)
       lasts (SetControlling controlling) (Err error, is, h, drawn) = inl (as-it-was (controlling_kept old new controlling error h))
-      lasts (SetLocalCredentials creds) (Ok _, is, h, drawn) = inl (becomes _ (λ n x. x) h.1)
+      lasts (SetLocalCredentials creds) (Ok _, is, h, drawn) = inl (becomes _ (λ n asks x. x) h.1)
       lasts (SetLocalCredentials creds) (Err error, is, h, drawn) = inl (as-it-was (local_kept old new creds error h))
-      lasts (SetRemoteCredentials creds) (Ok _, is, h, drawn) = inl (becomes _ (λ n x. x) h.1)
+      lasts (SetRemoteCredentials creds) (Ok _, is, h, drawn) = inl (becomes _ (λ n asks x. x) h.1)
       lasts (SetRemoteCredentials creds) (Err error, is, h, drawn) = inl (as-it-was (remote_kept old new creds error h))
-      lasts (SkipPairIds n) (is, made, drawn) = inl (becomes _ (λ n x. x) made)
+      lasts (SkipPairIds n) (is, made, drawn) = inl (becomes _ (λ n asks x. x) made)
       lasts (AddLocalCandidate c) (Ok (Some place), emitted, is, (path, mid, h, again, emits), drawn) =
           elim (local-leaves answers old mid c place p sound has h) [
-            | inl there ↦ inl (selects mid path again (p, there, refl))
+            | inl there ↦ inl (selects mid path again (p, there, refl, λ on. on))
             | inr ends ↦ inr (ap (λ (x : Entry). x.answer) is, ends)
           ]
       lasts (AddLocalCandidate c) (Ok None, emitted, is, (path, mid, h, again, emits), drawn) =
@@ -164,7 +164,7 @@ module _ {H P : Type 0} where
       lasts (AddLocalCandidate c) (Err error, emitted, is, (path, mid, h, again, emits), drawn) =
           inl (as-before mid path again (enrolment_kept answers old mid c error h))
       lasts (AddRemoteCandidate c) (Ok _, emitted, is, (path, mid, h, again, emits), drawn) = elim (remote-leaves old mid c p sound has h) [
-        | inl there ↦ inl (selects mid path again (p, there, refl))
+        | inl there ↦ inl (selects mid path again (p, there, refl, λ on. on))
         | inr ends ↦ inr (ap (λ (x : Entry). x.answer) is, ends)
       ]
       lasts (AddRemoteCandidate c) (Err error, emitted, is, (path, mid, h, again, emits), drawn) =
@@ -182,17 +182,17 @@ module _ {H P : Type 0} where
       lasts (ReceivePacket now path bytes) (h, drawn) = inl (packet now path bytes h)
       lasts (HandleTimeout now) (Ok _, emitted, is, h) = timeout-by now emitted (request_at now old) refl (ap (λ (x : Entry). x.answer) is) h
       lasts (HandleTimeout now) (Err error, emitted, is, (may, nothing, made, drawn)) = inl (as-it-was made)
-      lasts PollTransmit (given, is, (polled, made), drawn) = inl (becomes _ (λ n x. x) made)
+      lasts PollTransmit (given, is, (polled, made), drawn) = inl (becomes _ (λ n asks x. x) made)
       lasts PollTimeout (deadline, is, h, drawn) =
           inl (by_waking old new deadline h (λ made. as-it-was made)
-          (λ at made. becomes _ (keeps-map (asked at old.timing) old.pairs (λ q. refl)) made))
-      lasts PollEvent (given, is, (polled, made), drawn) = inl (becomes _ (λ n x. x) made)
+          (λ at made. becomes _ (keeps-map (asked at old.timing) old.pairs (λ q. (refl, λ is. is))) made))
+      lasts PollEvent (given, is, (polled, made), drawn) = inl (becomes _ (λ n asks x. x) made)
 
     -- ---- the step
 
     -- the pair with the number is the one that was there
-    continued : (old new : AgentRecord H P) (call : Call P) (e : Entry) (p : PairRecord) → IsSound old → PathEffect mac old call e new → Has old.pairs p → Persists p.number new.pairs → Stays old p new
-    continued old new call e p sound f has (q, there, number) = elim (f.numbers q there) [
+    continued : (old new : AgentRecord H P) (call : Call P) (e : Entry) (p : PairRecord) → IsSound old → PathEffect mac old call e new → Has old.pairs p → Persists p.number (is_asked p) new.pairs → Stays old p new
+    continued old new call e p sound f has (q, there, number, requested) = elim (f.numbers q there) [
       | inl (o, o_there, o_number, path, valid, nominated) ↦
           (let one : o ≡ p = one_pair old.pairs o p (rising-each old.pairs sound.rising) o_there has (o_number ∙ number) in
           subst (λ (x : PairRecord). Stays old x new) one (record {
@@ -202,6 +202,7 @@ module _ {H P : Type 0} where
             path = sym path;
             valid = valid;
             nominated = nominated;
+            requested = λ on. requested (subst (λ (x : PairRecord). is_asked x ≡ true) one on);
           }))
       | inr fresh ↦
           (let lt : p.number < old.next_number = below-each old.next_number old.pairs sound.below p has in
@@ -217,7 +218,7 @@ module _ {H P : Type 0} where
 
     -- ---- segments of a log
 
-    stays-on : (a b c : AgentRecord H P) (p : PairRecord) (k : Stays a p b) → Stays b k.pair c → Stays a p c
+    pub stays-on : (a b c : AgentRecord H P) (p : PairRecord) (k : Stays a p b) → Stays b k.pair c → Stays a p c
     stays-on a b c p k l = record {
       pair = l.pair;
       there = l.there;
@@ -225,10 +226,11 @@ module _ {H P : Type 0} where
       path = l.path ∙ k.path;
       valid = λ is. l.valid (k.valid is);
       nominated = λ is. l.nominated (k.nominated is);
+      requested = λ is. l.requested (k.requested is);
     }
 
-    stays-here : (a : AgentRecord H P) (p : PairRecord) → Has a.pairs p → Stays a p a
-    stays-here a p has = record { pair = p; there = has; number = refl; path = refl; valid = λ is. is; nominated = λ is. is }
+    pub stays-here : (a : AgentRecord H P) (p : PairRecord) → Has a.pairs p → Stays a p a
+    stays-here a p has = record { pair = p; there = has; number = refl; path = refl; valid = λ is. is; nominated = λ is. is; requested = λ is. is }
 
     module _ (first : AgentRecord H P) (s : Stream) (log : List (Logged P)) (fresh : IsFresh first) (part : List (Logged P)) (before : List (Logged P)) (start : AgentRecord H P) (u : Stream)
         (led : Run mac answers first s before start u) (p : PairRecord) (has : Has start.pairs p) where

@@ -29,16 +29,18 @@ use Rattle.is_theorems.specs.Rounds.{LoggedRound, RunsOn, began_at, entries_of}
 use Rattle.is_theorems.specs.Runs.{IsFresh, Run}
 use Rattle.is_theorems.specs.UrgentFirst.{IsOvertaken, IsOvertakenIn, PutsUrgentFirst, PutUrgentFirstIn, UrgentPairsAreReached}
 use Rattle.is_theorems.proofs.CallEffects.PathAndTradeEffects.{path_theorem}
-use Rattle.is_theorems.proofs.DuePairs.AfterNominationAndRemoval.{answered_at, stays-young}
+use Rattle.is_theorems.proofs.DuePairs.AfterNominationAndRemoval.{Base, answered_at, stays-young}
 use Rattle.is_theorems.proofs.DuePairs.ChecksAhead.{calls_left, times}
+use Rattle.is_theorems.proofs.DuePairs.FirstDuePair.{timeout-follows}
 use Rattle.is_theorems.proofs.DuePairs.PollingCycles.{distinct-sound, maintains_pairs-from}
 use Rattle.is_theorems.proofs.EarlierChecks.BetweenTimeouts.{Ground}
-use Rattle.is_theorems.proofs.EarlierChecks.ChecksOfOtherPairs.{leads}
+use Rattle.is_theorems.proofs.EarlierChecks.ChecksOfOtherPairs.{all-but, leads}
 use Rattle.is_theorems.proofs.ExecutionLogs.LogSegments.{passed as passed-at, run-on}
 use Rattle.is_theorems.proofs.ExecutionLogs.LogTheorems.{runs_sound}
 use Rattle.is_theorems.proofs.ExecutionLogs.SegmentsAsExecutions.{split-ended, split-run}
 use Rattle.is_theorems.proofs.PollingRounds.CountedSelections.{paid, paid-join}
 use Rattle.is_theorems.proofs.PollingRounds.DuePairsInLogs.{answered-later, has-following, has-front, lasts-at, persists, timeout-on, walk, Persists, Waits}
+use Rattle.is_theorems.proofs.PollingRounds.WaitingPairs.{begins, total_at}
 use Rattle.is_theorems.proofs.UrgentPairs.ChecksOfUrgentPairs.{timeout-alternates, Alternates}
 
 lt-is : (n m : ℕ) → n < m → nat_lt n m ≡ true
@@ -156,10 +158,10 @@ module _ {H P : Type 0} (mac : H → List ℕ → List ℕ → List ℕ) (answer
 
       -- ---- rounds
 
-      abbrev Reached : List (LoggedRound P) → Type 0
+      abbrev pub Reached : List (LoggedRound P) → Type 0
       Reached rounds = ChecksIn rounds path ⊎ IsAnsweredIn (entries_of rounds) path
 
-      reached-later : (r : LoggedRound P) (older : List (LoggedRound P)) → Reached older → Reached (r ∷ older)
+      pub reached-later : (r : LoggedRound P) (older : List (LoggedRound P)) → Reached older → Reached (r ∷ older)
       reached-later r older (inl (x, id, has, out)) = inl (x, id, inr has, out)
       reached-later r older (inr answered) = inr (has-following path r.following (r.timeout ∷ entries_of older) (answered-later path r.timeout (entries_of older) answered))
 
@@ -172,9 +174,10 @@ module _ {H P : Type 0} (mac : H → List ℕ → List ℕ → List ℕ) (answer
         abbrev Went : ℕ → (part : List (Logged P)) (a last : AgentRecord H P) (t : Stream) → RunsOn mac answers before start u part last t → Type 0
         Went rounds part a last t run = (ahead : ℕ) × Progress rounds a.ahead_turn ahead × IsOvertakenIn mac answers n ahead before start u part last t run
 
-        abbrev After : (rounds : List (LoggedRound P)) (a : AgentRecord H P) (t : Stream) → RunsOn mac answers before start u (entries_of rounds) a t → Type 0
+        -- the pair waits, and the rules are those of the beginning
+        abbrev pub After : (rounds : List (LoggedRound P)) (a : AgentRecord H P) (t : Stream) → RunsOn mac answers before start u (entries_of rounds) a t → Type 0
         After [] a t run = Unit {0}
-        After (r ∷ older) a t run = WaitsAt r.now (length (r ∷ older)) (spent_in (r ∷ older)) a × Went (length (r ∷ older)) (entries_of (r ∷ older)) a a t run
+        After (r ∷ older) a t run = WaitsAt r.now (length (r ∷ older)) (spent_in (r ∷ older)) a × Went (length (r ∷ older)) (entries_of (r ∷ older)) a a t run × (a.rules ≡ start.rules)
 
         sound-at : (log : List (Logged P)) (a : AgentRecord H P) (t : Stream) → Run mac answers first s log a t → IsSound a
         sound-at log a t run = runs_sound mac answers (path_theorem mac answers) first a s t log fresh run
@@ -188,7 +191,7 @@ module _ {H P : Type 0} (mac : H → List ℕ → List ℕ → List ℕ) (answer
         early-in : (r : LoggedRound P) → IsPassing by r → r.now < MAX
         early-in r passing = let early = passing.early in omega (arith, early)
 
-        persists-at : (r : LoggedRound P) (older : List (LoggedRound P)) (old : AgentRecord H P) (z : Stream) (run : RunsOn mac answers before start u (entries_of older) old z)
+        pub persists-at : (r : LoggedRound P) (older : List (LoggedRound P)) (old : AgentRecord H P) (z : Stream) (run : RunsOn mac answers before start u (entries_of older) old z)
             → began_at (r ∷ older) ≡ Some at → IsPassing by r → After older old z run → PersistsAt r.now (length older) (spent_in older) old
         persists-at r [] old z run began passing done =
             let now : r.now ≡ at = some-is r.now at began in
@@ -202,6 +205,11 @@ module _ {H P : Type 0} (mac : H → List ℕ → List ℕ → List ℕ) (answer
             → Went (length older) (entries_of older) old old z run
         went-before [] old z run done = (0, progress-none old.ahead_turn, refl)
         went-before (x ∷ older) old z run done = done.1
+
+        pub rules-before : (older : List (LoggedRound P)) (old : AgentRecord H P) (z : Stream) (run : RunsOn mac answers before start u (entries_of older) old z) → After older old z run
+            → old.rules ≡ start.rules
+        rules-before [] old z run done = ap (λ (a : AgentRecord H P). a.rules) run.0
+        rules-before (x ∷ older) old z run done = done.2
 
         -- the call of a round, and what follows it
         went-on : (now : ℕ) (x : Logged P) (rounds : ℕ) (part : List (Logged P)) (old mid last : AgentRecord H P) (z v : Stream) (run : RunsOn mac answers before start u part old z)
@@ -220,7 +228,7 @@ module _ {H P : Type 0} (mac : H → List ℕ → List ℕ → List ℕ) (answer
             → Reached (r ∷ older)
             ⊎ (IsEndedIn mac answers ((r.timeout ∷ entries_of older) ++ before) mid v r.following last t back path
             ⊎ (WaitsAt r.now (length (r ∷ older)) (spent_in (r ∷ older)) last
-            × Went (length (r ∷ older)) (r.timeout ∷ entries_of older) last mid v (old, z, run_older, number, given, step)))
+            × Went (length (r ∷ older)) (r.timeout ∷ entries_of older) last mid v (old, z, run_older, number, given, step) × (last.rules ≡ start.rules)))
         one-round r older old mid last z v t run_older number given step back began passing lasting puts done =
             let led_old = run-on mac answers first start old s u z before (entries_of older) led run_older in
             let led_mid = run-on mac answers first start mid s u v before (r.timeout ∷ entries_of older) led (old, z, run_older, number, given, step) in
@@ -229,6 +237,7 @@ module _ {H P : Type 0} (mac : H → List ℕ → List ℕ → List ℕ) (answer
             let st = persists-at r older old z run_older began passing done in
             let maintained : MaintainsPairs mac r.now (timeout_begun r.now old) z r.timeout.entry.emitted mid v =
             maintains_pairs-from mac r.now old z v r.timeout.entry.emitted mid st.queue (passed-at mac answers old mid z v r.now r.timeout.entry passing.done called) in
+            let follows = timeout-follows mac r.now (timeout_begun r.now old) mid z v r.timeout.entry.emitted st.checking.peer st.checking.full maintained in
             elim (timeout-goes-on r.now (length older) (spent_in older) r.timeout.entry old mid z v sound lasting st puts maintained) [
               | inl (id, out) ↦ inl (inl (r, id, inl refl, out))
               | inr on ↦
@@ -245,12 +254,13 @@ module _ {H P : Type 0} (mac : H → List ℕ → List ℕ → List ℕ) (answer
                             subst (λ k. WaitsAt r.now (length (r ∷ older)) k last) (sym (paid-join (λ _. 1) r.following (r.timeout ∷ entries_of older))) still,
                             went-on r.now r.timeout (length older) (entries_of older) old mid last z v run_older number given step passing.comes on (went-before older old z run_older done)
                                 (ap (λ (g : Ground). g.ahead_turn) goes.0),
+                            ap (λ (g : Ground). g.rules) goes.0 ∙ (ap (λ (b : Base). b.rules) follows.0 ∙ rules-before older old z run_older done),
                           ))
                         ]
                   ]
             ]
 
-        rounds-urgent : (rounds : List (LoggedRound P)) (last : AgentRecord H P) (t : Stream) → (rounds ≡ [] ⊎ began_at rounds ≡ Some at) → ((r : LoggedRound P) → Has rounds r → IsPassing by r)
+        pub rounds-urgent : (rounds : List (LoggedRound P)) (last : AgentRecord H P) (t : Stream) → (rounds ≡ [] ⊎ began_at rounds ≡ Some at) → ((r : LoggedRound P) → Has rounds r → IsPassing by r)
             → ((r : LoggedRound P) → Has rounds r → keeps r.now ≡ true) → (run : RunsOn mac answers before start u (entries_of rounds) last t)
             → PutUrgentFirstIn mac answers n path before start u (entries_of rounds) last t run
             → Reached rounds ⊎ (IsEndedIn mac answers before start u (entries_of rounds) last t run path ⊎ After rounds last t run)
@@ -290,42 +300,19 @@ module _ {H P : Type 0} (mac : H → List ℕ → List ℕ → List ℕ) (answer
                         elim (one-round r older old mid last z v t run_older number given step back began (are r (inl refl)) (lasting r (inl refl)) first_urgent done) [
                           | inl reached ↦ inl reached
                           | inr (inl ended) ↦ inr (inl (ends (inl ended)))
-                          | inr (inr (waits, (c, p, overtaken))) ↦ inr (inr (waits, (c, p, overtakes c overtaken)))
+                          | inr (inr (waits, (c, p, overtaken), rules)) ↦ inr (inr (waits, (c, p, overtakes c overtaken), rules))
                         ]
                   ]
 
   pub urgent-pairs-are-reached : UrgentPairsAreReached mac answers
   urgent-pairs-are-reached first s log fresh before start last rounds p by m found w turns enough =
       by-rounds rounds last found.following found.run w.began (omega (arith, enough))
-      (rounds-urgent p.number by (path_of start p) (answered_at start p) (goes_ahead start.rules) total start.next_number first s fresh before start found.at found.led w.at begin rounds last found.following
+      (rounds-urgent p.number by (path_of start p) (answered_at start p) (goes_ahead start.rules) (total_at by start p) start.next_number first s fresh before start found.at found.led w.at (begins by start p rounds w) rounds last found.following
       (inr w.began) w.passing (λ r has. lasts-at mac answers first s log fresh before start last (entries_of rounds) p found w.line.there r.now (search (w.lasting r has))) found.run turns) where
-        total : ℕ
-        total = calls_left (goes_ahead start.rules) start.ahead_turn (leads p.number by start.pairs) + times (goes_ahead start.rules) 0
-
-        begin : (late : by < w.at) (early : w.at < MAX) → Persists by p.number (path_of start p) (answered_at start p) (goes_ahead start.rules) (λ _. 0) total start.next_number w.at 0 0 start
-        begin late early = record {
-          checking = w.line.checking;
-          queue = w.line.queue;
-          pair = p;
-          there = w.line.there;
-          number = refl;
-          on = refl;
-          young = lt-is (unanswered_count p.checks) start.timing.max_retransmits (let young = w.line.young in omega (arith, young));
-          lasts = λ m is. is;
-          late = late;
-          early = early;
-          ready = (let due = w.line.due in omega (arith, due), w.line.settled);
-          rules = refl;
-          count = at-first (goes_ahead start.rules) (calls_left (goes_ahead start.rules) start.ahead_turn (leads p.number by start.pairs)) start.next_number;
-        } where
-          at-first : (ahead : Bool) (x i : ℕ) → x + 0 + times ahead (i + 0) ≤ x + times ahead 0 + times ahead (i + 0)
-          at-first true x i = omega arith
-          at-first false x i = omega arith
-
         by-rounds : (rs : List (LoggedRound P)) (a : AgentRecord H P) (t : Stream) (run : RunsOn mac answers before start found.at (entries_of rs) a t) → began_at rs ≡ Some w.at → 2 * m ≤ length rs
             → (ChecksIn rs (path_of start p) ⊎ IsAnsweredIn (entries_of rs) (path_of start p))
             ⊎ (IsEndedIn mac answers before start found.at (entries_of rs) a t run (path_of start p)
-            ⊎ After p.number by (path_of start p) (answered_at start p) (goes_ahead start.rules) total start.next_number first s fresh before start found.at found.led w.at begin rs a t run)
+            ⊎ After p.number by (path_of start p) (answered_at start p) (goes_ahead start.rules) (total_at by start p) start.next_number first s fresh before start found.at found.led w.at (begins by start p rounds w) rs a t run)
             → ChecksIn rs (path_of start p)
             ⊎ (IsAnsweredIn (entries_of rs) (path_of start p)
             ⊎ (IsEndedIn mac answers before start found.at (entries_of rs) a t run (path_of start p)
@@ -334,7 +321,7 @@ module _ {H P : Type 0} (mac : H → List ℕ → List ℕ → List ℕ) (answer
         by-rounds rs a t run none enough (inl (inr answered)) = inr (inl answered)
         by-rounds rs a t run none enough (inr (inl ended)) = inr (inr (inl ended))
         by-rounds [] a t run none enough (inr (inr done)) = absurd (let no : None ≡ Some w.at = none in cc)
-        by-rounds (r ∷ older) a t run none enough (inr (inr (waits, (c, went, overtaken)))) =
+        by-rounds (r ∷ older) a t run none enough (inr (inr (waits, (c, went, overtaken), rules))) =
             let most : m ≤ c = enough-rounds (length (r ∷ older)) c m a.ahead_turn went (omega (arith, enough)) in
             inr (inr (inr (fewer-overtaken p.number (c - m) m before start a found.at t (entries_of (r ∷ older)) run
             (subst (λ i. IsOvertakenIn mac answers p.number i before start found.at (entries_of (r ∷ older)) a t run) (rest most) overtaken)))) where

@@ -1,0 +1,112 @@
+"""The theorem `reached_in_kind` (`RoundsReachInKind`): kinds take turns in 2 * k * (n + m) rounds and urgent pairs go first, for k kinds of pairs
+and n other pairs of a pair's kind. Then a pair that is due is checked in one of them, or m of them check urgent pairs."""
+
+from __future__ import annotations
+
+from collections.abc import Iterator
+from dataclasses import replace
+
+from ..scenario import SIDES
+from .connections import succeeds_in
+from .execution import Execution, Lacks, Round, is_in_round, lacks
+from .fair import is_new_agent
+from .opening import most_rounds, pair_of
+from .progress import is_in_line, is_lasting
+from .reached_in_turn import MOST_CALLS, MOST_DELAYS, Choice, has_path, kind_in, kinds_at, kinds_of, takes_turns
+from .single import is_passing
+from .staying import may_end_in_rounds
+from .verdict import Verdict, first_of_all
+
+
+# ---- the preconditions
+
+def others_in(x: Execution, c: Choice, rounds: list[Round]) -> set[int]:
+    """Returns the numbers of the other pairs that exist when the rounds begin and have the pair's kind before one of their calls."""
+    start = x.state(c.first, c.side)
+    kind = kind_in(start, pair_of(start, c.pair))
+    found = {p.number for r in rounds for agent in [x.state(r.moment, c.side)] for p in agent.pairs if kind_in(agent, p) == kind}
+    return {number for number in found if number != c.pair and number < start.next_number}
+
+
+def goes_among(x: Execution, side: str, kind: int, number: int, r: Round) -> Lacks:
+    """Kinds take turns at the `handle_timeout` call, and urgent pairs go first (`TakesTurnsAmong`)."""
+    return lacks(turns=takes_turns(x, side, kind, number, r), urgent=x.state(r.moment, side).rules.triggered_checks is not None)
+
+
+def lacking(x: Execution, c: Choice) -> Lacks:
+    """Returns the preconditions that do not hold. Without a check there may be a reason: a success response, or a pair that may be gone."""
+    rounds, agent = c.rounds(x), x.state(c.first, c.side)
+    own, now = pair_of(agent, c.pair), x.now(c.first)
+    by, path = min(own.due_at(now, agent.timing), now), agent.path(own)
+    passing: Lacks = next((missing for r in rounds if (missing := is_passing(x, c.side, by, r))), [])
+    turns: Lacks = next((missing for r in rounds if (missing := goes_among(x, c.side, kind_in(agent, own), c.pair, r))), [])
+    is_reached = reached_at(x, c) is not None
+    return lacks(IsFresh=is_new_agent(x.state(0, c.side)), line=is_in_line(now, by, agent, own), IsPassing=passing,
+                 lasting=all(is_lasting(r.now, agent, own) for r in rounds), TakesTurnsAmong=turns,
+                 enough=2 * len(kinds_of(x, c.side, rounds)) * (len(others_in(x, c, rounds)) + c.delays) <= len(rounds),
+                 IsAnsweredIn=is_reached or not succeeds_in(x, c.side, path, rounds),
+                 IsEndedIn=is_reached or not may_end_in_rounds(x, c.side, path, rounds))
+
+
+# ---- the conclusion
+
+def is_held_up(x: Execution, side: str, number: int, r: Round) -> bool:
+    """Whether the call checks another pair, which goes before all kinds (`IsHeldUp`)."""
+    agent, step = x.state(r.moment, side), x.steps[r.moment]
+    return any(p.number != number and agent.goes_first(p) and step.checks(side, agent.path(p)) for p in agent.pairs)
+
+
+def reached_at(x: Execution, c: Choice) -> int | None:
+    """Returns when a check is sent on the pair's path, or so many rounds have checked urgent pairs, or the agent has a path."""
+    agent, delays = x.state(c.first, c.side), 0
+    path = agent.path(pair_of(agent, c.pair))
+    for r in c.rounds(x):
+        if x.steps[r.moment].checks(c.side, path):
+            return r.now
+        if not any(p.number == c.pair for p in x.state(r.moment, c.side).pairs):
+            return None
+        delays += is_held_up(x, c.side, c.pair, r)
+        if delays == c.delays:
+            return r.now
+        if (at := next((at for at in (r.moment, *r.behind) if has_path(x.state(at + 1, c.side))), None)) is not None:
+            return x.time(at)
+    return None
+
+
+# ---- the search
+
+def spans(x: Execution, side: str, place: int, pair: int) -> Iterator[Choice]:
+    """Returns for each number of delays the fewest rounds that suffice, from the side's `handle_timeout` call at this place on."""
+    row, kinds, delays = x.timeouts[side], set[int](), 1
+    c = Choice(side, pair, row[place], row[place] + 1, delays)
+    for later in range(most_rounds(x, side, place, is_in_round)):
+        moment = row[place + later]
+        if delays > MOST_DELAYS or not x.state(moment + 1, side).rules.kinds_in_turn:
+            return
+        kinds |= kinds_at(x, side, moment)
+        c = replace(c, end=moment + 1, delays=delays)
+        if 2 * len(kinds) * delays <= later + 1 and 2 * len(kinds) * (len(others_in(x, c, c.rounds(x))) + delays) <= later + 1:
+            yield c
+            delays += 1
+
+
+def choices(x: Execution) -> Iterator[Choice]:
+    """Proposes each pair that is due before one of a side's first `handle_timeout` calls, at which it has no path, with such rounds."""
+    for side in SIDES:
+        row = x.timeouts[side]
+        for place, first in enumerate(row[:MOST_CALLS]):
+            agent, now = x.state(first, side), x.now(first)
+            if not has_path(agent):
+                for p in agent.pairs:
+                    if p.due_at(now, agent.timing) < now:
+                        yield from spans(x, side, place, p.number)
+
+
+def find(x: Execution) -> Verdict:
+    """Returns the first such choice, or one in which neither came true."""
+
+    def verdict(c: Choice) -> Verdict:
+        rounds = c.rounds(x)
+        return Verdict("", rounds[0].now, rounds[-1].now, reached_at(x, c), len(rounds))
+
+    return first_of_all(choices(x), lambda c: lacking(x, c), verdict, "TakesTurnsAmong")

@@ -1,0 +1,78 @@
+"""The theorem `served_are_checked_soon` (`RoundsReachServed`): by the rule `triggered_checks`, after a request on a path without a valid pair,
+in 2 * m rounds a check is sent on that path, or m of them check the selected pair, or urgent pairs whose turn comes before."""
+
+from __future__ import annotations
+
+from collections.abc import Iterator
+
+from ..model import Agent
+from ..pairs import Pair
+from ..scenario import SIDES
+from .connections import succeeds_in
+from .execution import Execution, Lacks, Round, is_in_round, lacks
+from .fair import is_new_agent
+from .opening import most_rounds, pair_of
+from .progress import is_in_line, is_lasting
+from .reached_in_turn import MOST_DELAYS, Choice
+from .single import is_passing
+from .staying import may_end_in_rounds
+from .urgent_are_reached import reached_at
+from .verdict import Verdict, first_of_all
+
+
+# ---- the preconditions
+
+def is_served(agent: Agent, pair: Pair) -> Lacks:
+    """The agent has the rule, a request was served on the pair, and no pair on its path is valid (`IsServed`)."""
+    path = agent.path(pair)
+    return lacks(rule=agent.rules.triggered_checks is not None, requested=pair.requests > 0,
+                 invalid=not any(p.is_valid and agent.path(p) == path for p in agent.pairs))
+
+
+def select_none(x: Execution, rounds: list[Round]) -> bool:
+    """Whether no `handle_timeout` call of the rounds selects a path."""
+    return not any(x.steps[r.moment].selected for r in rounds)
+
+
+def waiting(x: Execution, c: Choice) -> dict[str, bool | Lacks]:
+    """Returns what is required of the pair and of the rounds, whatever is answered (`IsServedInRounds`)."""
+    rounds, agent = c.rounds(x), x.state(c.first, c.side)
+    own, now = pair_of(agent, c.pair), x.now(c.first)
+    by = min(own.due_at(now, agent.timing), now)
+    passing: Lacks = next((missing for r in rounds if (missing := is_passing(x, c.side, by, r))), [])
+    return {"IsFresh": is_new_agent(x.state(0, c.side)), "line": is_in_line(now, by, agent, own), "IsPassing": passing,
+            "lasting": all(is_lasting(r.now, agent, own) for r in rounds), "IsServed": is_served(agent, own),
+            "quiet": select_none(x, rounds), "enough": 2 * c.delays <= len(rounds)}
+
+
+def lacking(x: Execution, c: Choice) -> Lacks:
+    """Returns the preconditions that do not hold. Without a check there may be a reason: a success response, or a pair that may be gone."""
+    rounds, agent = c.rounds(x), x.state(c.first, c.side)
+    path = agent.path(pair_of(agent, c.pair))
+    is_reached = reached_at(x, c) is not None
+    return lacks(**waiting(x, c), IsAnsweredIn=is_reached or not succeeds_in(x, c.side, path, rounds),
+                 IsEndedIn=is_reached or not may_end_in_rounds(x, c.side, path, rounds))
+
+
+# ---- the search
+
+def choices(x: Execution) -> Iterator[Choice]:
+    """Proposes each such pair that is due at a `handle_timeout`, with the fewest rounds for each number of them that check others."""
+    for side in SIDES:
+        row = x.timeouts[side]
+        for place, first in enumerate(row):
+            agent, now = x.state(first, side), x.now(first)
+            found = [p.number for p in agent.pairs if not is_served(agent, p) and p.due_at(now, agent.timing) < now]
+            most = most_rounds(x, side, place, is_in_round) if found else 0
+            for delays in range(1, min(MOST_DELAYS, most // 2) + 1):
+                yield from (Choice(side, number, first, row[place + 2 * delays - 1] + 1, delays) for number in found)
+
+
+def find(x: Execution) -> Verdict:
+    """Returns the first such choice, or one in which neither came true."""
+
+    def verdict(c: Choice) -> Verdict:
+        rounds = c.rounds(x)
+        return Verdict("", rounds[0].now, rounds[-1].now, reached_at(x, c), len(rounds))
+
+    return first_of_all(choices(x), lambda c: lacking(x, c), verdict, "IsServed")
