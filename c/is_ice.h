@@ -8,9 +8,10 @@
  *         is_ice_poll_timeout(&agent, &at);
  *         while (is_ice_poll_transmit(&agent, buffer, sizeof buffer, &packet) == IS_ICE_OK)
  *             send buffer[0 .. packet.length] from packet.source to packet.destination;
+ *         is_ice_poll_timeout(&agent, &after);
  *         while (is_ice_poll_event(&agent, &event) == IS_ICE_OK)
  *             use the event;
- *         wait for a datagram, or until the earliest `at` since is_ice_handle_timeout;
+ *         wait for a datagram, or until the earliest `at` or `after` since is_ice_handle_timeout;
  *         a datagram arrived:  is_ice_handle_packet(&agent, now, IS_ICE_UDP, &from, &to, bytes, length);
  *         that has passed:     is_ice_handle_timeout(&agent, now, random, sizeof random);
  *     }
@@ -889,8 +890,8 @@ IS_ICE_CALL int32_t is_ice_accepts_message(is_ice_agent *agent, const uint8_t *b
  * is_ice_handle_timeout call. At that call the state follows, and without the rule selects_at_once a controlled agent
  * selects its pair. So it is, with numbered_nominations, while a selected path is still to be nominated, or its pair is
  * gone and another one may be selected. After packets were polled, it is the time of the next check, or of the end of
- * consent, if that is sooner. A packet for which the buffer was too short does not count as queued here. Does not
- * allocate.
+ * consent, if that is sooner. Call it then, too, and keep the earlier time: a request of the other agent moves up only a
+ * time that was computed. A packet for which the buffer was too short does not count as queued here. Does not allocate.
  *
  * IS_ICE_OK: *at is the time. IS_ICE_NOTHING: no is_ice_handle_timeout call has returned IS_ICE_OK yet (see also
  * timeout_after_requests of is_ice_set_rules); *at is unchanged. */

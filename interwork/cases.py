@@ -1,4 +1,5 @@
 """The table of cases: which stacks, in which network, how many sessions, and how many of them are expected to connect."""
+import itertools
 from dataclasses import dataclass, replace
 
 import networks
@@ -241,32 +242,43 @@ def over_the_wire():
 # ---- far hosts
 
 FAR_KINDS = (("none", "none"), ("port", "port"), ("symmetric", "none"))
-DELAYS, LOSSES, HOSTS_A_SIDE = (0, 0.02, 0.1, 0.3), (0, 0.3), (1, 5)
+DELAYS, LOSSES, HOSTS_A_SIDE = (0, 0.02, 0.1, 0.3), (0, 0.3), (5, 1)
 
 
 def far_title(hosts, delay, loss):
     return f"{hosts} host{'s' * (hosts > 1)}, {1000 * delay:.0f} ms, {100 * loss:.0f} % loss"
 
 
-def far_case(stacks, network, who, roles):
-    """Chat is not said: what counts is when media could flow. With loss a session may need long."""
-    _, _, _, hosts, delay, loss = network
+def far_case(stacks, network, who, roles, words=((), ())):
+    """Chat is not said: what counts is when media could flow. With loss a session may need long.
+
+    Without NATs and loss the pair that works has a random place among those of 5 hosts: the times differ more, so there are more sessions.
+    """
+    _, *kinds, hosts, delay, loss = network
+    is_spread = hosts > 1 and not loss and tuple(kinds) == ("none", "none") and stacks[0] == stacks[1]
     at_least, why = (0.9 if loss else 1.0), ""
     if stacks == ("libnice", "libnice") and delay == 0.3:
         at_least, why = 0.0, "libnice fails in some sessions with this delay; why is not known"
-    return Case(network, stacks, far_title(hosts, delay, loss) + who, roles=roles, sessions=20, quick=0, at_least=at_least, why=why,
-                seconds=40 if loss else 20, chat=False)
+    return Case(network, stacks, far_title(hosts, delay, loss) + who, words, roles, sessions=60 if is_spread else 20, quick=0,
+                at_least=at_least, why=why, seconds=40 if loss else 20, chat=False)
 
 
 def over_distance(is_foreign):
-    """Our programs with themselves, and the one in C with each other stack in both roles; or each of the others with itself."""
+    """Our programs with themselves, and the one in C with each other stack in both roles; or each of the others with itself.
+
+    libnice and aioice pace their checks at 20 ms, ours at 50 ms: from 5 hosts ours is also played with 20 ms.
+    """
     others = ("libnice", "pion", "aioice")
     own = [(name, name) for name in (others if is_foreign else ("peer", "Connection"))]
-    for kinds in FAR_KINDS:
-        for network in (("far", *kinds, hosts, delay, loss) for hosts in HOSTS_A_SIDE for loss in LOSSES for delay in DELAYS):
-            yield from (far_case(stacks, network, "", (ING, ED)) for stacks in own)
-            for other in () if is_foreign else others:
-                yield from (far_case(("peer", other), network, f", {who}", roles) for who, roles in ROLES)
+    for hosts, loss, kinds, delay in itertools.product(HOSTS_A_SIDE, LOSSES, FAR_KINDS, DELAYS):
+        network = ("far", *kinds, hosts, delay, loss)
+        yield from (far_case(stacks, network, "", (ING, ED)) for stacks in own)
+        if is_foreign:
+            continue
+        if hosts > 1:
+            yield far_case(("peer", "peer"), network, ", Ta 20 ms", (ING, ED), (("-p", "20"), ("-p", "20")))
+        for other in others:
+            yield from (far_case(("peer", other), network, f", {who}", roles) for who, roles in ROLES)
 
 
 def foreign():

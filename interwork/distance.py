@@ -1,6 +1,6 @@
 """Two hosts that are far from each other: a TUN device in each namespace, and in this program NATs, delay, jitter and loss between them.
 
-usage: distance.py SIDE SIDE [delay=0.02] [jitter=0] [loss=0]     SIDE: NAMESPACE/KIND/ADDRESS,ADDRESS,..
+usage: distance.py SIDE SIDE [delay=0.02] [jitter=0] [loss=0] [trace=FILE]     SIDE: NAMESPACE/KIND/ADDRESS,ADDRESS,..
 
 Only the first address of a host reaches the other one: as it is, or through a NAT of this kind (networks.py) with the outer address
 198.51.100.2 or 198.51.100.6. What is sent from the other addresses is lost. Each packet waits for `delay` seconds and up to `jitter` more,
@@ -8,6 +8,9 @@ and is lost with the probability `loss`. The STUN server at 203.0.113.1:3478 is 
 
 It reads lines `valid USERNAME`, and prints the time.monotonic() at which the first success response to a check with this USERNAME came
 back to its sender, or `never`. From then on that side has a valid pair, on which media may go (RFC 8445, section 12.1).
+
+With `trace` it writes a line to FILE for each packet that is sent, lost, filtered by a NAT, or delivered: time.monotonic(), the side that
+sent it, what became of it, the source, the destination, the kind of STUN message, and N if it nominates.
 """
 import heapq
 import os
@@ -26,6 +29,8 @@ from tun import open_tun
 STUN_SERVER = (socket.inet_aton(ADDRESS), PORT)
 COOKIE = struct.pack("!I", MAGIC_COOKIE)
 REQUEST, SUCCESS, USERNAME = 0x0001, 0x0101, 0x0006  # RFC 8489
+MESSAGES = {REQUEST: "request", SUCCESS: "response", 0x0111: "error", 0x0011: "indication"}
+USE_CANDIDATE = b"\x00\x25\x00\x00"  # RFC 8445: the attribute that nominates
 OUTER = ("198.51.100.2", "198.51.100.6")
 
 
@@ -116,6 +121,17 @@ class Distance:
         self.devices, self.nats, self.settings = devices, nats, settings
         self.waiting, self.serial = [], 0
         self.asked, self.valid = {}, {}  # USERNAME by transaction ID; when the first response to a check with it came
+        self.trace = open(settings["trace"], "a", buffering=1) if "trace" in settings else None
+
+    def note(self, side, what, source, destination, payload):
+        """Writes what became of a packet that `side` sent."""
+        if self.trace is None:
+            return
+        message = stun_message(payload)
+        kind = MESSAGES.get(message[0], "STUN") if message else f"{len(payload)} bytes"
+        ends = (f"{socket.inet_ntoa(address)}:{port}" for address, port in (source, destination))
+        print(f"{time.monotonic():.4f}", "ab"[side], what, *ends, kind, "N" * (bool(message) and USE_CANDIDATE in payload),
+              message[1].hex()[:8] if message else "", file=self.trace)
 
     def put(self, side, source, destination, payload):
         """Writes a datagram to a host's device."""
@@ -128,9 +144,12 @@ class Distance:
         """Takes what a host sent."""
         found = opened(os.read(self.devices[side], 65536))
         nat = self.nats[side]
-        if found is None or found[0][0] != nat.inner:
+        if found is None:
             return
         source, destination, payload = found
+        if source[0] != nat.inner:
+            self.note(side, "nowhere", source, destination, payload)
+            return
         seen = nat.outbound(source, destination)
         if destination == STUN_SERVER:
             self.put(side, destination, source, binding_response(payload, seen))
@@ -138,7 +157,9 @@ class Distance:
         message = stun_message(payload)
         if message and message[0] == REQUEST and message[2]:
             self.asked[message[1]] = message[2]
-        if random.random() < self.settings["loss"]:
+        is_lost = random.random() < self.settings["loss"]
+        self.note(side, "lost" if is_lost else "sent", source, destination, payload)
+        if is_lost:
             return
         self.serial += 1
         due = time.monotonic() + self.settings["delay"] + random.random() * self.settings["jitter"]
@@ -147,6 +168,7 @@ class Distance:
     def arrive(self, side, source, destination, payload):
         """Passes a packet through the NAT of the host to which it goes."""
         inside = self.nats[side].inbound(source, destination)
+        self.note(1 - side, "filtered" if inside is None else "arrived", source, destination, payload)
         if inside is None:
             return
         message = stun_message(payload)
@@ -173,7 +195,8 @@ def side_of(words, outer):
 
 def main():
     settings = {"delay": 0.0, "jitter": 0.0, "loss": 0.0}
-    settings.update((key, float(value)) for key, value in (word.split("=") for word in sys.argv[3:]))
+    words = dict(word.split("=", 1) for word in sys.argv[3:])
+    settings.update((key, value if key == "trace" else float(value)) for key, value in words.items())
     devices, nats = zip(*(side_of(words, outer) for words, outer in zip(sys.argv[1:3], OUTER)))
     distance = Distance(devices, nats, settings)
     print("ready", flush=True)

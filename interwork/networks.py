@@ -114,7 +114,8 @@ class Far(Network):
     def __init__(self, a, b, hosts, delay, loss):
         super().__init__()
         self.kinds, self.hosts, self.process = (a, b), hosts, None
-        self.settings = (f"delay={delay}", f"jitter={delay / 5}", f"loss={loss}")
+        trace = os.environ.get("IS_ICE_TRACE")  # a file for a line about each packet
+        self.settings = (f"delay={delay}", f"jitter={delay / 5}", f"loss={loss}", *([f"trace={trace}"] if trace else []))
 
     def build(self):
         self.namespaces = [self.spaces.add(), self.spaces.add()]

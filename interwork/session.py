@@ -13,7 +13,7 @@ class Result:
     fault: str | None
     seconds: float | None
     log: str
-    media: float | None = None  # seconds until both sides had a valid pair, if the network sees it
+    media: float | None = None  # seconds until media may flow both ways, if that is not when both had a path, and is known
 
 
 async def play(case, network, stacks, roles):
@@ -34,10 +34,11 @@ async def play(case, network, stacks, roles):
 
 
 def media(a, b, network):
-    """The seconds from the last signal until both sides had a valid pair: until media may flow. None if that is not known."""
-    if not hasattr(network, "valid_at") or not (a.ufrag and b.ufrag):
+    """The seconds from the last signal until both users may send. None if that is when both had a path, or if it is not known."""
+    if not hasattr(network, "valid_at") or not (a.ufrag and b.ufrag) or not (a.stack.sends_early or b.stack.sends_early):
         return None
-    times = [network.valid_at(f"{theirs.ufrag}:{own.ufrag}") for own, theirs in ((a, b), (b, a))]
+    times = [network.valid_at(f"{theirs.ufrag}:{own.ufrag}") if own.stack.sends_early else own.connected_at
+             for own, theirs in ((a, b), (b, a))]
     return None if None in times else max(times) - max(a.signal_at, b.signal_at)
 
 

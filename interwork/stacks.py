@@ -26,7 +26,8 @@ class Missing(Exception):
 class Stack:
     """A stack, and the command that starts its program. `missing` says what it lacks, or is None.
 
-    A stack without chat begins with DTLS on its path, so the other side receives something.
+    A stack without chat begins with DTLS on its path, so the other side receives something. Of one that sends early the user can send
+    on a valid pair, before a path is selected.
     """
 
     name: str
@@ -35,6 +36,7 @@ class Stack:
     environment: dict = field(default_factory=dict)
     missing: str | None = None
     has_chat: bool = True
+    sends_early: bool = False
 
 
 def run(*words, what=None, **options):
@@ -99,7 +101,7 @@ def our_version():
 def ours_in_c():
     with built("peer") as program:
         run(os.environ.get("CC", "cc"), "-O2", f"-I{top / 'c'}", "-o", program, *PEER_SOURCES, archive(), kit_archive())
-    return Stack("peer", [str(out / "peer")], our_version())
+    return Stack("peer", [str(out / "peer")], our_version(), sends_early=True)  # is_ice_valid_path
 
 
 def ours_in_python():

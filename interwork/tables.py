@@ -1,4 +1,5 @@
 """The results as tables in Markdown: a row for each case, a column for each pair of stacks. Their medians are the limits of later runs."""
+import json
 import math
 import re
 import statistics
@@ -29,20 +30,30 @@ def spread(times):
 
 # ---- cells
 
+def far_section(case):
+    """The heading for far hosts. Sessions with other stacks are apart, since they have a row for each role."""
+    *_, hosts, _, loss = case.network
+    losses = f"{100 * loss:.0f} % loss" if loss else "no loss"
+    return f"Far hosts: {hosts} a side, {losses}" + ", with other stacks" * (case.stacks[0] != case.stacks[1])
+
+
 def section(case):
     """The heading of a case's table."""
+    if case.network[0] == "far":
+        return far_section(case)
     if case.network[0] == "nat" and case.title.startswith("STUN by"):
         return "STUN servers"
     if case.network[0] == "nat" and set(case.stacks) & {"chromium", "firefox"}:
         return "Browsers and NATs"
     if case.network[0] == "nat":
         return "NATs, with TURN" if any(case.relay) else "NATs, without TURN"
-    return {"loopback": "Loopback", "hosts": "Two hosts, with servers", "wire": "Lossy wire", "far": "Far hosts"}[case.network[0]]
+    return {"loopback": "Loopback", "hosts": "Two hosts, with servers", "wire": "Lossy wire"}[case.network[0]]
 
 
 def row_of(case):
-    if section(case) == "Far hosts":
-        return f"{case.network[1]} - {case.network[2]}, {case.title}"
+    if case.network[0] == "far":
+        _, a, b, _, delay, _ = case.network
+        return f"{a} - {b}, {1000 * delay:.0f} ms" + case.title.partition(" loss")[2]
     if section(case) not in ("NATs, with TURN", "NATs, without TURN"):
         return case.title
     return f"{case.network_name()}, {case.title}" if any(case.relay) else case.network_name()
@@ -57,9 +68,16 @@ def cell(played):
     count = f"{played.good} of {played.sessions}"
     if not played.times:
         return count
-    if section(played.case) != "Far hosts":
+    if played.case.network[0] != "far":
         return f"{count}, {played.median():.2f} s"
     return f"{count}, {spread(played.times)}" + (f"; media {spread(played.media)}" if played.media else "")
+
+
+def as_json(played):
+    """The result with its cell, in one line."""
+    heading, row, column = place(played.case)
+    return json.dumps({"table": heading, "row": row, "column": column, "good": played.good, "sessions": played.sessions,
+                       "seconds": played.times, "media": played.media})
 
 
 # ---- tables: rows by their first cell, each with its cells by column
@@ -113,9 +131,9 @@ def found(lines, heading):
 
 
 def filled(text, results):
-    """A document with these results in its tables. A table that is not there comes after that of the wire."""
+    """A document with these results in its tables. Tables that are not there come after that of the wire, in order."""
     lines = text.splitlines()
-    for heading in dict.fromkeys(section(played.case) for played in results):
+    for heading in reversed(dict.fromkeys(section(played.case) for played in results)):
         place_of_table = found(lines, heading)
         if place_of_table is None:
             end = found(lines, "Lossy wire")[1]

@@ -34,15 +34,16 @@ static void report(void)
     }
 }
 
-static void receive(size_t i)
+static bool receive(size_t i) /* whether the agent took a packet */
 {
     uint8_t bytes[1500];
     is_ice_address from;
     ssize_t length = net_receive(&net, i, bytes, sizeof bytes, &from);
-    if (length < 0) return;
+    if (length < 0) return false;
     int32_t code = is_ice_handle_packet(&agent, net_now(), IS_ICE_UDP, &from, &net.addresses[i], bytes, (size_t)length);
-    if (code != IS_ICE_UNPARSED) ok(code);
-    else if (ok(is_ice_has_viable_remote(&agent, &from))) printf("heard %.*s\n", (int)length, net_printable(bytes, (size_t)length));
+    if (code != IS_ICE_UNPARSED) return ok(code);
+    if (ok(is_ice_has_viable_remote(&agent, &from))) printf("heard %.*s\n", (int)length, net_printable(bytes, (size_t)length));
+    return false;
 }
 
 static bool take_line(void) /* false: it was the last one */
@@ -60,7 +61,7 @@ static bool take_line(void) /* false: it was the last one */
 int main(int argc, char **argv)
 {
     uint8_t buffer[1500], random[IS_ICE_TIMEOUT_RANDOM];
-    bool goes_on = true, ready[NET_SOCKETS + 1];
+    bool goes_on = true, changed = false, ready[NET_SOCKETS + 1];
     is_ice_agent_rules rules;
     is_ice_packet packet;
     if (argc < 2 || !ok(signal_begin(&agent)) || !ok(is_ice_rules(&agent, &rules)))
@@ -74,16 +75,18 @@ int main(int argc, char **argv)
         uint64_t now = net_now();
         if (net_move(&net, now, argc > 2 ? "127.0.0.1" : NULL)) ok(signal_restart(&agent, &net));
         if (now >= timeout && net_random(random, sizeof random)) {
-            timeout = now + SECOND; /* at the latest */
+            timeout = now + SECOND, changed = false; /* at the latest */
             ok(is_ice_handle_timeout(&agent, now, random, sizeof random));
         }
         report();
-        if (ok(is_ice_poll_timeout(&agent, &next)) && next < timeout) timeout = next; /* before packets are polled */
+        if (ok((changed ? is_ice_poll_timeout_soon : is_ice_poll_timeout)(&agent, &next)) && next < timeout)
+            timeout = next; /* before packets are polled; an agent that took a packet may have a check to send at once */
         while (ok(is_ice_poll_transmit(&agent, buffer, sizeof buffer, &packet)))
             net_send(&net, &packet.source, &packet.destination, buffer, packet.length);
+        if (ok(is_ice_poll_timeout(&agent, &next)) && next < timeout) timeout = next; /* and after them */
         goes_on = net_wait(&net, true, timeout, ready);
         for (size_t i = 0; i < net.count; i++)
-            if (ready[i]) receive(i);
+            if (ready[i]) changed |= receive(i);
         if (ready[net.count]) goes_on = take_line();
     }
     is_ice_agent_free(&agent);

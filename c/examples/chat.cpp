@@ -36,16 +36,17 @@ static void report(is_ice::agent &agent)
     }
 }
 
-static void receive(is_ice::agent &agent, size_t i)
+static bool receive(is_ice::agent &agent, size_t i) // whether the agent took a packet
 {
     uint8_t bytes[1500];
     is_ice::address from{};
     ssize_t got = net_receive(&sockets, i, bytes, sizeof bytes, &from);
-    if (got < 0) return;
+    if (got < 0) return false;
     auto length = static_cast<size_t>(got);
     auto what = agent.handle_packet(is_ice::nanoseconds(net_now()), IS_ICE_UDP, from, sockets.addresses[i], bytes, length);
-    if (what != is_ice::handled::unparsed || !agent.has_viable_remote(from)) return;
-    std::cout << "heard " << std::string_view(net_printable(bytes, length), length) << std::endl;
+    if (what == is_ice::handled::unparsed && agent.has_viable_remote(from))
+        std::cout << "heard " << std::string_view(net_printable(bytes, length), length) << std::endl;
+    return what == is_ice::handled::accepted;
 }
 
 static bool take_line(is_ice::agent &agent) // false: it was the last one
@@ -61,7 +62,7 @@ static bool take_line(is_ice::agent &agent) // false: it was the last one
 int main(int argc, char **argv)
 {
     if (argc < 2) std::cerr << "usage: chat controlling|controlled [-l]\n";
-    bool goes_on = argc > 1, ready[NET_SOCKETS + 1];
+    bool goes_on = argc > 1, changed = false, ready[NET_SOCKETS + 1];
     is_ice::agent agent(is_ice::make_credentials(randomized<is_ice::credentials_random>()), randomized<std::array<uint64_t, 1>>()[0]);
     auto rules = agent.rules();
     rules.consent_timeout = 5 * SECOND, rules.strict_consent = true; // a lost peer is noticed after 5 s, and not after 30 s,
@@ -73,16 +74,18 @@ int main(int argc, char **argv)
             auto now = is_ice::nanoseconds(net_now());
             if (net_move(&sockets, net_now(), argc > 2 ? "127.0.0.1" : nullptr)) restart(agent);
             if (now >= timeout) {
-                timeout = now + is_ice::nanoseconds(SECOND); // at the latest
+                timeout = now + is_ice::nanoseconds(SECOND), changed = false; // at the latest
                 agent.handle_timeout(now, randomized<is_ice::timeout_random>());
             }
             report(agent);
-            if (auto next = agent.poll_timeout(); next && *next < timeout) timeout = *next; // before packets are polled
+            // Before packets are polled; an agent that took a packet may have a check to send at once.
+            if (auto next = changed ? agent.poll_timeout_soon() : agent.poll_timeout(); next && *next < timeout) timeout = *next;
             while (auto packet = agent.poll_transmit())
                 net_send(&sockets, &packet->source, &packet->destination, packet->contents.data(), packet->contents.size());
+            if (auto next = agent.poll_timeout(); next && *next < timeout) timeout = *next; // and after them
             goes_on = net_wait(&sockets, true, static_cast<uint64_t>(timeout.count()), ready);
             for (size_t i = 0; i < sockets.count; i++)
-                if (ready[i]) receive(agent, i);
+                if (ready[i]) changed |= receive(agent, i);
             if (ready[sockets.count]) goes_on = take_line(agent);
         } catch (const is_ice::error &error) { // the agent is as it was, and the chat goes on
             std::cout << "error " << error.what() << std::endl;

@@ -27,7 +27,7 @@ struct options {
     const char *addresses[NET_SOCKETS], *server, *message, *capture;
     size_t address_count;
     bool loopback, lite, renomination, controlling;
-    uint64_t patience;
+    uint64_t patience, pacing;
 };
 
 struct session {
@@ -38,6 +38,7 @@ struct session {
     uint64_t end, next_message, timeout, not_before;
     int32_t state;
     bool has_path, has_heard, is_over, is_late;
+    bool has_changed; /* the agent, since handle_timeout was called: see is_ice_poll_timeout_soon */
     is_ice_address path_from, path_to;
     char input[INPUT];
     size_t input_length;
@@ -70,21 +71,32 @@ static uint64_t least(uint64_t a, uint64_t b)
     return a < b ? a : b;
 }
 
+static size_t early_requests(struct session *s)
+{
+    size_t count = 0;
+    warn("early requests", is_ice_early_count(&s->agent, &count));
+    return count;
+}
+
 /* Passes the current time to the agent. If the call fails, it is repeated a little later. */
 static void handle_timeout(struct session *s, uint64_t now)
 {
     uint8_t random[IS_ICE_TIMEOUT_RANDOM];
+    size_t early = early_requests(s);
     if (!net_random(random, sizeof random)) stop("no random bytes", strerror(errno));
     s->timeout = UINT64_MAX;
     if (warn("timeout", is_ice_handle_timeout(&s->agent, now, random, sizeof random)) < 0) s->not_before = now + 50 * MILLISECOND;
+    s->has_changed = early_requests(s) < early; /* it served one, and sent no check */
 }
 
-/* When to call handle_timeout next: the earliest time that is_ice_poll_timeout returned since the last such call. Once packets were
- * polled it returns a later one, as when chat arrives in between. */
+/* When to call handle_timeout next: the earliest time that the agent returned since the last such call. Once packets were polled it
+ * returns a later one, as when chat arrives in between. An agent that changed is called soon, since a check may be due at once. */
 static uint64_t next_timeout(struct session *s)
 {
     uint64_t at;
-    if (warn("next timeout", is_ice_poll_timeout(&s->agent, &at)) == IS_ICE_OK) s->timeout = least(s->timeout, at);
+    int32_t code = s->has_changed ? is_ice_poll_timeout_soon(&s->agent, &at) : is_ice_poll_timeout(&s->agent, &at);
+    if (warn("next timeout", code) == IS_ICE_OK) s->timeout = least(s->timeout, at);
+    s->has_changed = false; /* the time is kept */
     return s->timeout > s->not_before ? s->timeout : s->not_before;
 }
 
@@ -157,8 +169,9 @@ static void gathered(struct session *s, size_t index, const is_ice_address *mapp
     candidate.protocol = IS_ICE_UDP;
     candidate.address = *mapped;
     candidate.base = s->net.addresses[index];
-    if (warn("server-reflexive candidate", is_ice_add_local(&s->agent, &candidate, &added)) == IS_ICE_OK)
-        warn("candidate", signal_print_candidate(&s->agent, added));
+    if (warn("server-reflexive candidate", is_ice_add_local(&s->agent, &candidate, &added)) != IS_ICE_OK) return;
+    s->has_changed = true;
+    warn("candidate", signal_print_candidate(&s->agent, added));
 }
 
 static void receive(struct session *s, size_t index)
@@ -173,7 +186,7 @@ static void receive(struct session *s, size_t index)
             continue;
         }
         int32_t code = is_ice_handle_packet(&s->agent, net_now(), IS_ICE_UDP, &from, &s->net.addresses[index], bytes, length);
-        if (code == IS_ICE_OK) note_all(s);
+        if (code == IS_ICE_OK) s->has_changed = true, note_all(s);
         else if (code == IS_ICE_UNPARSED) hear(s, &from, bytes, length);
         else warn("packet", code);
     }
@@ -267,9 +280,9 @@ static bool begins_with_word(const char *line, const char *word)
 static void take_line(struct session *s, char *line)
 {
     line[strcspn(line, "\r")] = '\0';
-    if (begins_with_word(line, "signal")) warn("signal", signal_take(&s->agent, line + 6));
+    if (begins_with_word(line, "signal")) s->has_changed |= warn("signal", signal_take(&s->agent, line + 6)) == IS_ICE_OK;
     else if (strncmp(line, "candidate:", 10) == 0 || begins_with_word(line, "candidate"))
-        warn("candidate", signal_take_candidate(&s->agent, line));
+        s->has_changed |= warn("candidate", signal_take_candidate(&s->agent, line)) == IS_ICE_OK;
     else if (strncmp(line, "a=", 2) == 0) fprintf(stderr, "peer: %s: not sent; candidates begin with candidate:, without a=\n", line);
     else if (*line == '/') take_command(s, line);
     else if (*line) say(s, line);
@@ -332,12 +345,14 @@ static void run(struct session *s)
 {
     handle_timeout(s, net_now());
     while (!s->is_over) {
-        uint64_t now = net_now(), timeout = next_timeout(s); /* before packets are polled: see is_ice_poll_timeout */
+        uint64_t now = net_now();
+        next_timeout(s); /* before packets are polled: see is_ice_poll_timeout */
         unsigned closed = stun_send(&s->stun, &s->net, now);
         if (closed > 0) fprintf(stderr, "peer: the STUN server did not respond to %u socket%s\n", closed, closed == 1 ? "" : "s");
         send_all(s);
         note_all(s);
         say_message(s, now);
+        uint64_t timeout = next_timeout(s); /* and after them: a request that arrives moves up the time of a check that was polled */
         uint64_t until = least(least(timeout, s->end), stun_due(&s->stun));
         wait_until(s, s->message && s->has_path ? least(until, s->next_message) : until);
         now = net_now();
@@ -373,13 +388,14 @@ static void begin_agent(struct session *s, const struct options *o)
     if (code == IS_ICE_OK) code = is_ice_set_lite(&s->agent, o->lite);
     if (code == IS_ICE_OK) code = is_ice_set_lite_timeout(&s->agent, 30 * SECOND);
     if (code == IS_ICE_OK) code = is_ice_set_renomination(&s->agent, o->renomination);
+    if (code == IS_ICE_OK && o->pacing) code = is_ice_set_timing_advance(&s->agent, o->pacing);
     if (code == IS_ICE_OK) code = signal_add_hosts(&s->agent, &s->net);
     if (code == IS_ICE_OK) code = signal_print(&s->agent);
     if (code < 0) stop("agent", is_ice_code_text(code));
 }
 
 static const char usage[] =
-    "peer [-h] [-l] [-a ADDRESS].. [-s SERVER[:PORT]] [-L] [-r] [-m TEXT] [-t SECONDS] [-w FILE] controlling|controlled";
+    "peer [-h] [-l] [-a ADDRESS].. [-s SERVER[:PORT]] [-L] [-r] [-p MILLISECONDS] [-m TEXT] [-t SECONDS] [-w FILE] controlling|controlled";
 
 static const char help[] =
     "Connects to another peer over UDP, and lets both users chat.\n"
@@ -394,6 +410,7 @@ static const char help[] =
     "  -s SERVER[:PORT]    queries this STUN server for the sockets' public addresses; port 3478\n"
     "  -L                  runs as a lite agent, which has to be controlled\n"
     "  -r                  lets each nomination replace the ones before, if the other peer has it too\n"
+    "  -p MILLISECONDS     the pacing interval Ta: one check in this time, or sooner after a packet; without -p: 50\n"
     "  -m TEXT             sends TEXT until chat was received, and ends a second later\n"
     "  -t SECONDS          ends with status 1 after this time, at most %d\n"
     "  -w FILE             writes what is sent and received as a capture for Wireshark (pcap)\n"
@@ -419,11 +436,20 @@ static uint64_t seconds(const char *text)
     return number * SECOND;
 }
 
+/* A pacing interval: at least 5 ms (RFC 8445, section 14.2). */
+static uint64_t pacing(const char *text)
+{
+    char *end;
+    unsigned long number = strtoul(text, &end, 10);
+    if (*text < '0' || *text > '9' || *end || number < 5 || number > 1000) stop_option('p', text, "not 5 to 1000 milliseconds");
+    return number * MILLISECOND;
+}
+
 static void read_options(struct options *o, int count, char **words)
 {
     int option;
     o->patience = UINT64_MAX;
-    while ((option = getopt(count, words, "hla:s:Lrm:t:w:")) != -1) {
+    while ((option = getopt(count, words, "hla:s:Lrp:m:t:w:")) != -1) {
         switch (option) {
         case 'h': printf(help, usage, (int)NET_SOCKETS, (int)LONGEST); exit(0);
         case 'l': o->loopback = true; break;
@@ -434,6 +460,7 @@ static void read_options(struct options *o, int count, char **words)
         case 's': o->server = optarg; break;
         case 'L': o->lite = true; break;
         case 'r': o->renomination = true; break;
+        case 'p': o->pacing = pacing(optarg); break;
         case 'm': o->message = optarg; break;
         case 't': o->patience = seconds(optarg); break;
         case 'w': o->capture = optarg; break;

@@ -26,12 +26,14 @@ fn report(agent: &mut IceAgent, socket: &UdpSocket, event: IceAgentEvent) -> Res
     Ok(())
 }
 
-fn receive(agent: &mut IceAgent, socket: &UdpSocket) -> Result<()> {
+fn receive(agent: &mut IceAgent, socket: &UdpSocket, timeout: &mut Instant) -> Result<()> {
     let mut buffer = [0; 1500];
     let Ok((length, source)) = socket.recv_from(&mut buffer) else { return Ok(()) };
     if let Ok(message) = StunMessage::parse(&buffer[..length]) {
         let packet = StunPacket { proto: Protocol::Udp, source, destination: socket.local_addr()?, message };
-        agent.try_handle_packet(Instant::now(), packet)?;
+        if agent.try_handle_packet(Instant::now(), packet)? {
+            *timeout = agent.poll_timeout_soon().map_or(*timeout, |at| at.min(*timeout)); // a check may be due at once
+        }
     } else if agent.has_viable_remote_candidate(source) {
         println!("heard {}", String::from_utf8_lossy(&buffer[..length]).escape_debug());
     }
@@ -56,9 +58,10 @@ fn turn(agent: &mut IceAgent, socket: &mut UdpSocket, host: &str, timeout: &mut 
     while let Some(packet) = agent.poll_transmit() {
         let _ = socket.send_to(&packet.contents, packet.destination); // what is not sent is lost, as on the network
     }
+    *timeout = agent.poll_timeout().map_or(*timeout, |at| at.min(*timeout)); // and after them
     let wait = timeout.saturating_duration_since(now);
     socket.set_read_timeout(Some(wait.clamp(Duration::from_millis(1), Duration::from_millis(100))))?;
-    receive(agent, socket)
+    receive(agent, socket, timeout)
 }
 
 fn main() -> Result<()> {

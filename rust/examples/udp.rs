@@ -10,7 +10,7 @@ struct Side {
     agent: IceAgent,
     socket: UdpSocket,
     local: SocketAddr,
-    /// When to call `handle_timeout` next: the earliest that `poll_timeout` returned since its last call.
+    /// When to call `handle_timeout` next: the earliest that the agent returned since its last call.
     timeout: Option<Instant>,
     /// The destination of media, once a path is selected.
     peer: Option<SocketAddr>,
@@ -41,12 +41,12 @@ impl Side {
 
     /// One iteration of the loop. Returns media that arrived.
     fn turn(&mut self, now: Instant) -> Result<Option<Vec<u8>>, Box<dyn Error>> {
-        let (mut buffer, mut media, mut called) = ([0; 1500], None, false);
+        let (mut buffer, mut media, mut changed, mut called) = ([0; 1500], None, false, false);
         // 1. A datagram arrived. If not, the error is "would block", or that of an earlier datagram.
         if let Ok((length, source)) = self.socket.recv_from(&mut buffer) {
             if let Ok(message) = StunMessage::parse(&buffer[..length]) {
                 let packet = StunPacket { proto: Protocol::Udp, source, destination: self.local, message };
-                called = self.agent.try_handle_packet(now, packet)?;
+                changed = self.agent.try_handle_packet(now, packet)?;
             } else if Some(source) == self.peer || self.agent.has_viable_remote_candidate(source) {
                 media = Some(buffer[..length].to_vec());
             }
@@ -57,14 +57,17 @@ impl Side {
             self.timeout = None;
             called = true;
         }
-        if called {
+        if changed || called {
             // 3. The next timeout, before packets are polled. It is kept until it expires: a later call may return a later one, and a
-            // controlled agent selects its path at the first.
-            self.timeout = self.timeout.into_iter().chain(self.agent.poll_timeout()).min();
+            // controlled agent selects its path at the first. After a packet a check may be due at once.
+            let next = if called { self.agent.poll_timeout() } else { self.agent.poll_timeout_soon() };
+            self.timeout = self.timeout.into_iter().chain(next).min();
             // 4. Packets. This side has only one socket, so packet.source is its address.
             while let Some(packet) = self.agent.poll_transmit() {
                 self.send(&packet.contents, packet.destination);
             }
+            // And after them: a request that arrives then moves up the time of a check that was polled here.
+            self.timeout = self.timeout.into_iter().chain(self.agent.poll_timeout()).min();
             // 5. Events.
             while let Some(event) = self.agent.poll_event() {
                 if let IceAgentEvent::NominatedSend { destination, .. } = event {
