@@ -285,7 +285,8 @@ def replay():
     talk(a, b)
 
 
-HELP = ("-h", "-a ADDRESS", "-l", "-s SERVER[:PORT]", "-L", "-r", "-p MILLISECONDS", "-m TEXT", "-t SECONDS", "-w FILE", "controlling", "controlled")
+HELP = ("-h", "-a ADDRESS", "-l", "-s SERVER[:PORT]", "-L", "-r", "-p MILLISECONDS", "-m TEXT", "-t SECONDS", "-w FILE", "controlling",
+        "controlled")
 BAD_OPTIONS = (
     ("nobody", "usage"), ("-a example controlled", "-a example: not an IP address"),
     ("-a localhost controlled", "-a localhost: not an IP address"), ("-a 0.0.0.0 controlled", "-a 0.0.0.0: the unspecified address"),

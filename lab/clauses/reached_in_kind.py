@@ -1,5 +1,5 @@
-"""The theorem `reached_in_kind` (`RoundsReachInKind`): kinds take turns in 2 * k * (n + m) rounds and urgent pairs go first, for k kinds of pairs
-and n other pairs of a pair's kind. Then a pair that is due is checked in one of them, or m of them check urgent pairs."""
+"""The theorem `reached_in_kind` (`RoundsReachInKind`): kinds take turns in 2 * k * (n + m) rounds and urgent pairs go first, for k kinds of
+pairs and n other pairs of a pair's kind. Then a pair that is due is checked in one of them, or m of them check urgent pairs."""
 
 from __future__ import annotations
 
@@ -16,6 +16,9 @@ from .reached_in_turn import MOST_CALLS, MOST_DELAYS, Choice, has_path, kind_in,
 from .single import is_passing
 from .staying import may_end_in_rounds
 from .verdict import Verdict, first_of_all
+
+# While a side has more pairs, no choices are proposed: the search would take too long.
+MOST_PAIRS = 30
 
 
 # ---- the preconditions
@@ -91,12 +94,13 @@ def spans(x: Execution, side: str, place: int, pair: int) -> Iterator[Choice]:
 
 
 def choices(x: Execution) -> Iterator[Choice]:
-    """Proposes each pair that is due before one of a side's first `handle_timeout` calls, at which it has no path, with such rounds."""
+    """Proposes each pair that is due before one of a side's first `handle_timeout` calls, at which it has no path, with such rounds. The
+    side has few pairs then."""
     for side in SIDES:
         row = x.timeouts[side]
         for place, first in enumerate(row[:MOST_CALLS]):
             agent, now = x.state(first, side), x.now(first)
-            if not has_path(agent):
+            if not has_path(agent) and len(agent.pairs) <= MOST_PAIRS:
                 for p in agent.pairs:
                     if p.due_at(now, agent.timing) < now:
                         yield from spans(x, side, place, p.number)

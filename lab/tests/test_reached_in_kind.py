@@ -1,4 +1,5 @@
-"""Tests the checker of the theorem `reached_in_kind`: for each precondition, a log that lacks exactly it; and a log in which nothing is checked."""
+"""Tests the checker of the theorem `reached_in_kind`: for each precondition, a log that lacks exactly it; and a log in which nothing is
+checked."""
 
 import unittest
 from dataclasses import replace
@@ -67,7 +68,8 @@ class InKind(unittest.TestCase):
         moments, c = story.moments["a"], self.choice(story, self.last(story))
         self.assertEqual(self.lacking(self.altered(story, 0, next_number=1), c), ["IsFresh"])
         self.assertEqual(self.lacking(self.altered(story, moments[2], rules=Rules(kinds_in_turn=True)), c), ["TakesTurnsAmong.urgent"])
-        self.assertEqual(self.lacking(self.altered(story, moments[2] + 1, rules=Rules(triggered_checks=4)), c), ["TakesTurnsAmong.turns.rule"])
+        without = self.altered(story, moments[2] + 1, rules=Rules(triggered_checks=4))
+        self.assertEqual(self.lacking(without, c), ["TakesTurnsAmong.turns.rule"])
         self.assertEqual(self.lacking(story.network().x, self.choice(story, c.pair, 7)), ["enough"])
 
 

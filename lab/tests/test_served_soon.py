@@ -1,5 +1,5 @@
-"""Tests the checkers of the theorems `served_are_checked_soon` and `served_select_soon`: for each precondition, a log that lacks exactly it; and a
-log in which nothing is checked, or selected."""
+"""Tests the checkers of the theorems `served_are_checked_soon` and `served_select_soon`: for each precondition, a log that lacks exactly
+it; and a log in which nothing is checked, or selected."""
 
 import unittest
 from dataclasses import replace
@@ -9,6 +9,7 @@ from lab.clauses import served_are_checked_soon as checked
 from lab.clauses import served_select_soon as selected
 from lab.clauses.execution import Execution
 from lab.clauses.reached_in_turn import Choice
+from lab.clauses.urgent_are_reached import reached_at
 from lab.clauses.verdict import Verdict
 from lab.clock import BEGINNING, MILLISECOND
 from lab.kinds import ORIGINAL, Rules
@@ -66,7 +67,7 @@ class Served(unittest.TestCase):
         story = self.story()
         x, c = story.network().x, self.choice(story)
         self.assertEqual(checked.lacking(x, c), [])
-        self.assertEqual(checked.reached_at(x, c), at(100))
+        self.assertEqual(reached_at(x, c), at(100))
         self.assertEqual(checked.find(x), Verdict("", at(100), at(150), at(100), 2))
 
     def test_no_pair_is_checked(self) -> None:

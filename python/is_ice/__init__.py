@@ -67,7 +67,7 @@ __all__ = [
     "CheckState", "Consent", "CredentialsTooLong", "DiscoveredRecv", "EarlyRto", "HasAgent", "IceAgent", "IceAgentEvent", "IceAgentStats",
     "IceConnectionState", "IceConnectionStateChange", "IceCreds", "IceError", "IceRestart", "KindPreferences", "LiteStaysControlled",
     "MediaPath", "MessageTooLong", "MtuTooSmall", "NoAgent", "NominatedPair", "NominatedSend", "NotUtf8", "OutOfMemory", "PairIdsExhausted",
-    "PriorityTooHigh", "Protocol", "Removal", "RemovedPair", "Rules", "SocketAddress", "Suspicion", "TcpType", "TooFewRandomBytes", "TooManyCandidates",
-    "Transmit", "Unparsed", "candidate_fields", "candidate_line", "default_local_preference", "has_mdns_name",
+    "PriorityTooHigh", "Protocol", "Removal", "RemovedPair", "Rules", "SocketAddress", "Suspicion", "TcpType", "TooFewRandomBytes",
+    "TooManyCandidates", "Transmit", "Unparsed", "candidate_fields", "candidate_line", "default_local_preference", "has_mdns_name",
     "line_fields", "line_from_json", "line_name", "line_refusal", "line_to_json", "line_with_address", "line_with_ufrag", "new_creds",
 ]

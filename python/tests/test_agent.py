@@ -519,12 +519,12 @@ class Errors(unittest.TestCase):
         self.assertEqual(self.agent.rules, Rules.modern())
         self.assertEqual(Rules.modern(), Rules(
             kinds_in_turn=True, triggered_checks=4, early_rto=early, selects_at_once=True, consent=Consent(29_600_000_000, strict=False),
-            suspicion=None, selected_first=True, timeout_after_requests=True, lite_keeps_role=True, numbered_nominations=True, discovered_if_served=True,
-            state_after_nomination=True, invalidates_listed=True))
+            suspicion=None, selected_first=True, timeout_after_requests=True, lite_keeps_role=True, numbered_nominations=True,
+            discovered_if_served=True, state_after_nomination=True, invalidates_listed=True))
         self.assertEqual(Rules.original(), Rules(
-            kinds_in_turn=False, triggered_checks=None, early_rto=None, selects_at_once=False, consent=None, suspicion=None, selected_first=False,
-            timeout_after_requests=False, lite_keeps_role=False, numbered_nominations=False, discovered_if_served=False,
-            state_after_nomination=False, invalidates_listed=False))
+            kinds_in_turn=False, triggered_checks=None, early_rto=None, selects_at_once=False, consent=None, suspicion=None,
+            selected_first=False, timeout_after_requests=False, lite_keeps_role=False, numbered_nominations=False,
+            discovered_if_served=False, state_after_nomination=False, invalidates_listed=False))
         most = (1 << 64) - 1
         changes: tuple[dict[str, Any], ...] = (
             {"kinds_in_turn": False}, {"triggered_checks": None}, {"triggered_checks": most}, {"early_rto": None},

@@ -126,10 +126,8 @@ impl Rules {
         debug_assert_eq!(code, ffi::OK);
         let (retransmits, interval) = (rules.early_retransmits, Duration::from_nanos(rules.early_interval));
         let (timeout, strict) = (Duration::from_nanos(rules.consent_timeout), rules.strict_consent);
-        let suspicion = Suspicion {
-            timeout: Duration::from_nanos(rules.suspicion_timeout),
-            interval: Duration::from_nanos(rules.suspicion_interval),
-        };
+        let suspicion =
+            Suspicion { timeout: Duration::from_nanos(rules.suspicion_timeout), interval: Duration::from_nanos(rules.suspicion_interval) };
         Rules {
             kinds_in_turn: rules.kinds_in_turn,
             triggered_checks: (rules.triggered_checks > 0).then_some(rules.triggered_checks),

@@ -31,6 +31,7 @@ mod settings;
 mod settled;
 mod step;
 mod story;
+mod suspicion;
 mod times;
 mod words;
 mod zeros;

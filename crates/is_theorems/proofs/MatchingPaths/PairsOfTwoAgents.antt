@@ -113,13 +113,14 @@ module _ {H P : Type 0} where
 
     module _ (mac : H → List ℕ → List ℕ → List ℕ) (answers : P → CandidateRecord → ℕ → ℕ → Type 0) where
       pub paths_match : SelectedPathsMatch mac answers
-      paths_match seen g d near far x y q p2 unled alike (p, has, able, is, top) (q2, has2, able2, is2, top2) last last2 at_d same at_g same2 =
+      paths_match seen g d near far x y q p2 unled alike (p, has, _, is, top) (q2, has2, _, is2, top2) last last2 at_d same at_g same2 =
           let from : path_of g p ≡ x = some_is (path_of g p) x (sym is ∙ last) in
           let to : path_of d q2 ≡ y = some_is (path_of d q2) y (sym is2 ∙ last2) in
-          let ps : AreCounterparts seen g d p p2 = record { near = (has, able); far = at_d; path = ap seen from ∙ same } in
-          let qs : AreCounterparts seen g d q q2 = record { near = at_g; far = (has2, able2); path = same2 ∙ ap Some (sym to) } in
-          ap seen (sym from) ∙ matches seen g d p q p2 q2 (subst (λ f. IsChosen (suspected_by g) g.controlling f (selection_of g) (Some p)) unled.0 top)
-          (subst (λ f. IsChosen (suspected_by d) d.controlling f (selection_of d) (Some q2)) unled.1 top2) ps qs (settles seen g d p q p2 q2 alike ps qs) ∙ ap Some to
+          let most : IsTop g p = subst (λ f. IsChosen (suspected_by g) g.controlling f (selection_of g) (Some p)) unled.0 top in
+          let most2 : IsTop d q2 = subst (λ f. IsChosen (suspected_by d) d.controlling f (selection_of d) (Some q2)) unled.1 top2 in
+          let ps : AreCounterparts seen g d p p2 = record { near = (has, most.1); far = at_d; path = ap seen from ∙ same } in
+          let qs : AreCounterparts seen g d q q2 = record { near = at_g; far = (has2, most2.1); path = same2 ∙ ap Some (sym to) } in
+          ap seen (sym from) ∙ matches seen g d p q p2 q2 most most2 ps qs (settles seen g d p q p2 q2 alike ps qs) ∙ ap Some to
 
       module _ (tops : PointsAreTop {H = H} mac answers) where
         -- at such a step the path selected last is that of a greatest pair, if a pair is eligible

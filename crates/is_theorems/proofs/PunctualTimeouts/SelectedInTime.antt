@@ -1,6 +1,6 @@
 -- In the rounds in which the check is due, a success response is accepted or the check is sent. Then a success response comes within the
 -- round trip, and the first one selects a path. What mutants/specifications changes is read by tactics.
-use Rattle.std.proofs.Common.{◌≡◌, ℕ, ◌+◌, ◌*◌, ◌<◌, ◌≤◌, true, List, [], ◌∷◌, ◌++◌, length, inl, inr, ◌⊎◌, refl, sym, subst, arith}
+use Rattle.std.proofs.Common.{◌≡◌, ℕ, ◌+◌, ◌*◌, ◌<◌, ◌≤◌, true, List, [], ◌∷◌, ◌++◌, length, inl, inr, ◌⊎◌, refl, sym, ◌∙◌, subst, arith}
 use Rattle.is_proto.specs.Lists.{Has}
 use Rattle.is_proto.specs.Times.{MAX}
 use Rattle.is_candidate.specs.Candidates.{CandidateRecord}
@@ -11,9 +11,9 @@ use Rattle.is_rules.specs.Sending.{path_of}
 use Rattle.is_rules.specs.Sound.{IsSound}
 use Rattle.is_rules.specs.Steps.{Call, Entry, Done}
 use Rattle.is_theorems.specs.AskedCourses.{IsAnsweredAlong, SuccessesSelect}
-use Rattle.is_theorems.specs.Courses.{CourseRound, CourseRounds}
+use Rattle.is_theorems.specs.Courses.{AcceptsSuccess, CourseRound, CourseRounds}
 use Rattle.is_theorems.specs.Exchange.{AreBetween, Course}
-use Rattle.is_theorems.specs.FirstChecks.{CoursesCheckFromDue}
+use Rattle.is_theorems.specs.FirstChecks.{CoursesCheckFromDue, SufficeForDue, times_of}
 use Rattle.is_theorems.specs.FirstTimeouts.{AreInRound, CoursesReachUnanswered, EndsAmong, IsOpenRound, Suffices}
 use Rattle.is_theorems.specs.InTime.{ChecksBy, ComeBy, IsTimed}
 use Rattle.is_theorems.specs.Progress.{Awaits, IsUnanswered}
