@@ -8,10 +8,9 @@
  *         is_ice_poll_timeout(&agent, &at);
  *         while (is_ice_poll_transmit(&agent, buffer, sizeof buffer, &packet) == IS_ICE_OK)
  *             send buffer[0 .. packet.length] from packet.source to packet.destination;
- *         is_ice_poll_timeout(&agent, &after);
  *         while (is_ice_poll_event(&agent, &event) == IS_ICE_OK)
  *             use the event;
- *         wait for a datagram, or until the earliest `at` or `after` since is_ice_handle_timeout;
+ *         wait for a datagram, or until the earliest `at` since is_ice_handle_timeout;
  *         a datagram arrived:  is_ice_handle_packet(&agent, now, IS_ICE_UDP, &from, &to, bytes, length);
  *         that has passed:     is_ice_handle_timeout(&agent, now, random, sizeof random);
  *     }
@@ -342,6 +341,7 @@ typedef struct is_ice_agent_rules {
     uint64_t consent_timeout;  /* so long after its last answered check a pair is removed */
     uint64_t suspicion_timeout; /* so long after its last answered check a pair is suspected, */
     uint64_t suspicion_interval; /* and the time between its checks before that, once one has no response */
+    uint64_t early_pacing;     /* until there is a path, the pacing interval Ta is at most this */
     bool kinds_in_turn;        /* until a path is selected, every second check goes to the next kind of pairs */
     bool selects_at_once;      /* a controlled agent selects a valid pair when the request that nominates it arrives */
     bool strict_consent;       /* the other agent's checks do not keep a pair */
@@ -477,7 +477,8 @@ IS_ICE_QUIET_CALL int32_t is_ice_set_max_candidates(is_ice_agent *agent, size_t 
 
 /* is_ice_set_timing_advance - sets the pacing interval Ta (RFC 8445, section 14.2): the least time from the last
  * is_ice_handle_timeout call to the next one that is_ice_poll_timeout returns. Each is_ice_handle_timeout call sends at
- * most one packet. IS_ICE_OK. Value: 50 ms. */
+ * most one packet. By the rule early_pacing of is_ice_set_rules the interval is shorter until there is a path. IS_ICE_OK.
+ * Value: 50 ms. */
 IS_ICE_QUIET_CALL int32_t is_ice_set_timing_advance(is_ice_agent *agent, uint64_t nanoseconds);
 
 /* is_ice_set_initial_rto - sets the time from a pair's first check until the second one is due; early retransmissions
@@ -511,8 +512,8 @@ IS_ICE_QUIET_CALL int32_t is_ice_retransmit_delay(
 
 /* is_ice_modern_rules, is_ice_original_rules - return the rules that connect sooner and end consent in time, and those of
  * the Rust crate `is` 0.12.0, of which each is off. The first are: 4 requests trigger checks; 4 early retransmissions,
- * each after 100 ms; consent for 29.6 s, not strict; no pair is suspected; and each other rule is on. On any thread.
- * IS_ICE_OK. */
+ * each after 100 ms; consent for 29.6 s, not strict; early pacing of 10 ms; each other rule is on, except for suspicion.
+ * On any thread. IS_ICE_OK. */
 IS_ICE_QUIET_CALL int32_t is_ice_modern_rules(is_ice_agent_rules *rules);
 IS_ICE_QUIET_CALL int32_t is_ice_original_rules(is_ice_agent_rules *rules);
 
@@ -554,6 +555,10 @@ IS_ICE_QUIET_CALL int32_t is_ice_original_rules(is_ice_agent_rules *rules);
  * response until the pair is suspected, its checks come at most suspicion_interval apart, and at least 1 ms, as far as Ta
  * allows. These checks end no pair sooner. The time should be longer than is_ice_set_max_rto, at which pairs are checked
  * that answer. 0: no such rule.
+ *
+ * early_pacing: until the agent has a path, and if it is controlling has sent the check that nominates it, the pacing
+ * interval Ta is at most this, and at least 5 ms (RFC 8445, section 14.2). So the pair that works is checked sooner if
+ * there are many. A shorter one of is_ice_set_timing_advance stays. Less than 5 ms counts as 5 ms. 0: no such rule.
  *
  * selected_first: every second check may go to the selected pair, if it is due, before all others. So its consent is
  * renewed in time, however many pairs there are.
@@ -890,8 +895,9 @@ IS_ICE_CALL int32_t is_ice_accepts_message(is_ice_agent *agent, const uint8_t *b
  * is_ice_handle_timeout call. At that call the state follows, and without the rule selects_at_once a controlled agent
  * selects its pair. So it is, with numbered_nominations, while a selected path is still to be nominated, or its pair is
  * gone and another one may be selected. After packets were polled, it is the time of the next check, or of the end of
- * consent, if that is sooner. Call it then, too, and keep the earlier time: a request of the other agent moves up only a
- * time that was computed. A packet for which the buffer was too short does not count as queued here. Does not allocate.
+ * consent, if that is sooner. A request of the other agent moves up only a time that was computed: with triggered_checks
+ * each call computes it, also while a packet is queued. A packet for which the buffer was too short does not count as
+ * queued here. Does not allocate.
  *
  * IS_ICE_OK: *at is the time. IS_ICE_NOTHING: no is_ice_handle_timeout call has returned IS_ICE_OK yet (see also
  * timeout_after_requests of is_ice_set_rules); *at is unchanged. */
@@ -1223,7 +1229,7 @@ IS_ICE_SIZE(is_ice_pair, 96);
 IS_ICE_SIZE(is_ice_removed_pair, 104);
 IS_ICE_SIZE(is_ice_kind_preferences, 8);
 IS_ICE_SIZE(is_ice_preference_table, 16);
-IS_ICE_SIZE(is_ice_agent_rules, 64);
+IS_ICE_SIZE(is_ice_agent_rules, 72);
 IS_ICE_SIZE(is_ice_stun_transaction, 12);
 IS_ICE_SIZE(is_ice_stun_result, 32);
 IS_ICE_SIZE(is_ice_stun_number, 16);

@@ -11,10 +11,9 @@
  *         auto at = agent.poll_timeout();
  *         while (auto packet = agent.poll_transmit())
  *             send packet->contents from packet->source to packet->destination;
- *         auto after = agent.poll_timeout();
  *         while (auto event = agent.poll_event())
  *             if (auto path = std::get_if<is_ice::nominated_send>(&*event)) use the path;
- *         wait for a datagram, or until the earliest *at or *after since handle_timeout;
+ *         wait for a datagram, or until the earliest *at since handle_timeout;
  *         a datagram arrived:  agent.handle_packet(now(), IS_ICE_UDP, from, to, data, length);
  *         that has passed:     agent.handle_timeout(now(), random());
  *     }

@@ -18,6 +18,8 @@ from .states import CHECKING, NEW
 
 KINDS = {CandidateKind.HOST: "host", CandidateKind.SERVER_REFLEXIVE: "srflx", CandidateKind.RELAYED: "relay",
          CandidateKind.PEER_REFLEXIVE: "prflx"}
+# The least pacing interval Ta (RFC 8445, section 14.2).
+LEAST_ADVANCE = 5 * MILLISECOND
 # How many candidates of each side packets may bring to an agent that the library makes.
 DISCOVERED_LIMIT = 32
 
@@ -133,6 +135,17 @@ class Candidates:
     def is_pressing(self) -> bool:
         """Whether that is so, or the selected pair is gone and another one may be selected."""
         return self.nominates_at_once or (self.numbers and not self.has_selected and any(self.is_eligible(p) for p in self.pairs))
+
+    @property
+    def is_settled(self) -> bool:
+        """Whether there is a path, and of a controlling agent the check that nominates it was sent."""
+        return self.state.is_connected() and not (self.controlling and self.nomination_due)
+
+    @property
+    def pacing(self) -> int:
+        """The pacing interval Ta: by the rule it is shorter until the agent is settled (`pacing_of`)."""
+        early = self.rules.early_pacing
+        return self.advance if early is None or self.is_settled else min(self.advance, max(LEAST_ADVANCE, early))
 
     def chosen(self) -> Pair | None:
         """Returns the pair to be selected: of an agent that follows its peer the followed pair, or the one that was selected last; else an

@@ -37,6 +37,8 @@ def rules_by(s: AgentSettings) -> Rules:
     if s.suspicion_ms is not None:
         suspicion = Suspicion(nanoseconds(s.suspicion_ms), nanoseconds(s.probes_ms))
         rules = replace(rules, suspicion=suspicion if s.suspicion_ms else None)
+    if s.early_pacing_ms is not None:
+        rules = replace(rules, early_pacing=nanoseconds(s.early_pacing_ms) or None)
     names = ("selects_at_once", "selected_first", "timeout_after_requests", "lite_keeps_role", "numbered_nominations",
              "discovered_if_served", "state_after_nomination", "invalidates_listed")
     own = {name: getattr(s, name) for name in names}

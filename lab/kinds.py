@@ -28,6 +28,7 @@ class Rules:
     selects_at_once: bool = False
     consent: Consent | None = None
     suspicion: Suspicion | None = None
+    early_pacing: int | None = None
     selected_first: bool = False
     timeout_after_requests: bool = False
     lite_keeps_role: bool = False
@@ -44,7 +45,8 @@ class Rules:
 
 ORIGINAL = Rules()
 # With these an agent that the library makes begins.
-MODERN = Rules(True, 4, EarlyRto(4, 100 * MILLISECOND), True, Consent(29600 * MILLISECOND), None, True, True, True, True, True, True, True)
+MODERN = Rules(True, 4, EarlyRto(4, 100 * MILLISECOND), True, Consent(29600 * MILLISECOND), None, 20 * MILLISECOND,
+               True, True, True, True, True, True, True)
 
 
 def rules_of(given: Any) -> Rules:
@@ -55,9 +57,9 @@ def rules_of(given: Any) -> Rules:
     kept = Consent(consent.timeout, consent.strict) if consent is not None and consent.timeout else None
     suspicion = given.suspicion
     suspects = Suspicion(suspicion.timeout, suspicion.interval) if suspicion is not None and suspicion.timeout else None
-    return Rules(given.kinds_in_turn, given.triggered_checks or None, own, given.selects_at_once, kept, suspects, given.selected_first,
-                 given.timeout_after_requests, given.lite_keeps_role, given.numbered_nominations, given.discovered_if_served,
-                 given.state_after_nomination, given.invalidates_listed)
+    return Rules(given.kinds_in_turn, given.triggered_checks or None, own, given.selects_at_once, kept, suspects,
+                 given.early_pacing or None, given.selected_first, given.timeout_after_requests, given.lite_keeps_role,
+                 given.numbered_nominations, given.discovered_if_served, given.state_after_nomination, given.invalidates_listed)
 
 
 def reaches_out(local: Sequence[Place], base: SocketAddress) -> bool:

@@ -241,10 +241,10 @@ class Agent(Candidates):
         """Returns when `handle_timeout` is due, and fixes due times. `is_waiting`: a packet waits to be polled."""
         if self.last is None:
             return self, None
-        soon = self.last + self.advance
+        soon = self.last + self.pacing
+        new = replace(self, pairs=tuple(p.fixed(self.last, self.timing) for p in self.pairs))
         if is_waiting or self.queue or self.is_pressing:
-            return self, soon
+            return self if self.rules.triggered_checks is None else new, soon
         if self.lite or not self.pairs:
             return self, self.last + 3 * SECOND
-        new = replace(self, pairs=tuple(p.fixed(self.last, self.timing) for p in self.pairs))
         return new, max(min(p.wake_at(self.last, self.timing) for p in new.pairs), soon)

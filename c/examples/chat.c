@@ -83,7 +83,6 @@ int main(int argc, char **argv)
             timeout = next; /* before packets are polled; an agent that took a packet may have a check to send at once */
         while (ok(is_ice_poll_transmit(&agent, buffer, sizeof buffer, &packet)))
             net_send(&net, &packet.source, &packet.destination, buffer, packet.length);
-        if (ok(is_ice_poll_timeout(&agent, &next)) && next < timeout) timeout = next; /* and after them */
         goes_on = net_wait(&net, true, timeout, ready);
         for (size_t i = 0; i < net.count; i++)
             if (ready[i]) changed |= receive(i);

@@ -82,7 +82,6 @@ int main(int argc, char **argv)
             if (auto next = changed ? agent.poll_timeout_soon() : agent.poll_timeout(); next && *next < timeout) timeout = *next;
             while (auto packet = agent.poll_transmit())
                 net_send(&sockets, &packet->source, &packet->destination, packet->contents.data(), packet->contents.size());
-            if (auto next = agent.poll_timeout(); next && *next < timeout) timeout = *next; // and after them
             goes_on = net_wait(&sockets, true, static_cast<uint64_t>(timeout.count()), ready);
             for (size_t i = 0; i < sockets.count; i++)
                 if (ready[i]) changed |= receive(agent, i);

@@ -345,14 +345,12 @@ static void run(struct session *s)
 {
     handle_timeout(s, net_now());
     while (!s->is_over) {
-        uint64_t now = net_now();
-        next_timeout(s); /* before packets are polled: see is_ice_poll_timeout */
+        uint64_t now = net_now(), timeout = next_timeout(s); /* before packets are polled: see is_ice_poll_timeout */
         unsigned closed = stun_send(&s->stun, &s->net, now);
         if (closed > 0) fprintf(stderr, "peer: the STUN server did not respond to %u socket%s\n", closed, closed == 1 ? "" : "s");
         send_all(s);
         note_all(s);
         say_message(s, now);
-        uint64_t timeout = next_timeout(s); /* and after them: a request that arrives moves up the time of a check that was polled */
         uint64_t until = least(least(timeout, s->end), stun_due(&s->stun));
         wait_until(s, s->message && s->has_path ? least(until, s->next_message) : until);
         now = net_now();

@@ -114,6 +114,7 @@ static bool is_read(const is_ice_agent_rules *given, const is_ice_agent_rules *t
         && told->triggered_checks == given->triggered_checks && told->early_retransmits == given->early_retransmits
         && told->early_interval == interval && told->consent_timeout == given->consent_timeout && told->strict_consent == strict
         && told->suspicion_timeout == given->suspicion_timeout && told->suspicion_interval == probes
+        && told->early_pacing == given->early_pacing
         && told->selected_first == given->selected_first && told->timeout_after_requests == given->timeout_after_requests
         && told->lite_keeps_role == given->lite_keeps_role && told->numbered_nominations == given->numbered_nominations
         && told->discovered_if_served == given->discovered_if_served
@@ -131,7 +132,7 @@ static void set_rules(void)
     else if (kind % 4 == 1) CALL(OK | QUIET, is_ice_modern_rules(given));
     else {
         given->triggered_checks = number(), given->early_retransmits = (size_t)number(), given->early_interval = number();
-        given->suspicion_timeout = number(), given->suspicion_interval = number();
+        given->suspicion_timeout = number(), given->suspicion_interval = number(), given->early_pacing = number();
         given->consent_timeout = number(), given->kinds_in_turn = one_in(2), given->selects_at_once = one_in(2);
         given->strict_consent = one_in(2), given->selected_first = one_in(2), given->timeout_after_requests = one_in(2);
         given->lite_keeps_role = one_in(2), given->numbered_nominations = one_in(2);

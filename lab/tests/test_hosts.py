@@ -19,9 +19,10 @@ class Sessions(unittest.TestCase):
         return None if first is None else first / MILLISECOND - GATHERED_MS
 
     def test_ten_hosts_connect_soon(self) -> None:
-        # The second check, after 50 ms, is that of the server-reflexive candidates. Its response comes after 40 ms, and A nominates
-        # with the next check, after 100 ms. B receives it 20 ms later, and selects at once, or at its next timeout, after 150 ms.
-        for rules, expected in (("modern", 120), ("no selection at once", 150), ("only kinds in turn", 150)):
+        # The second check, after 20 ms, is that of the server-reflexive candidates. Its response comes after 40 ms, just after A's timeout
+        # at 60 ms. Since A has a path then, it nominates that one Ta later, after 110 ms. B receives it 20 ms later, and selects at once or
+        # at its next timeout, after 140 ms. With kinds in turn only, checks are 50 ms apart: it is the last timeout, after 150 ms.
+        for rules, expected in (("modern", 130), ("no selection at once", 140), ("only kinds in turn", 150)):
             for count in (5, 10, 20):
                 time = self.time(count, rules)
                 assert time is not None

@@ -1,4 +1,4 @@
-"""Tests triggered checks, early retransmissions and selection at once: each rule on its own, on logs of two agents."""
+"""Tests triggered checks, early retransmissions, early pacing and selection at once: each rule on its own, on logs of two agents."""
 
 import unittest
 from dataclasses import replace
@@ -213,6 +213,47 @@ class Early(unittest.TestCase):
         self.assertEqual(story.agents["a"].pairs, ())
 
 
+class Pacing(unittest.TestCase):
+    """How soon the next timeout of an agent comes that has pairs to check, in ms."""
+
+    def after(self, early: float | None, advance: float = 50, is_connected: bool = False) -> list[float]:
+        """With a packet queued, and without one."""
+        story = Story(hosts=(1, 3), rules=Rules(early_pacing=None if early is None else round(early * MILLISECOND)))
+        story.set("a", "set_timing_advance", round(advance * MILLISECOND))
+        if is_connected:
+            story.exchange("a", 0)
+        else:
+            story.passes("a", 0)
+        story.session()
+        last, polled = story.agents["a"].last, [story.agents["a"].poll_timeout(is_waiting)[1] for is_waiting in (True, False)]
+        assert last is not None
+        return [(time - last) / MILLISECOND for time in polled if time is not None]
+
+    def test_it_is_shorter_until_there_is_a_path(self) -> None:
+        self.assertEqual([self.after(20), self.after(20, is_connected=True), self.after(None)], [[20, 20], [50, 50], [50, 50]])
+
+    def test_not_below_5_ms_and_not_longer(self) -> None:
+        self.assertEqual([self.after(4.999), self.after(5.001), self.after(51)], [[5, 5], [5.001, 5.001], [50, 50]])
+        self.assertEqual([self.after(20, 10), self.after(1, 3)], [[10, 10], [3, 3]])
+
+
+class Waiting(unittest.TestCase):
+    """Polls of the timeout while a packet is queued: here each call is followed by one, and then by those of packets."""
+
+    def due(self, rules: Rules) -> int | None:
+        story = Story(rules=rules)
+        story.timeout("a", 0)
+        story.deliver(story.timeout("b", 0), "a", 10)
+        story.session()
+        return story.agents["a"].pairs[0].due
+
+    def test_a_request_moves_up_the_due_time_that_they_fixed(self) -> None:
+        self.assertEqual(self.due(TRIGGERED), at(10))
+
+    def test_without_the_rule_they_fix_none(self) -> None:
+        self.assertIsNone(self.due(ORIGINAL))
+
+
 class AtOnce(unittest.TestCase):
     """The controlled side's pair is valid when the check with USE-CANDIDATE arrives."""
 
@@ -246,8 +287,10 @@ class Settings(unittest.TestCase):
             "no kinds in turn": replace(MODERN, kinds_in_turn=False), "no triggered checks": replace(MODERN, triggered_checks=None),
             "no early retransmissions": replace(MODERN, early_rto=None), "no selection at once": replace(MODERN, selects_at_once=False)}
         self.assertEqual({name: rules_of(endpoint.rules_by(AgentSettings(**RULES[name]))) for name in RULES}, expected)
-        own = endpoint.rules_by(AgentSettings(triggered_checks=7, early_retransmits=2, early_interval_ms=30))
-        self.assertEqual(rules_of(own), replace(MODERN, triggered_checks=7, early_rto=EarlyRto(2, 30 * MILLISECOND)))
+        own = endpoint.rules_by(AgentSettings(triggered_checks=7, early_retransmits=2, early_interval_ms=30, early_pacing_ms=7))
+        expected_own = replace(MODERN, triggered_checks=7, early_rto=EarlyRto(2, 30 * MILLISECOND), early_pacing=7 * MILLISECOND)
+        self.assertEqual(rules_of(own), expected_own)
+        self.assertIsNone(endpoint.rules_by(AgentSettings(early_pacing_ms=0)).early_pacing)
 
     def test_an_agent_with_rules(self) -> None:
         agent = Story().agents["a"]

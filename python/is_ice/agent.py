@@ -212,10 +212,7 @@ class IceAgent(Settings):
 
     @holds_the_lock
     def poll_timeout(self) -> int | None:
-        """Returns the time at which to call `handle_timeout` next, or None before the session.
-
-        Call it before packets are polled and after them, and keep the earlier time.
-        """
+        """Returns the time at which to call `handle_timeout` next, or None before the session. Call it before packets are polled."""
         return self._loop.poll_timeout()
 
     @holds_the_lock

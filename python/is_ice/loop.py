@@ -190,8 +190,6 @@ class IceLoop(Unique):
                 self.send(packet.source, packet.destination, packet.contents)
             if not self._began:
                 return
-            if (due := self.agent.poll_timeout()) is not None:  # and after them: a request moves up the time of a check that was polled
-                self._set_timer(due)
             self.log.removals()  # before what they cause: a handler may close the agent
             while self._began and (event := self.agent.poll_event()):
                 self.log.event(event)

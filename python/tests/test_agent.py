@@ -165,6 +165,23 @@ def first_checks(rules: Rules | None) -> list[str]:
     return checked
 
 
+def paced(rules: Rules, advance: int = SECOND // 20) -> tuple[int, int]:
+    """Returns how soon after a timeout the next one comes, before the agent has a path and after it. Other pairs wait for their check."""
+    a, b = agents = two_agents()
+    a.set_rules(rules)
+    a.set_timing_advance(advance)
+    for number in (7, 8, 9):
+        a.add_remote_candidate(f"candidate:{number} 1 udp {number} 10.0.0.{number} 2000 typ host")
+    a.handle_timeout(BEGINNING)
+    before = a.poll_timeout()
+    for agent, other in (agents, agents[::-1]):
+        while packet := agent.poll_transmit():
+            other.handle_packet(BEGINNING, packet.source, packet.destination, packet.contents)
+    after = a.poll_timeout()
+    assert before is not None and after is not None and a.state.is_connected()
+    return before - BEGINNING, after - BEGINNING
+
+
 def repeated(rules: Rules) -> list[int]:
     """Returns the times in milliseconds of the checks on a path without responses, of the first 2 seconds."""
     agent = IceAgent()
@@ -438,7 +455,7 @@ class Sessions(unittest.TestCase):
         a, _ = two_agents()
         self.assertIsNone(a.poll_timeout())
         a.handle_timeout(BEGINNING)
-        self.assertEqual(a.poll_timeout(), BEGINNING + SECOND // 20)
+        self.assertEqual(a.poll_timeout(), BEGINNING + SECOND // 50)
 
 
 class Errors(unittest.TestCase):
@@ -519,20 +536,20 @@ class Errors(unittest.TestCase):
         self.assertEqual(self.agent.rules, Rules.modern())
         self.assertEqual(Rules.modern(), Rules(
             kinds_in_turn=True, triggered_checks=4, early_rto=early, selects_at_once=True, consent=Consent(29_600_000_000, strict=False),
-            suspicion=None, selected_first=True, timeout_after_requests=True, lite_keeps_role=True, numbered_nominations=True,
-            discovered_if_served=True, state_after_nomination=True, invalidates_listed=True))
+            suspicion=None, early_pacing=10_000_000, selected_first=True, timeout_after_requests=True, lite_keeps_role=True,
+            numbered_nominations=True, discovered_if_served=True, state_after_nomination=True, invalidates_listed=True))
         self.assertEqual(Rules.original(), Rules(
             kinds_in_turn=False, triggered_checks=None, early_rto=None, selects_at_once=False, consent=None, suspicion=None,
-            selected_first=False, timeout_after_requests=False, lite_keeps_role=False, numbered_nominations=False,
+            early_pacing=None, selected_first=False, timeout_after_requests=False, lite_keeps_role=False, numbered_nominations=False,
             discovered_if_served=False, state_after_nomination=False, invalidates_listed=False))
         most = (1 << 64) - 1
         changes: tuple[dict[str, Any], ...] = (
             {"kinds_in_turn": False}, {"triggered_checks": None}, {"triggered_checks": most}, {"early_rto": None},
             {"early_rto": EarlyRto(most, most)}, {"early_rto": EarlyRto(1, 0)}, {"selects_at_once": False}, {"consent": None},
             {"consent": Consent(most, strict=True)}, {"consent": Consent(1)}, {"suspicion": Suspicion(most, most)},
-            {"suspicion": Suspicion(1, 0)}, {"selected_first": False}, {"timeout_after_requests": False},
-            {"lite_keeps_role": False}, {"numbered_nominations": False}, {"discovered_if_served": False}, {"state_after_nomination": False},
-            {"invalidates_listed": False},
+            {"suspicion": Suspicion(1, 0)}, {"early_pacing": None}, {"early_pacing": 1}, {"early_pacing": most},
+            {"selected_first": False}, {"timeout_after_requests": False}, {"lite_keeps_role": False}, {"numbered_nominations": False},
+            {"discovered_if_served": False}, {"state_after_nomination": False}, {"invalidates_listed": False},
         )
         for change in changes:
             for rules in (Rules.modern(), Rules.original()):
@@ -542,13 +559,15 @@ class Errors(unittest.TestCase):
 
     def test_rules_that_count_to_0_are_none(self) -> None:
         self.agent.set_rules(dataclasses.replace(
-            Rules.original(), triggered_checks=0, early_rto=EarlyRto(0, 7), consent=Consent(0, True), suspicion=Suspicion(0, 7)))
+            Rules.original(), triggered_checks=0, early_rto=EarlyRto(0, 7), consent=Consent(0, True), suspicion=Suspicion(0, 7),
+            early_pacing=0))
         self.assertEqual(self.agent.rules, Rules.original())
 
     def test_rules_that_are_refused(self) -> None:
         refused: tuple[dict[str, Any], ...] = (
             {"triggered_checks": -1}, {"triggered_checks": 1 << 64}, {"early_rto": EarlyRto(1 << 64, 0)}, {"early_rto": EarlyRto(1, -1)},
             {"consent": Consent(-1)}, {"consent": Consent(1 << 64)}, {"suspicion": Suspicion(1 << 64, 0)}, {"suspicion": Suspicion(1, -1)},
+            {"early_pacing": -1}, {"early_pacing": 1 << 64},
         )
         for change in refused:
             self.assertRaises(ValueError, self.agent.set_rules, dataclasses.replace(Rules.modern(), **change))
@@ -561,6 +580,15 @@ class Errors(unittest.TestCase):
         """Without a response: at first every 100 ms, then after the RTO, which doubles."""
         self.assertEqual(repeated(Rules.modern()), [0, 100, 200, 300, 400, 650, 1150])
         self.assertEqual(repeated(Rules.original()), [0, 250, 750, 1750])
+
+    def test_checks_are_closer_until_there_is_a_path(self) -> None:
+        """By the rule, unless Ta is shorter, and at least 5 ms apart."""
+        ms = SECOND // 1000
+        self.assertEqual(paced(Rules.modern()), (20 * ms, 50 * ms))
+        self.assertEqual(paced(Rules.modern(), 10 * ms), (10 * ms, 10 * ms))
+        self.assertEqual(paced(Rules.original()), (50 * ms, 50 * ms))
+        for early, expected in ((1, 5 * ms), (5 * ms + 1, 5 * ms + 1), (60 * ms, 50 * ms)):
+            self.assertEqual(paced(dataclasses.replace(Rules.original(), early_pacing=early)), (expected, 50 * ms))
 
     def test_a_controlled_agent_selects_at_once(self) -> None:
         """The request that nominates comes on a valid pair. Without the rule the agent selects it in the next `handle_timeout`."""

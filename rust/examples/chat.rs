@@ -58,7 +58,6 @@ fn turn(agent: &mut IceAgent, socket: &mut UdpSocket, host: &str, timeout: &mut 
     while let Some(packet) = agent.poll_transmit() {
         let _ = socket.send_to(&packet.contents, packet.destination); // what is not sent is lost, as on the network
     }
-    *timeout = agent.poll_timeout().map_or(*timeout, |at| at.min(*timeout)); // and after them
     let wait = timeout.saturating_duration_since(now);
     socket.set_read_timeout(Some(wait.clamp(Duration::from_millis(1), Duration::from_millis(100))))?;
     receive(agent, socket, timeout)

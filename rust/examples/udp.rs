@@ -66,8 +66,6 @@ impl Side {
             while let Some(packet) = self.agent.poll_transmit() {
                 self.send(&packet.contents, packet.destination);
             }
-            // And after them: a request that arrives then moves up the time of a check that was polled here.
-            self.timeout = self.timeout.into_iter().chain(self.agent.poll_timeout()).min();
             // 5. Events.
             while let Some(event) = self.agent.poll_event() {
                 if let IceAgentEvent::NominatedSend { destination, .. } = event {

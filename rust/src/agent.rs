@@ -440,8 +440,8 @@ impl IceAgent {
         Some(Transmit { proto: Protocol::of(packet.protocol), source, destination, contents })
     }
 
-    /// The time at which to call `handle_timeout` next. Call it before packets are polled and after them, and keep the earliest one that
-    /// it returns until `handle_timeout`, as `examples/udp.rs` does.
+    /// The time at which to call `handle_timeout` next. Call it before packets are polled, and keep the earliest one that it returns
+    /// until `handle_timeout`, as `examples/udp.rs` does.
     pub fn poll_timeout(&mut self) -> Option<Instant> {
         let mut at = 0;
         let is_some = ffi::is_ice_poll_timeout(self.held(), &mut at) == ffi::OK;

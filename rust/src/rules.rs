@@ -52,6 +52,10 @@ pub struct Rules {
     /// From the first check of a valid pair without a response until the pair is suspected, its checks come at most an interval apart, as
     /// far as Ta allows. These checks end no pair sooner.
     pub suspicion: Option<Suspicion>,
+    /// Until the agent has a path, and if it is controlling has sent the check that nominates it, the pacing interval Ta is at most this,
+    /// and at least 5 ms (RFC 8445, section 14.2). So the pair that works is checked sooner if there are many. A shorter
+    /// [`IceAgent::set_timing_advance`] stays. Less than 5 ms counts as 5 ms, and `Some(Duration::ZERO)` is the same as `None`.
+    pub early_pacing: Option<Duration>,
     /// Every second check may go to the selected pair, if it is due, before all others. So its consent is renewed in time, however many
     /// pairs there are.
     pub selected_first: bool,
@@ -135,6 +139,7 @@ impl Rules {
             selects_at_once: rules.selects_at_once,
             consent: (rules.consent_timeout > 0).then_some(Consent { timeout, strict }),
             suspicion: (rules.suspicion_timeout > 0).then_some(suspicion),
+            early_pacing: (rules.early_pacing > 0).then_some(Duration::from_nanos(rules.early_pacing)),
             selected_first: rules.selected_first,
             timeout_after_requests: rules.timeout_after_requests,
             lite_keeps_role: rules.lite_keeps_role,
@@ -153,6 +158,7 @@ impl Rules {
             consent_timeout: self.consent.map_or(0, |consent| nanoseconds(consent.timeout)),
             suspicion_timeout: self.suspicion.map_or(0, |suspicion| nanoseconds(suspicion.timeout)),
             suspicion_interval: self.suspicion.map_or(0, |suspicion| nanoseconds(suspicion.interval)),
+            early_pacing: self.early_pacing.map_or(0, nanoseconds),
             kinds_in_turn: self.kinds_in_turn,
             selects_at_once: self.selects_at_once,
             strict_consent: self.consent.is_some_and(|consent| consent.strict),

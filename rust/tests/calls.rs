@@ -141,7 +141,7 @@ fn an_agent_that_changed_is_called_soon() {
     let (mut agent, began) = (paired(), Instant::now());
     assert_eq!(agent.poll_timeout_soon(), None);
     agent.handle_timeout(began);
-    assert_eq!((agent.poll_timeout(), agent.poll_timeout_soon()), (Some(began + ms(50)), Some(began + ms(5))));
+    assert_eq!((agent.poll_timeout(), agent.poll_timeout_soon()), (Some(began + ms(20)), Some(began + ms(5))));
     agent.set_timing_advance(ms(2));
     assert_eq!((agent.poll_timeout(), agent.poll_timeout_soon()), (Some(began + ms(2)), Some(began + ms(2))));
 }
@@ -247,6 +247,7 @@ fn rules_begin_as_documented() {
     assert!(!original.kinds_in_turn && !original.selects_at_once && !original.selected_first && !original.timeout_after_requests);
     assert_eq!((original.triggered_checks, original.early_rto, original.consent), (None, None, None));
     assert_eq!((modern.suspicion, original.suspicion), (None, None));
+    assert_eq!((modern.early_pacing, original.early_pacing), (Some(ms(10)), None));
 }
 
 /// The rules of an agent after these were set.
@@ -258,7 +259,7 @@ fn rules_after(rules: Rules) -> Rules {
 
 #[test]
 fn rules_are_set() {
-    let changes: [fn(&mut Rules); 17] = [
+    let changes: [fn(&mut Rules); 20] = [
         |rules| *rules = Rules::original(),
         |rules| rules.kinds_in_turn = !rules.kinds_in_turn,
         |rules| rules.triggered_checks = Some(u64::MAX),
@@ -269,6 +270,9 @@ fn rules_are_set() {
         |rules| rules.consent = Some(Consent { timeout: Duration::from_nanos(1), strict: false }),
         |rules| rules.suspicion = Some(Suspicion { timeout: Duration::from_nanos(u64::MAX), interval: Duration::from_nanos(u64::MAX) }),
         |rules| rules.suspicion = Some(Suspicion { timeout: Duration::from_nanos(1), interval: Duration::ZERO }),
+        |rules| rules.early_pacing = None,
+        |rules| rules.early_pacing = Some(Duration::from_nanos(1)),
+        |rules| rules.early_pacing = Some(Duration::from_nanos(u64::MAX)),
         |rules| rules.selected_first = !rules.selected_first,
         |rules| rules.timeout_after_requests = !rules.timeout_after_requests,
         |rules| rules.lite_keeps_role = !rules.lite_keeps_role,
@@ -292,6 +296,7 @@ fn rules_that_count_to_0_are_none() {
     rules.early_rto = Some(EarlyRto { retransmits: 0, interval: ms(7) });
     rules.consent = Some(Consent { timeout: Duration::ZERO, strict: true });
     rules.suspicion = Some(Suspicion { timeout: Duration::ZERO, interval: ms(7) });
+    rules.early_pacing = Some(Duration::ZERO);
     assert_eq!(rules_after(rules), Rules::original());
 }
 
@@ -320,6 +325,33 @@ fn kinds_take_turns() {
     let mut original = IceAgent::new(creds("near"));
     original.set_rules(Rules::original());
     assert_eq!(first_checks(original), ["10.0.0.2", "10.0.0.3", "10.0.0.4", "203.0.113.9"]);
+}
+
+/// How soon after its first timeout the next one of an agent comes, which has three pairs to check.
+fn next_timeout(early_pacing: Option<Duration>, advance: Duration) -> Duration {
+    let mut agent = IceAgent::new(creds("near"));
+    let mut rules = Rules::original();
+    rules.early_pacing = early_pacing;
+    agent.set_rules(rules);
+    agent.set_timing_advance(advance);
+    agent.set_remote_credentials(creds("farr"));
+    agent.add_local_candidate(host("10.0.0.1:1000")).expect("a candidate");
+    for number in 2..5 {
+        let line = format!("candidate:{number} 1 udp {} 10.0.0.{number} 2000 typ host", 2_130_706_175 - number);
+        agent.add_remote_candidate(Candidate::from_sdp_string(&line).unwrap());
+    }
+    let begin = Instant::now();
+    agent.handle_timeout(begin);
+    agent.poll_timeout().expect("a timeout") - begin
+}
+
+#[test]
+fn checks_are_closer_until_there_is_a_path() {
+    assert_eq!(next_timeout(None, ms(50)), ms(50));
+    assert_eq!(next_timeout(Some(ms(20)), ms(50)), ms(20));
+    assert_eq!(next_timeout(Some(ms(20)), ms(10)), ms(10));
+    assert_eq!(next_timeout(Some(ms(1)), ms(50)), ms(5));
+    assert_eq!(next_timeout(Some(ms(60)), ms(50)), ms(50));
 }
 
 #[test]

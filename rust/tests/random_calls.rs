@@ -227,6 +227,7 @@ impl Session {
         let (timeout, strict) = (self.random.duration(), self.random.once_in(2));
         rules.consent = self.random.once_in(2).then_some(Consent { timeout, strict });
         rules.suspicion = self.random.once_in(2).then_some(Suspicion { timeout, interval });
+        rules.early_pacing = self.random.once_in(2).then_some(interval);
         rules
     }
 

@@ -14,6 +14,7 @@ mod making;
 mod memory;
 mod nominations;
 mod numbers;
+mod pacing;
 mod pairs;
 mod polled;
 mod progress;

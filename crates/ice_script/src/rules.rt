@@ -2,11 +2,12 @@
 use crate::fault::Stop;
 use crate::fields::Fields;
 use crate::table::{
-    CONSENT, DISCOVERED_IF_SERVED, EARLY_RTO, INTERVAL, INVALIDATES_LISTED, KINDS_IN_TURN,
-    LITE_KEEPS_ROLE, NAME, NUMBERED_NOMINATIONS, RETRANSMITS, SELECTED_FIRST, SELECTS_AT_ONCE,
-    STATE_AFTER_NOMINATION, STRICT, SUSPICION, TIMEOUT, TIMEOUT_AFTER_REQUESTS, TRIGGERED_CHECKS,
+    CONSENT, DISCOVERED_IF_SERVED, EARLY_PACING, EARLY_RTO, INTERVAL, INVALIDATES_LISTED,
+    KINDS_IN_TURN, LITE_KEEPS_ROLE, NAME, NUMBERED_NOMINATIONS, RETRANSMITS, SELECTED_FIRST,
+    SELECTS_AT_ONCE, STATE_AFTER_NOMINATION, STRICT, SUSPICION, TIMEOUT, TIMEOUT_AFTER_REQUESTS,
+    TRIGGERED_CHECKS,
 };
-use is::{Consent, EarlyRto, Rules, Suspicion};
+use is::{Consent, Duration, EarlyRto, Rules, Suspicion};
 
 /// The rules of this name, except those that have a field of their own.
 pub fn rules_of(fields: Fields<'_>) -> Result<Rules, Stop> {
@@ -31,6 +32,7 @@ pub fn rules_of(fields: Fields<'_>) -> Result<Rules, Stop> {
         )?,
         invalidates_listed: fields.flag_or(INVALIDATES_LISTED, named.invalidates_listed)?,
         suspicion: suspicion(fields, named)?,
+        early_pacing: early_pacing(fields, named)?,
     })
 }
 
@@ -90,6 +92,16 @@ fn suspicion(fields: Fields<'_>, named: Rules) -> Result<Option<Suspicion>, Stop
             timeout: fields.duration(TIMEOUT)?,
             interval: fields.duration(INTERVAL)?,
         })),
+        None => Ok(None),
+    }
+}
+
+fn early_pacing(fields: Fields<'_>, named: Rules) -> Result<Option<Duration>, Stop> {
+    if !fields.has(EARLY_PACING) {
+        return Ok(named.early_pacing);
+    }
+    match fields.number_or_null(EARLY_PACING)? {
+        Some(nanoseconds) => Ok(Some(Duration(nanoseconds))),
         None => Ok(None),
     }
 }

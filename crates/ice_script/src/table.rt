@@ -133,6 +133,8 @@ pub const INVALIDATES_LISTED: Field = Field("invalidates_listed", Kind::Flag);
 
 pub const SUSPICION: Field = Field("suspicion", Kind::Suspicion);
 
+pub const EARLY_PACING: Field = Field("early_pacing", Kind::WholeOrNull);
+
 /// The name of a call.
 #[derive(Clone, Copy, PartialEq, Eq)]
 pub enum CallName {

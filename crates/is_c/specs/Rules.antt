@@ -1,6 +1,7 @@
 -- The rules of an agent, as C sets and reads them.
 use Rattle.std.specs.Prelude.{◌≡◌, ℕ, ℤ, ◌==◌, Bool, false, Option, Some, None, unwrap_or, if◌then◌else◌}
 use Rattle.std.specs.Option.{option_map_or}
+use Rattle.is_proto.specs.declared.Duration.{Duration}
 use Rattle.is_stun.specs.declared.timing.Consent.{Consent}
 use Rattle.is_stun.specs.declared.timing.EarlyRto.{EarlyRto}
 use Rattle.is_stun.specs.declared.timing.Suspicion.{Suspicion}
@@ -24,6 +25,9 @@ abbrev pub suspicion_of : ℕ → ℕ → Option Suspicion
 suspicion_of timeout interval =
     if timeout == 0 then None else Some (record { timeout = record { 0 = timeout }; interval = record { 0 = interval } })
 
+abbrev pub early_pacing_of : ℕ → Option Duration
+early_pacing_of early = if early == 0 then None else Some (record { 0 = early })
+
 -- the rules that a struct of C means
 abbrev pub rules_of : AgentRules → Rules
 rules_of r = record {
@@ -33,6 +37,7 @@ rules_of r = record {
   selects_at_once = r.selects_at_once;
   consent = consent_of r.consent_timeout r.strict_consent;
   suspicion = suspicion_of r.suspicion_timeout r.suspicion_interval;
+  early_pacing = early_pacing_of r.early_pacing;
   selected_first = r.selected_first;
   timeout_after_requests = r.timeout_after_requests;
   lite_keeps_role = r.lite_keeps_role;
@@ -51,6 +56,7 @@ reported_rules rules = record {
   consent_timeout = option_map_or (λ c. c.timeout.0) rules.consent 0;
   suspicion_timeout = option_map_or (λ s. s.timeout.0) rules.suspicion 0;
   suspicion_interval = option_map_or (λ s. s.interval.0) rules.suspicion 0;
+  early_pacing = option_map_or (λ d. d.0) rules.early_pacing 0;
   kinds_in_turn = rules.kinds_in_turn;
   selects_at_once = rules.selects_at_once;
   strict_consent = option_map_or (λ c. c.strict) rules.consent false;

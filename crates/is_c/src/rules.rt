@@ -4,7 +4,7 @@ ghost use Rattle.std.specs.Prelude.{◌≡◌, None};
 ghost use Rattle.is_rules.specs.Agent.{original_rules, modern_rules};
 ghost use Rattle.is_rules.specs.Settings.{with_rules};
 ghost use Rattle.is_c.specs.Held.{held_by, At, AgentBecomes};
-ghost use Rattle.is_c.specs.Rules.{triggered_of, early_of, consent_of, suspicion_of, rules_of, reported_rules, as_read, ReturnsRules, GivesRules};
+ghost use Rattle.is_c.specs.Rules.{triggered_of, early_of, consent_of, suspicion_of, early_pacing_of, rules_of, reported_rules, as_read, ReturnsRules, GivesRules};
 
 use crate::codes;
 use crate::slot::Slot;
@@ -29,6 +29,8 @@ pub struct AgentRules {
     pub suspicion_timeout: u64,
     /// and so long after a check without a response the next one is due.
     pub suspicion_interval: u64,
+    /// At most so many nanoseconds apart are checks until there is a path.
+    pub early_pacing: u64,
     pub kinds_in_turn: bool,
     pub selects_at_once: bool,
     /// and the peer's checks do not keep it.
@@ -88,6 +90,17 @@ fn suspicion_of(timeout: u64, interval: u64) -> Option<Suspicion>
     })
 }
 
+/// Early pacing: 0 means that there is none.
+fn early_pacing_of(early: u64) -> Option<Duration>
+    ensures { result ≡ early_pacing_of early }
+{
+    if early == 0 {
+        None
+    } else {
+        Some(Duration(early))
+    }
+}
+
 fn rules_of(rules: &AgentRules) -> Rules
     ensures meant { result ≡ rules_of rules.now }
     ensures read { reported_rules result ≡ as_read rules.now }
@@ -99,6 +112,7 @@ fn rules_of(rules: &AgentRules) -> Rules
         selects_at_once: rules.selects_at_once,
         consent: consent_of(rules.consent_timeout, rules.strict_consent),
         suspicion: suspicion_of(rules.suspicion_timeout, rules.suspicion_interval),
+        early_pacing: early_pacing_of(rules.early_pacing),
         selected_first: rules.selected_first,
         timeout_after_requests: rules.timeout_after_requests,
         lite_keeps_role: rules.lite_keeps_role,
@@ -124,6 +138,10 @@ fn reported_rules(rules: Rules) -> AgentRules
         Some(suspicion) => (suspicion.timeout.0, suspicion.interval.0),
         None => (0, 0),
     };
+    let early_pacing = match rules.early_pacing {
+        Some(early) => early.0,
+        None => 0,
+    };
     AgentRules {
         triggered_checks: rules.triggered_checks.unwrap_or(0),
         early_retransmits,
@@ -131,6 +149,7 @@ fn reported_rules(rules: Rules) -> AgentRules
         consent_timeout,
         suspicion_timeout,
         suspicion_interval,
+        early_pacing,
         kinds_in_turn: rules.kinds_in_turn,
         selects_at_once: rules.selects_at_once,
         strict_consent,

@@ -86,6 +86,7 @@ original_rules = record {
   state_after_nomination = false;
   invalidates_listed = false;
   suspicion = None;
+  early_pacing = None;
 }
 
 -- what connects fastest, and ends consent in time: within the 30 s of RFC 7675, section 5.1
@@ -104,6 +105,7 @@ modern_rules = record {
   state_after_nomination = true;
   invalidates_listed = true;
   suspicion = None;
+  early_pacing = Some (record { 0 = 10 * MILLISECOND });
 }
 
 abbrev pub no_stats : IceAgentStats

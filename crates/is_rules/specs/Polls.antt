@@ -1,17 +1,28 @@
 -- What the polls return.
-use Rattle.std.specs.Prelude.{◌≡◌, ℕ, ◌*◌, min, max, ◌||◌, not, Bool, List, [], ◌∷◌, map, fold, Option, Some, None, MatchBool, IsSomeAnd}
+use Rattle.std.specs.Prelude.{◌≡◌, ℕ, ◌*◌, min, max, ◌&&◌, ◌||◌, not, Bool, List, [], ◌∷◌, map, fold, Option, Some, None, is_some, MatchBool, IsSomeAnd, if◌then◌else◌}
 use Rattle.is_proto.specs.Lists.{is_empty}
-use Rattle.is_proto.specs.Times.{MAX, SECOND, later}
+use Rattle.is_proto.specs.Times.{MAX, MILLISECOND, SECOND, later}
+use Rattle.is_proto.specs.declared.Duration.{Duration}
 use Rattle.is_pair.specs.Due.{call_time_of, asked}
 use Rattle.is_proto.specs.Packets.{Packet}
 use Rattle.is_rules.specs.declared.event.IceAgentEvent.{IceAgentEvent}
 use Rattle.is_rules.specs.Agent.{AgentRecord}
 use Rattle.is_rules.specs.Nominating.{is_pressing}
+use Rattle.is_rules.specs.Connecting.{is_connected}
 
 -- A poll removes the first element of a queue and returns it.
 abbrev pub IsPolled : {X : Type 0} → List X → Option X → List X → Type 0
 IsPolled old None new = (old ≡ []) × (new ≡ [])
 IsPolled old (Some x) new = old ≡ x ∷ new
+
+-- the least pacing interval Ta (RFC 8445, section 14.2)
+abbrev pub LEAST_TA : ℕ
+LEAST_TA = 5 * MILLISECOND
+
+-- the pacing interval by the rule `early_pacing`
+abbrev pub early_advance : Option Duration → ℕ → ℕ
+early_advance None advance = advance
+early_advance (Some early) advance = min advance (max LEAST_TA early.0)
 
 module _ {H P : Type 0} where
   -- `poll_transmit`
@@ -26,9 +37,17 @@ module _ {H P : Type 0} where
   abbrev pub is_waiting : AgentRecord H P → Bool
   is_waiting a = not (is_empty a.packets) || not (is_empty a.queue) || is_pressing a
 
-  -- one pacing interval Ta after the last call (RFC 8445, section 14.2)
+  -- The agent has a path, and if it is controlling, the check that nominates it was sent.
+  abbrev pub is_settled : AgentRecord H P → Bool
+  is_settled a = is_connected a.state && not (a.controlling && a.nomination_due)
+
+  -- the pacing interval Ta; until the agent is settled, no longer than by the rule `early_pacing`
+  abbrev pub pacing_of : AgentRecord H P → ℕ
+  pacing_of a = if is_settled a then a.timing_advance else early_advance a.rules.early_pacing a.timing_advance
+
+  -- one pacing interval after the last call
   abbrev pub soon : AgentRecord H P → ℕ → ℕ
-  soon a last = later last a.timing_advance
+  soon a last = later last (pacing_of a)
 
   -- the earliest time at which a pair is due, computed at the time of the last call, or at which its consent ends
   abbrev pub earliest_call : AgentRecord H P → ℕ → ℕ
@@ -38,7 +57,13 @@ module _ {H P : Type 0} where
   abbrev pub is_idle : AgentRecord H P → Bool
   is_idle a = a.lite || is_empty a.pairs
 
-  -- If nothing is queued, `poll_timeout` fixes the due times.
+  -- While something waits, `poll_timeout` fixes the due times only if requests may trigger checks.
+  abbrev pub WaitingTimeout : AgentRecord H P → ℕ → ℕ → AgentRecord H P → Type 0
+  WaitingTimeout old last deadline new =
+      (deadline ≡ soon old last)
+      × MatchBool (is_some old.rules.triggered_checks) (new ≡ record old { pairs = map (asked last old.timing) old.pairs }) (new ≡ old)
+
+  -- If nothing waits, it fixes them.
   abbrev pub IdleTimeout : AgentRecord H P → ℕ → ℕ → AgentRecord H P → Type 0
   IdleTimeout old last deadline new =
       MatchBool (is_idle old)
@@ -46,7 +71,7 @@ module _ {H P : Type 0} where
       ((deadline ≡ max (earliest_call old last) (soon old last)) × (new ≡ record old { pairs = map (asked last old.timing) old.pairs }))
 
   abbrev pub NextTimeouts : AgentRecord H P → ℕ → ℕ → AgentRecord H P → Type 0
-  NextTimeouts old last deadline new = MatchBool (is_waiting old) ((deadline ≡ soon old last) × (new ≡ old)) (IdleTimeout old last deadline new)
+  NextTimeouts old last deadline new = MatchBool (is_waiting old) (WaitingTimeout old last deadline new) (IdleTimeout old last deadline new)
 
   -- `poll_timeout`: without a time of a last call it returns none.
   abbrev pub NextTimeoutFrom : Option ℕ → AgentRecord H P → Option ℕ → AgentRecord H P → Type 0

@@ -14,6 +14,7 @@ use std::collections::VecDeque;
 const QUEUE_LIMIT: usize = 100;
 
 /// Removes this many requests from the front.
+#[inline(always)]
 pub fn drop_first(queue: &mut VecDeque<Waiting>, count: usize)
     ensures items { queue.new.items ≡ drop count queue.old.items }
 {

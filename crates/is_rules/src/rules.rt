@@ -58,6 +58,9 @@ pub struct Rules {
     /// interval. Probes end no pair sooner: a pair is kept as long as a whole series of checks takes. An agent that follows its peer
     /// leaves the choice to it.
     pub suspicion: Option<Suspicion>,
+    /// Until the agent has a path, and if it is controlling has sent the check that nominates it, the pacing interval Ta is at most this, and
+    /// at least 5 ms (RFC 8445, section 14.2). So the pair that works is checked sooner if there are many. A shorter one that is set stays.
+    pub early_pacing: Option<Duration>,
 }
 
 /// How often, and how far apart.
@@ -65,6 +68,9 @@ const MODERN_EARLY_RTO: EarlyRto = EarlyRto {
     retransmits: 4,
     interval: Duration(100_000_000),
 };
+
+/// How often checks are sent until there is a path.
+const MODERN_EARLY_PACING: Duration = Duration(10_000_000);
 
 /// Within the 30 s of RFC 7675, section 5.1.
 const MODERN_CONSENT: Consent = Consent {
@@ -91,6 +97,7 @@ impl Rules {
             state_after_nomination: false,
             invalidates_listed: false,
             suspicion: None,
+            early_pacing: None,
         }
     }
 
@@ -114,6 +121,7 @@ impl Rules {
             state_after_nomination: true,
             invalidates_listed: true,
             suspicion: None,
+            early_pacing: Some(MODERN_EARLY_PACING),
         }
     }
 }

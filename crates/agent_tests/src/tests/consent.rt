@@ -288,6 +288,12 @@ const FIRST: [Story; 3] = [
 
 // ---- a session in which each check has a response, and one cut
 
+/// The modern rules, with checks 50 ms apart from the start.
+const PACED: Rules = Rules {
+    early_pacing: None,
+    ..MODERN
+};
+
 /// All rules but those of consent, of the selected pair, and of calls that serve requests.
 const BEFORE: Rules = Rules {
     consent: None,
@@ -295,7 +301,7 @@ const BEFORE: Rules = Rules {
     timeout_after_requests: false,
     lite_keeps_role: false,
     numbered_nominations: false,
-    ..MODERN
+    ..PACED
 };
 
 /// Each check has a response until 6.55 s; then nothing arrives. A series of nine checks begins at 9.55 s, before consent ends at 36.15 s.
@@ -347,7 +353,7 @@ const SESSION: [Step; 44] = [
 ];
 
 const SAME: [Story; 4] = [
-    Story("all_rules", &[Begin(Paired), Set(Setting::Rules(MODERN))]),
+    Story("all_rules", &[Begin(Paired), Set(Setting::Rules(PACED))]),
     Story("a_session_by_all_rules", &SESSION),
     Story(
         "all_rules_but_three",

@@ -34,6 +34,7 @@ pub(super) const ORIGINAL: Rules = Rules {
     state_after_nomination: false,
     invalidates_listed: false,
     suspicion: None,
+    early_pacing: None,
 };
 
 /// What connects fastest, keeps consent, and has a next timeout after each call.
@@ -57,6 +58,7 @@ pub(super) const MODERN: Rules = Rules {
     state_after_nomination: true,
     invalidates_listed: true,
     suspicion: None,
+    early_pacing: Some(Duration(10_000_000)),
 };
 
 const STORIES: [Story; 5] = [

@@ -14,6 +14,7 @@ pub(super) const OFF: AgentRules = AgentRules {
     consent_timeout: 0,
     suspicion_timeout: 0,
     suspicion_interval: 0,
+    early_pacing: 0,
     kinds_in_turn: false,
     selects_at_once: false,
     strict_consent: false,
@@ -33,6 +34,7 @@ const ON: AgentRules = AgentRules {
     consent_timeout: 29_600_000_000,
     suspicion_timeout: 0,
     suspicion_interval: 0,
+    early_pacing: 10_000_000,
     kinds_in_turn: true,
     selects_at_once: true,
     strict_consent: false,
@@ -54,6 +56,7 @@ fn are_same(one: &AgentRules, other: &AgentRules) -> bool {
         && one.consent_timeout == other.consent_timeout
         && one.suspicion_timeout == other.suspicion_timeout
         && one.suspicion_interval == other.suspicion_interval
+        && one.early_pacing == other.early_pacing
         && one.strict_consent == other.strict_consent
         && one.selected_first == other.selected_first
         && one.timeout_after_requests == other.timeout_after_requests

@@ -9,7 +9,8 @@ use Rattle.is_pair.specs.Pairs.{PairRecord}
 use Rattle.is_pair.specs.Due.{asked, call_time_of}
 use Rattle.is_rules.specs.Agent.{AgentRecord}
 use Rattle.is_rules.specs.Nominating.{is_pressing}
-use Rattle.is_rules.specs.Polls.{PollsTimeout, NextTimeoutFrom, NextTimeouts, IdleTimeout, is_waiting, is_idle, soon, earliest_call}
+use Rattle.is_proto.specs.declared.Duration.{Duration}
+use Rattle.is_rules.specs.Polls.{early_advance, is_settled, pacing_of, PollsTimeout, NextTimeoutFrom, NextTimeouts, WaitingTimeout, IdleTimeout, is_waiting, is_idle, soon, earliest_call}
 use Rattle.is_rules.specs.TimeoutTimes.{soonest, TimeoutIsAhead, TimeoutIsInTime, TimeoutIsGiven, TimeoutIsSoon}
 
 pub either : (b : Bool) {P Q R : Type 0} → MatchBool b P Q → (b ≡ true → P → R) → (b ≡ false → Q → R) → R
@@ -59,14 +60,30 @@ not-idle : (lite : Bool) (pairs : List PairRecord) → lite ≡ false → is_emp
 not-idle true pairs full some = absurd (cc)
 not-idle false pairs full some = some
 
+-- the pacing interval by the rule: no longer than that of the agent, and not zero unless that is
+early-paced : (early : Option Duration) (advance : ℕ) → early_advance early advance ≤ advance
+early-paced None advance = omega arith
+early-paced (Some early) advance = omega arith
+
+early-some : (early : Option Duration) (advance : ℕ) → 0 < advance → 0 < early_advance early advance
+early-some None advance some = omega (arith, some)
+early-some (Some early) advance some = omega (arith, some)
+
 module _ {H P : Type 0} where
+  pub pacing-short : (a : AgentRecord H P) → pacing_of a ≤ a.timing_advance
+  pacing-short a = let short = early-paced a.rules.early_pacing a.timing_advance in grind (arith, short)
+
+  pacing-some : (a : AgentRecord H P) → 0 < a.timing_advance → 0 < pacing_of a
+  pacing-some a some = let early = early-some a.rules.early_pacing a.timing_advance some in grind (arith, early, some)
+
   pub timeouts-from : (old new : AgentRecord H P) (last deadline : ℕ) → old.last_time ≡ Some last → PollsTimeout old (Some deadline) new → NextTimeouts old last deadline new
   timeouts-from old new last deadline is h = subst (λ o. NextTimeoutFrom o old (Some deadline) new) is h
 
   pub timeouts-ahead : TimeoutIsAhead H P
   timeouts-ahead old new None h = tt
   timeouts-ahead old new (Some deadline) h = λ last is some early.
-      let next : last < soon old last = omega (arith, some, early) in
+      let paced = pacing-some old some in
+      let next : last < soon old last = omega (arith, paced, early) in
       either (is_waiting old) (timeouts-from old new last deadline is h)
       (λ _ k. (let is = k.0 in omega (arith, is, next)))
       (λ _ k. either (is_idle old) k
@@ -121,7 +138,7 @@ module _ {H P : Type 0} where
       → (deadline ≡ max (earliest_call old last) (soon old last)) × (new ≡ record old { pairs = map (asked last old.timing) old.pairs })
   all-are-asked old new last deadline is full no_packets no_queue calm some h =
       let w : IdleTimeout old last deadline new =
-      subst (λ b. MatchBool b ((deadline ≡ soon old last) × (new ≡ old)) (IdleTimeout old last deadline new)) (not-waiting old no_packets no_queue calm) (timeouts-from old new last deadline is h) in
+      subst (λ b. MatchBool b (WaitingTimeout old last deadline new) (IdleTimeout old last deadline new)) (not-waiting old no_packets no_queue calm) (timeouts-from old new last deadline is h) in
       subst (λ b. MatchBool b ((deadline ≡ later last (3 * SECOND)) × (new ≡ old))
       ((deadline ≡ max (earliest_call old last) (soon old last)) × (new ≡ record old { pairs = map (asked last old.timing) old.pairs })))
       (not-idle old.lite old.pairs full some) w

@@ -1,5 +1,5 @@
 -- What the calls change before pairs are formed, and what they form.
-use Rattle.std.proofs.Common.{◌≡◌, ℕ, ◌<◌, nat_lt, length, map, position, Option, Some, None, Ok, Err, refl}
+use Rattle.std.proofs.Common.{◌≡◌, ℕ, ◌<◌, nat_lt, length, map, position, Option, Some, None, is_some, Ok, Err, refl}
 use Rattle.is_proto.specs.declared.error.IceError.{IceError}
 use Rattle.is_proto.specs.declared.error.IceError.TheVariants.{PriorityTooHigh}
 use Rattle.is_candidate.specs.Candidates.{CandidateRecord, IsBased, candidate_at}
@@ -12,7 +12,7 @@ use Rattle.is_rules.specs.Discarding.{local_discarded}
 use Rattle.is_rules.specs.Forming.{local_combinations, remote_combinations, FormsAll}
 use Rattle.is_rules.specs.Local.{is_too_high, is_unwanted, comes_again, enabled, preferred, as_own, appended, enabled_again, EnrolsAt, AddsLocal}
 use Rattle.is_rules.specs.Remote.{as_remote, is_ignored, is_placeholder, with_remote, StoresAt, AddsRemote}
-use Rattle.is_rules.specs.Polls.{is_waiting, is_idle, NextTimeouts, NextTimeoutFrom, PollsTimeout}
+use Rattle.is_rules.specs.Polls.{is_waiting, is_idle, WaitingTimeout, NextTimeouts, NextTimeoutFrom, PollsTimeout}
 use Rattle.is_theorems.proofs.BasicLemmas.EqualAddresses.{both, same_address-sound}
 use Rattle.is_theorems.proofs.RuleEffects.UnchangedSettings.{either}
 use Rattle.is_theorems.proofs.BasicLemmas.CandidatesByIndex.{found-at}
@@ -76,15 +76,20 @@ module _ {H P : Type 0} {R : Type 0} (old new : AgentRecord H P) where
 
   -- ---- `poll_timeout`
 
-  deadline_by : (last w : ℕ) → NextTimeouts old last w new → (new ≡ old → R) → ((at : ℕ) → new ≡ record old { pairs = map (asked at old.timing) old.pairs } → R) → R
-  deadline_by last w h stays asks = either (is_waiting old) h
-      (λ _ k. stays k.1)
-      (λ _ k. either (is_idle old) k (λ _ n. stays n.1) (λ _ n. asks last n.1))
+  -- while something waits
+  pub by_waiting : (last w : ℕ) → WaitingTimeout old last w new → (new ≡ old → R) → (new ≡ record old { pairs = map (asked last old.timing) old.pairs } → R) → R
+  by_waiting last w h stays asks = either (is_some old.rules.triggered_checks) h.1 (λ _ made. asks made) (λ _ made. stays made)
+
+  -- after a `handle_timeout` call at time `last`
+  pub by_deadline : (last w : ℕ) → NextTimeouts old last w new → (new ≡ old → R) → (new ≡ record old { pairs = map (asked last old.timing) old.pairs } → R) → R
+  by_deadline last w h stays asks = either (is_waiting old) h
+      (λ _ k. by_waiting last w k stays asks)
+      (λ _ k. either (is_idle old) k (λ _ n. stays n.1) (λ _ n. asks n.1))
 
   timeout_from : (last deadline : Option ℕ) → NextTimeoutFrom last old deadline new → (new ≡ old → R) → ((at : ℕ) → new ≡ record old { pairs = map (asked at old.timing) old.pairs } → R) → R
   timeout_from None deadline h stays asks = stays h.1
   timeout_from (Some last) None h stays asks = absurd h
-  timeout_from (Some last) (Some w) h stays asks = deadline_by last w h stays asks
+  timeout_from (Some last) (Some w) h stays asks = by_deadline last w h stays (λ made. asks last made)
 
   -- nothing changes, or the due time of each pair is fixed
   pub by_waking : (deadline : Option ℕ) → PollsTimeout old deadline new → (new ≡ old → R) → ((at : ℕ) → new ≡ record old { pairs = map (asked at old.timing) old.pairs } → R) → R

@@ -1,6 +1,6 @@
 -- Starvation freedom: a pair that is due is checked within as many polling cycles as there are pairs that are due no
 -- later, or within twice as many if checks may go ahead.
-use Rattle.std.proofs.Common.{◌≡◌, ℕ, suc, ◌+◌, ◌<◌, ◌≤◌, Bool, true, false, List, [], ◌∷◌, length, map, filter, drop, take_while, min, max, nat_le, Option, Some, None, is_some, Ok, inl, inr, ◌⊎◌, refl, ap, sym, ◌∙◌, subst, arith, ◌&&◌, ◌||◌, not}
+use Rattle.std.proofs.Common.{◌≡◌, ℕ, suc, ◌+◌, ◌<◌, ◌≤◌, Bool, true, false, List, [], ◌∷◌, length, map, filter, drop, take_while, min, max, nat_le, Option, Some, None, is_some, Ok, inl, inr, ◌⊎◌, refl, ap, sym, ◌∙◌, subst, arith, ◌&&◌}
 use Rattle.std.specs.Prelude.{MatchOption}
 use Rattle.std.proofs.lemmas.Bool.Decides.{nat_tests}
 use Rattle.std.proofs.lemmas.List.{length-drop}
@@ -17,15 +17,16 @@ use Rattle.is_rules.specs.declared.emitted.Emitted.{Emitted}
 use Rattle.is_rules.specs.Emitted.{issued_as}
 use Rattle.is_rules.specs.Request.{RequestRecord}
 use Rattle.is_rules.specs.Agent.{AgentRecord}
-use Rattle.is_rules.specs.Checking.{goes_ahead}
+use Rattle.is_rules.specs.Checking.{all_asked, goes_ahead}
 use Rattle.is_rules.specs.declared.rules.Rules.{Rules}
 use Rattle.is_rules.specs.Sending.{path_of}
 use Rattle.is_rules.specs.Queue.{is_outdated, queue_left, next_request, first_taken, request_at}
-use Rattle.is_rules.specs.Polls.{PollsTimeout, NextTimeoutFrom, is_waiting, is_idle, soon, earliest_call}
+use Rattle.is_rules.specs.Polls.{PollsTimeout, NextTimeoutFrom, soon, earliest_call}
 use Rattle.is_rules.specs.Timeouts.{at_request, timeout_begun, MaintainsPairs, ServesQueued, TimesOut}
 use Rattle.is_rules.specs.Sound.{IsSound}
-use Rattle.is_theorems.proofs.RuleEffects.UnchangedSettings.{either, Frame, Turns as SwitchRole, serves}
+use Rattle.is_theorems.proofs.RuleEffects.UnchangedSettings.{Frame, Turns as SwitchRole, serves}
 use Rattle.is_theorems.proofs.RuleEffects.ChangedPairs.{Has-map}
+use Rattle.is_theorems.proofs.CallEffects.AddedCandidates.{by_deadline}
 use Rattle.is_theorems.proofs.CallEffects.ServedRequests.{Has-mapped}
 use Rattle.is_rules.proofs.PairLists.RisingNumbers.{rising-each}
 use Rattle.is_theorems.proofs.RuleEffects.SelectedPaths.{one_pair}
@@ -37,7 +38,7 @@ use Rattle.is_rules.proofs.PollsAndResponses.CalmTimeouts.{calm-after}
 use Rattle.is_rules.proofs.PollsAndResponses.NextTimeout.{timeouts-from, all-are-asked, least-is}
 use Rattle.is_theorems.proofs.DuePairs.AfterNominationAndRemoval.{Distinct, is_fixed_by, Base, base_of, consent-same}
 use Rattle.is_theorems.proofs.DuePairs.ConsentAfterTimeouts.{consent-ended, maintains-consents}
-use Rattle.is_theorems.proofs.DuePairs.PressingTimeouts.{pressing-goes}
+use Rattle.is_theorems.proofs.DuePairs.PressingTimeouts.{asked-presses, pressing-goes}
 use Rattle.is_theorems.proofs.DuePairs.ChecksAhead.{calls_left, Falls, falls-from, calls-fall, calls-some, calls-from}
 use Rattle.is_theorems.proofs.DuePairs.FirstDuePair.{Matches, Follows, follows-on, follows-same, follows-map, gone-follows, same-path, Moved, timeout-follows, timeout-moves}
 
@@ -67,11 +68,6 @@ none-left now t remote queue none = subst (λ q. queue_left now t remote q ≡ [
   by : (remote : Option IceCreds) → queue_left now t remote [] ≡ []
   by None = refl
   by (Some peer) = refl
-
-or-third : (a b c : Bool) → c ≡ true → (a || b || c) ≡ true
-or-third true b c is = refl
-or-third false true c is = refl
-or-third false false c is = is
 
 shorter : (xs : List RequestRecord) (q : RequestRecord) → head xs ≡ Some q → length (drop 1 xs) < length xs
 shorter [] q is = absurd (cc)
@@ -111,18 +107,16 @@ module _ {H P : Type 0} where
 
     -- `poll_timeout` leaves pairs with the same indices
     asks-follow : (at deadline : ℕ) (old new : AgentRecord H P) → old.last_time ≡ Some at → PollsTimeout old (Some deadline) new → (base_of new ≡ base_of old) × Follows old.pairs new.pairs
-    asks-follow at deadline old new is h = either (is_waiting old) (timeouts-from old new at deadline is h)
-        (λ _ k. same k.1)
-        (λ _ k. either (is_idle old) k (λ _ l. same l.1) (λ _ l. changed l.1)) where
-          same : new ≡ old → (base_of new ≡ base_of old) × Follows old.pairs new.pairs
-          same e = (ap (λ (a : AgentRecord H P). base_of a) e, subst (λ (a : AgentRecord H P). Follows old.pairs a.pairs) (sym e) (follows-same old.pairs))
+    asks-follow at deadline old new is h = by_deadline old new at deadline (timeouts-from old new at deadline is h) (λ made. same made) (λ made. changed made) where
+      same : new ≡ old → (base_of new ≡ base_of old) × Follows old.pairs new.pairs
+      same e = (ap (λ (a : AgentRecord H P). base_of a) e, subst (λ (a : AgentRecord H P). Follows old.pairs a.pairs) (sym e) (follows-same old.pairs))
 
-          changed : new ≡ record old { pairs = map (asked at old.timing) old.pairs } → (base_of new ≡ base_of old) × Follows old.pairs new.pairs
-          changed e = (
-            ap (λ (a : AgentRecord H P). base_of a) e,
-            subst (λ (a : AgentRecord H P). Follows old.pairs a.pairs) (sym e)
-                (follows-map (asked at old.timing) old.pairs (λ p. record { number = refl; local = refl; remote = refl; valid = refl })),
-          )
+      changed : new ≡ record old { pairs = map (asked at old.timing) old.pairs } → (base_of new ≡ base_of old) × Follows old.pairs new.pairs
+      changed e = (
+        ap (λ (a : AgentRecord H P). base_of a) e,
+        subst (λ (a : AgentRecord H P). Follows old.pairs a.pairs) (sym e)
+            (follows-map (asked at old.timing) old.pairs (λ p. record { number = refl; local = refl; remote = refl; valid = refl })),
+      )
 
     pub maintains_pairs-from : (now : ℕ) (a : AgentRecord H P) (s t : Stream) (emitted : Emitted) (new : AgentRecord H P) → a.queue ≡ [] → TimesOut mac now a s (Ok tt) emitted new t
         → MaintainsPairs mac now (timeout_begun now a) s emitted new t
@@ -370,15 +364,29 @@ module _ {H P : Type 0} where
 
         -- a path is to be selected or nominated at once
         pressed : old.queue ≡ [] → is_pressing old ≡ true → IsOfUse old emitted new
-        pressed none presses =
-            let same : asked_old ≡ old = either (is_waiting old) (timeouts-from old asked_old at deadline is polled)
-            (λ _ l. l.1)
-            (λ off _. absurd (let no : true ≡ false = sym (or-third (not (is_empty old.packets)) (not (is_empty old.queue)) (is_pressing old) presses) ∙ off in cc)) in
-            let m = maintains_pairs-from now old s t emitted new none (subst (λ (x : AgentRecord H P). TimesOut mac now x s (Ok tt) emitted new t) same h) in
-            elim (pressing-goes mac now (timeout_begun now old) new s t emitted checking.peer checking.full (distinct-sound old sound) presses m) [
-              | inl goes ↦ inl goes
-              | inr selects ↦ inr (inr (presses, selects))
-            ]
+        pressed none presses = by_deadline old asked_old at deadline (timeouts-from old asked_old at deadline is polled) (λ made. unfixed made) (λ made. fixed made) where
+          unfixed : asked_old ≡ old → IsOfUse old emitted new
+          unfixed made =
+              let m = maintains_pairs-from now old s t emitted new none (subst (λ (x : AgentRecord H P). TimesOut mac now x s (Ok tt) emitted new t) made h) in
+              elim (pressing-goes mac now (timeout_begun now old) new s t emitted checking.peer checking.full (distinct-sound old sound) presses m) [
+                | inl goes ↦ inl goes
+                | inr selects ↦ inr (inr (presses, selects))
+              ]
+
+          fixed : asked_old ≡ all_asked at old → IsOfUse old emitted new
+          fixed made =
+              let follows = follows-map (asked at old.timing) old.pairs (λ q. record { number = refl; local = refl; remote = refl; valid = refl }) in
+              let m = maintains_pairs-from now (all_asked at old) s t emitted new none (subst (λ (x : AgentRecord H P). TimesOut mac now x s (Ok tt) emitted new t) made h) in
+              elim (pressing-goes mac now (timeout_begun now (all_asked at old)) new s t emitted checking.peer checking.full (follows.distinct (distinct-sound old sound))
+              (asked-presses at old ∙ presses) m) [
+                | inl (q, has, inl (id, out)) ↦
+                    (let x = Has-map (asked at old.timing) old.pairs q has in
+                    inl (x.0, x.1, inl (id, out ∙ ap (λ (y : PairRecord). Some (issued_as (path_of old y) class.Request id)) (sym x.2))))
+                | inl (q, has, inr gone) ↦
+                    (let x = Has-map (asked at old.timing) old.pairs q has in
+                    inl (x.0, x.1, inr (subst (λ n. IsGone n new.pairs) (sym (ap (λ (y : PairRecord). y.number) x.2)) gone)))
+                | inr selects ↦ inr (inr (presses, selects))
+              ]
 
         by-queue : (queue : List RequestRecord) → old.queue ≡ queue → IsOfUse old emitted new
         by-queue (first ∷ following) waits =

@@ -26,6 +26,7 @@ use Rattle.is_rules.specs.Timeouts.{at_timeout, is_expired, expired_gone, Mainta
 use Rattle.is_theorems.specs.Progress.{ChecksOn, IsGone}
 use Rattle.is_theorems.proofs.DuePairs.AfterNominationAndRemoval.{Base, Distinct, Thins, base_of, nominates-thins, passed}
 use Rattle.is_theorems.proofs.BasicLemmas.PairsInTurn.{next-has, none-to-send}
+use Rattle.is_theorems.proofs.PathSelection.SuspectedPairs.{any-mapped}
 use Rattle.is_theorems.proofs.DuePairs.FirstDuePair.{check-follows, gone-follows, next-check}
 use Rattle.is_theorems.proofs.RuleEffects.ChangedPairs.{Has-map}
 use Rattle.is_theorems.proofs.RuleEffects.EarlierAndNewPairs.{Has-filter}
@@ -55,6 +56,14 @@ found-some (q ∷ ps) p has = by (is_numbered p.number q) refl (λ rest. found-s
     own : is_numbered p.number p ≡ true
     own = eq-eqb p.number p.number refl
   by false is later (inr rest) = later rest
+
+-- fixed due times leave what presses
+pub asked-presses : {H P : Type 0} (at : ℕ) (a : AgentRecord H P) → is_pressing (all_asked at a) ≡ is_pressing a
+asked-presses at a =
+    ap (λ b. numbers a && (if b then a.controlling && not a.lite && a.nomination_due else list_any (is_eligible a.controlling) (map (asked at a.timing) a.pairs)))
+    (asked-selected a.selected_pair at a.timing a.pairs)
+    ∙ ap (λ b. numbers a && (if is_some (pair_selected a.selected_pair a.pairs) then a.controlling && not a.lite && a.nomination_due else b))
+    (any-mapped (is_eligible a.controlling) (asked at a.timing) a.pairs (λ p has. refl))
 
 -- what presses
 presses-why : (n e c l d x : Bool) → (n && (if e then c && not l && d else x)) ≡ true → ((c && not l && n && d && e) ≡ true) ⊎ ((e ≡ false) × (x ≡ true))

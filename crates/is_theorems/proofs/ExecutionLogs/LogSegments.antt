@@ -1,6 +1,6 @@
 -- Segments of a log: their final states, the packets polled before them, and their polling cycles. Polls between `poll_timeout` and
 -- `handle_timeout` change only the events.
-use Rattle.std.proofs.Common.{◌≡◌, ℕ, ◌⊎◌, Bool, true, false, List, [], ◌∷◌, ◌++◌, length, map, Option, Some, None, Result, Ok, Err, inl, inr, refl, ap, sym, ◌∙◌, subst, arith, append_assoc}
+use Rattle.std.proofs.Common.{◌≡◌, ℕ, ◌⊎◌, Bool, true, false, List, [], ◌∷◌, ◌++◌, length, map, not, if◌then◌else◌, Option, Some, None, is_some, Result, Ok, Err, inl, inr, refl, ap, sym, ◌∙◌, subst, arith, append_assoc}
 use Rattle.std.specs.Prelude.{MatchBool}
 use Rattle.rand_core.specs.Stream.{Stream}
 use Rattle.is_proto.specs.Lists.{Has}
@@ -21,6 +21,7 @@ use Rattle.is_theorems.specs.Logs.{Logged}
 use Rattle.is_theorems.specs.Runs.{Run}
 use Rattle.is_theorems.specs.Progress.{IsOfUse}
 use Rattle.is_theorems.specs.Rounds.{is_poll, AreTaken, RunsOn, IsControllingIn, PartsAreRuns, TurnsAreOfUse}
+use Rattle.is_theorems.proofs.CallEffects.AddedCandidates.{by_deadline}
 use Rattle.is_theorems.proofs.RuleEffects.UnchangedSettings.{either}
 use Rattle.is_theorems.proofs.CallEffects.PathAndTradeEffects.{path_theorem}
 use Rattle.is_theorems.proofs.ExecutionLogs.LogTheorems.{runs_sound}
@@ -61,11 +62,7 @@ module _ {H P : Type 0} where
   timeouts-keep : (o deadline : Option ℕ) (old new : AgentRecord H P) → NextTimeoutFrom o old deadline new → new.packets ≡ old.packets
   timeouts-keep None deadline old new h = ap (λ (a : AgentRecord H P). a.packets) h.1
   timeouts-keep (Some last) None old new h = absurd h
-  timeouts-keep (Some last) (Some at) old new h = either (is_waiting old) h
-      (λ _ k. ap (λ (a : AgentRecord H P). a.packets) k.1)
-      (λ _ k. either (is_idle old) k
-      (λ _ l. ap (λ (a : AgentRecord H P). a.packets) l.1)
-      (λ _ l. ap (λ (a : AgentRecord H P). a.packets) l.1))
+  timeouts-keep (Some last) (Some at) old new h = by_deadline old new last at h (λ made. ap (λ (a : AgentRecord H P). a.packets) made) (λ made. ap (λ (a : AgentRecord H P). a.packets) made)
 
   -- ---- `poll_timeout`
 
@@ -83,20 +80,31 @@ module _ {H P : Type 0} where
     by : (o : Option ℕ) → NextTimeoutFrom o (with_events es start) (Some deadline) old → NextTimeoutFrom o (with_events fs start) (Some deadline) (with_events fs old)
     by None (nothing, is) = (nothing, ap (λ (a : AgentRecord H P). with_events fs a) is)
     by (Some last) k =
-        in-both (is_waiting start) k (λ w. (w.0, ap (λ (a : AgentRecord H P). with_events fs a) w.1))
+        in-both (is_waiting start) k
+        (λ w. (w.0, in-both (is_some start.rules.triggered_checks) w.1 (λ made. ap (λ (a : AgentRecord H P). with_events fs a) made) (λ made. ap (λ (a : AgentRecord H P). with_events fs a) made)))
         (λ i. in-both (is_idle start) i (λ l. (l.0, ap (λ (a : AgentRecord H P). with_events fs a) l.1)) (λ l. (l.0, ap (λ (a : AgentRecord H P). with_events fs a) l.1)))
 
-  -- it leaves the agent unchanged, or fixes the due times
+  -- it fixes the due times, or leaves the agent unchanged
+  abbrev is_fixing : AgentRecord H P → Bool
+  is_fixing a = if is_waiting a then is_some a.rules.triggered_checks else not (is_idle a)
+
   abbrev Fixes : ℕ → AgentRecord H P → AgentRecord H P → Type 0
-  Fixes at old new =
-      ((new ≡ old) × ((is_waiting old ≡ true) ⊎ (is_idle old ≡ true)))
-      ⊎ ((is_waiting old ≡ false) × (is_idle old ≡ false) × (new ≡ all_fixed at old))
+  Fixes at old new = ((new ≡ old) × (is_fixing old ≡ false)) ⊎ ((new ≡ all_fixed at old) × (is_fixing old ≡ true))
 
   fixes : (at : ℕ) (old new : AgentRecord H P) (deadline : Option ℕ) → NextTimeoutFrom (Some at) old deadline new → Fixes at old new
   fixes at old new None k = absurd k
-  fixes at old new (Some deadline) k =
-      either (is_waiting old) k (λ waits l. inl (l.1, inl waits))
-      (λ busy i. either (is_idle old) i (λ idle l. inl (l.1, inr idle)) (λ some l. inr (busy, some, l.1)))
+  fixes at old new (Some deadline) k = either (is_waiting old) k
+      (λ waits w. either (is_some old.rules.triggered_checks) w.1
+      (λ on made. inr (made, waiting waits ∙ on))
+      (λ off made. inl (made, waiting waits ∙ off)))
+      (λ free i. either (is_idle old) i
+      (λ idle l. inl (l.1, unwaiting free ∙ ap not idle))
+      (λ busy l. inr (l.1, unwaiting free ∙ ap not busy))) where
+        waiting : is_waiting old ≡ true → is_fixing old ≡ is_some old.rules.triggered_checks
+        waiting waits = ap (λ b. if b then is_some old.rules.triggered_checks else not (is_idle old)) waits
+
+        unwaiting : is_waiting old ≡ false → is_fixing old ≡ not (is_idle old)
+        unwaiting free = ap (λ b. if b then is_some old.rules.triggered_checks else not (is_idle old)) free
 
   -- called again, it changes nothing
   timeouts-twice : (start old new : AgentRecord H P) (deadline : ℕ) (again : Option ℕ) → PollsTimeout start (Some deadline) old → PollsTimeout old again new → new ≡ old
@@ -104,18 +112,17 @@ module _ {H P : Type 0} where
     on : (at : ℕ) → start.last_time ≡ Some at → old.last_time ≡ start.last_time → Fixes at start old → new ≡ old
     on at is kept one = elim (fixes at old new again (subst (λ o. NextTimeoutFrom o old again new) (kept ∙ is) k)) [
       | inl same ↦ same.0
-      | inr (busy, some, made) ↦ elim one [
-        | inl (same, inl waits) ↦ (let wrong : true ≡ false = sym waits ∙ (ap (λ (a : AgentRecord H P). is_waiting a) (sym same) ∙ busy) in absurd (cc))
-        | inl (same, inr idle) ↦ (let wrong : true ≡ false = sym idle ∙ (ap (λ (a : AgentRecord H P). is_idle a) (sym same) ∙ some) in absurd (cc))
-        | inr fixed ↦
-            made ∙ (ap (λ (a : AgentRecord H P). all_fixed at a) fixed.2
-            ∙ (ap (λ ps. record start { pairs = ps }) (asked-twice at start.timing start.pairs) ∙ sym fixed.2))
+      | inr (made, fixing) ↦ elim one [
+        | inl (same, off) ↦ (let wrong : true ≡ false = sym fixing ∙ (ap (λ (a : AgentRecord H P). is_fixing a) same ∙ off) in absurd (cc))
+        | inr (fixed, again_fixing) ↦
+            made ∙ (ap (λ (a : AgentRecord H P). all_fixed at a) fixed
+            ∙ (ap (λ ps. record start { pairs = ps }) (asked-twice at start.timing start.pairs) ∙ sym fixed))
       ]
     ]
 
     by : (o : Option ℕ) → start.last_time ≡ o → NextTimeoutFrom o start (Some deadline) old → new ≡ old
     by None is (nothing, same) = absurd (cc)
-    by (Some at) is w = let f = fixes at start old (Some deadline) w in on at is (elim f [ inl l ↦ ap (λ (a : AgentRecord H P). a.last_time) l.0 | inr l ↦ ap (λ (a : AgentRecord H P). a.last_time) l.2 ]) f
+    by (Some at) is w = let f = fixes at start old (Some deadline) w in on at is (elim f [ inl l ↦ ap (λ (a : AgentRecord H P). a.last_time) l.0 | inr l ↦ ap (λ (a : AgentRecord H P). a.last_time) l.0 ]) f
 
   module _ (mac : H → List ℕ → List ℕ → List ℕ) (answers : P → CandidateRecord → ℕ → ℕ → Type 0) where
     -- ---- segments of a log

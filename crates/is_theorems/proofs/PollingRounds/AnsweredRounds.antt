@@ -17,12 +17,12 @@ use Rattle.is_rules.specs.Agent.{AgentRecord}
 use Rattle.is_rules.specs.Checking.{goes_ahead}
 use Rattle.is_rules.specs.Sending.{path_of}
 use Rattle.is_rules.specs.Sound.{IsSound}
-use Rattle.is_rules.specs.Polls.{PollsTimeout, NextTimeoutFrom, NextTimeouts, is_waiting, is_idle}
+use Rattle.is_rules.specs.Polls.{PollsTimeout, NextTimeoutFrom, NextTimeouts}
 use Rattle.is_rules.specs.Steps.{ReceivePacket, Step}
 use Rattle.is_rules.specs.declared.event.IceAgentEvent.{IceAgentEvent}
 use Rattle.is_theorems.proofs.CallEffects.PathAndTradeEffects.{path_theorem}
 use Rattle.rand_core.specs.Stream.{Stream}
-use Rattle.is_theorems.proofs.RuleEffects.UnchangedSettings.{either}
+use Rattle.is_theorems.proofs.CallEffects.AddedCandidates.{by_deadline}
 use Rattle.is_pair.specs.Turns.{IsPaced, due_by}
 use Rattle.is_theorems.specs.Progress.{Passes, MayBeAsked, Arrival, HasSuccess, Round, IsSuccess, MatchesTop, ArriveInTurn, Rounds, SelectsAfter, RoundSelects, AnsweredSelect}
 use Rattle.is_theorems.proofs.DuePairs.NoNominationDue.{NoneIsDue, quiet-call}
@@ -103,9 +103,7 @@ module _ {H P : Type 0} where
 
         some : (deadline : Option ℕ) → IsSomeAnd deadline (λ w. NextTimeouts old at w new) → Arrived mac by at following early old new
         some None k = absurd k
-        some (Some w) k = either (is_waiting old) k
-            (λ _ l. arrived-same mac by at following early old new l.1)
-            (λ _ l. either (is_idle old) l (λ _ i. arrived-same mac by at following early old new i.1) (λ _ i. fixed i.1))
+        some (Some w) k = by_deadline old new at w k (λ made. arrived-same mac by at following early old new made) (λ made. fixed made)
 
       -- ---- arrivals
 

@@ -20,7 +20,7 @@ use Rattle.is_theorems.specs.AskedCourses.{Ends}
 use Rattle.is_rules.specs.Brought.{Brings}
 use Rattle.is_rules.specs.declared.emitted.Path.{Path}
 use Rattle.is_theorems.specs.Logs.{Logged}
-use Rattle.is_rules.specs.Polls.{PollsTimeout, NextTimeoutFrom, NextTimeouts, is_waiting, is_idle}
+use Rattle.is_rules.specs.Polls.{PollsTimeout, NextTimeoutFrom, NextTimeouts}
 use Rattle.is_theorems.specs.Progress.{IsChecking}
 use Rattle.is_theorems.specs.Reached.{IsLasting, IsPassing, ChecksIn, is_in_round, IsEndedIn, PairsAreReached, AskedRoundsSelect, nominations_ahead, selection_count}
 use Rattle.is_theorems.specs.Rounds.{LoggedRound, entries_of, began_at, Part, RunsOn}
@@ -34,6 +34,7 @@ use Rattle.is_rules.specs.Timeouts.{timeout_begun, MaintainsPairs}
 use Rattle.is_rules.specs.Emitted.{issued_as}
 use Rattle.is_theorems.proofs.PathSelection.NominatedByPeer.{asked-are-selected_paths}
 use Rattle.is_theorems.proofs.CallEffects.PathAndTradeEffects.{path_theorem}
+use Rattle.is_theorems.proofs.CallEffects.AddedCandidates.{by_deadline}
 use Rattle.is_theorems.proofs.RuleEffects.UnchangedSettings.{either}
 use Rattle.is_theorems.proofs.EarlierChecks.ChecksOfOtherPairs.{all-but, leads, own-le, lead-asked, leads-map, leads-others}
 use Rattle.is_theorems.proofs.ExecutionLogs.LogTheorems.{runs_sound}
@@ -111,9 +112,7 @@ module _ {H P : Type 0} where
 
     some : (deadline : Option ℕ) → IsSomeAnd deadline (λ w. NextTimeouts old at w new) → Goes n by old new
     some None k = absurd k
-    some (Some w) k = either (is_waiting old) k
-        (λ _ l. goes-same n by old new l.1)
-        (λ _ l. either (is_idle old) l (λ _ i. goes-same n by old new i.1) (λ _ i. fixed i.1))
+    some (Some w) k = by_deadline old new at w k (λ made. goes-same n by old new made) (λ made. fixed made)
 
   -- a candidate is added, and then a path may be selected
   pub reselected-goes : (n by : ℕ) (old mid new : AgentRecord H P) (path : Option Path) → Reselects (loses_selected old mid) mid path new → Goes n by old mid

@@ -20,7 +20,7 @@ use Rattle.is_theorems.specs.AskedCourses.{AcceptsSuccessOn, Ends}
 use Rattle.is_rules.specs.declared.emitted.Path.{Path}
 use Rattle.is_rules.specs.Emitted.{issued_as}
 use Rattle.is_theorems.specs.Logs.{Logged}
-use Rattle.is_rules.specs.Polls.{PollsTimeout, NextTimeoutFrom, NextTimeouts, is_waiting, is_idle}
+use Rattle.is_rules.specs.Polls.{PollsTimeout, NextTimeoutFrom, NextTimeouts}
 use Rattle.is_theorems.specs.Progress.{IsChecking}
 use Rattle.is_theorems.specs.Reached.{IsLasting, IsPassing, IsEndedIn, is_in_round, nominations_ahead, selection_count}
 use Rattle.is_theorems.specs.Rounds.{LoggedRound, Part, RunsOn, began_at, entries_of}
@@ -31,7 +31,7 @@ use Rattle.is_theorems.specs.Staying.{MayEnd, Stays}
 use Rattle.is_rules.specs.Steps.{Call, SetMtu, SetControlTieBreaker, SetMaxCandidatePairs, SetMaxDiscovered, SetRenomination, SetTimingAdvance, SetLocalPreference, SetControlling, SetLocalCredentials, AddLocalCandidate, AddRemoteCandidate, Entry, ReceivePacket, HandleTimeout, PollTransmit, PollTimeout, PollEvent, Done, Step}
 use Rattle.is_rules.specs.Timeouts.{timeout_begun}
 use Rattle.is_theorems.proofs.CallEffects.PathAndTradeEffects.{path_theorem}
-use Rattle.is_theorems.proofs.RuleEffects.UnchangedSettings.{either}
+use Rattle.is_theorems.proofs.CallEffects.AddedCandidates.{by_deadline}
 use Rattle.is_theorems.proofs.ExecutionLogs.LogTheorems.{runs_sound}
 use Rattle.is_theorems.proofs.ExecutionLogs.LogSegments.{no-case, run-on, passed as passed-at}
 use Rattle.is_theorems.proofs.EarlierChecks.BetweenTimeouts.{Ground, Goes, goes-same, ground_of, receives-goes}
@@ -101,9 +101,7 @@ module _ {H P : Type 0} where
 
     some : (deadline : Option ℕ) → IsSomeAnd deadline (λ w. NextTimeouts old at w new) → Keeps n old new
     some None k = absurd k
-    some (Some w) k = either (is_waiting old) k
-        (λ _ l. keeps-same n old new l.1)
-        (λ _ l. either (is_idle old) l (λ _ i. keeps-same n old new i.1) (λ _ i. fixed i.1))
+    some (Some w) k = by_deadline old new at w k (λ made. keeps-same n old new made) (λ made. fixed made)
 
   -- after the `handle_timeout` call at time `at`: a pair of the path waits, due by then
   pub record Waits (by n : ℕ) (path : Path) (keeps : ℕ → Bool) (at : ℕ) (a : AgentRecord H P) : Type 0 where

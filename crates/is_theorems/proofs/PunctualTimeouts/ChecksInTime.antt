@@ -41,7 +41,7 @@ use Rattle.is_theorems.proofs.PathSelection.FirstSuccessInRounds.{SelectsBySucce
 use Rattle.is_theorems.proofs.PathSelection.NominatedByPeerPerAgent.{course_on}
 use Rattle.is_theorems.proofs.StoredPairs.PairsThatStay.{pairs-stay}
 use Rattle.is_theorems.proofs.StoredPairs.TransactionsOverPackets.{sound-course}
-use Rattle.is_rules.proofs.PollsAndResponses.NextTimeout.{timeouts-in-time}
+use Rattle.is_rules.proofs.PollsAndResponses.NextTimeout.{pacing-short, timeouts-in-time}
 use Rattle.is_theorems.specs.FirstChecks.{CoursesCheckFromDue, SufficeForDue, times_of}
 use Rattle.is_theorems.specs.FirstTimeouts.{AreInRound, IsOpenRound, EndsAmong, RoundsSuffice, Suffices, CoursesReachFromDue}
 use Rattle.is_theorems.specs.InTime.{ChecksBy, ComeBy, CoursesCheckInTime, CoursesReachInTime, IsPrompt, IsPunctual, IsReachedBy, IsTimed, KeepsPace, NextComesInTime, RoundsComeInTime}
@@ -122,7 +122,8 @@ module _ {H P : Type 0} where
         let due : due_time_of at old.timing w.pair ≡ w.timeout = due-at at w.timeout old.timing w.pair w.due in
         let l : deadline ≤ max w.timeout (soon old at) = subst (λ d. deadline ≤ max d (soon old at)) due k in
         let before = w.before in
-        omega (arith, l, before, from, slow)
+        let paced = pacing-short old in
+        omega (arith, l, before, from, paced, slow)
 
     prompt-here : (at : ℕ) → by ≤ at → (call : Call P) (e : Entry) (old mid : AgentRecord H P) (s t : Stream) (deadline next : ℕ) → Waits by n path keeps at old → Step mac answers old s call e mid t
         → call ≡ PollTimeout → old.timing_advance ≤ pace → e.answer ≡ NextTimeout (Some deadline) → next ≤ deadline + delay → next ≤ at + (pace + delay)

@@ -22,7 +22,7 @@ use Rattle.is_theorems.specs.Exchange.{Course}
 use Rattle.is_theorems.specs.FirstTimeouts.{AreInRound}
 use Rattle.is_theorems.specs.InTime.{KeepsPace}
 use Rattle.is_theorems.specs.Reached.{is_in_round}
-use Rattle.is_rules.proofs.PollsAndResponses.NextTimeout.{timeouts-in-time}
+use Rattle.is_rules.proofs.PollsAndResponses.NextTimeout.{pacing-short, timeouts-in-time}
 use Rattle.is_theorems.proofs.CallEffects.AddedCandidates.{by_adding_local, by_adding_remote, by_waking}
 use Rattle.is_theorems.proofs.CallEffects.FailedCallsAndNewAgents.{mtu_kept, controlling_kept, local_kept, enrolment_kept, storing_kept}
 use Rattle.is_theorems.proofs.ExecutionLogs.LogSegments.{no-case}
@@ -84,7 +84,8 @@ module _ {H P : Type 0} where
         timeouts-in-time old new (Some deadline) (subst (λ o. PollsTimeout old o new) same h) now last full p has in
         let ends : call_time_of now old.timing p ≤ consent_end c p =
         subst (λ o. call_time_with o now old.timing p ≤ consent_end c p) (sym rule) (calls-at-end c now old.timing p) in
-        omega (arith, k, ends, slow, close) where
+        let paced = pacing-short old in
+        omega (arith, k, ends, paced, slow, close) where
           deadline-is : (a b : Option ℕ) → NextTimeout a ≡ NextTimeout b → a ≡ b
           deadline-is a b h = cc
 

@@ -30,7 +30,7 @@ use Rattle.is_rules.specs.Forming.{formed, with_pair}
 use Rattle.is_rules.specs.Limit.{IsSenderPlace}
 use Rattle.is_rules.specs.Nominating.{nominated_by_self, Nominates, NominatesWhere, followed, remains, selection_of, numbers, suspected_by}
 use Rattle.is_rules.specs.Places.{local_place}
-use Rattle.is_rules.specs.Polls.{NextTimeoutFrom, is_waiting, is_idle}
+use Rattle.is_rules.specs.Polls.{NextTimeoutFrom}
 use Rattle.is_rules.specs.Request.{RequestRecord, request_in}
 use Rattle.is_rules.specs.Roles.{conflict_of, switched, switched_sides, with_priority_in, keeps_role}
 use Rattle.is_theorems.specs.Rounds.{is_between}
@@ -42,6 +42,7 @@ use Rattle.is_rules.specs.Steps.{Call, Entry, ReceivePacket, PollTransmit, PollT
 use Rattle.is_theorems.proofs.BasicLemmas.EqualAddresses.{both}
 use Rattle.is_theorems.proofs.DuePairs.AfterPackets.{Grown}
 use Rattle.is_theorems.proofs.CallEffects.PathAndTradeEffects.{path_theorem}
+use Rattle.is_theorems.proofs.CallEffects.AddedCandidates.{by_deadline}
 use Rattle.is_theorems.proofs.RuleEffects.UnchangedSettings.{either}
 use Rattle.is_theorems.proofs.ExecutionLogs.LogSegments.{no-case}
 use Rattle.is_theorems.proofs.RuleEffects.ChangedPairs.{self_kept}
@@ -328,12 +329,10 @@ module _ {H P : Type 0} where
     timeouts : (o deadline : Option ℕ) (old new : AgentRecord H P) → NextTimeoutFrom o old deadline new → Stays old new
     timeouts None deadline old new h = stays_same old new h.1
     timeouts (Some last) None old new h = absurd h
-    timeouts (Some last) (Some at) old new h = either (is_waiting old) h
-        (λ _ k. stays_same old new k.1)
-        (λ _ k. either (is_idle old) k
-        (λ _ l. stays_same old new l.1)
-        (λ _ l. subst (λ (a : AgentRecord H P). Stays old a) (sym l.1) (stays_by old _ (inl refl) (inl refl)
-        (mapped_pairs (asked last old.timing) old.pairs (λ p. record { local = refl; remote = refl; checks = λ id. refl })))))
+    timeouts (Some last) (Some at) old new h = by_deadline old new last at h
+        (λ made. stays_same old new made)
+        (λ made. subst (λ (a : AgentRecord H P). Stays old a) (sym made) (stays_by old _ (inl refl) (inl refl)
+        (mapped_pairs (asked last old.timing) old.pairs (λ p. record { local = refl; remote = refl; checks = λ id. refl }))))
 
     module _ (answers : P → CandidateRecord → ℕ → ℕ → Type 0) where
       one : (call : Call P) (e : Entry) (old new : AgentRecord H P) (s t : Stream) → is_between call ≡ true → Step mac answers old s call e new t → Stays old new

@@ -5,7 +5,7 @@ use std::alloc::{AllocError, Global};
 use std::test::Fail;
 
 /// Lines, and what is wrong with them.
-static FAULTS: [(&str, &str); 37] = [
+static FAULTS: [(&str, &str); 38] = [
     ("[1]", "not a script line: no JSON object"),
     ("\r", "not a script line: no JSON at column 1"),
     (" ", "not a script line: no JSON at column 1"),
@@ -112,6 +112,10 @@ static FAULTS: [(&str, &str); 37] = [
     (
         r#"{"call":"rules","name":"modern","consent":true}"#,
         "bad consent: true is not an object with timeout and strict, or null",
+    ),
+    (
+        r#"{"call":"rules","name":"modern","early_pacing":true}"#,
+        "bad early_pacing: true is not a whole number from 0 to 18446744073709551615, or null",
     ),
     (
         r#"{"call":"poll","what":"packet"}"#,

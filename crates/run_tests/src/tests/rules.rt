@@ -4,7 +4,7 @@ use crate::tests::playing::ends;
 use std::test::Fail;
 
 /// Scripts, and what they print. The packets were written by another program, from RFC 8445, section 7.2, and RFC 8489.
-static SCRIPTS: [(&str, &str); 7] = [
+static SCRIPTS: [(&str, &str); 8] = [
     // The second check is of the server-reflexive candidate.
     (
         r#"{"call":"agent","ufrag":"AAAA","pass":"PPPP","tie":10,"polls":false}
@@ -33,6 +33,36 @@ static SCRIPTS: [(&str, &str); 7] = [
         A timeout ok\n\
         A poll ok\n\
         A send 1 udp 10.0.0.1:1000 10.0.0.102:2000 000100442112a44203000000040000000500000000060009424242423a41414141000000802a0008000000000000000a002400046efffeff000800143572ac93f0d926090fd4b877e3db80ac9931cce68028000498dd966b\n",
+    ),
+    // The second check is 7 ms after the first one, since there is no path yet.
+    (
+        r#"{"call":"agent","ufrag":"AAAA","pass":"PPPP","tie":10,"polls":false}
+{"call":"rules","name":"original","early_pacing":7000000,"polls":false}
+{"call":"controlling","flag":true,"polls":false}
+{"call":"remote","ufrag":"BBBB","pass":"QQQQ","polls":false}
+{"call":"host","addr":"10.0.0.1:1000","proto":"udp","polls":false}
+{"call":"candidate","text":"candidate:1 1 udp 2130706175 10.0.0.2 2000 typ host","polls":false}
+{"call":"candidate","text":"candidate:1 1 udp 2130705663 10.0.0.3 2000 typ host","polls":false}
+{"call":"timeout","now":0,"polls":false}
+{"call":"poll","what":"transmit"}
+{"call":"poll","what":"timeout"}
+{"call":"rules","name":"modern","early_pacing":null,"polls":false}
+{"call":"poll","what":"timeout"}"#,
+        "A agent ok\n\
+        A rules ok\n\
+        A controlling ok\n\
+        A remote ok\n\
+        A host added\n\
+        A candidate ok\n\
+        A candidate ok\n\
+        A timeout ok\n\
+        A poll ok\n\
+        A send 0 udp 10.0.0.1:1000 10.0.0.2:2000 000100442112a44200000000010000000200000000060009424242423a41414141000000802a0008000000000000000a002400046efffeff00080014a9ae12c3be99238a376fd11c8924806feae17bd5802800042ff5a14f\n\
+        A poll ok\n\
+        A wake 7000000\n\
+        A rules ok\n\
+        A poll ok\n\
+        A wake 50000000\n",
     ),
     // The fourth check is of the selected pair, and not of the one that was never checked.
     (

@@ -1,6 +1,6 @@
 use Rattle.is_pair.specs.Checklists.{multiset_of}
 use Rattle.is_agent.proofs.AgentParts.PairsInLists.{placed-asked}
-use Rattle.is_agent.proofs.agent.Agent.idle_timeout.Goals as goal
+use Rattle.is_agent.proofs.agent.Agent.fix_due_times.Goals as goal
 
 pub invariant_of-self-clause-placed : goal.invariant_of-self-clause-placed
 invariant_of-self-clause-placed g c =
