@@ -556,9 +556,9 @@ IS_ICE_QUIET_CALL int32_t is_ice_original_rules(is_ice_agent_rules *rules);
  * allows. These checks end no pair sooner. The time should be longer than is_ice_set_max_rto, at which pairs are checked
  * that answer. 0: no such rule.
  *
- * early_pacing: until the agent has a path, and if it is controlling has sent the check that nominates it, the pacing
- * interval Ta is at most this, and at least 5 ms (RFC 8445, section 14.2). So the pair that works is checked sooner if
- * there are many. A shorter one of is_ice_set_timing_advance stays. Less than 5 ms counts as 5 ms. 0: no such rule.
+ * early_pacing: the pacing interval Ta is at most this, and at least 5 ms (RFC 8445, section 14.2), until the agent has a
+ * path. A controlling agent has to have sent the check that nominates it, too. So the pair that works is checked sooner
+ * if there are many. A shorter one of is_ice_set_timing_advance stays. Less than 5 ms counts as 5 ms. 0: no such rule.
  *
  * selected_first: every second check may go to the selected pair, if it is due, before all others. So its consent is
  * renewed in time, however many pairs there are.

@@ -8,10 +8,10 @@ from dataclasses import dataclass, field, replace
 
 from .clauses import (
     both, by_number, completed_nominations_are_selected, connect, connected_are_answered, connected_have_consent, consent_ends_in_time,
-    consent_holds, courses_select_in_time, due_rounds, in_time, leaves_in_time, meet, nomination_accepted, nominations,
-    none_starved_in_time, of_use, one_path, reached_in_kind, reached_in_turn, rounds, run_connected, run_connected_answered, run_in_time,
-    run_selects_in_time, selects_in_time, served_are_checked_soon, served_select_soon, states_agree, successes, suspected_are_left,
-    urgent_are_reached, valid_have_consented, world_rounds)
+    consent_holds, courses_reach_served, courses_select_in_time, due_rounds, in_time, leaves_in_time, meet, nomination_accepted,
+    nominations, none_starved_in_time, of_use, one_path, reached_in_kind, reached_in_turn, rounds, run_connected,
+    run_connected_answered, run_in_time, run_selects_in_time, selects_in_time, served_are_checked_soon, served_in_time,
+    served_select_in_time, states_agree, successes, suspected_are_left, urgent_are_reached, valid_have_consented, world_rounds)
 from .clauses.execution import Execution
 from .clauses.accepted_nominations import Network
 from .clauses.verdict import Verdict
@@ -27,7 +27,8 @@ from .session import Session
 # The clauses of progress of `World::run` and of `run`, and theorems of `is_theorems` on one agent.
 WORLD: dict[str, Callable[[Network], Verdict]] = {
     "meet": meet.find, "rounds": world_rounds.find, "in_time": lambda network: in_time.find(network.x),
-    "selects_in_time": selects_in_time.find,
+    "in_time, served": lambda network: served_in_time.find(network.x),
+    "selects_in_time": selects_in_time.find, "selects_in_time, served": served_select_in_time.find,
     "nomination_accepted": nomination_accepted.find, "connect": connect.find, "both": both.find, "one_path": one_path.find,
     "by_number": by_number.find}
 RUN: dict[str, Callable[[Execution], Verdict]] = {
@@ -42,7 +43,7 @@ THEOREMS: dict[str, Callable[[Execution], Verdict]] = {
     "completed_nominations_are_selected": completed_nominations_are_selected.find,
     "courses_select_in_time": courses_select_in_time.find, "states_agree": states_agree.find, "reached_in_turn": reached_in_turn.find,
     "reached_in_kind": reached_in_kind.find, "urgent_are_reached": urgent_are_reached.find,
-    "served_are_checked_soon": served_are_checked_soon.find, "served_select_soon": served_select_soon.find,
+    "served_are_checked_soon": served_are_checked_soon.find, "courses_reach_served": courses_reach_served.find,
     "suspected_are_left": suspected_are_left.find}
 CLAUSES = (*WORLD, *RUN, *THEOREMS)
 

@@ -11,6 +11,7 @@ from .execution import Execution, Lacks, Round, entries_of, fewest, is_in_round,
 from .accepted_nominations import ALL, Network
 from .progress import is_in_line, is_lasting, nominations_ahead, suffices
 from .selections import are_kept, checks_in
+from .served import served_rounds_reach
 from .staying import may_end_in_rounds
 from .verdict import C, C_co
 
@@ -39,7 +40,8 @@ def has_rounds_for(x: Execution, side: str, pair: Pair, rounds: list[Round], las
     by = min(pair.due_at(first.now, agent.timing), first.now)
     return lacks(line=is_in_line(first.now, by, agent, pair), kept=are_kept(x, side, by, rounds),
                  lasting=all(is_lasting(r.now, agent, pair) for r in rounds[1:]),
-                 enough=side_rounds_reach(x, side, by < first.now, first.moment, first.behind.stop, len(rounds) - 1, last))
+                 enough=side_rounds_reach(x, side, by < first.now, first.moment, first.behind.stop, len(rounds) - 1, last)
+                 or not served_rounds_reach(x, side, pair.number, by, rounds))
 
 
 def has_rounds(x: Execution, side: str, path: Path, rounds: list[Round], last: int) -> Lacks:

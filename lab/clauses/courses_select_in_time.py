@@ -16,6 +16,7 @@ from .fair import is_new_agent
 from .in_time import delay
 from .opening import Counts, controlling_calls, pair_of
 from .progress import awaits, is_unanswered, suffice_for_due, suffices
+from .served import suffices_for_served
 from .single import are_in_round, are_passing, are_plain
 from .staying import may_end_in_rounds
 from .verdict import Verdict, first_in, first_of_all
@@ -83,13 +84,13 @@ def selected_at(x: Execution, c: Choice) -> int | None:
 
 # ---- the preconditions
 
-def suffice_for_check(x: Execution, side: str, by: int, rounds: list[Round]) -> bool:
+def suffice_for_check(x: Execution, side: str, by: int, rounds: list[Round], pair: int) -> bool:
     """Whether the later rounds suffice for a pair that is due by a time: fewer, if only packets and polls come in them and in the first
-    one (`SufficeForCheck`)."""
+    one, or if a request was served on the pair (`SufficeForCheck`)."""
     start, later, stop = rounds[0], rounds[1:], rounds[-1].behind.stop
     first, second, end = x.state(start.moment, side), x.state(start.behind.stop, side), x.state(stop, side)
     is_polled = are_plain(x, side, rounds) and suffice_for_due(by, start.now, first, second, [r.now for r in later])
-    return is_polled or suffices(by, start.now, first, second, end, len(later))
+    return is_polled or suffices(by, start.now, first, second, end, len(later)) or not suffices_for_served(x, side, pair, rounds)
 
 
 def lacking(x: Execution, c: Choice) -> Lacks:
@@ -102,7 +103,7 @@ def lacking(x: Execution, c: Choice) -> Lacks:
                  IsUnanswered=is_unanswered(agent, pair), first=lacks(early=start.now < MAX, between=are_in_round(x, c.side, start)),
                  CourseRounds=x.is_controlling_in(c.side, range(c.first + 1, c.end + 1)),
                  IsOpenRound=are_passing(x, c.side, by, enough[1:]), AreInRound=all(are_in_round(x, c.side, r) for r in more),
-                 SufficeForCheck=suffice_for_check(x, c.side, by, enough), punctual=delay(x, c.side, enough) is not None,
+                 SufficeForCheck=suffice_for_check(x, c.side, by, enough, c.pair), punctual=delay(x, c.side, enough) is not None,
                  IsAnsweredWithin=trip(x, c) is not None, EndsAmong=not may_end_in_rounds(x, c.side, c.path(x), enough))
 
 
@@ -122,6 +123,10 @@ class Search:
         """Returns by when a round begins in which a path is selected."""
         return limit(self.x, c)
 
+    def least(self, counts: Counts, place: int, by: int, pair: int, until: int) -> int | None:
+        """Returns the least number of rounds that suffice for the pair."""
+        return counts.least(place, by, pair, until)
+
     def choices(self) -> Iterator[tuple[list[Choice], list[Choice]]]:
         """Proposes choices for each first `handle_timeout` call: those with enough rounds, the earliest bound first; and those with too few
         rounds. They go up to the last of the rounds, and up to the first answer."""
@@ -134,7 +139,7 @@ class Search:
             for _, _, pair, due in calls:
                 answer = self.answer(side, agent.path(pair), row[0])
                 until = 0 if answer is None else answer + 1
-                count = counts[side].least(place, due, until)
+                count = self.least(counts[side], place, due, pair.number, until)
                 wanted = counts[side].rounds_for_due(place, due) if count is None else count
                 chosen = Choice(side, pair.number, row[0], wanted, max(row[:wanted][-1] + 1, until))
                 (hopeless if count is None else enough).append(chosen)

@@ -10,7 +10,8 @@ from ..model import Agent
 from ..pairs import Pair, Path
 from .execution import Execution, Lacks, Round, any_in, is_between, is_in_round
 from .progress import awaits, checks_for, is_unanswered, suffices
-from .selections import are_kept, are_polled_or_enough
+from .selections import are_kept, suffice_for_pair
+from .served import least_served
 from .staying import may_end_in_rounds
 
 
@@ -32,7 +33,8 @@ def waits(x: Execution, side: str, pair: int, rounds: list[Round]) -> dict[str, 
     own = pair_of(agent, pair)
     by = min(own.due_at(now, agent.timing), now)
     return {"Awaits": awaits(now, by, agent, own), "IsUnanswered": is_unanswered(agent, own), "AreKept": are_kept(x, side, by, rounds),
-            "enough": are_polled_or_enough(x, side, by, rounds), "MayEndInRounds": not may_end_in_rounds(x, side, agent.path(own), rounds)}
+            "enough": suffice_for_pair(x, side, by, rounds, pair),
+            "MayEndInRounds": not may_end_in_rounds(x, side, agent.path(own), rounds)}
 
 
 # ---- the search
@@ -82,13 +84,18 @@ class Counts:
         self._open: dict[tuple[int, bool, int], int | None] = {}
         self._dues: dict[int, list[int]] = {}
 
-    def least(self, place: int, by: int, until: int = 0) -> int | None:
-        """Returns the least number for a pair that is due by a time, from the call at this place among them."""
+    def least(self, place: int, by: int, pair: int, until: int = 0) -> int | None:
+        """Returns the least number for this pair, which is due by a time, from the call at this place among them."""
         key = place, by < self.x.now(self.timeouts[place]), until
         if key not in self._open:
             self._open[key] = self._least_open(*key)
-        found = [self._open[key], self.least_polled(place, by, until)]
+        found = [self._open[key], self.least_polled(place, by, until), self.least_served(place, pair)]
         return min((count for count in found if count is not None), default=None)
+
+    def least_served(self, place: int, pair: int) -> int | None:
+        """Returns the least number if a request was served on the pair (`SufficesForServed`)."""
+        most = most_rounds(self.x, self.side, place, is_in_round)
+        return least_served(self.x, self.side, pair, self.timeouts[place:place + most]) if most else None
 
     def due_by(self, place: int, by: int) -> int:
         """Returns how many pairs are due by a time, computed at the call at this place (`due_by`)."""
@@ -148,5 +155,5 @@ def proposals(x: Execution, side: str, path: Path | None = None) -> Iterator[Pro
     for place, _, pair, due in controlling_calls(x, (side,)):
         own = x.state(row[place], side).path(pair)
         if path in (None, own):
-            count = counts.least(place, due)
+            count = counts.least(place, due, pair.number)
             yield Proposal(row[place], pair.number, own, count, row[place + (count or 1) - 1])

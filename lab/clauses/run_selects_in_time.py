@@ -23,7 +23,7 @@ def lacking(x: Execution, c: Choice) -> Lacks:
     return lacks(IsFresh=is_new_agent(x.state(0, c.side)), between=all(are_in_round(x, c.side, r) for r in rounds),
                  IsControllingIn=x.is_controlling_in(c.side, range(c.first, c.end + 1)), Awaits=awaits(opening.now, by, agent, pair),
                  IsUnanswered=is_unanswered(agent, pair), early=opening.now < MAX, IsPassing=are_passing(x, c.side, by, enough[1:]),
-                 LaterSuffice=suffice_for_check(x, c.side, by, enough), punctual=delay(x, c.side, enough) is not None,
+                 LaterSuffice=suffice_for_check(x, c.side, by, enough, c.pair), punctual=delay(x, c.side, enough) is not None,
                  IsAnsweredInBy=trip(x, c) is not None, MayEndOver=not may_end_in_rounds(x, c.side, c.path(x), enough))
 
 

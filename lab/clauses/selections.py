@@ -7,6 +7,7 @@ from ..replay import other
 from .execution import MAX, Execution, Lacks, Round, any_in, is_between, is_in_round, lacks
 from .accepted_nominations import SUCCESS, Network
 from .progress import suffice_for_due, suffices
+from .served import suffices_for_served
 
 
 def makes_in_round(x: Execution, side: str, part: range) -> bool:
@@ -48,11 +49,13 @@ def are_each_polled(x: Execution, side: str, by: int, rounds: list[Round]) -> La
     return lacks(few=few, polls=makes_polls_in(x, side, rounds))
 
 
-def are_polled_or_enough(x: Execution, side: str, by: int, rounds: list[Round]) -> Lacks:
-    """One of both, up to the end of the rounds."""
+def suffice_for_pair(x: Execution, side: str, by: int, rounds: list[Round], pair: int) -> Lacks:
+    """There are enough rounds in one of three ways, up to the end of the rounds (`SufficeForPair`)."""
     polled = are_each_polled(x, side, by, rounds)
     is_enough = are_enough(x, side, by, rounds, rounds[-1].behind.stop)
-    return [] if is_enough or not polled else [f"AreEachPolled.{part}" for part in polled] + ["SideRoundsSuffice"]
+    if is_enough or not polled or not suffices_for_served(x, side, pair, rounds):
+        return []
+    return [*(f"AreEachPolled.{part}" for part in polled), "SideRoundsSuffice", "ServedRoundsSuffice"]
 
 
 def checks(x: Execution, side: str, path: Path, r: Round) -> bool:

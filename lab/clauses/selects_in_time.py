@@ -5,18 +5,18 @@ interval and the caller's delay, and a round trip, after the first one."""
 
 from __future__ import annotations
 
-from collections.abc import Iterator
+from collections.abc import Callable, Iterator
 
 from ..pairs import Path
 from ..replay import other
 from .accepted_nominations import SUCCESS, Network
 from .courses_select_in_time import Choice, Search, by_first_call, first_call_that_holds, limit_of
-from .execution import Execution, Lacks, any_in, lacks
+from .execution import Execution, Lacks, Round, any_in, lacks
 from .fair import are_new_agents
 from .in_time import delay
 from .opening import pair_of
 from .progress import awaits, is_unanswered
-from .selections import are_kept, are_polled_or_enough, makes_in_round
+from .selections import are_kept, makes_in_round, suffice_for_pair
 from .staying import may_end_in_rounds
 from .verdict import Verdict
 
@@ -55,8 +55,8 @@ def selected_at(x: Execution, c: Choice) -> int | None:
 
 # ---- the preconditions
 
-def lacking(n: Network, c: Choice) -> Lacks:
-    """Returns the preconditions that do not hold."""
+def lacking_with(n: Network, c: Choice, enough_for: Callable[[int, list[Round]], Lacks]) -> Lacks:
+    """Returns the preconditions that do not hold, with rounds that are enough in this way for the pair, which is due by a time."""
     x, rounds, agent = n.x, c.rounds(n.x), n.x.state(c.first, c.side)
     enough, more = rounds[:c.count], rounds[c.count:]
     pair, now = pair_of(agent, c.pair), rounds[0].now
@@ -64,9 +64,14 @@ def lacking(n: Network, c: Choice) -> Lacks:
     return lacks(IsNewAgent=are_new_agents(x), role=agent.controlling,
                  StaysControlling=x.is_controlling_in(c.side, range(c.first + 1, c.end + 1)), Awaits=awaits(now, by, agent, pair),
                  IsUnanswered=is_unanswered(agent, pair), AreKept=are_kept(x, c.side, by, enough),
-                 enough=are_polled_or_enough(x, c.side, by, enough), punctual=delay(x, c.side, enough) is not None,
+                 enough=enough_for(by, enough), punctual=delay(x, c.side, enough) is not None,
                  MakesInRound=all(makes_in_round(x, c.side, r.behind) for r in more), AreAnsweredWithin=trip(n, c) is not None,
                  MayEndInRounds=not may_end_in_rounds(x, c.side, c.path(x), enough))
+
+
+def lacking(n: Network, c: Choice) -> Lacks:
+    """Returns the preconditions that do not hold."""
+    return lacking_with(n, c, lambda by, rounds: suffice_for_pair(n.x, c.side, by, rounds, c.pair))
 
 
 # ---- the search

@@ -5,8 +5,6 @@ from __future__ import annotations
 
 from collections.abc import Iterator
 
-from ..model import Agent
-from ..pairs import Pair
 from ..scenario import SIDES
 from .connections import succeeds_in
 from .execution import Execution, Lacks, Round, is_in_round, lacks
@@ -14,6 +12,7 @@ from .fair import is_new_agent
 from .opening import most_rounds, pair_of
 from .progress import is_in_line, is_lasting
 from .reached_in_turn import MOST_DELAYS, Choice
+from .served import is_served
 from .single import is_passing
 from .staying import may_end_in_rounds
 from .urgent_are_reached import reached_at
@@ -21,13 +20,6 @@ from .verdict import Verdict, first_of_all
 
 
 # ---- the preconditions
-
-def is_served(agent: Agent, pair: Pair) -> Lacks:
-    """The agent has the rule, a request was served on the pair, and no pair on its path is valid (`IsServed`)."""
-    path = agent.path(pair)
-    return lacks(rule=agent.rules.triggered_checks is not None, requested=pair.requests > 0,
-                 invalid=not any(p.is_valid and agent.path(p) == path for p in agent.pairs))
-
 
 def select_none(x: Execution, rounds: list[Round]) -> bool:
     """Whether no `handle_timeout` call of the rounds selects a path."""

@@ -12,6 +12,7 @@ from .fair import is_new_agent
 from .opening import most_rounds, pair_of
 from .progress import is_in_line, is_lasting
 from .reached_in_turn import MOST_DELAYS, Choice
+from .served import is_overtaken
 from .single import is_passing
 from .staying import may_end_in_rounds
 from .verdict import Verdict, first_of_all
@@ -42,14 +43,6 @@ def lacking(x: Execution, c: Choice) -> Lacks:
 
 
 # ---- the conclusion
-
-def is_overtaken(x: Execution, side: str, number: int, r: Round) -> bool:
-    """Whether the call checks another pair: the selected one, or an urgent one whose turn comes before that of the pair (`IsOvertaken`)."""
-    agent, step = x.state(r.moment, side), x.steps[r.moment]
-    place = agent.place_in_order(pair_of(agent, number), r.now, True)
-    return any(p.number != number and step.checks(side, agent.path(p))
-               and (p.number == agent.selected or (p.is_urgent and agent.place_in_order(p, r.now, True) <= place)) for p in agent.pairs)
-
 
 def reached_at(x: Execution, c: Choice) -> int | None:
     """Returns when a check is sent on the pair's path, or so many rounds have checked other pairs before it."""

@@ -191,7 +191,7 @@ class Rounds(unittest.TestCase):
         story = self.two()
         story.passes("a", 50)
         n = self.late(story)
-        self.assertEqual(self.lacking(n, 0, 1), ["enough.AreEachPolled.few", "enough.SideRoundsSuffice"])
+        self.assertEqual(self.lacking(n, 0, 1), ["enough.AreEachPolled.few", "enough.SideRoundsSuffice", "enough.ServedRoundsSuffice"])
         self.assertEqual(self.lacking(n, 0, 2), [])
 
     def test_open_rounds(self) -> None:
@@ -199,7 +199,7 @@ class Rounds(unittest.TestCase):
         story.host("a", A._replace(port=7), 1, 20)
         story.passes("a", 50, 100, 150, 200, 250)
         n = self.late(story)
-        self.assertEqual(self.lacking(n, 0, 5), ["enough.AreEachPolled.polls", "enough.SideRoundsSuffice"])
+        self.assertEqual(self.lacking(n, 0, 5), ["enough.AreEachPolled.polls", "enough.SideRoundsSuffice", "enough.ServedRoundsSuffice"])
         self.assertEqual(self.lacking(n, 0, 6), [])
 
     def test_a_candidate_may_remove_the_pair(self) -> None:

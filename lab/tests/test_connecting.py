@@ -16,6 +16,7 @@ from lab.pairs import Check, Pair
 from lab.tests.stories import TO_A, TO_B, A, B, Story
 
 OUTSIDE = SocketAddress("203.0.113.1", 1000)
+FEW = ["Opens.enough.AreEachPolled.few", "Opens.enough.SideRoundsSuffice", "Opens.enough.ServedRoundsSuffice"]
 REQUEST = Request(BEGINNING, A, B, bytes(12), 1, False, "aaaa", 1, None)
 
 
@@ -273,7 +274,7 @@ class Both(Late):
         for part, pairs in (("IsUnanswered.young", (silent(pair),)),
                             ("IsUnanswered.invalid", (pair, replace(pair, number=9, state="succeeded"))),
                             ("Awaits.due", (replace(pair, due=at(9)),))):
-            missing = [f"Opens.{part}"] + ["Opens.enough.AreEachPolled.few", "Opens.enough.SideRoundsSuffice"] * (len(pairs) > 1)
+            missing = [f"Opens.{part}"] + FEW * (len(pairs) > 1)
             self.assertEqual(self.lacking(story.altered(first, "a", pairs=pairs)), missing)
         self.assertEqual(self.lacking(story.altered(first, "a", queue=(REQUEST,))), ["Opens.Awaits.queue"])
         self.assertEqual(self.lacking(story.altered(first, "a", lite=True)), ["Opens.Awaits.checking.full"])
@@ -284,7 +285,7 @@ class Both(Late):
         agent = story.session().steps[first].before["a"]
         remote, pair = replace(agent.remote[0], address=OUTSIDE), replace(agent.pairs[0], number=9, remote=1)
         found = self.lacking(story.altered(first, "a", remote=(*agent.remote, remote), pairs=(*agent.pairs, pair)), 9)
-        self.assertEqual(found, ["Opens.on", "Opens.enough.AreEachPolled.few", "Opens.enough.SideRoundsSuffice"])
+        self.assertEqual(found, ["Opens.on", *FEW])
 
     def test_the_opening_ends_before_the_last_segment(self) -> None:
         story = self.story()

@@ -245,7 +245,7 @@ class OfTwoAgents(unittest.TestCase):
 
     def test_four_pairs(self) -> None:
         n = selecting().network()
-        missing = ["enough.AreEachPolled.few", "enough.SideRoundsSuffice"]
+        missing = ["enough.AreEachPolled.few", "enough.SideRoundsSuffice", "enough.ServedRoundsSuffice"]
         self.assertEqual([self.lacking(n, count) for count in (3, 4, 5)], [missing, [], []])
         self.assertEqual(selects_in_time.find(n), Verdict("", at(0), at(3 * 50 + 100), at(250), 4))
 
@@ -276,13 +276,13 @@ class OfTwoAgents(unittest.TestCase):
         self.assertEqual(self.altered("a", 0, pairs=(replace(pairs[0], state="succeeded"), *pairs[1:])), ["IsUnanswered.invalid"])
 
     def test_other_calls_in_the_rounds(self) -> None:
-        inside = ["AreKept.kept.between", "enough.AreEachPolled.polls", "enough.SideRoundsSuffice"]
+        inside = ["AreKept.kept.between", "enough.AreEachPolled.polls", "enough.SideRoundsSuffice", "enough.ServedRoundsSuffice"]
         for call, missing in ((50, inside), (200, ["MakesInRound"])):
             self.assertEqual(self.lacking(selecting(call).network()), missing)
 
     def test_a_candidate_is_added(self) -> None:
         n = adding().network()
-        missing = ["enough.AreEachPolled.polls", "enough.SideRoundsSuffice"]
+        missing = ["enough.AreEachPolled.polls", "enough.SideRoundsSuffice", "enough.ServedRoundsSuffice"]
         self.assertEqual([self.lacking(n, count, 1) for count in (2, 6)], [missing, []])
         self.assertEqual(self.lacking(adding(limit=1).network(), 6, 1), ["AreAnsweredWithin", "MayEndInRounds"])
 

@@ -1,14 +1,20 @@
-"""Tests the checkers of the theorems `served_are_checked_soon` and `served_select_soon`: for each precondition, a log that lacks exactly
-it; and a log in which nothing is checked, or selected."""
+"""Tests the checkers of the theorems `served_are_checked_soon` and `courses_reach_served`, and that of `selects_in_time` for a pair on
+which a request was served: for each precondition, a log that lacks exactly it; and a log in which nothing is checked, or selected."""
 
 import unittest
 from dataclasses import replace
 from typing import Any
 
+from lab.clauses import courses_reach_served as reached
 from lab.clauses import served_are_checked_soon as checked
-from lab.clauses import served_select_soon as selected
+from lab.clauses import served_in_time as soon
+from lab.clauses import served_select_in_time as selected
+from lab.clauses.accepted_nominations import Network
+from lab.clauses.courses_select_in_time import Choice as InTime
 from lab.clauses.execution import Execution
+from lab.clauses.in_time import Choice as OfPath
 from lab.clauses.reached_in_turn import Choice
+from lab.clauses.selects_in_time import selected_at
 from lab.clauses.urgent_are_reached import reached_at
 from lab.clauses.verdict import Verdict
 from lab.clock import BEGINNING, MILLISECOND
@@ -50,11 +56,6 @@ class Served(unittest.TestCase):
         moments = story.moments["a"]
         return Choice("a", self.pair(story), moments[first], moments[first + rounds - 1] + 1, delays)
 
-    def whole(self, story: Story) -> Choice:
-        """Two rounds, with all that follows the second `handle_timeout` call."""
-        c = self.choice(story)
-        return replace(c, end=story.moments["a"][4])
-
     def altered(self, story: Story, index: int, **fields: Any) -> Execution:
         return story.altered(index, "a", **fields).x
 
@@ -92,27 +93,89 @@ class Served(unittest.TestCase):
         x.steps[step.at] = replace(step, selected=(x.state(c.first, "a").path(x.state(c.first, "a").pairs[0]),))
         self.assertEqual(checked.lacking(x, c), ["quiet"])
 
+    # ---- in rounds of a controlling agent without a valid pair
+
+    def few(self, story: Story, count: int = 3, first: int = 2) -> reached.Choice:
+        """So many rounds from one of the `handle_timeout` calls on, of which one may check another pair before."""
+        return reached.Choice("a", self.pair(story), story.moments["a"][first], count)
+
+    def test_the_path_is_reached(self) -> None:
+        story = self.story()
+        x, c = story.network().x, self.few(story)
+        self.assertEqual(reached.lacking(x, c), [])
+        self.assertEqual(reached.reached_at(x, c), at(100))
+        self.assertEqual(reached.find(x), Verdict("", at(100), at(200), at(100), 3))
+
+    def test_the_path_is_not_reached(self) -> None:
+        story = self.story()
+        story.log.entries = [e for e in story.log.entries if e.call != "poll_transmit" or e.side == "b"]
+        self.assertTrue(reached.find(Execution(replay(story.log))).is_broken)
+
+    def test_the_preconditions_of_the_rounds(self) -> None:
+        story = self.story()
+        moments, c = story.moments["a"], self.few(story)
+        self.assertEqual(reached.lacking(self.altered(story, 0, next_number=1), c), ["IsFresh"])
+        self.assertEqual(reached.lacking(self.altered(story, moments[2], controlling=False), c), ["controlling"])
+        self.assertEqual(reached.lacking(self.altered(story, moments[2], rules=ORIGINAL), c), ["SufficesForServed.IsServed.rule"])
+        self.assertEqual(reached.lacking(self.with_pair(story, moments[2], requests=0), c), ["SufficesForServed.IsServed.requested"])
+        self.assertEqual(reached.lacking(self.with_pair(story, moments[2], state="succeeded"), c),
+                         ["IsUnanswered.invalid", "SufficesForServed.IsServed.invalid"])
+        self.assertEqual(reached.lacking(story.network().x, self.few(story, 2)), ["SufficesForServed.few"])
+
+    def test_a_round_checks_another_pair_before(self) -> None:
+        """The pair that is checked at 150 ms is the selected one, so four rounds have to follow the first."""
+        story = self.story()
+        x, c = story.network().x, self.few(story)
+        later = x.state(story.moments["a"][3], "a")
+        sent = next(p.number for p in later.pairs if x.steps[story.moments["a"][3]].checks("a", later.path(p)))
+        x = self.altered(story, story.moments["a"][3], selected=sent)
+        self.assertEqual(reached.lacking(x, c), ["SufficesForServed.few"])
+
+    # ---- in time, in either role
+
+    def timed(self, story: Story, count: int = 2) -> OfPath:
+        """So many rounds from the `handle_timeout` call at 100 ms on."""
+        moments = story.moments["a"]
+        agent = story.network().x.state(moments[2], "a")
+        path = next(agent.path(p) for p in agent.pairs if p.number == self.pair(story))
+        return OfPath("a", path, moments[2], moments[2 + count - 1] + 1)
+
+    def test_the_pair_is_checked_in_time(self) -> None:
+        story = self.story()
+        x, c = story.network().x, self.timed(story)
+        self.assertEqual(soon.lacking(x, c), [])
+        found = soon.find(x)
+        self.assertEqual((found.since, found.bound, found.fact), (at(100), at(150), at(100)))
+
+    def test_the_preconditions_of_a_check_in_time(self) -> None:
+        story = self.story()
+        moments, c = story.moments["a"], self.timed(story)
+        self.assertEqual(soon.lacking(self.altered(story, moments[2], rules=ORIGINAL), c), ["has.enough.IsServed.rule"])
+        self.assertEqual(soon.lacking(self.with_pair(story, moments[2], requests=0), c), ["has.enough.IsServed.requested"])
+        self.assertEqual(soon.lacking(self.with_pair(story, moments[2], due=at(100)), c), ["has.enough.late"])
+        self.assertEqual(soon.lacking(story.network().x, self.timed(story, 1)), ["has.enough.few"])
+
+    # ---- in time, in the controlling role
+
+    def in_time(self, story: Story) -> InTime:
+        """The same rounds, and those up to the response."""
+        moments = story.moments["a"]
+        return InTime("a", self.pair(story), moments[2], 3, moments[5])
+
     def test_the_response_selects_a_path(self) -> None:
         story = self.story(answers=True)
-        x, c = story.network().x, self.whole(story)
-        self.assertEqual(selected.lacking(x, c), [])
-        self.assertEqual(selected.selected_at(x, c), at(120))
-        self.assertEqual(selected.find(x).fact, at(120))
+        n, c = story.network(), self.in_time(story)
+        self.assertEqual(selected.lacking(n, c), [])
+        self.assertEqual(selected_at(n.x, c), at(100))
+        self.assertEqual(selected.find(n).fact, at(100))
 
     def test_the_preconditions_of_a_selection(self) -> None:
         story = self.story()
-        self.assertEqual(selected.lacking(story.network().x, self.whole(story)), ["IsAnsweredInRound"])
+        self.assertEqual(selected.lacking(story.network(), self.in_time(story)), ["AreAnsweredWithin"])
         story = self.story(answers=True)
-        c = self.whole(story)
-        self.assertEqual(selected.lacking(self.altered(story, c.end, controlling=False), c), ["IsControllingIn"])
-
-    def test_no_path_is_selected(self) -> None:
-        story = self.story(answers=True)
-        x, c = story.network().x, self.whole(story)
-        for step in x.steps:
-            before, after = ({**states, "a": replace(states["a"], selected=None)} for states in (step.before, step.after))
-            x.steps[step.at] = replace(step, before=before, after=after)
-        self.assertIsNone(selected.selected_at(x, c))
+        moments, c = story.moments["a"], self.in_time(story)
+        lacks = selected.lacking(Network(self.with_pair(story, moments[2], requests=0)), c)
+        self.assertEqual(lacks, ["enough.IsServed.requested"])
 
 
 if __name__ == "__main__":

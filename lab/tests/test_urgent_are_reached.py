@@ -8,6 +8,7 @@ from typing import Any
 from lab.clauses import urgent_are_reached as of
 from lab.clauses.execution import Execution, Lacks
 from lab.clauses.reached_in_turn import Choice
+from lab.clauses.served import is_overtaken
 from lab.clauses.verdict import Verdict
 from lab.clock import BEGINNING, MILLISECOND
 from lab.kinds import ORIGINAL, Rules
@@ -74,10 +75,10 @@ class Urgent(unittest.TestCase):
         story = self.story()
         first, (leading, following) = story.moments["a"][2], self.urgent(story)
         r = self.choice(story, following).rounds(story.network().x)[0]
-        self.assertTrue(of.is_overtaken(story.network().x, "a", following, r))
-        self.assertFalse(of.is_overtaken(story.network().x, "a", leading, r))  # it is the pair itself
-        self.assertFalse(of.is_overtaken(self.with_pair(story, first, leading, requests=0), "a", following, r))
-        self.assertFalse(of.is_overtaken(self.with_pair(story, first, leading, priority=0), "a", following, r))
+        self.assertTrue(is_overtaken(story.network().x, "a", following, r))
+        self.assertFalse(is_overtaken(story.network().x, "a", leading, r))  # it is the pair itself
+        self.assertFalse(is_overtaken(self.with_pair(story, first, leading, requests=0), "a", following, r))
+        self.assertFalse(is_overtaken(self.with_pair(story, first, leading, priority=0), "a", following, r))
 
     def test_the_selected_pair_is_before_it(self) -> None:
         story = self.story()
@@ -85,7 +86,7 @@ class Urgent(unittest.TestCase):
         r = self.choice(story, following).rounds(story.network().x)[0]
         pairs = tuple(replace(p, requests=0) for p in story.network().x.state(first, "a").pairs)
         x = self.altered(story, first, pairs=pairs, selected=leading)
-        self.assertTrue(of.is_overtaken(x, "a", following, r))
+        self.assertTrue(is_overtaken(x, "a", following, r))
 
     def test_the_preconditions(self) -> None:
         story = self.story()

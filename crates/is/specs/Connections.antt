@@ -1,6 +1,6 @@
 -- How both of two agents select a path, if each has rounds in which the network delivers (RFC 8445, sections 6.1.4.2, 7.2.5.3 and
 -- 7.3.1.5).
-use Rattle.std.specs.Prelude.{◌≡◌, ℕ, ◌&&◌, List, [], ◌∷◌, ◌++◌, length, count_by, Some, ◌⊎◌, slice_get}
+use Rattle.std.specs.Prelude.{◌≡◌, ℕ, ◌*◌, ◌<◌, ◌≤◌, false, ◌&&◌, List, [], ◌∷◌, ◌++◌, length, count_by, Some, ◌⊎◌, slice_get}
 use Rattle.is_proto.specs.Lists.{Has}
 use Rattle.is_candidate.specs.Candidates.{CandidateRecord}
 use Rattle.is_pair.specs.Pairs.{PairRecord}
@@ -8,12 +8,13 @@ use Rattle.is_rules.specs.declared.emitted.Path.{Path}
 use Rattle.is_theorems.specs.AskedCourses.{AcceptsSuccessOn}
 use Rattle.is_theorems.specs.FirstTimeouts.{Suffices}
 use Rattle.is_theorems.specs.Reached.{IsInLine, IsLasting, nominations_ahead, selects}
+use Rattle.is_theorems.specs.ServedSoon.{IsServed}
 use Rattle.is_rules.specs.Sending.{path_of}
 use Rattle.is_rules.specs.Steps as agent
 use Rattle.is.specs.declared.world_events.Side.{Side}
 use Rattle.is.specs.AcceptedNominationsIn.{Occurrence, IsAskedOver, IsExchangedOver, is_of, occurrences_in}
 use Rattle.is.specs.AcceptedNominations.{IsControlledSegment, MayEndIn, SelectsTop}
-use Rattle.is.specs.Selections.{SideRound, all_of, state_after, AreKept, MayEndInRounds, RoundChecks}
+use Rattle.is.specs.Selections.{SideRound, all_of, state_after, AreKept, MayEndInRounds, OvertakeIn, RoundChecks}
 use Rattle.is.specs.World.{WorldRecord, InFlightRecord, Deliver, LoggedEvent, WorldRun, at, other, Streams}
 
 module _ {H P : Type 0} where
@@ -30,8 +31,19 @@ module _ {H P : Type 0} where
       (nominations_ahead (at side first.timeout.before) (selections_of side (all_of (first ∷ later))))
       (nominations_ahead (at side (state_after first.timeout.following first.following)) (selections_of side (all_of later)))
 
+  -- A request was served on the pair of the side when the rounds begin, which is due before the first one. No `handle_timeout` call of the
+  -- rounds selects a path. There are at least 2 * m rounds, however many pairs there are, and fewer than m of them check the selected pair or
+  -- urgent pairs before this one.
+  pub record ServedRoundsReach (side : Side) (by : ℕ) (p : PairRecord) (first : SideRound H P) (later : List (SideRound H P)) : Type 0 where
+    pub late : by < first.now
+    pub served : IsServed (at side first.timeout.before) p
+    pub quiet : (r : SideRound H P) → Has (first ∷ later) r → selects r.timeout.entry.outcome.entry ≡ false
+    pub m : ℕ
+    pub enough : 2 * m ≤ length (first ∷ later)
+    pub few : ¬ OvertakeIn side p.number m (first ∷ later)
+
   -- The side has rounds in the segment that suffice for a pair on the path, which is due by the time `by` when they begin
-  -- (`SideRoundsReach`).
+  -- (`SideRoundsReach`), or for one on which a request was served (`ServedRoundsReach`).
   pub record HasRounds (side : Side) (path : Path) (part : List (Occurrence H P)) (last : WorldRecord H P) : Type 0 where
     pub ahead : List (Occurrence H P)
     pub first : SideRound H P
@@ -43,7 +55,7 @@ module _ {H P : Type 0} where
     pub on : path_of (at side first.timeout.before) pair ≡ path
     pub kept : AreKept side by first later
     pub lasting : (r : SideRound H P) → Has later r → IsLasting r.now (at side first.timeout.before) pair
-    pub enough : SideRoundsReach side by first later last
+    pub enough : SideRoundsReach side by first later last ⊎ ServedRoundsReach side by pair first later
 
   -- A success response that is received on the reverse path is accepted.
   pub record Succeeds (side : Side) (path : Path) (x : Occurrence H P) : Type 0 where

@@ -12,7 +12,7 @@ use Rattle.is.specs.declared.world_events.Side.{Side}
 use Rattle.is.specs.AcceptedNominationsIn.{Occurrence, occurrences_in}
 use Rattle.is.specs.Deliveries.{MakesInRound, SelectsPath}
 use Rattle.is.specs.Punctual.{IsTimed}
-use Rattle.is.specs.Selections.{SideRound, all_of, state_after, AreKept, AreEachPolled, MayEndInRounds, SideRoundsSuffice, RoundChecks, IsAnsweredInTime}
+use Rattle.is.specs.Selections.{SideRound, all_of, AreKept, MayEndInRounds, SufficeForPair, RoundChecks, IsAnsweredInTime}
 use Rattle.is.specs.World.{WorldRecord, Streams, Call, LoggedEvent, WorldRun, at, other}
 use Rattle.is.specs.WorldRoles.{IsNewAgent}
 
@@ -41,8 +41,8 @@ module _ {H P : Type 0} where
 
   -- Two agents are newly created. A segment of their log consists of rounds of the side, in which it is controlling, whatever role the
   -- other side has. Between its `handle_timeout` calls it may add candidates. When the rounds begin, no pair of it is valid, and one is due
-  -- by the time `by`. The first round and the later ones suffice for this pair: as in `rounds`, fewer of them if the side makes only polls
-  -- in these (`AreEachPolled`) than otherwise (`SideRoundsSuffice`). In them its caller is punctual. More rounds may follow.
+  -- by the time `by`. The first round and the later ones suffice for this pair, as in `rounds` (`SufficeForPair`). In them its caller is
+  -- punctual. More rounds may follow.
   pub record OpensInTime (created : WorldRecord H P) (all : List (Occurrence H P)) (side : Side) (pace delay : ℕ) : Type 0 where
     pub new : (x : Side) → IsNewAgent (at x created)
     pub before : List (Occurrence H P)
@@ -58,7 +58,7 @@ module _ {H P : Type 0} where
     pub waits : Awaits first.now by (at side first.timeout.before) pair
     pub unanswered : IsUnanswered (at side first.timeout.before) pair
     pub kept : AreKept side by first later
-    pub enough : AreEachPolled side by first later ⊎ SideRoundsSuffice side by first later (state_after first.timeout.before (all_of (first ∷ later)))
+    pub enough : SufficeForPair side by pair first later
     pub timed : IsTimed side pace delay first later
     pub calls : (r : SideRound H P) → Has more r → r.timeout.entry.event ≡ Call side (agent.HandleTimeout r.now)
     pub between : (r : SideRound H P) → Has more r → (x : Occurrence H P) → Has r.following x → MakesInRound side x.entry.event

@@ -1,6 +1,6 @@
 -- How the controlling one of two agents selects a path: rounds that suffice for one of its pairs, and a check that is answered while
 -- it is pending (RFC 8445, sections 6.1.4.2, 7.2.5.3 and 8.1.1).
-use Rattle.std.specs.Prelude.{◌≡◌, ℕ, ◌<◌, ◌≤◌, ◌⊎◌, true, false, List, [], ◌∷◌, ◌++◌, length, Some}
+use Rattle.std.specs.Prelude.{◌≡◌, ℕ, suc, ◌*◌, ◌<◌, ◌≤◌, ◌⊎◌, true, false, List, [], ◌∷◌, ◌++◌, length, Some}
 use Rattle.is_proto.specs.Lists.{Has}
 use Rattle.is_proto.specs.Times.{MAX}
 use Rattle.is_proto.specs.Packets.{Packet}
@@ -11,6 +11,8 @@ use Rattle.is_rules.specs.declared.emitted.Path.{Path}
 use Rattle.is_theorems.specs.Delivery.{Sends}
 use Rattle.is_rules.specs.Emitted.{issued_as}
 use Rattle.is_theorems.specs.Progress.{Awaits, IsUnanswered}
+use Rattle.is_theorems.specs.ServedSoon.{IsServed}
+use Rattle.is_theorems.specs.UrgentFirst.{IsOvertaken}
 use Rattle.is_rules.specs.Sending.{path_of}
 use Rattle.is_rules.specs.Steps as agent
 use Rattle.is_theorems.specs.FirstChecks.{SufficeForDue}
@@ -79,6 +81,27 @@ module _ {H P : Type 0} where
     pub few : SufficeForDue by first.now (at side first.timeout.before) (at side (state_after first.timeout.following first.following)) (times_in later)
     pub polls : MakesPollsIn side (first ∷ later)
 
+  -- So many of the rounds, or more, check the selected pair of the side, or an urgent pair before the one with the number (`IsOvertaken`).
+  abbrev pub OvertakeIn : Side → (number n : ℕ) → List (SideRound H P) → Type 0
+  OvertakeIn side number n [] = n ≡ 0
+  OvertakeIn side number n (r ∷ later) =
+      OvertakeIn side number n later
+      ⊎ ((k : ℕ) × (n ≡ suc k) × IsOvertaken number r.now (at side r.timeout.before) r.timeout.entry.outcome.entry.emitted × OvertakeIn side number k later)
+
+  -- A request was served on the pair of the side when the rounds begin (`IsServed`). There are at least 2 * m later rounds, and fewer than m of
+  -- them check other pairs before this one. So 2 later rounds suffice if none does, however many pairs there are.
+  pub record ServedRoundsSuffice (side : Side) (p : PairRecord) (first : SideRound H P) (later : List (SideRound H P)) : Type 0 where
+    pub served : IsServed (at side first.timeout.before) p
+    pub m : ℕ
+    pub enough : 2 * m ≤ length later
+    pub few : ¬ OvertakeIn side p.number m later
+
+  -- The rounds suffice in one of these ways for a pair of the side that is due by the time `by`, while no pair is valid.
+  abbrev pub SufficeForPair : Side → ℕ → PairRecord → SideRound H P → List (SideRound H P) → Type 0
+  SufficeForPair side by p first later =
+      AreEachPolled side by first later
+      ⊎ (SideRoundsSuffice side by first later (state_after first.timeout.before (all_of (first ∷ later))) ⊎ ServedRoundsSuffice side p first later)
+
   -- The `handle_timeout` call sends a check on the path.
   abbrev pub RoundChecks : Path → SideRound H P → Type 0
   RoundChecks path r = (id : List ℕ) × (r.timeout.entry.outcome.entry.emitted.issued ≡ Some (issued_as path Request id))
@@ -99,7 +122,8 @@ module _ {H P : Type 0} where
   -- begin, no pair of the side is valid, and one is due by the time `by`, with due times computed at the time of the first round. The
   -- rounds suffice: if n pairs are due by then, n rounds in which the side makes only polls, or one more if the time is not earlier
   -- than the first one (`AreEachPolled`); or else 2n - 1 rounds for n pairs in all, and one more for each pair that is added in them
-  -- (`SideRoundsSuffice`), also by candidates that the side adds. If checks may go ahead, it is 2n, or 4n - 1 and two more.
+  -- (`SideRoundsSuffice`), also by candidates that the side adds. If checks may go ahead, it is 2n, or 4n - 1 and two more. If a request was
+  -- served on the pair, it is 2 * m after the first, fewer than m of which check other pairs before it (`ServedRoundsSuffice`).
   pub record IsControllingSegment (first : WorldRecord H P) (all before more rest : List (Occurrence H P)) (side : Side) (r : SideRound H P) (rounds : List (SideRound H P))
       (p : PairRecord) (by : ℕ) : Type 0 where
     pub new : (x : Side) → IsNewAgent (at x first)
@@ -109,7 +133,7 @@ module _ {H P : Type 0} where
     pub waits : Awaits r.now by (at side r.timeout.before) p
     pub unanswered : IsUnanswered (at side r.timeout.before) p
     pub kept : AreKept side by r rounds
-    pub enough : AreEachPolled side by r rounds ⊎ SideRoundsSuffice side by r rounds (state_after r.timeout.before (all_of (r ∷ rounds)))
+    pub enough : SufficeForPair side by p r rounds
 
   -- If the side sends a check on the path in the rounds, a check on it in the segment is answered in time.
   abbrev pub RoundsAreAnswered : (H → List ℕ → List ℕ → List ℕ) → (P → CandidateRecord → ℕ → ℕ → Type 0) → Side → Path → List (SideRound H P) → List (Occurrence H P) → Type 0

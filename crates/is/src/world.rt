@@ -148,7 +148,9 @@ impl<H: Sha1HmacProvider + Drop, P: LocalPreference> TwoAgents<H, P> {
         // success response at any time while the check is pending, also through NATs. Both agents know each other, their roles
         // differ, and the check reaches the other agent. Then the controlling agent selects a path by then, whatever else happens.
         // Candidates may be added in the rounds, if there are 2n - 1 for n pairs in all, and one more for each pair that is added,
-        // unless an added candidate may remove a pair of the path. If checks may go ahead, it is 2n rounds, or 4n - 1 and two more.
+        // unless an added candidate may remove a pair of the path. If checks may go ahead, it is 2n rounds, or 4n - 1 and two more. By the
+        // rule `triggered_checks` it is 2 * m after the first, however many pairs there are, if a request was served on the pair, and fewer
+        // than m of them check the selected pair or urgent pairs before it.
         ensures rounds { DeliveredRoundsSelect H.mac P.answers (world_of self.old) (sources (R.stream rng_a.old) (S.stream rng_b.old)) (logged events.items result.entries.items) }
 
         // Progress of the controlled agent: the controlling agent checks a path whose pairs it nominated, and the check arrives on
@@ -162,7 +164,8 @@ impl<H: Sha1HmacProvider + Drop, P: LocalPreference> TwoAgents<H, P> {
         // Progress of both: the controlling agent has a nominated pair, and the controlled agent a pair. Each has rounds that
         // suffice: 2n - 1 if it has n pairs, and one more for each pair that is added, or 4n - 1 and two more if checks may go ahead. If
         // nominations have numbers, each path that it selects in them, or selected before and has not checked since, counts like a pair
-        // that is added. If checks are sent on the two paths in these rounds, one of each agent is delivered, and so is the success
+        // that is added. It is 2 * m rounds, however many pairs there are, if a request was served on the pair, and fewer than m of them
+        // check other pairs before it. If checks are sent on the two paths in these rounds, one of each agent is delivered, and so is the success
         // response to the controlled agent, as above. Then the controlled agent selected a path by its next `handle_timeout` call, as
         // above.
         ensures connect { BothConnect H.mac P.answers (world_of self.old) (sources (R.stream rng_a.old) (S.stream rng_b.old)) (logged events.items result.entries.items) }
@@ -182,7 +185,7 @@ impl<H: Sha1HmacProvider + Drop, P: LocalPreference> TwoAgents<H, P> {
         // and its 487 if it gets one. If then the network delivers on one path of each, in both directions and while checks are
         // pending, the controlling agent selects a path once a check is answered, as in `rounds`, if it selected none before. If its
         // pairs on this path are nominated from then on, the controlled agent selects one by its next `handle_timeout` call after its
-        // rounds, as in `connect`.
+        // rounds, as in `connect`, or after a check of each was delivered with its response, in however few rounds.
         ensures both { BothSelect H.mac P.answers (world_of self.old) (sources (R.stream rng_a.old) (S.stream rng_b.old)) (logged events.items result.entries.items) }
 
         // And on the same path: while neither is lite, all pairs of one are on a path, and all pairs of the other on the reverse

@@ -6,14 +6,15 @@ use is_candidate::LocalPreference;
 use is_proto::Sha1HmacProvider;
 use is_theorems::exchanging::{checks_ask, exchanges_succeed_later};
 use is_theorems::reaching::{
-    courses_check_from_due, courses_reach_from_due, courses_reach_unanswered,
+    courses_check_from_due, courses_reach_from_due, courses_reach_served, courses_reach_unanswered,
+    served_courses_reach,
 };
 use is_theorems::renominating::{
     greatest_are_last, last_accepted_nominations_are_last, nominated_are_last,
 };
 use is_theorems::roles::conflicts_settle;
 use is_theorems::selecting::{accepted_nominations_are_selected, successes_select};
-use is_theorems::timing::{courses_reach_in_time, courses_select_in_time};
+use is_theorems::timing::{courses_reach_in_time, courses_select_in_time, served_reach_in_time};
 use is_theorems::transitions::{fresh_is_sound, path_effect, role_effect};
 
 /// Of two agents over any network, the one with the greater tie-breaker keeps its role.
@@ -54,8 +55,9 @@ pub(crate) fn selected_are_traced<H: Sha1HmacProvider, P: LocalPreference>()
 
 /// A controlling agent sends a check on the path of one of its pairs, or selects a path, within as many rounds as there are pairs that
 /// are due no later, or, if candidates are added in the rounds, 2n - 1 and one more for each pair that is added. If checks may go ahead, it
-/// is twice as many, or 4n - 1 and two more. If the check is answered while it is pending, the agent selects a path, unless an added
-/// candidate may remove the pair.
+/// is twice as many, or 4n - 1 and two more. It is 2 * m after the first if a request was served on the pair, and fewer than m of them check
+/// other pairs before it. If the check is answered while it is pending, the agent selects a path, unless an added candidate may remove the
+/// pair.
 pub(crate) fn delivered_rounds_select<H: Sha1HmacProvider, P: LocalPreference>()
     ensures { DeliveriesTheorem H.mac P.answers }
 {
@@ -64,6 +66,7 @@ pub(crate) fn delivered_rounds_select<H: Sha1HmacProvider, P: LocalPreference>()
     exchanges_succeed_later::<H, P>();
     courses_check_from_due::<H, P>();
     courses_reach_unanswered::<H, P>();
+    courses_reach_served::<H, P>();
     successes_select::<H, P>();
 }
 
@@ -91,6 +94,7 @@ pub(crate) fn both_connect<H: Sha1HmacProvider, P: LocalPreference>()
     checks_ask::<H, P>();
     accepted_nominations_are_selected::<H, P>();
     courses_reach_from_due::<H, P>();
+    served_courses_reach::<H, P>();
 }
 
 /// If the caller of one of two agents is punctual, and k rounds after the first suffice for a pair on the path, it checks the path at most
@@ -99,6 +103,7 @@ pub(crate) fn checks_come_in_time<H: Sha1HmacProvider, P: LocalPreference>()
     ensures { InTimeTheorem H.mac P.answers }
 {
     courses_reach_in_time::<H, P>();
+    served_reach_in_time::<H, P>();
 }
 
 /// If the caller of a controlling agent without a valid pair is punctual, and k rounds after the first suffice for a pair whose check is
@@ -115,7 +120,7 @@ pub(crate) fn selections_come_in_time<H: Sha1HmacProvider, P: LocalPreference>()
 }
 
 /// In whatever roles two new agents begin, if the network delivers on one path of each: the controlling one selects a path once its
-/// check is answered, and the controlled one by its next `handle_timeout` call after its rounds.
+/// check is answered, and the controlled one by its next `handle_timeout` call after a check of each was delivered.
 pub(crate) fn both_select<H: Sha1HmacProvider, P: LocalPreference>()
     ensures { ConnectsTheorem H.mac P.answers }
 {
@@ -128,7 +133,9 @@ pub(crate) fn both_select<H: Sha1HmacProvider, P: LocalPreference>()
     accepted_nominations_are_selected::<H, P>();
     courses_check_from_due::<H, P>();
     courses_reach_from_due::<H, P>();
+    served_courses_reach::<H, P>();
     courses_reach_unanswered::<H, P>();
+    courses_reach_served::<H, P>();
     successes_select::<H, P>();
 }
 

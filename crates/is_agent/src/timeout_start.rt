@@ -67,7 +67,9 @@ impl<H: Sha1HmacProvider + Drop, P: LocalPreference> Agent<H, P> {
         ensures checks { (t : ℕ) → HasCheckRoomAt t self.old → HasCheckRoomAt t self.new }
     {
         self.start_state(now);
-        drop_first(&mut self.queue, expired);
+        if expired > 0 {
+            drop_first(&mut self.queue, expired);
+        }
     }
 
     /// The request names another peer than the known one. Only an early one can: of others the peer's username fragment is

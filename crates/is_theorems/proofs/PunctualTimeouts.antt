@@ -5,4 +5,5 @@ pub mod ChecksInTimeInLogs
 pub mod ConsentInTime
 pub mod SelectedInTime
 pub mod SelectedInTimeInLogs
+pub mod ServedInTime
 pub mod SteadyRoundsInTime

@@ -2,4 +2,4 @@
 pub mod ChecksOfUrgentPairs
 pub mod RoundsOfUrgentPairs
 pub mod RoundsOfServedPairs
-pub mod SelectedByServedPairs
+pub mod ServedPairsPerAgent

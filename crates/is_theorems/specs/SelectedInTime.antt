@@ -16,6 +16,7 @@ use Rattle.is_theorems.specs.InTime.{IsTimed, SendsCheckOn}
 use Rattle.is_theorems.specs.Progress.{Awaits, IsUnanswered}
 use Rattle.is_theorems.specs.ReachedCourses.{PassRounds}
 use Rattle.is_theorems.specs.Runs.{IsFresh}
+use Rattle.is_theorems.specs.ServedSoon.{SufficesForServed}
 use Rattle.is_rules.specs.Sending.{path_of}
 use Rattle.is_rules.specs.Steps.{Call, Entry, Done}
 
@@ -39,19 +40,19 @@ SelectsBy limit rounds =
     × ((x : Call _ × Entry) × Has r.following x × AcceptsSuccess x.0 x.1 × (is_some (last_of x.1.emitted.selected_paths) ≡ true))
     × (r.now ≤ limit)
 
--- Enough rounds follow the first one for the check of a pair that is due by the time `by`, while no pair is valid: those of `SufficeForDue`,
--- if only packets and polls come in all of them; otherwise those of `Suffices`, in which candidates may be added. No nomination is sent at
--- once in them.
-abbrev pub SufficeForCheck : {H P : Type 0} → ℕ → (start second end : AgentRecord H P) → CourseRound P → List (CourseRound P) → Type 0
-SufficeForCheck by start second end r later =
-    (((x : CourseRound _) → Has (r ∷ later) x → AreBetween x.following) × SufficeForDue by r.now start second (times_of later))
-    ⊎ Suffices by r.now start second end (length later) 0 0
-
 module _ {H P : Type 0} (mac : H → List ℕ → List ℕ → List ℕ) (answers : P → CandidateRecord → ℕ → ℕ → Type 0) where
   -- the rounds, whatever the agent's role is in them
   abbrev pub in_any_role : (rounds : List (CourseRound P)) (old new : AgentRecord H P) → CourseRounds mac answers rounds old new → PassRounds mac answers rounds old new
   in_any_role [] old new run = run
   in_any_role (r ∷ later) old new run = (run.0, run.1, run.2, run.3, run.4, run.6, in_any_role later run.1 new run.8)
+
+  -- Enough rounds follow the first one for the check of a pair that is due by the time `by`, while no pair is valid: those of `SufficeForDue`,
+  -- if only packets and polls come in all of them; otherwise those of `Suffices`, in which candidates may be added, or, if a request was
+  -- served on the pair, those of `SufficesForServed`, however many pairs there are. No nomination is sent at once in them.
+  abbrev pub SufficeForCheck : ℕ → PairRecord → (start second end : AgentRecord H P) → CourseRound P → (later : List (CourseRound P)) → PassRounds mac answers later second end → Type 0
+  SufficeForCheck by p start second end r later run =
+      (((x : CourseRound P) → Has (r ∷ later) x → AreBetween x.following) × SufficeForDue by r.now start second (times_of later))
+      ⊎ (Suffices by r.now start second end (length later) 0 0 ⊎ SufficesForServed mac answers start p later second end run)
 
   -- An execution starts with a newly created agent. At the start of the rounds no pair is valid, and this one is due by the time of the
   -- first one. The agent is controlling in the rounds, between whose `handle_timeout` calls candidates may be added. Enough rounds follow the
@@ -65,7 +66,7 @@ module _ {H P : Type 0} (mac : H → List ℕ → List ℕ → List ℕ) (answer
       → by ≤ r.now → r.timeout.answer ≡ Done → r.now < MAX → AreInRound r.following
       → (run : CourseRounds mac answers (r ∷ later) start end) → CourseRounds mac answers more end last
       → ((x : CourseRound P) → Has later x → IsOpenRound by x) → ((x : CourseRound P) → Has more x → AreInRound x.following)
-      → SufficeForCheck by start run.1 end r later → IsTimed pace delay start r later
+      → SufficeForCheck by p start run.1 end r later (in_any_role later run.1 end run.8) → IsTimed pace delay start r later
       → IsAnsweredWithin trip (r ∷ (later ++ more)) (path_of start p)
       → SelectsBy (r.now + length later * (pace + delay) + trip) (r ∷ (later ++ more))
       ⊎ EndsAmong mac answers (r ∷ later) start end (in_any_role (r ∷ later) start end run) (path_of start p)

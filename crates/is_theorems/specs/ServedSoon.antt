@@ -1,6 +1,6 @@
 -- How soon a request triggers a check, by the rule `triggered_checks` (RFC 8445, section 7.3.1.4): the pair on which it was served is urgent
--- until it is valid, so it is checked in two rounds, however many pairs there are; and the response to that check selects a path.
-use Rattle.std.specs.Prelude.{◌≡◌, ℕ, ◌*◌, ◌≤◌, ◌⊎◌, true, false, nat_lt, List, ◌∷◌, length, is_some}
+-- until it is valid, so it is checked in two rounds, however many pairs there are.
+use Rattle.std.specs.Prelude.{◌≡◌, ℕ, suc, ◌+◌, ◌*◌, ◌≤◌, ◌⊎◌, true, false, nat_lt, List, [], ◌∷◌, length, is_some}
 use Rattle.rand_core.specs.Stream.{Stream}
 use Rattle.is_proto.specs.Lists.{Has}
 use Rattle.is_candidate.specs.Candidates.{CandidateRecord}
@@ -8,14 +8,20 @@ use Rattle.is_pair.specs.Pairs.{PairRecord}
 use Rattle.is_rules.specs.Agent.{AgentRecord}
 use Rattle.is_rules.specs.Brought.{IsValidOn}
 use Rattle.is_rules.specs.Sending.{path_of}
+use Rattle.is_rules.specs.Steps.{Call, Entry, Done}
 use Rattle.is_theorems.specs.Asked.{IsAnsweredIn}
+use Rattle.is_theorems.specs.Courses.{AcceptsSuccess, CourseRound}
+use Rattle.is_theorems.specs.Exchange.{Course}
+use Rattle.is_theorems.specs.FirstTimeouts.{AreInRound, IsOpenRound, IsReached}
 use Rattle.is_theorems.specs.KindsInTurn.{WaitsInRounds}
 use Rattle.is_theorems.specs.Logs.{Logged}
-use Rattle.is_theorems.specs.OpenRounds.{IsAnsweredInRound}
-use Rattle.is_theorems.specs.Reached.{ChecksIn, IsEndedIn, selects}
-use Rattle.is_theorems.specs.Rounds.{BringsSuccess, IsControllingIn, LoggedRound, Part, entries_of}
-use Rattle.is_theorems.specs.Runs.{IsFresh, IsTopPath, Point}
-use Rattle.is_theorems.specs.UrgentFirst.{IsOvertakenIn}
+use Rattle.is_theorems.specs.Progress.{Awaits, IsUnanswered}
+use Rattle.is_theorems.specs.InTime.{IsReachedBy, IsTimed}
+use Rattle.is_theorems.specs.Reached.{ChecksIn, IsEndedIn, IsInLine, IsLasting, selects}
+use Rattle.is_theorems.specs.ReachedCourses.{PassRounds}
+use Rattle.is_theorems.specs.Rounds.{LoggedRound, Part, entries_of}
+use Rattle.is_theorems.specs.Runs.{IsFresh}
+use Rattle.is_theorems.specs.UrgentFirst.{IsOvertaken, IsOvertakenIn}
 
 module _ {H P : Type 0} where
   -- A request was served on the pair, and no pair on its path is valid. The agent has the rule.
@@ -33,6 +39,8 @@ module _ {H P : Type 0} where
     pub enough : 2 * m ≤ length rounds
 
   module _ (mac : H → List ℕ → List ℕ → List ℕ) (answers : P → CandidateRecord → ℕ → ℕ → Type 0) where
+    -- ---- in a log
+
     -- In 2 * m such rounds a check is sent on the pair's path, or m of them check the selected pair or urgent pairs before it. The exceptions are
     -- those of `RoundsReach`.
     abbrev pub RoundsReachServed : AgentRecord H P → Stream → List (Logged P) → Type 0
@@ -44,25 +52,54 @@ module _ {H P : Type 0} where
         ⊎ (IsEndedIn mac answers before start found.at (entries_of rounds) last found.following found.run (path_of start p)
         ⊎ IsOvertakenIn mac answers p.number m before start found.at (entries_of rounds) last found.following found.run))
 
-    -- A success response of the segment is accepted. Then the path that was selected last is that of a best pair.
-    abbrev pub SelectsBestIn : AgentRecord H P → Stream → List (Logged P) → List (Logged P) → Type 0
-    SelectsBestIn first s log part =
-        (before : List (Logged P)) × (mid after : AgentRecord H P) × (x : Logged P)
-        × Point mac answers first s log before mid x after × Has part x × BringsSuccess x × IsTopPath mac answers (x ∷ before) after
-
-    -- The agent is controlling, and each check that is sent on the path is answered in its round. Then a path is selected in the rounds.
-    abbrev pub ServedRoundsSelect : AgentRecord H P → Stream → List (Logged P) → Type 0
-    ServedRoundsSelect first s log =
-        (before : List (Logged P)) (start last : AgentRecord H P) (rounds : List (LoggedRound P)) (p : PairRecord) (by m : ℕ)
-        → (found : Part mac answers first s log before start (entries_of rounds) last) → IsServedInRounds by m start rounds p
-        → IsControllingIn mac answers before start found.at (entries_of rounds) last found.following found.run
-        → ((r : LoggedRound P) → Has rounds r → IsAnsweredInRound (path_of start p) r)
-        → SelectsBestIn first s log (entries_of rounds)
-        ⊎ (IsEndedIn mac answers before start found.at (entries_of rounds) last found.following found.run (path_of start p)
-        ⊎ IsOvertakenIn mac answers p.number m before start found.at (entries_of rounds) last found.following found.run)
-
     abbrev pub ServedAreCheckedSoon : Type 0
     ServedAreCheckedSoon = (first : AgentRecord H P) (s : Stream) (log : List (Logged P)) → IsFresh first → RoundsReachServed first s log
 
-    abbrev pub ServedSelectSoon : Type 0
-    ServedSelectSoon = (first : AgentRecord H P) (s : Stream) (log : List (Logged P)) → IsFresh first → ServedRoundsSelect first s log
+    -- ---- in an execution
+
+    -- So many `handle_timeout` calls of the rounds, or more, check the selected pair, or an urgent pair before the one with the number.
+    abbrev pub IsOvertakenAmong : (number n : ℕ) (rounds : List (CourseRound P)) (old new : AgentRecord H P) → PassRounds mac answers rounds old new → Type 0
+    IsOvertakenAmong number n [] old new run = n ≡ 0
+    IsOvertakenAmong number n (r ∷ later) old new run =
+        IsOvertakenAmong number n later run.1 new run.6
+        ⊎ ((k : ℕ) × (n ≡ suc k) × IsOvertaken number r.now old r.timeout.emitted × IsOvertakenAmong number k later run.1 new run.6)
+
+    -- The same as in a log, in either role.
+    abbrev pub ServedCoursesReach : Type 0
+    ServedCoursesReach =
+        (first start last : AgentRecord H P) (xs : List (Call P × Entry)) (r : CourseRound P) (later : List (CourseRound P)) (p : PairRecord) (by m : ℕ)
+        → IsFresh first → Course mac answers xs first start → IsInLine r.now by start p → IsServed start p → (run : PassRounds mac answers (r ∷ later) start last)
+        → ((x : CourseRound P) → Has (r ∷ later) x → IsOpenRound by x) → ((x : CourseRound P) → Has (r ∷ later) x → IsLasting x.now start p)
+        → ((x : CourseRound P) → Has (r ∷ later) x → selects x.timeout ≡ false) → 2 * m ≤ length (r ∷ later)
+        → IsReached mac answers (r ∷ later) start last run (path_of start p) ⊎ IsOvertakenAmong p.number m (r ∷ later) start last run
+
+    -- With a punctual caller: by the time of the last round.
+    abbrev pub ServedCoursesReachInTime : Type 0
+    ServedCoursesReachInTime =
+        (first start last : AgentRecord H P) (xs : List (Call P × Entry)) (r : CourseRound P) (later : List (CourseRound P)) (p : PairRecord) (by m pace delay : ℕ)
+        → IsFresh first → Course mac answers xs first start → IsInLine r.now by start p → IsServed start p → (run : PassRounds mac answers (r ∷ later) start last)
+        → ((x : CourseRound P) → Has (r ∷ later) x → IsOpenRound by x) → ((x : CourseRound P) → Has (r ∷ later) x → IsLasting x.now start p)
+        → ((x : CourseRound P) → Has (r ∷ later) x → selects x.timeout ≡ false) → 2 * m ≤ length (r ∷ later) → IsTimed pace delay start r later
+        → IsReachedBy mac answers (r.now + length later * (pace + delay)) (r ∷ later) start last run (path_of start p) ⊎ IsOvertakenAmong p.number m (r ∷ later) start last run
+
+    -- A request was served on the pair. At least 2 * m rounds follow, and fewer than m of them check the selected pair, or urgent pairs before
+    -- this one. So 2 rounds suffice if none does, however many pairs there are.
+    pub record SufficesForServed (start : AgentRecord H P) (p : PairRecord) (later : List (CourseRound P)) (second end : AgentRecord H P)
+        (run : PassRounds mac answers later second end) : Type 0 where
+      pub served : IsServed start p
+      pub m : ℕ
+      pub enough : 2 * m ≤ length later
+      pub few : ¬ IsOvertakenAmong p.number m later second end run
+
+    -- An execution starts with a newly created agent. At the start of the rounds the agent is controlling and no pair is valid. This one is due by
+    -- the time of the first one, a request was served on it, and enough rounds follow. Then the pair's path is reached, unless a success
+    -- response is accepted in the rounds.
+    abbrev pub CoursesReachServed : Type 0
+    CoursesReachServed =
+        (first start last : AgentRecord H P) (xs : List (Call P × Entry)) (r : CourseRound P) (later : List (CourseRound P)) (p : PairRecord) (by : ℕ)
+        → IsFresh first → Course mac answers xs first start → start.controlling ≡ true → Awaits r.now by start p → IsUnanswered start p
+        → by ≤ r.now → r.timeout.answer ≡ Done → AreInRound r.following
+        → (run : PassRounds mac answers (r ∷ later) start last) → ((x : CourseRound P) → Has later x → IsOpenRound by x)
+        → SufficesForServed start p later run.1 last run.6
+        → ((x : CourseRound P) × Has (r ∷ later) x × ((y : Call P × Entry) × Has x.following y × AcceptsSuccess y.0 y.1))
+        ⊎ IsReached mac answers (r ∷ later) start last run (path_of start p)

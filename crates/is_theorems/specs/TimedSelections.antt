@@ -19,7 +19,9 @@ use Rattle.is_theorems.specs.Progress.{Awaits, IsUnanswered}
 use Rattle.is_theorems.specs.Reached.{is_in_round, IsEndedIn, IsPassing, selects}
 use Rattle.is_theorems.specs.Rounds.{LoggedRound, entries_of, BringsSuccess, Part, IsControllingIn}
 use Rattle.is_theorems.specs.Runs.{IsFresh}
+use Rattle.is_theorems.specs.ServedSoon.{IsServed}
 use Rattle.is_theorems.specs.TimedRounds.{IsTimedIn}
+use Rattle.is_theorems.specs.UrgentFirst.{IsOvertakenIn}
 
 module _ {P : Type 0} where
   -- the times of the rounds, the oldest first
@@ -87,12 +89,26 @@ module _ {H P : Type 0} (mac : H → List ℕ → List ℕ → List ℕ) (answer
   abbrev pub rounds_of : {first : AgentRecord H P} {s : Stream} {log : List (Logged P)} → ControllingRounds first s log → List (LoggedRound P)
   rounds_of k = k.more ++ (k.later ++ k.opening ∷ [])
 
+  -- So many of the later rounds check the selected pair, or an urgent pair before the one with the number.
+  abbrev pub OvertakeLater : {first : AgentRecord H P} {s : Stream} {log : List (Logged P)} → ControllingRounds first s log → (number n : ℕ) → Type 0
+  OvertakeLater k number n =
+      IsOvertakenIn mac answers number n (entries_of (k.opening ∷ []) ++ k.before) k.second k.others.at (entries_of k.later) k.end k.others.following k.others.run
+
+  -- A request was served on the pair when the rounds begin. There are at least 2 * m later rounds, and fewer than m of them check other pairs
+  -- before this one.
+  pub record LaterSufficeForServed {first : AgentRecord H P} {s : Stream} {log : List (Logged P)} (k : ControllingRounds first s log) (p : PairRecord) : Type 0 where
+    pub served : IsServed k.start p
+    pub m : ℕ
+    pub enough : 2 * m ≤ length k.later
+    pub few : ¬ OvertakeLater k p.number m
+
   -- The later rounds suffice for the check of a pair that is due by the time `by`, while no pair is valid: those of `SufficeForDue`, if only
-  -- packets and polls come in them and in the first one; otherwise those of `Suffices`. No nomination is sent at once in them.
-  abbrev pub LaterSuffice : {first : AgentRecord H P} {s : Stream} {log : List (Logged P)} → ControllingRounds first s log → (by : ℕ) → Type 0
-  LaterSuffice k by =
+  -- packets and polls come in them and in the first one; otherwise those of `Suffices`, or, if a request was served on the pair, those of
+  -- `LaterSufficeForServed`. No nomination is sent at once in them.
+  abbrev pub LaterSuffice : {first : AgentRecord H P} {s : Stream} {log : List (Logged P)} → ControllingRounds first s log → (p : PairRecord) (by : ℕ) → Type 0
+  LaterSuffice k p by =
       (ArePlain (k.later ++ k.opening ∷ []) × SufficeForDue by k.opening.now k.start k.second (logged_times k.later))
-      ⊎ Suffices by k.opening.now k.start k.second k.end (length k.later) 0 0
+      ⊎ (Suffices by k.opening.now k.start k.second k.end (length k.later) 0 0 ⊎ LaterSufficeForServed k p)
 
   -- At the start of the rounds no pair is valid, and this one is due by the time of the first `handle_timeout` call. The later rounds suffice
   -- for its check, and up to the last of these the caller is punctual: at most `delay` late, with a pacing interval of at most `pace`. If a
@@ -105,7 +121,7 @@ module _ {H P : Type 0} (mac : H → List ℕ → List ℕ → List ℕ) (answer
     pub done : k.opening.timeout.entry.answer ≡ Done
     pub early : k.opening.now < MAX
     pub passing : (x : LoggedRound P) → Has k.later x → IsPassing by x
-    pub enough : LaterSuffice k by
+    pub enough : LaterSuffice k p by
     pub timed : IsTimedIn pace delay k.start k.opening k.later
     pub answered : IsAnsweredInBy trip (rounds_of k) (path_of k.start p)
 

@@ -15,10 +15,10 @@ ghost use Rattle.is_theorems.specs.KindsInTurn.{KindsAreReachedInTurn};
 ghost use Rattle.is_theorems.specs.OwnKind.{PairsAreReachedInKind};
 ghost use Rattle.is_theorems.specs.Reached.{PairsAreReached};
 ghost use Rattle.is_theorems.specs.ReachedCourses.{CoursesReach, CoursesCheck};
-ghost use Rattle.is_theorems.specs.ServedSoon.{ServedAreCheckedSoon, ServedSelectSoon};
+ghost use Rattle.is_theorems.specs.ServedSoon.{CoursesReachServed, ServedAreCheckedSoon, ServedCoursesReach};
 ghost use Rattle.is_theorems.specs.UrgentFirst.{UrgentPairsAreReached};
 
-use crate::selecting::{answers_select, successes_select};
+use crate::selecting::successes_select;
 use is_candidate::LocalPreference;
 use is_proto::Sha1HmacProvider;
 
@@ -120,10 +120,18 @@ pub fn served_are_checked_soon<H: Sha1HmacProvider, P: LocalPreference>()
     ensures { ServedAreCheckedSoon H.mac P.answers }
 {}
 
-/// If the agent is controlling besides, and each check on the path is answered in its round, a path is selected in these rounds.
-pub fn served_select_soon<H: Sha1HmacProvider, P: LocalPreference>()
-    ensures { ServedSelectSoon H.mac P.answers }
+/// The same of an agent that may share its random source.
+pub fn served_courses_reach<H: Sha1HmacProvider, P: LocalPreference>()
+    ensures { ServedCoursesReach H.mac P.answers }
 {
     served_are_checked_soon::<H, P>();
-    answers_select::<H, P>();
+}
+
+/// Likewise for a controlling agent without a valid pair, which may share its random source: the pair is due by the first of its rounds, and
+/// 2 * m rounds follow, fewer than m of which check other pairs before it. Then its path is reached, unless a success response is accepted in
+/// the rounds.
+pub fn courses_reach_served<H: Sha1HmacProvider, P: LocalPreference>()
+    ensures { CoursesReachServed H.mac P.answers }
+{
+    served_are_checked_soon::<H, P>();
 }

@@ -3,12 +3,16 @@
 
 ghost use Rattle.is_theorems.specs.InTime.{CoursesCheckInTime, CoursesReachInTime, NextComesInTime, RoundsComeInTime};
 ghost use Rattle.is_theorems.specs.SelectedInTime.{CoursesSelectInTime};
+ghost use Rattle.is_theorems.specs.ServedSoon.{ServedCoursesReachInTime};
 ghost use Rattle.is_theorems.specs.Pacing.{PacingIsSet};
 ghost use Rattle.is_theorems.specs.TimedRounds.{PairsAreReachedInTime};
 ghost use Rattle.is_theorems.specs.TimedSelections.{PathsAreSelectedInTime};
 ghost use Rattle.is_theorems.specs.TimedSteadyRounds.{NoneIsStarvedInTime};
 
-use crate::reaching::{courses_check_from_due, courses_reach_from_due, courses_reach_unanswered};
+use crate::reaching::{
+    courses_check_from_due, courses_reach_from_due, courses_reach_served, courses_reach_unanswered,
+    served_courses_reach,
+};
 use crate::selecting::successes_select;
 use is_candidate::LocalPreference;
 use is_proto::Sha1HmacProvider;
@@ -58,6 +62,16 @@ pub fn none_is_starved_in_time<H: Sha1HmacProvider, P: LocalPreference>()
     rounds_come_in_time::<H, P>();
 }
 
+/// With a caller at most δ late: a request was served on a pair that is due before the first of 2 * m rounds, in which no `handle_timeout`
+/// selects a path. Then its path is reached by the time of the last one, or m of them check other pairs before it, as in
+/// `served_are_checked_soon`.
+pub fn served_reach_in_time<H: Sha1HmacProvider, P: LocalPreference>()
+    ensures { ServedCoursesReachInTime H.mac P.answers }
+{
+    served_courses_reach::<H, P>();
+    rounds_come_in_time::<H, P>();
+}
+
 /// Likewise for a controlling agent without a valid pair, for the k rounds after the first of `courses_check_from_due`: for n due pairs
 /// n - 1, or n if the pair is due at the first call and not before it.
 pub fn courses_check_in_time<H: Sha1HmacProvider, P: LocalPreference>()
@@ -70,12 +84,14 @@ pub fn courses_check_in_time<H: Sha1HmacProvider, P: LocalPreference>()
 /// The same agent selects a path, if a success response is accepted in a round that begins at most one round trip after a check on the
 /// pair's path: in a round that begins at most k times one pacing interval and δ, and one round trip, after the first. The response may
 /// come several rounds after its check. Candidates may be added between the `handle_timeout` calls: then the k rounds suffice as in
-/// `courses_reach_unanswered`, and the exception is that such a candidate may remove a pair of the path.
+/// `courses_reach_unanswered`, or as in `courses_reach_served` if a request was served on the pair: 2 * m, however many pairs there are. The
+/// exception is that such a candidate may remove a pair of the path.
 pub fn courses_select_in_time<H: Sha1HmacProvider, P: LocalPreference>()
     ensures { CoursesSelectInTime H.mac P.answers }
 {
     courses_check_from_due::<H, P>();
     courses_reach_unanswered::<H, P>();
+    courses_reach_served::<H, P>();
     successes_select::<H, P>();
 }
 

@@ -24,19 +24,21 @@ use Rattle.is_theorems.specs.Reached.{IsInLine, IsLasting, nominations_ahead, se
 use Rattle.is_theorems.specs.ReachedCourses.{IsPassed, PassRounds, selections_among}
 use Rattle.is_rules.specs.Sending.{path_of}
 use Rattle.is_theorems.specs.FirstChecks.{times_of}
-use Rattle.is_theorems.specs.FirstTimeouts.{CoursesReachUnanswered, AreInRound, IsOpenRound, EndsAmong, RoundsSuffice, Suffices, CoursesReachFromDue}
+use Rattle.is_theorems.specs.FirstTimeouts.{CoursesReachUnanswered, AreInRound, IsOpenRound, IsReached, EndsAmong, RoundsSuffice, Suffices, CoursesReachFromDue}
+use Rattle.is_theorems.specs.ServedSoon.{CoursesReachServed, IsOvertakenAmong, ServedCoursesReach, SufficesForServed}
 use Rattle.is_rules.specs.Sound.{FreshIsSound}
 use Rattle.is_rules.specs.Steps as agent
 use Rattle.is_rules.specs.Steps.{Answer, Entry, Done, Rejected, quiet, Step}
 use Rattle.is.specs.declared.world_events.Side.{Side}
-use Rattle.is.specs.Connections.{HasRounds, SideRoundsReach, Succeeds, BothConnect, selections_of}
-use Rattle.is.specs.AcceptedNominationsIn.{is_of, Occurrence, IsAskedOver}
+use Rattle.is.specs.Connections.{AsksInRounds, HasRounds, IsAnsweredInRounds, ServedRoundsReach, SideRoundsReach, Succeeds, BothConnect, selections_of}
+use Rattle.is.specs.AcceptedNominationsIn.{is_of, Occurrence, IsAskedOver, IsExchangedOver, occurrences_in}
 use Rattle.is.specs.Deliveries.{MakesPolls}
-use Rattle.is.specs.Selections.{SideRound, all_of, times_in, state_after, IsKept, AreKept, MayEndInRounds, SideRoundsSuffice, AreEachPolled, RoundChecks}
+use Rattle.is.specs.Selections.{SideRound, all_of, times_in, state_after, IsKept, AreKept, MayEndInRounds, OvertakeIn, ServedRoundsSuffice, SideRoundsSuffice, AreEachPolled, RoundChecks}
 use Rattle.is.specs.Sides.{only, polled_as, received_as, acts}
 use Rattle.rand_core.specs.Stream.{Stream}
 use Rattle.is.specs.World as world
-use Rattle.is.specs.World.{WorldRecord, InFlightRecord, Event, LoggedEvent, Happens, at, other, in_world, Streams, source_of, TakesTurn}
+use Rattle.is.specs.AcceptedNominations.{IsControlledSegment, MayEndIn, SelectsTop}
+use Rattle.is.specs.World.{WorldRecord, WorldRun, InFlightRecord, Event, LoggedEvent, Happens, at, other, in_world, Streams, source_of, TakesTurn}
 use Rattle.is.specs.WorldRoles.{IsNewAgent}
 use Rattle.is.proofs.ExternalViews.ViewsOfExecutions.{Has-front, Has-rear, AreSound}
 use Rattle.is.proofs.TwoAgentEvents.OwnExecutions.{only_own, course_on, turn_step}
@@ -72,10 +74,11 @@ module _ {H P : Type 0} (mac : H → List ℕ → List ℕ → List ℕ) (answer
   abbrev pub Passing : Side → Path → List (SideRound H P) → AgentRecord H P → AgentRecord H P → Type 0
   Passing side path rounds a b =
       (run : PassRounds mac answers (rounds_of side rounds) a b) × (EndsAmong mac answers (rounds_of side rounds) a b run path → MayEndInRounds answers side path rounds)
+      × ((n k : ℕ) → IsOvertakenAmong mac answers n k (rounds_of side rounds) a b run → OvertakeIn side n k rounds)
 
   pub passes : (side : Side) (path : Path) (rounds : List (SideRound H P)) (w last : WorldRecord H P) → Follow mac answers w (all_of rounds) last → ((r : SideRound H P) → Has rounds r → Moves side r)
       → Passing side path rounds (at side w) (at side last)
-  passes side path [] w last is comes = (ap (λ (v : WorldRecord H P). at side v) is, λ none. absurd none)
+  passes side path [] w last is comes = (ap (λ (v : WorldRecord H P). at side v) is, (λ none. absurd none), λ n k none. none)
   passes side path (r ∷ later) w last (from, s, t, happens, more) comes =
       let c = cut mac answers r.following (all_of later) r.timeout.following last more in
       let o = owned mac answers side path r.following r.following r.timeout.following c.0 c.1 (λ x has. has) in
@@ -83,8 +86,20 @@ module _ {H P : Type 0} (mac : H → List ℕ → List ℕ → List ℕ) (answer
       let moves = moved side r s t (comes r (inl refl)) happens in
       subst (λ (v : WorldRecord H P). Passing side path (r ∷ later) (at side v) (at side last)) from (
         (at side r.timeout.following, at side c.0, source_of side s, moves.0, moves.1, o.0, k.0),
-        λ ends. elim ends [ inl here ↦ (r, inl refl, o.1 here) | inr others ↦ (let m = k.1 others in (m.0, inr m.1, m.2)) ],
+        (λ ends. elim ends [ inl here ↦ (r, inl refl, o.1 here) | inr others ↦ (let m = k.1 others in (m.0, inr m.1, m.2)) ]),
+        λ n i overtaken. elim overtaken [ inl others ↦ inl (k.2 n i others) | inr (j, is, here, others) ↦ inr (j, is, search (here), k.2 n j others) ],
       )
+
+  -- so rounds that suffice for a pair on which a request was served suffice there
+  pub suffices_served : (side : Side) (p : PairRecord) (r : SideRound H P) (later : List (SideRound H P)) (second last : AgentRecord H P) (run : PassRounds mac answers (rounds_of side later) second last)
+      → ((n k : ℕ) → IsOvertakenAmong mac answers n k (rounds_of side later) second last run → OvertakeIn side n k later) → ServedRoundsSuffice side p r later
+      → SufficesForServed mac answers (at side r.timeout.before) p (rounds_of side later) second last run
+  suffices_served side p r later second last run overtakes s = record {
+    served = search (s.served);
+    m = s.m;
+    enough = (let count = as_many side later in let few = s.enough in omega (arith, count, few));
+    few = λ overtaken. (let few = s.few in let o : OvertakeIn side p.number s.m later = overtakes p.number s.m overtaken in search (few, o));
+  }
 
   -- no more of its calls select a path there
   chosen_among : (side : Side) (rounds : List (SideRound H P)) (w last : WorldRecord H P) → Follow mac answers w (all_of rounds) last → ((r : SideRound H P) → Has rounds r → Moves side r)
@@ -170,12 +185,31 @@ module _ {H P : Type 0} (mac : H → List ℕ → List ℕ → List ℕ) (answer
   abbrev pub Reaches : Side → Path → List (SideRound H P) → Type 0
   Reaches side path rounds = SomeChecks path rounds ⊎ (Answers side path rounds ⊎ MayEndInRounds answers side path rounds)
 
-  pub reached : CoursesReachFromDue {H = H} {P = P} mac answers → (side : Side) (first last : WorldRecord H P) (s : Streams) (xs : List (agent.Call P × Entry)) (r : SideRound H P) (later : List (SideRound H P)) (p : PairRecord) (by : ℕ)
+  pub are_all_open : (side : Side) (by : ℕ) (r : SideRound H P) (later : List (SideRound H P)) → by < r.now → AreKept side by r later → are_all (λ c. IsOpenRound by c) side (r ∷ later)
+  are_all_open side by r later late kept c (inl is) =
+      let k = kept.kept r (inl refl) in
+      subst (λ (z : CourseRound P). IsOpenRound by z) is (record { done = k.done; late = omega (arith, late); early = k.early; between = is_open side r k })
+  are_all_open side by r later late kept c (inr has) = are_open side by r later kept c has
+
+  pub lasts_all : (side : Side) (p : PairRecord) (r : SideRound H P) (later : List (SideRound H P)) → IsLasting r.now (at side r.timeout.before) p
+      → ((x : SideRound H P) → Has later x → IsLasting x.now (at side r.timeout.before) p) → are_all (λ c. IsLasting c.now (at side r.timeout.before) p) side (r ∷ later)
+  lasts_all side p r later here lasting = each_round (λ c. IsLasting c.now (at side r.timeout.before) p) side (r ∷ later)
+      (λ x has. elim has [ inl is ↦ subst (λ (z : SideRound H P). IsLasting z.now (at side r.timeout.before) p) is here | inr there ↦ lasting x there ])
+
+  -- what checks other pairs before it in the per-agent execution does so in the network model
+  pub overtakes_all : (side : Side) (r : SideRound H P) (later : List (SideRound H P)) (second last : AgentRecord H P)
+      → (run : (mid next : AgentRecord H P) × (s t : Stream) × Step mac answers (at side r.timeout.before) s (agent.HandleTimeout r.now) r.timeout.entry.outcome.entry mid t
+      × Course mac answers (own mac answers side r.following) mid next × PassRounds mac answers (rounds_of side later) next last)
+      → ((n k : ℕ) → IsOvertakenAmong mac answers n k (rounds_of side later) run.1 last run.6 → OvertakeIn side n k later) → (n k : ℕ)
+      → IsOvertakenAmong mac answers n k (rounds_of side (r ∷ later)) (at side r.timeout.before) last run → OvertakeIn side n k (r ∷ later)
+  overtakes_all side r later second last run overtakes n k overtaken = elim overtaken [ inl others ↦ inl (overtakes n k others) | inr (j, is, here, others) ↦ inr (j, is, here, overtakes n j others) ]
+
+  pub reached : CoursesReachFromDue {H = H} {P = P} mac answers → ServedCoursesReach {H = H} {P = P} mac answers → (side : Side) (first last : WorldRecord H P) (s : Streams) (xs : List (agent.Call P × Entry)) (r : SideRound H P) (later : List (SideRound H P)) (p : PairRecord) (by : ℕ)
       → IsNewAgent (at side first) → Course mac answers xs (at side first) (at side r.timeout.before) → Follow mac answers r.timeout.before (all_of (r ∷ later)) last
       → IsInLine r.now by (at side r.timeout.before) p → AreKept side by r later
-      → ((x : SideRound H P) → Has later x → IsLasting x.now (at side r.timeout.before) p) → SideRoundsReach side by r later last
+      → ((x : SideRound H P) → Has later x → IsLasting x.now (at side r.timeout.before) p) → SideRoundsReach side by r later last ⊎ ServedRoundsReach side by p r later
       → Reaches side (path_of (at side r.timeout.before) p) (r ∷ later)
-  reached reach side first last s xs r later p by n led (same, u, v, happens, more) line kept lasting enough =
+  reached reach serve side first last s xs r later p by n led (same, u, v, happens, more) line kept lasting enough =
       let path : Path = path_of (at side r.timeout.before) p in
       let own_first : IsKept side r = kept.kept r (inl refl) in
       let c = cut mac answers r.following (all_of later) r.timeout.following last more in
@@ -184,13 +218,25 @@ module _ {H P : Type 0} (mac : H → List ℕ → List ℕ → List ℕ) (answer
       let moves = moved side r u v own_first.comes happens in
       let many = as_many side later in
       let second : state_after r.timeout.following r.following ≡ c.0 = state_is mac answers r.following r.timeout.following c.0 c.1 in
-      let so_many : RoundsSuffice by (at side r.timeout.before) (at side c.0) (at side last) (round_of side r) (rounds_of side later) (length (rounds_of side later)) =
-      subst (λ i. RoundsSuffice by (at side r.timeout.before) (at side c.0) (at side last) (round_of side r) (rounds_of side later) i) (sym many)
-      (rounds_suffice side by r later c.0 last (same, u, v, happens, more) c.2 (λ x has. (kept.kept x has).comes) second enough) in
-      elim (reach (fresh (at side first).provider n.0 n.1) (at side r.timeout.before) (at side last) ((agent.SetControlling n.2, quiet Done) ∷ xs) (round_of side r) (rounds_of side later) p by
-      (n.0, n.1, refl) (at side first, source_of side s, source_of side s, tt, (Ok _, refl, (refl, n.3), refl), led) line (let from = kept.from in omega (arith, from)) own_first.done own_first.early (is_open side r own_first)
-      (at side r.timeout.following, at side c.0, source_of side u, moves.0, moves.1, o.0, k.0) (are_open side by r later kept)
-      (each_round (λ c. IsLasting c.now (at side r.timeout.before) p) side later (λ x has. lasting x has)) so_many) [
+      let agent_first : AgentRecord H P = fresh (at side first).provider n.0 n.1 in
+      let to : Course mac answers ((agent.SetControlling n.2, quiet Done) ∷ xs) agent_first (at side r.timeout.before) = (at side first, source_of side s, source_of side s, tt, (Ok _, refl, (refl, n.3), refl), led) in
+      let pass : PassRounds mac answers (rounds_of side (r ∷ later)) (at side r.timeout.before) (at side last) = (at side r.timeout.following, at side c.0, source_of side u, moves.0, moves.1, o.0, k.0) in
+      let found : IsReached mac answers (rounds_of side (r ∷ later)) (at side r.timeout.before) (at side last) pass path = elim enough [
+        | inl suffices ↦
+            (let so_many : RoundsSuffice by (at side r.timeout.before) (at side c.0) (at side last) (round_of side r) (rounds_of side later) (length (rounds_of side later)) =
+            subst (λ i. RoundsSuffice by (at side r.timeout.before) (at side c.0) (at side last) (round_of side r) (rounds_of side later) i) (sym many)
+            (rounds_suffice side by r later c.0 last (same, u, v, happens, more) c.2 (λ x has. (kept.kept x has).comes) second suffices) in
+            reach agent_first (at side r.timeout.before) (at side last) ((agent.SetControlling n.2, quiet Done) ∷ xs) (round_of side r) (rounds_of side later) p by
+            (n.0, n.1, refl) to line (let from = kept.from in omega (arith, from)) own_first.done own_first.early (is_open side r own_first) pass (are_open side by r later kept)
+            (each_round (λ c. IsLasting c.now (at side r.timeout.before) p) side later (λ x has. lasting x has)) so_many)
+        | inr served ↦ elim (serve agent_first (at side r.timeout.before) (at side last) ((agent.SetControlling n.2, quiet Done) ∷ xs) (round_of side r) (rounds_of side later) p by served.m
+            (n.0, n.1, refl) to line (search (served.served)) pass (are_all_open side by r later (let late = served.late in omega (arith, late)) kept) (lasts_all side p r later line.lasting (λ x has. lasting x has))
+            (each_round (λ c. selects c.timeout ≡ false) side (r ∷ later) (λ x has. search (served.quiet x has))) (let some = served.enough in omega (arith, many, some))) [
+              | inl is ↦ is
+              | inr overtaken ↦ absurd (let few = served.few in let o : OvertakeIn side p.number served.m (r ∷ later) = overtakes_all side r later (at side c.0) (at side last) pass (λ i j o. k.2 i j o) p.number served.m overtaken in search (few, o))
+            ]
+      ] in
+      elim found [
         | inl (x, id, has, out) ↦ (let z = back side (r ∷ later) x has in inl (z.0, z.1, (id, ap (λ (y : CourseRound P). y.timeout.emitted.issued) z.2 ∙ out)))
         | inr (inl (x, has, is)) ↦ (let z = back side (r ∷ later) x has in inr (inl (z.0, z.1, subst (λ (y : CourseRound P). IsAnsweredAlong y.following path) (sym z.2) is)))
         | inr (inr (inl here)) ↦ inr (inr (r, inl refl, o.1 here))
@@ -210,11 +256,11 @@ module _ {H P : Type 0} (mac : H → List ℕ → List ℕ → List ℕ) (answer
         both_hold false b one two = cc
 
   -- the same if no pair is valid, unless a success response is accepted
-  pub reached_unanswered : CoursesReachUnanswered {H = H} {P = P} mac answers → (side : Side) (first last : WorldRecord H P) (s : Streams) (xs : List (agent.Call P × Entry)) (r : SideRound H P) (later : List (SideRound H P)) (p : PairRecord) (by : ℕ)
+  pub reached_unanswered : CoursesReachUnanswered {H = H} {P = P} mac answers → CoursesReachServed {H = H} {P = P} mac answers → (side : Side) (first last : WorldRecord H P) (s : Streams) (xs : List (agent.Call P × Entry)) (r : SideRound H P) (later : List (SideRound H P)) (p : PairRecord) (by : ℕ)
       → IsNewAgent (at side first) → Course mac answers xs (at side first) (at side r.timeout.before) → Follow mac answers r.timeout.before (all_of (r ∷ later)) last
       → (at side r.timeout.before).controlling ≡ true → Awaits r.now by (at side r.timeout.before) p → IsUnanswered (at side r.timeout.before) p → AreKept side by r later
-      → SideRoundsSuffice side by r later last → Accepts side (r ∷ later) ⊎ Reaches side (path_of (at side r.timeout.before) p) (r ∷ later)
-  reached_unanswered reach side first last s xs r later p by n led (same, u, v, happens, more) role waits unanswered kept enough =
+      → SideRoundsSuffice side by r later last ⊎ ServedRoundsSuffice side p r later → Accepts side (r ∷ later) ⊎ Reaches side (path_of (at side r.timeout.before) p) (r ∷ later)
+  reached_unanswered reach serve side first last s xs r later p by n led (same, u, v, happens, more) role waits unanswered kept enough =
       let path : Path = path_of (at side r.timeout.before) p in
       let own_first : IsKept side r = kept.kept r (inl refl) in
       let c = cut mac answers r.following (all_of later) r.timeout.following last more in
@@ -223,12 +269,23 @@ module _ {H P : Type 0} (mac : H → List ℕ → List ℕ → List ℕ) (answer
       let moves = moved side r u v own_first.comes happens in
       let many = as_many side later in
       let second : state_after r.timeout.following r.following ≡ c.0 = state_is mac answers r.following r.timeout.following c.0 c.1 in
-      let so_many : Suffices by r.now (at side r.timeout.before) (at side c.0) (at side last) (length (rounds_of side later)) 0 0 =
-      subst (λ i. Suffices by r.now (at side r.timeout.before) (at side c.0) (at side last) i 0 0) (sym many)
-      (subst (λ (w : WorldRecord H P). Suffices by r.now (at side r.timeout.before) (at side w) (at side last) (length later) 0 0) second (search enough)) in
-      elim (reach (fresh (at side first).provider n.0 n.1) (at side r.timeout.before) (at side last) ((agent.SetControlling n.2, quiet Done) ∷ xs) (round_of side r) (rounds_of side later) p by
-      (n.0, n.1, refl) (at side first, source_of side s, source_of side s, tt, (Ok _, refl, (refl, n.3), refl), led) role waits unanswered (let from = kept.from in omega (arith, from)) own_first.done own_first.early
-      (is_open side r own_first) (at side r.timeout.following, at side c.0, source_of side u, moves.0, moves.1, o.0, k.0) (are_open side by r later kept) so_many) [
+      let agent_first : AgentRecord H P = fresh (at side first).provider n.0 n.1 in
+      let to : Course mac answers ((agent.SetControlling n.2, quiet Done) ∷ xs) agent_first (at side r.timeout.before) = (at side first, source_of side s, source_of side s, tt, (Ok _, refl, (refl, n.3), refl), led) in
+      let pass : PassRounds mac answers (rounds_of side (r ∷ later)) (at side r.timeout.before) (at side last) = (at side r.timeout.following, at side c.0, source_of side u, moves.0, moves.1, o.0, k.0) in
+      let found : ((x : CourseRound P) × Has (rounds_of side (r ∷ later)) x × ((y : agent.Call P × Entry) × Has x.following y × AcceptsSuccess y.0 y.1))
+      ⊎ IsReached mac answers (rounds_of side (r ∷ later)) (at side r.timeout.before) (at side last) pass path = elim enough [
+        | inl suffices ↦
+            (let so_many : Suffices by r.now (at side r.timeout.before) (at side c.0) (at side last) (length (rounds_of side later)) 0 0 =
+            subst (λ i. Suffices by r.now (at side r.timeout.before) (at side c.0) (at side last) i 0 0) (sym many)
+            (subst (λ (w : WorldRecord H P). Suffices by r.now (at side r.timeout.before) (at side w) (at side last) (length later) 0 0) second (search suffices)) in
+            reach agent_first (at side r.timeout.before) (at side last) ((agent.SetControlling n.2, quiet Done) ∷ xs) (round_of side r) (rounds_of side later) p by
+            (n.0, n.1, refl) to role waits unanswered (let from = kept.from in omega (arith, from)) own_first.done own_first.early (is_open side r own_first) pass (are_open side by r later kept) so_many)
+        | inr served ↦
+            serve agent_first (at side r.timeout.before) (at side last) ((agent.SetControlling n.2, quiet Done) ∷ xs) (round_of side r) (rounds_of side later) p by
+            (n.0, n.1, refl) to role waits unanswered (let from = kept.from in omega (arith, from)) own_first.done (is_open side r own_first) pass (are_open side by r later kept)
+            (suffices_served side p r later (at side c.0) (at side last) k.0 (λ n i overtaken. k.2 n i overtaken) served)
+      ] in
+      elim found [
         | inl (x, has, (y, there, accepts)) ↦
             (let z = back side (r ∷ later) x has in let on = on_reverse y.0 y.1 accepts in
             inl (z.0, z.1, (on.0, subst (λ (q : CourseRound P). IsAnsweredAlong q.following on.0) (sym z.2) (y, there, on.1))))
@@ -239,16 +296,16 @@ module _ {H P : Type 0} (mac : H → List ℕ → List ℕ → List ℕ) (answer
       ]
 
   -- the rounds of a segment
-  reached_in : CoursesReachFromDue {H = H} {P = P} mac answers → (side : Side) (path : Path) (first start last : WorldRecord H P) (s : Streams) (before part : List (Occurrence H P))
+  reached_in : CoursesReachFromDue {H = H} {P = P} mac answers → ServedCoursesReach {H = H} {P = P} mac answers → (side : Side) (path : Path) (first start last : WorldRecord H P) (s : Streams) (before part : List (Occurrence H P))
       → IsNewAgent (at side first) → Follow mac answers first before start → Follow mac answers start part last → (k : HasRounds side path part last) → Reaches side path (k.first ∷ k.later)
-  reached_in reach side path first start last s before part n led on k =
+  reached_in reach serve side path first start last s before part n led on k =
       let rounds : List (SideRound H P) = k.first ∷ k.later in
       let c = cut mac answers k.ahead (all_of rounds) start last (subst (λ xs. Follow mac answers start xs last) k.split on) in
       let begin : WorldRecord H P = k.first.timeout.before in
       let to : Follow mac answers start k.ahead begin = subst (λ (w : WorldRecord H P). Follow mac answers start k.ahead w) (sym c.2.0) c.1 in
       let rest : Follow mac answers begin (all_of rounds) last = subst (λ (w : WorldRecord H P). Follow mac answers w (all_of rounds) last) (sym c.2.0) c.2 in
       subst (λ via. Reaches side via rounds) k.on
-      (reached reach side first last s (own mac answers side before ++ own mac answers side k.ahead) k.first k.later k.pair k.by n
+      (reached reach serve side first last s (own mac answers side before ++ own mac answers side k.ahead) k.first k.later k.pair k.by n
       (course_on mac answers (own mac answers side before) (own mac answers side k.ahead) (at side first) (at side start) (at side begin)
       (own_course mac answers side before first start led) (own_course mac answers side k.ahead start begin to))
       rest k.line k.kept (λ x has. k.lasting x has) (search k.enough))
@@ -306,13 +363,26 @@ module _ {H P : Type 0} (mac : H → List ℕ → List ℕ → List ℕ) (answer
 
   -- ---- both
 
-  pub both_connect : PathTheorem {H = H} {P = P} mac answers → FreshIsSound H P → CarriedAsk {H = H} {P = P} mac answers → CarriedSucceedLater {H = H} {P = P} mac answers
-      → AcceptedNominationsAreSelected {H = H} {P = P} mac answers → CoursesReachFromDue {H = H} {P = P} mac answers → (first : WorldRecord H P) (s : Streams) (log : List (LoggedEvent P)) → BothConnect mac answers first s log
-  both_connect paths new_sound asks succeeds announce reach first s log last t run before part rest timeout side path its segment asking answers_in =
-      elim ask [
+  -- the rounds in which the other side comes to ask
+  abbrev pub rounds_asked : {side : Side} {path its : Path} {part : List (Occurrence H P)} {last : WorldRecord H P} → AsksInRounds mac side path its part last ⊎ IsAskedOver mac side path part
+      → List (SideRound H P)
+  rounds_asked (inl asking) = asking.rounds.first ∷ asking.rounds.later
+  rounds_asked (inr asked) = []
+
+  -- each side comes to its check in rounds, or sent one
+  pub both_connect_by : PathTheorem {H = H} {P = P} mac answers → FreshIsSound H P → CarriedAsk {H = H} {P = P} mac answers → CarriedSucceedLater {H = H} {P = P} mac answers
+      → AcceptedNominationsAreSelected {H = H} {P = P} mac answers → CoursesReachFromDue {H = H} {P = P} mac answers → ServedCoursesReach {H = H} {P = P} mac answers → (first : WorldRecord H P) (s : Streams) (log : List (LoggedEvent P)) (last : WorldRecord H P) (t : Streams)
+      → (run : WorldRun mac answers first s 0 log last t) (before part rest : List (Occurrence H P)) (timeout : Occurrence H P) (side : Side) (path its : Path)
+      → IsControlledSegment first (occurrences_in mac answers first s 0 log last t run) before part rest timeout side path
+      → (asking : AsksInRounds mac side path its part timeout.before ⊎ IsAskedOver mac side path part)
+      → IsAnsweredInRounds mac side path part timeout.before ⊎ IsExchangedOver mac side path part
+      → SelectsTop mac answers side (before ++ (part ++ timeout ∷ [])) timeout
+      ⊎ (MayEndIn answers side path (part ++ timeout ∷ []) ⊎ MayEndInRounds answers (other side) its (rounds_asked asking))
+  both_connect_by paths new_sound asks succeeds announce reach serve first s log last t run before part rest timeout side path its segment asking answers_in =
+      elim (ask asking) [
         | inl over ↦
             elim (selected_where mac answers paths new_sound asks succeeds announce first last s before part rest timeout segment.plain.now side path segment.new follow (λ x has. apart_at mac answers side (part ++ timeout ∷ []) x segment.controlled has)
-            (λ start led sound on. (over, answer start led sound on)) segment.plain.event segment.plain.done idle lone) [
+            (λ start led sound on. (over, answer answers_in start led sound on)) segment.plain.event segment.plain.done idle lone) [
               | inl selected_paths ↦ inl selected_paths
               | inr found ↦ inr (inl found)
             ]
@@ -330,28 +400,36 @@ module _ {H P : Type 0} (mac : H → List ℕ → List ℕ → List ℕ) (answer
         part_roles : (x : Occurrence H P) → Has part x → ((at side x.before).controlling ≡ false) × ((at (other side) x.before).controlling ≡ true)
         part_roles x has = apart_at mac answers side (part ++ timeout ∷ []) x segment.controlled (Has-front part (timeout ∷ []) x has)
 
-        ask : IsAskedOver mac side path part ⊎ MayEndInRounds answers (other side) its (asking.rounds.first ∷ asking.rounds.later)
-        ask =
+        ask : (asking : AsksInRounds mac side path its part timeout.before ⊎ IsAskedOver mac side path part) → IsAskedOver mac side path part ⊎ MayEndInRounds answers (other side) its (rounds_asked asking)
+        ask (inr asked) = inl asked
+        ask (inl asking) =
             let led = cut mac answers before ((part ++ timeout ∷ []) ++ rest) first last follow in
             let on = cut mac answers (part ++ timeout ∷ []) rest led.0 last led.2 in
-            by (reached_in reach (other side) its first led.0 timeout.before s before part (segment.new (other side)) led.1 (meet mac answers part [] timeout led.0 on.0 on.1).led asking.rounds) where
+            by (reached_in reach serve (other side) its first led.0 timeout.before s before part (segment.new (other side)) led.1 (meet mac answers part [] timeout led.0 on.0 on.1).led asking.rounds) where
               by : Reaches (other side) its (asking.rounds.first ∷ asking.rounds.later) → IsAskedOver mac side path part ⊎ MayEndInRounds answers (other side) its (asking.rounds.first ∷ asking.rounds.later)
               by (inl (r, has, sent)) = inl (let so = asking.asks r has in search (so.asked sent))
               by (inr (inl (r, has, is))) = inl (let x = succeeds_in (other side) its r.following is in let so = asking.asks r has in search (so.early x.0 x.1 x.2))
               by (inr (inr ended)) = inr ended
 
-        within : (x : Occurrence H P) → Has (all_of (answers_in.rounds.first ∷ answers_in.rounds.later)) x → Has part x
-        within x has = subst (λ xs. Has xs x) (sym answers_in.rounds.split) (Has-rear answers_in.rounds.ahead (all_of (answers_in.rounds.first ∷ answers_in.rounds.later)) x has)
+        within : (answers_in : IsAnsweredInRounds mac side path part timeout.before) → (x : Occurrence H P) → Has (all_of (answers_in.rounds.first ∷ answers_in.rounds.later)) x → Has part x
+        within answers_in x has = subst (λ xs. Has xs x) (sym answers_in.rounds.split) (Has-rear answers_in.rounds.ahead (all_of (answers_in.rounds.first ∷ answers_in.rounds.later)) x has)
 
-        answer : (start : WorldRecord H P) → Follow mac answers first before start → AreSound start → Follow mac answers start part timeout.before
+        answer : IsAnsweredInRounds mac side path part timeout.before ⊎ IsExchangedOver mac side path part → (start : WorldRecord H P) → Follow mac answers first before start → AreSound start → Follow mac answers start part timeout.before
             → IsAnsweredAlong (own mac answers side part) path ⊎ Found mac answers side path (part ++ timeout ∷ [])
-        answer start led sound on = by (reached_in reach side path first start timeout.before s before part (segment.new side) led on answers_in.rounds) where
+        answer (inr exchanged) start led sound on =
+            answered mac answers paths asks succeeds part (part ++ timeout ∷ []) start timeout.before sound on (λ x there. Has-front part (timeout ∷ []) x there) side path part_roles exchanged
+        answer (inl answers_in) start led sound on = by (reached_in reach serve side path first start timeout.before s before part (segment.new side) led on answers_in.rounds) where
           by : Reaches side path (answers_in.rounds.first ∷ answers_in.rounds.later) → IsAnsweredAlong (own mac answers side part) path ⊎ Found mac answers side path (part ++ timeout ∷ [])
           by (inl (r, has, sent)) =
               answered mac answers paths asks succeeds part (part ++ timeout ∷ []) start timeout.before sound on (λ x there. Has-front part (timeout ∷ []) x there) side path part_roles
               (search (answers_in.answered r has sent))
           by (inr (inl (r, has, (y, in_round, accepts)))) =
               let o = own_from mac answers side r.following y in_round in
-              inl (y, own_has mac answers side part o.0 y (within o.0 (in_rounds (answers_in.rounds.first ∷ answers_in.rounds.later) r o.0 has o.1)) o.2, accepts)
+              inl (y, own_has mac answers side part o.0 y (within answers_in o.0 (in_rounds (answers_in.rounds.first ∷ answers_in.rounds.later) r o.0 has o.1)) o.2, accepts)
           by (inr (inr (r, has, (x, in_round, ends)))) =
-              inr (x, Has-front part (timeout ∷ []) x (within x (in_rounds (answers_in.rounds.first ∷ answers_in.rounds.later) r x has in_round)), ends)
+              inr (x, Has-front part (timeout ∷ []) x (within answers_in x (in_rounds (answers_in.rounds.first ∷ answers_in.rounds.later) r x has in_round)), ends)
+
+  pub both_connect : PathTheorem {H = H} {P = P} mac answers → FreshIsSound H P → CarriedAsk {H = H} {P = P} mac answers → CarriedSucceedLater {H = H} {P = P} mac answers
+      → AcceptedNominationsAreSelected {H = H} {P = P} mac answers → CoursesReachFromDue {H = H} {P = P} mac answers → ServedCoursesReach {H = H} {P = P} mac answers → (first : WorldRecord H P) (s : Streams) (log : List (LoggedEvent P)) → BothConnect mac answers first s log
+  both_connect paths new_sound asks succeeds announce reach serve first s log last t run before part rest timeout side path its segment asking answers_in =
+      both_connect_by paths new_sound asks succeeds announce reach serve first s log last t run before part rest timeout side path its segment (inl asking) (inl answers_in)

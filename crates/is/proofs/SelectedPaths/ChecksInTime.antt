@@ -6,7 +6,7 @@ use Rattle.is_proto.specs.Packets.{Packet}
 use Rattle.is_candidate.specs.Candidates.{CandidateRecord}
 use Rattle.is_pair.specs.Pairs.{PairRecord}
 use Rattle.is_rules.specs.declared.emitted.Path.{Path}
-use Rattle.is_rules.specs.Agent.{fresh}
+use Rattle.is_rules.specs.Agent.{AgentRecord, fresh}
 use Rattle.is_rules.specs.Sending.{path_of}
 use Rattle.is_rules.specs.Steps as agent
 use Rattle.is_rules.specs.Steps.{Answer, Entry, Rejected, quiet}
@@ -15,20 +15,22 @@ use Rattle.is_theorems.specs.Courses.{CourseRound}
 use Rattle.is_theorems.specs.Exchange.{Course}
 use Rattle.is_theorems.specs.InTime as law
 use Rattle.is_theorems.specs.InTime.{CoursesReachInTime}
-use Rattle.is_theorems.specs.Reached.{IsInLine, IsLasting}
+use Rattle.is_theorems.specs.Reached.{IsInLine, IsLasting, selects}
+use Rattle.is_theorems.specs.ReachedCourses.{PassRounds}
+use Rattle.is_theorems.specs.ServedSoon.{ServedCoursesReachInTime}
 use Rattle.is.specs.declared.world_events.Side.{Side}
 use Rattle.is.specs.declared.world_events.Side.TheVariants.{A, B}
 use Rattle.is.specs.AcceptedNominationsIn.{Occurrence}
-use Rattle.is.specs.Connections.{SideRoundsReach, Succeeds}
+use Rattle.is.specs.Connections.{ServedRoundsReach, SideRoundsReach, Succeeds}
 use Rattle.is.specs.Punctual.{IsPrompt, IsPunctual, IsTimed, ChecksBy, ChecksComeInTime}
-use Rattle.is.specs.Selections.{SideRound, all_of, state_after, IsKept, AreKept, MayEndInRounds}
+use Rattle.is.specs.Selections.{SideRound, all_of, state_after, IsKept, AreKept, MayEndInRounds, OvertakeIn}
 use Rattle.is.specs.Sides.{only, polled_as, received_as, acts}
 use Rattle.is.specs.World as world
 use Rattle.is.specs.World.{WorldRecord, InFlightRecord, Event, LoggedEvent, at, other, in_world, Streams, source_of}
 use Rattle.is.specs.WorldRoles.{IsNewAgent}
 use Rattle.is.proofs.TwoAgentEvents.OwnExecutions.{only_own, course_on}
 use Rattle.is.proofs.TwoAgentEvents.EventsOfSegments.{Follow, follows, cut, state_is, acts_at, own, own_course, own_from, own_has, owned}
-use Rattle.is.proofs.SelectedPaths.BothSelectInRounds.{round_of, rounds_of, as_many, moved, passes, each_round, is_open, are_open, back, rounds_suffice, succeeds_in}
+use Rattle.is.proofs.SelectedPaths.BothSelectInRounds.{round_of, rounds_of, as_many, moved, passes, each_round, is_open, are_all_open, are_open, back, lasts_all, overtakes_all, rounds_suffice, succeeds_in}
 
 module _ {H P : Type 0} (mac : H → List ℕ → List ℕ → List ℕ) (answers : P → CandidateRecord → ℕ → ℕ → Type 0) where
   -- ---- what a punctual caller does
@@ -97,12 +99,12 @@ module _ {H P : Type 0} (mac : H → List ℕ → List ℕ → List ℕ) (answer
       ChecksBy path limit rounds
       ⊎ (((r : SideRound H P) × Has rounds r × ((x : Occurrence H P) × Has r.following x × Succeeds side path x)) ⊎ MayEndInRounds answers side path rounds)
 
-  reached : CoursesReachInTime {H = H} {P = P} mac answers → (side : Side) (first last : WorldRecord H P) (s : Streams) (xs : List (agent.Call P × Entry)) (r : SideRound H P) (later : List (SideRound H P))
+  reached : CoursesReachInTime {H = H} {P = P} mac answers → ServedCoursesReachInTime {H = H} {P = P} mac answers → (side : Side) (first last : WorldRecord H P) (s : Streams) (xs : List (agent.Call P × Entry)) (r : SideRound H P) (later : List (SideRound H P))
       (p : PairRecord) (by pace delay : ℕ) → IsNewAgent (at side first) → Course mac answers xs (at side first) (at side r.timeout.before)
       → Follow mac answers r.timeout.before (all_of (r ∷ later)) last → IsInLine r.now by (at side r.timeout.before) p → AreKept side by r later
-      → ((x : SideRound H P) → Has later x → IsLasting x.now (at side r.timeout.before) p) → SideRoundsReach side by r later last → IsTimed side pace delay r later
+      → ((x : SideRound H P) → Has later x → IsLasting x.now (at side r.timeout.before) p) → SideRoundsReach side by r later last ⊎ ServedRoundsReach side by p r later → IsTimed side pace delay r later
       → Comes side (path_of (at side r.timeout.before) p) (r.now + length later * (pace + delay)) (r ∷ later)
-  reached reach side first last s xs r later p by pace delay n led (same, u, v, happens, more) line kept lasting enough in_time =
+  reached reach serve side first last s xs r later p by pace delay n led (same, u, v, happens, more) line kept lasting enough in_time =
       let path : Path = path_of (at side r.timeout.before) p in
       let own_first : IsKept side r = kept.kept r (inl refl) in
       let c = cut mac answers r.following (all_of later) r.timeout.following last more in
@@ -111,13 +113,28 @@ module _ {H P : Type 0} (mac : H → List ℕ → List ℕ → List ℕ) (answer
       let moves = moved mac answers side r u v own_first.comes happens in
       let many = as_many mac answers side later in
       let second : state_after r.timeout.following r.following ≡ c.0 = state_is mac answers r.following r.timeout.following c.0 c.1 in
-      let so_many = rounds_suffice mac answers side by r later c.0 last (same, u, v, happens, more) c.2 (λ x has. (kept.kept x has).comes) second enough in
-      elim (reach (fresh (at side first).provider n.0 n.1) (at side r.timeout.before) (at side last) ((agent.SetControlling n.2, quiet agent.Done) ∷ xs) (round_of mac answers side r)
-      (rounds_of mac answers side later) p by pace delay (length later) (n.0, n.1, refl) (at side first, source_of side s, source_of side s, tt, (Ok _, refl, (refl, n.3), refl), led) line
-      (let from = kept.from in omega (arith, from)) own_first.done own_first.early (is_open mac answers side r own_first)
-      (at side r.timeout.following, at side c.0, source_of side u, moves.0, moves.1, o.0, k.0) (are_open mac answers side by r later kept)
-      (each_round mac answers (λ c. IsLasting c.now (at side r.timeout.before) p) side later (λ x has. lasting x has)) so_many (omega (arith, many))
-      (timed side pace delay r later in_time)) [
+      let agent_first : AgentRecord H P = fresh (at side first).provider n.0 n.1 in
+      let to : Course mac answers ((agent.SetControlling n.2, quiet agent.Done) ∷ xs) agent_first (at side r.timeout.before) = (at side first, source_of side s, source_of side s, tt, (Ok _, refl, (refl, n.3), refl), led) in
+      let pass : PassRounds mac answers (rounds_of mac answers side (r ∷ later)) (at side r.timeout.before) (at side last) = (at side r.timeout.following, at side c.0, source_of side u, moves.0, moves.1, o.0, k.0) in
+      let found : law.IsReachedBy mac answers (r.now + length later * (pace + delay)) (rounds_of mac answers side (r ∷ later)) (at side r.timeout.before) (at side last) pass path = elim enough [
+        | inl suffices ↦
+            (let so_many = rounds_suffice mac answers side by r later c.0 last (same, u, v, happens, more) c.2 (λ x has. (kept.kept x has).comes) second suffices in
+            reach agent_first (at side r.timeout.before) (at side last) ((agent.SetControlling n.2, quiet agent.Done) ∷ xs) (round_of mac answers side r)
+            (rounds_of mac answers side later) p by pace delay (length later) (n.0, n.1, refl) to line
+            (let from = kept.from in omega (arith, from)) own_first.done own_first.early (is_open mac answers side r own_first) pass (are_open mac answers side by r later kept)
+            (each_round mac answers (λ c. IsLasting c.now (at side r.timeout.before) p) side later (λ x has. lasting x has)) so_many (omega (arith, many))
+            (timed side pace delay r later in_time))
+        | inr served ↦ elim (serve agent_first (at side r.timeout.before) (at side last) ((agent.SetControlling n.2, quiet agent.Done) ∷ xs) (round_of mac answers side r)
+            (rounds_of mac answers side later) p by served.m pace delay (n.0, n.1, refl) to line (search (served.served)) pass
+            (are_all_open mac answers side by r later (let late = served.late in omega (arith, late)) kept) (lasts_all mac answers side p r later line.lasting (λ x has. lasting x has))
+            (each_round mac answers (λ c. selects c.timeout ≡ false) side (r ∷ later) (λ x has. search (served.quiet x has))) (let some = served.enough in omega (arith, many, some))
+            (timed side pace delay r later in_time)) [
+              | inl is ↦ subst (λ i. law.IsReachedBy mac answers (r.now + i * (pace + delay)) (rounds_of mac answers side (r ∷ later)) (at side r.timeout.before) (at side last) pass path) many is
+              | inr overtaken ↦ absurd (let few = served.few in
+                  let o : OvertakeIn side p.number served.m (r ∷ later) = overtakes_all mac answers side r later (at side c.0) (at side last) pass (λ i j o. k.2 i j o) p.number served.m overtaken in search (few, o))
+            ]
+      ] in
+      elim found [
         | inl (x, has, (id, sent), soon) ↦ (let z = back mac answers side (r ∷ later) x has in
             inl (z.0, z.1, (id, ap (λ (y : CourseRound P). y.timeout.emitted.issued) z.2 ∙ sent), search (subst (λ (y : CourseRound P). y.now ≤ r.now + length later * (pace + delay)) (sym z.2) soon)))
         | inr (inl (x, has, is)) ↦ (let z = back mac answers side (r ∷ later) x has in
@@ -127,8 +144,8 @@ module _ {H P : Type 0} (mac : H → List ℕ → List ℕ → List ℕ) (answer
         | inr (inr (inr others)) ↦ inr (inr (let m = k.1 others in (m.0, inr m.1, m.2)))
       ]
 
-  pub checks_in_time : CoursesReachInTime {H = H} {P = P} mac answers → (first : WorldRecord H P) (s : Streams) (log : List (LoggedEvent P)) → ChecksComeInTime mac answers first s log
-  checks_in_time reach first s log last t run before part rest side path pace delay new split k in_time =
+  pub checks_in_time : CoursesReachInTime {H = H} {P = P} mac answers → ServedCoursesReachInTime {H = H} {P = P} mac answers → (first : WorldRecord H P) (s : Streams) (log : List (LoggedEvent P)) → ChecksComeInTime mac answers first s log
+  checks_in_time reach serve first s log last t run before part rest side path pace delay new split k in_time =
       let rounds : List (SideRound H P) = k.first ∷ k.later in
       let all = subst (λ xs. Follow mac answers first xs last) split (follows mac answers first last s t 0 log run) in
       let led = cut mac answers before (part ++ rest) first last all in
@@ -139,10 +156,10 @@ module _ {H P : Type 0} (mac : H → List ℕ → List ℕ → List ℕ) (answer
       let to : Follow mac answers led.0 k.ahead begin = subst (λ (w : WorldRecord H P). Follow mac answers led.0 k.ahead w) (sym c.2.0) c.1 in
       let rest_of : Follow mac answers begin (all_of rounds) on.0 = subst (λ (w : WorldRecord H P). Follow mac answers w (all_of rounds) on.0) (sym c.2.0) c.2 in
       subst (λ via. Comes side via (k.first.now + length k.later * (pace + delay)) rounds) k.on
-      (reached reach side first on.0 s (own mac answers side before ++ own mac answers side k.ahead) k.first k.later k.pair k.by pace delay (new side)
+      (reached reach serve side first on.0 s (own mac answers side before ++ own mac answers side k.ahead) k.first k.later k.pair k.by pace delay (new side)
       (course_on mac answers (own mac answers side before) (own mac answers side k.ahead) (at side first) (at side led.0) (at side begin)
       (own_course mac answers side before first led.0 led.1) (own_course mac answers side k.ahead led.0 begin to))
-      rest_of k.line k.kept (λ x has. k.lasting x has) (subst (λ (w : WorldRecord H P). SideRoundsReach side k.by k.first k.later w) ends (search k.enough)) in_time)
+      rest_of k.line k.kept (λ x has. k.lasting x has) (subst (λ (w : WorldRecord H P). SideRoundsReach side k.by k.first k.later w ⊎ ServedRoundsReach side k.by k.pair k.first k.later) ends (search k.enough)) in_time)
     where
       after_both : (xs ys : List (Occurrence H P)) (w mid end : WorldRecord H P) → Follow mac answers w xs mid → Follow mac answers mid ys end → state_after w (xs ++ ys) ≡ end
       after_both [] ys w mid end is more = ap (λ v. state_after v ys) (sym is) ∙ state_is mac answers ys mid end more

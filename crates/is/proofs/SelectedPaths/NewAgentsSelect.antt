@@ -10,18 +10,19 @@ use Rattle.is_theorems.specs.Carried.{CarriedAsk, CarriedSucceedLater, CarriedSe
 use Rattle.is_rules.specs.Effects.{PathTheorem}
 use Rattle.is_rules.specs.Emitted.{reversed}
 use Rattle.is_theorems.specs.RoleView.{RoleTheorem}
+use Rattle.is_theorems.specs.ServedSoon.{CoursesReachServed, ServedCoursesReach}
 use Rattle.is_rules.specs.Sending.{path_of}
 use Rattle.is_rules.specs.Sound.{FreshIsSound}
 use Rattle.is_theorems.specs.FirstChecks.{CoursesCheckFromDue}
 use Rattle.is_theorems.specs.FirstTimeouts.{CoursesReachFromDue, CoursesReachUnanswered}
 use Rattle.is.specs.declared.world_events.Side.{Side}
-use Rattle.is.specs.Connections.{Asks, RoundIsAnswered}
-use Rattle.is.specs.Connects.{ChecksAreDelivered, StartsToSelect, InRounds, Already, SelectsByOpening, BothSelect}
-use Rattle.is.specs.AcceptedNominationsIn.{Occurrence, HandedCheck, IsControlled, IsPlainTimeout, IsAskedOver, occurrences_in}
+use Rattle.is.specs.Connections.{Asks, AsksInRounds, IsAnsweredInRounds, RoundIsAnswered}
+use Rattle.is.specs.Connects.{ByDelivery, ByRounds, ChecksAreDelivered, ComesToCheck, IsDelivered, rounds_needed, StartsToSelect, InRounds, Already, SelectsByOpening, BothSelect}
+use Rattle.is.specs.AcceptedNominationsIn.{Occurrence, HandedCheck, IsControlled, IsPlainTimeout, IsAskedOver, IsExchangedOver, occurrences_in}
 use Rattle.is.specs.AcceptedNominations.{MayEndIn, SelectsTop}
 use Rattle.is.specs.Selections.{SideRound, IsControlling, IsControllingSegment, IsAnsweredInTime, RoundChecks, MayEndInRounds}
 use Rattle.is.specs.World.{WorldRecord, LoggedEvent, at, other, Streams}
-use Rattle.is.proofs.SelectedPaths.BothSelectInRounds.{both_connect}
+use Rattle.is.proofs.SelectedPaths.BothSelectInRounds.{both_connect_by, rounds_asked}
 use Rattle.is.proofs.ExternalViews.ViewsOfExecutions.{Has-front, Has-rear}
 use Rattle.is.proofs.RolesAndChains.RolesBecomeOpposite.{roles_stay}
 use Rattle.is.proofs.TwoAgentEvents.EventsOfSegments.{sent_in}
@@ -54,8 +55,8 @@ module _ {H P : Type 0} (mac : H → List ℕ → List ℕ → List ℕ) (answer
 
   pub both_select : PathTheorem {H = H} {P = P} mac answers → RoleTheorem {H = H} {P = P} mac answers → FreshIsSound H P → CarriedSettle {H = H} {P = P} mac answers
       → CarriedAsk {H = H} {P = P} mac answers → CarriedSucceedLater {H = H} {P = P} mac answers → AcceptedNominationsAreSelected {H = H} {P = P} mac answers → CoursesCheckFromDue {H = H} {P = P} mac answers
-      → CoursesReachFromDue {H = H} {P = P} mac answers → CoursesReachUnanswered {H = H} {P = P} mac answers → SuccessesSelect {H = H} {P = P} mac answers → (first : WorldRecord H P) (s : Streams) (log : List (LoggedEvent P)) → BothSelect mac answers first s log
-  both_select paths roles new_sound resolves asks succeeds announce checks reach unanswered selects first s log last t run meeting opening part rest timeout side path its is = (opened is.starts, connected) where
+      → CoursesReachFromDue {H = H} {P = P} mac answers → ServedCoursesReach {H = H} {P = P} mac answers → CoursesReachUnanswered {H = H} {P = P} mac answers → CoursesReachServed {H = H} {P = P} mac answers → SuccessesSelect {H = H} {P = P} mac answers → (first : WorldRecord H P) (s : Streams) (log : List (LoggedEvent P)) → BothSelect mac answers first s log
+  both_select paths roles new_sound resolves asks succeeds announce checks reach served unanswered serves selects first s log last t run meeting opening part rest timeout side path its is = (opened is.starts, connected) where
     following : List (Occurrence H P)
     following = opening ++ ((part ++ timeout ∷ []) ++ rest)
 
@@ -85,7 +86,7 @@ module _ {H P : Type 0} (mac : H → List ℕ → List ℕ → List ℕ) (answer
     opened : (o : StartsToSelect mac answers (other side) its (reversed path) meeting opening) → SelectsByOpening mac answers (other side) its (reversed path) meeting opening o
     opened (Already selected) = search selected
     opened (InRounds opens) =
-        elim (rounds_select mac answers paths new_sound succeeds checks unanswered selects first s log last t run meeting opens.more ((part ++ timeout ∷ []) ++ rest) (other side)
+        elim (rounds_select mac answers paths new_sound succeeds checks unanswered serves selects first s log last t run meeting opens.more ((part ++ timeout ∷ []) ++ rest) (other side)
         opens.first opens.later opens.pair opens.by begins
         (λ r has sent. subst (λ xs. IsAnsweredInTime mac answers (other side) (path_of (at (other side) opens.first.timeout.before) opens.pair) xs) opens.split
         (subst (λ via. IsAnsweredInTime mac answers (other side) via opening) (sym opens.on)
@@ -102,19 +103,35 @@ module _ {H P : Type 0} (mac : H → List ℕ → List ℕ → List ℕ) (answer
             waits = search opens.waits;
             unanswered = search opens.unanswered;
             kept = search opens.kept;
-            enough = opens.enough;
+            enough = search opens.enough;
           }
 
     whole : List (Occurrence H P)
     whole = meeting ++ (opening ++ (part ++ timeout ∷ []))
 
+    asking : ComesToCheck mac answers (other side) its (reversed path) part timeout.before → AsksInRounds mac side path its part timeout.before ⊎ IsAskedOver mac side path part
+    asking (ByRounds goes) = inl (record { rounds = goes.rounds; asks = asks_in side path its (goes.rounds.first ∷ goes.rounds.later) part goes.delivers is.nominated })
+    asking (ByDelivery comes) =
+        let delivered : IsDelivered mac answers (other side) its (reversed path) part = search (comes) in
+        inr (its, delivered.0, search (is.nominated delivered.0.sent (sent_in mac answers (other side) its (reversed path) part delivered.0)))
+
+    answering : ComesToCheck mac answers side path (reversed its) part timeout.before → IsAnsweredInRounds mac side path part timeout.before ⊎ IsExchangedOver mac side path part
+    answering (ByRounds goes) = inl (record { rounds = goes.rounds; answered = answered_in side path (reversed its) (goes.rounds.first ∷ goes.rounds.later) part goes.delivers })
+    answering (ByDelivery comes) =
+        let delivered : IsDelivered mac answers side path (reversed its) part = search (comes) in inr (reversed its, delivered.0, λ reply sends. search ((delivered.1 Success reply sends).returned))
+
+    needed : (leads : ComesToCheck mac answers (other side) its (reversed path) part timeout.before) → MayEndInRounds answers (other side) its (rounds_asked mac answers (asking leads))
+        → MayEndInRounds answers (other side) its (rounds_needed leads)
+    needed (ByRounds goes) ended = ended
+    needed (ByDelivery delivered) ended = ended
+
     connected : SelectsTop mac answers side whole timeout
-        ⊎ (MayEndIn answers side path (part ++ timeout ∷ []) ⊎ MayEndInRounds answers (other side) its (is.leads.rounds.first ∷ is.leads.rounds.later))
+        ⊎ (MayEndIn answers side path (part ++ timeout ∷ []) ⊎ MayEndInRounds answers (other side) its (rounds_needed is.leads))
     connected =
-        elim (both_connect mac answers paths new_sound asks succeeds announce reach first s log last t run (meeting ++ opening) part rest timeout side path its
+        elim (both_connect_by mac answers paths new_sound asks succeeds announce reach served first s log last t run (meeting ++ opening) part rest timeout side path its
         (record { new = is.fair.new; split = split_part; controlled = obeys; plain = plain; only_pair = search is.only_pair })
-        (record { rounds = is.leads.rounds; asks = asks_in side path its (is.leads.rounds.first ∷ is.leads.rounds.later) part is.leads.delivers is.nominated })
-        (record { rounds = is.follows.rounds; answered = answered_in side path (reversed its) (is.follows.rounds.first ∷ is.follows.rounds.later) part is.follows.delivers })) [
+        (asking is.leads) (answering is.follows)) [
           | inl best ↦ inl (subst (λ xs. SelectsTop mac answers side xs timeout) (append_assoc meeting opening (part ++ timeout ∷ [])) best)
-          | inr ended ↦ inr ended
+          | inr (inl ended) ↦ inr (inl ended)
+          | inr (inr ended) ↦ inr (inr (needed is.leads ended))
         ]

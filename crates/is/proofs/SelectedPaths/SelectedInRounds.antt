@@ -18,6 +18,7 @@ use Rattle.is_rules.specs.Effects.{PathTheorem, last_of}
 use Rattle.is_rules.specs.Issuing.{via_out}
 use Rattle.is_theorems.specs.Pending.{IsValidBy}
 use Rattle.is_theorems.specs.Progress.{Awaits, IsUnanswered}
+use Rattle.is_theorems.specs.ServedSoon.{CoursesReachServed}
 use Rattle.is_rules.specs.Sending.{path_of}
 use Rattle.is_rules.specs.Sound.{FreshIsSound}
 use Rattle.is_rules.specs.Steps as agent
@@ -225,17 +226,21 @@ module _ {H P : Type 0} (mac : H → List ℕ → List ℕ → List ℕ) (answer
         ]
 
   pub rounds_select : PathTheorem {H = H} {P = P} mac answers → FreshIsSound H P → CarriedSucceedLater {H = H} {P = P} mac answers → CoursesCheckFromDue {H = H} {P = P} mac answers
-      → CoursesReachUnanswered {H = H} {P = P} mac answers → SuccessesSelect {H = H} {P = P} mac answers → (first : WorldRecord H P) (s : Streams) (log : List (LoggedEvent P)) → DeliveredRoundsSelect mac answers first s log
-  rounds_select paths new_sound succeeds checks unanswered selects first s log last t run before more rest side r rounds p by segment answers_so =
+      → CoursesReachUnanswered {H = H} {P = P} mac answers → CoursesReachServed {H = H} {P = P} mac answers → SuccessesSelect {H = H} {P = P} mac answers
+      → (first : WorldRecord H P) (s : Streams) (log : List (LoggedEvent P)) → DeliveredRoundsSelect mac answers first s log
+  rounds_select paths new_sound succeeds checks unanswered serves selects first s log last t run before more rest side r rounds p by segment answers_so =
       elim segment.enough [
         | inl each ↦ inl (elim (polled side checks first begun.0 s before r rounds p by (segment.new side) to begun.1 segment.role
             (λ x has. (steady x (Has-front (all_of (r ∷ rounds)) more x has)).0) segment.waits segment.unanswered segment.kept each) [
               | inl sent ↦ sends sent
               | inr (x, has, selected_paths) ↦ (x, Has-front (all_of (r ∷ rounds)) more x has, selected_paths)
             ])
-        | inr many ↦ elim (reached_unanswered mac answers unanswered side first begun.0 s (own mac answers side before) r rounds p by (segment.new side) (own_course mac answers side before first start to) begun.1
+        | inr many ↦ elim (reached_unanswered mac answers unanswered serves side first begun.0 s (own mac answers side before) r rounds p by (segment.new side) (own_course mac answers side before first start to) begun.1
             segment.role segment.waits segment.unanswered segment.kept
-            (subst (λ (w : WorldRecord H P). SideRoundsSuffice side by r rounds w) (state_is mac answers (all_of (r ∷ rounds)) start begun.0 begun.1) many)) [
+            (elim many [
+              | inl suffices ↦ inl (subst (λ (w : WorldRecord H P). SideRoundsSuffice side by r rounds w) (state_is mac answers (all_of (r ∷ rounds)) start begun.0 begun.1) suffices)
+              | inr served ↦ inr served
+            ])) [
               | inl (x, has, (its, is)) ↦ inl (succeeded_on its x has is)
               | inr (inl sent) ↦ inl (sends sent)
               | inr (inr (inl (x, has, is))) ↦ inl (succeeded_on path x has is)

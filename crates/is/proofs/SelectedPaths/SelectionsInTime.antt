@@ -18,17 +18,18 @@ use Rattle.is_theorems.specs.FirstChecks.{SufficeForDue, times_of}
 use Rattle.is_theorems.specs.FirstTimeouts.{AreInRound, EndsAmong, Suffices}
 use Rattle.is_theorems.specs.Progress.{Awaits, IsUnanswered}
 use Rattle.is_theorems.specs.SelectedInTime as law
+use Rattle.is_theorems.specs.ServedSoon.{IsOvertakenAmong}
 use Rattle.is_theorems.specs.SelectedInTime.{CoursesSelectInTime, in_any_role}
 use Rattle.is.specs.declared.world_events.Side.{Side}
 use Rattle.is.specs.AcceptedNominationsIn.{Occurrence}
 use Rattle.is.specs.Punctual.{IsTimed}
 use Rattle.is.specs.PunctualSelections.{IsAnsweredBy, rounds_in, SelectsBy, SelectionsComeInTime}
-use Rattle.is.specs.Selections.{SideRound, all_of, times_in, state_after, MayEndInRounds, RoundChecks, SideRoundsSuffice}
+use Rattle.is.specs.Selections.{SideRound, all_of, times_in, state_after, MayEndInRounds, OvertakeIn, RoundChecks, SideRoundsSuffice}
 use Rattle.is.specs.World as world
 use Rattle.is.specs.World.{WorldRecord, LoggedEvent, at, Streams, source_of}
 use Rattle.is.proofs.ExternalViews.ViewsOfExecutions.{Has-front, Has-rear, AreSound}
 use Rattle.is.proofs.RolesAndChains.RolesAndChainsOfViews.{sound_new}
-use Rattle.is.proofs.SelectedPaths.BothSelectInRounds.{round_of, rounds_of, as_many, Moves, moved, each_round, is_open, are_open, same_times, back}
+use Rattle.is.proofs.SelectedPaths.BothSelectInRounds.{round_of, rounds_of, as_many, Moves, moved, each_round, is_open, are_open, same_times, back, suffices_served}
 use Rattle.is.proofs.SelectedPaths.ChecksInTime.{timed}
 use Rattle.is.proofs.SelectedPaths.SelectedAfterNomination.{own_emitted}
 use Rattle.is.proofs.SelectedPaths.SelectedInRounds.{returned}
@@ -103,10 +104,11 @@ module _ {H P : Type 0} (mac : H → List ℕ → List ℕ → List ℕ) (answer
     GuidedRounds rounds a b =
         (run : CourseRounds mac answers (rounds_of mac answers side rounds) a b)
         × (EndsAmong mac answers (rounds_of mac answers side rounds) a b (in_any_role mac answers (rounds_of mac answers side rounds) a b run) path → MayEndInRounds answers side path rounds)
+        × ((n k : ℕ) → IsOvertakenAmong mac answers n k (rounds_of mac answers side rounds) a b (in_any_role mac answers (rounds_of mac answers side rounds) a b run) → OvertakeIn side n k rounds)
 
     guided_rounds : (rounds : List (SideRound H P)) (w last : WorldRecord H P) → Follow mac answers w (all_of rounds) last → ((r : SideRound H P) → Has rounds r → Moves mac answers side r)
         → ((x : Occurrence H P) → Has (all_of rounds) x → (at side x.following).controlling ≡ true) → GuidedRounds rounds (at side w) (at side last)
-    guided_rounds [] w last is moves roles = (ap (λ (v : WorldRecord H P). at side v) is, λ none. absurd none)
+    guided_rounds [] w last is moves roles = (ap (λ (v : WorldRecord H P). at side v) is, (λ none. absurd none), λ n k none. none)
     guided_rounds (r ∷ later) w last (from, s, t, happens, more) moves roles =
         let c = cut mac answers r.following (all_of later) r.timeout.following last more in
         let k = guided r.following r.following r.timeout.following c.0 c.1 (λ x has. has) (λ x has. roles x (inr (Has-front r.following (all_of later) x has))) in
@@ -114,7 +116,8 @@ module _ {H P : Type 0} (mac : H → List ℕ → List ℕ → List ℕ) (answer
         let m = moved mac answers side r s t (moves r (inl refl)) happens in
         subst (λ (v : WorldRecord H P). GuidedRounds (r ∷ later) (at side v) (at side last)) from (
           (at side r.timeout.following, at side c.0, source_of side s, m.0, m.1, roles r.timeout (inl refl), k.0, k.1, g.0),
-          λ ends. elim ends [ inl here ↦ (r, inl refl, k.2 here) | inr others ↦ (let z = g.1 others in (z.0, inr z.1, z.2)) ],
+          (λ ends. elim ends [ inl here ↦ (r, inl refl, k.2 here) | inr others ↦ (let z = g.1 others in (z.0, inr z.1, z.2)) ]),
+          λ n i overtaken. elim overtaken [ inl others ↦ inl (g.2 n i others) | inr (j, is, here, others) ↦ inr (j, is, search (here), g.2 n j others) ],
         )
 
   -- ---- the rounds of a segment
@@ -190,18 +193,20 @@ module _ {H P : Type 0} (mac : H → List ℕ → List ℕ → List ℕ) (answer
           (λ r there. search (a.in_time r there)) w.6.event (subst (λ xs. Has xs w.2) (sym w.5) (middle w.0 w.1 w.2)) (handed_has mac answers side w.4 w.3 w.2.before w.2.entry w.6)
           (w.6.now, w.4, w.7.0, w.7.1, w.7.2))
 
-    suffice : (c : WorldRecord H P) → state_after k.first.timeout.following k.first.following ≡ c
-        → law.SufficeForCheck k.by (at side start) (at side c) (at side front.0) (round_of mac answers side k.first) (rounds_of mac answers side k.later)
-    suffice c second = elim k.enough [
+    suffice : (c : WorldRecord H P) → state_after k.first.timeout.following k.first.following ≡ c → (l : GuidedRounds side path k.later (at side c) (at side front.0))
+        → law.SufficeForCheck mac answers k.by k.pair (at side start) (at side c) (at side front.0) (round_of mac answers side k.first) (rounds_of mac answers side k.later)
+        (in_any_role mac answers (rounds_of mac answers side k.later) (at side c) (at side front.0) l.0)
+    suffice c second l = elim k.enough [
       | inl each ↦
           (let few : SufficeForDue k.by k.first.now (at side start) (at side c) (times_of (rounds_of mac answers side k.later)) =
           subst (λ ns. SufficeForDue k.by k.first.now (at side start) (at side c) ns) (sym (same_times mac answers side k.later))
           (subst (λ (w : WorldRecord H P). SufficeForDue k.by k.first.now (at side start) (at side w) (times_in k.later)) second (search each.few)) in
           inl (each_round mac answers (λ c. AreBetween c.following) side enough_rounds (λ x has. own_between mac answers side x.following (λ y there. search (each.polls x has y there))), few))
-      | inr many ↦
-          inr (subst (λ i. Suffices k.by k.first.now (at side start) (at side c) (at side front.0) i 0 0) (sym (as_many mac answers side k.later))
+      | inr (inl many) ↦
+          inr (inl (subst (λ i. Suffices k.by k.first.now (at side start) (at side c) (at side front.0) i 0 0) (sym (as_many mac answers side k.later))
           (subst (λ (w : WorldRecord H P). Suffices k.by k.first.now (at side start) (at side w) (at side front.0) (length k.later) 0 0) second
-          (search (subst (λ (w : WorldRecord H P). SideRoundsSuffice side k.by k.first k.later w) (state_is mac answers (all_of enough_rounds) start front.0 front.1) many))))
+          (search (subst (λ (w : WorldRecord H P). SideRoundsSuffice side k.by k.first k.later w) (state_is mac answers (all_of enough_rounds) start front.0 front.1) many)))))
+      | inr (inr served) ↦ inr (inr (suffices_served mac answers side k.pair k.first k.later (at side c) (at side front.0) (in_any_role mac answers (rounds_of mac answers side k.later) (at side c) (at side front.0) l.0) (λ n m overtaken. l.2 n m overtaken) (search served)))
     ]
 
     bounded : law.SelectsBy (k.first.now + length (rounds_of mac answers side k.later) * (pace + delay) + trip) (round_of mac answers side k.first ∷ (rounds_of mac answers side k.later ++ rounds_of mac answers side k.more))
@@ -230,7 +235,7 @@ module _ {H P : Type 0} (mac : H → List ℕ → List ℕ → List ℕ) (answer
         (at side k.first.timeout.following, at side c.0, source_of side u, m.0, m.1, steady_first k.first.timeout (inl refl), g.0, g.1, l.0) o.0
         (are_open mac answers side k.by k.first k.later k.kept)
         (each_round mac answers (λ c. AreInRound c.following) side k.more (λ x has. own_in_round mac answers side x.following (λ y there. search (k.between x has y there))))
-        (suffice c.0 (state_is mac answers k.first.following k.first.timeout.following c.0 c.1)) (timed mac answers side pace delay k.first k.later on_time)
+        (suffice c.0 (state_is mac answers k.first.following k.first.timeout.following c.0 c.1) l) (timed mac answers side pace delay k.first k.later on_time)
         (subst (λ xs. law.IsAnsweredWithin trip (round_of mac answers side k.first ∷ xs) path) (rounds_on side k.later k.more) (λ q has sent. (
         let x = back mac answers side rounds q has in
         subst (λ (y : CourseRound P). law.AcceptsBy (y.now + trip) (rounds_of mac answers side rounds)) x.2

@@ -45,7 +45,7 @@ module _ {P : Type 0} where
     between = λ x has. round.between (x.call, x.entry) (part_is (entry_of before (HandleTimeout r.now) r.timeout ∷ before) r.following x has);
   }
 
-  are_passing : (by : ℕ) (before : List (Logged P)) (older : List (LoggedRound P)) (rounds : List (CourseRound P)) → ((r : LoggedRound P) → Has older r → IsPassing by r)
+  pub are_passing : (by : ℕ) (before : List (Logged P)) (older : List (LoggedRound P)) (rounds : List (CourseRound P)) → ((r : LoggedRound P) → Has older r → IsPassing by r)
       → ((r : CourseRound P) → Has rounds r → IsOpenRound by r) → (r : LoggedRound P) → Has (rounds_of before older rounds) r → IsPassing by r
   are_passing by before older [] were are r has = were r has
   are_passing by before older (x ∷ later) were are r has =
@@ -56,7 +56,7 @@ module _ {P : Type 0} where
       ])
       (λ y there. are y (inr there)) r has
 
-  are_at : (Q : ℕ → Type 0) (before : List (Logged P)) (older : List (LoggedRound P)) (rounds : List (CourseRound P)) → ((r : LoggedRound P) → Has older r → Q r.now)
+  pub are_at : (Q : ℕ → Type 0) (before : List (Logged P)) (older : List (LoggedRound P)) (rounds : List (CourseRound P)) → ((r : LoggedRound P) → Has older r → Q r.now)
       → ((r : CourseRound P) → Has rounds r → Q r.now) → (r : LoggedRound P) → Has (rounds_of before older rounds) r → Q r.now
   are_at Q before older [] were are r has = were r has
   are_at Q before older (x ∷ later) were are r has =
@@ -169,7 +169,7 @@ module _ {H P : Type 0} (mac : H → List ℕ → List ℕ → List ℕ) (answer
               )
 
     -- what is reached in the rounds of the log is reached in those of the execution
-    reached-back : (before : List (Logged P)) (rounds : List (CourseRound P)) (found : Type 0) → (found → Gone)
+    pub reached-back : (before : List (Logged P)) (rounds : List (CourseRound P)) (found : Type 0) → (found → Gone)
         → ChecksIn (rounds_of before [] rounds) path ⊎ (IsAnsweredIn (entries_of (rounds_of before [] rounds)) path ⊎ found)
         → ChecksAmong rounds path ⊎ (IsAnsweredAmong rounds path ⊎ Gone)
     reached-back before rounds found gone (inl checks) = elim (checks_among before [] rounds path checks) [
@@ -182,7 +182,7 @@ module _ {H P : Type 0} (mac : H → List ℕ → List ℕ → List ℕ) (answer
     ]
     reached-back before rounds found gone (inr (inr ended)) = inr (inr (gone ended))
 
-  any : Stream
+  pub any : Stream
   any = record { u32_after = λ cs. 0; u64_after = λ cs. 0; bytes_after = λ cs n. [] }
 
   -- ---- unless a call turns it off

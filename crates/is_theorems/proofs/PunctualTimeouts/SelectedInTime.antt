@@ -14,11 +14,12 @@ use Rattle.is_theorems.specs.AskedCourses.{IsAnsweredAlong, SuccessesSelect}
 use Rattle.is_theorems.specs.Courses.{AcceptsSuccess, CourseRound, CourseRounds}
 use Rattle.is_theorems.specs.Exchange.{AreBetween, Course}
 use Rattle.is_theorems.specs.FirstChecks.{CoursesCheckFromDue, SufficeForDue, times_of}
-use Rattle.is_theorems.specs.FirstTimeouts.{AreInRound, CoursesReachUnanswered, EndsAmong, IsOpenRound, Suffices}
+use Rattle.is_theorems.specs.FirstTimeouts.{AreInRound, CoursesReachUnanswered, EndsAmong, IsOpenRound, IsReached, Suffices}
 use Rattle.is_theorems.specs.InTime.{ChecksBy, ComeBy, IsTimed}
 use Rattle.is_theorems.specs.Progress.{Awaits, IsUnanswered}
 use Rattle.is_theorems.specs.ReachedCourses.{IsPassed, PassRounds}
 use Rattle.is_theorems.specs.Runs.{IsFresh}
+use Rattle.is_theorems.specs.ServedSoon.{CoursesReachServed, SufficesForServed}
 use Rattle.is_theorems.specs.SelectedInTime.{AcceptsBy, AcceptsSuccessAlong, CoursesSelectInTime, in_any_role, SelectsBy}
 use Rattle.is_theorems.proofs.DuePairs.NoNominationDue.{Quiet, due-none}
 use Rattle.is_theorems.proofs.ExecutionLogs.PerAgentExecutions.{either_has, front_has}
@@ -78,19 +79,23 @@ module _ {H P : Type 0} (mac : H → List ℕ → List ℕ → List ℕ) (answer
       ChecksBy limit (r ∷ later) path
       ⊎ (AcceptsBy limit (r ∷ later) ⊎ EndsAmong mac answers (r ∷ later) start end (in_any_role mac answers (r ∷ later) start end run) path)
 
-  reached-open : CoursesReachUnanswered {H = H} {P = P} mac answers
-      → (first start end : AgentRecord H P) (xs : List (Call P × Entry)) (r : CourseRound P) (later : List (CourseRound P)) (p : PairRecord) (by pace delay : ℕ)
+  -- the path is reached in the rounds, or a success response is accepted in them
+  abbrev MayReach : (r : CourseRound P) (later : List (CourseRound P)) (start end : AgentRecord H P) → CourseRounds mac answers (r ∷ later) start end → Path → Type 0
+  MayReach r later start end run path =
+      ((x : CourseRound P) × Has (r ∷ later) x × AcceptsSuccessAlong x.following) ⊎ IsReached mac answers (r ∷ later) start end (in_any_role mac answers (r ∷ later) start end run) path
+
+  reached-open : (first start end : AgentRecord H P) (xs : List (Call P × Entry)) (r : CourseRound P) (later : List (CourseRound P)) (p : PairRecord) (by pace delay : ℕ)
       → IsFresh first → Course mac answers xs first start → start.controlling ≡ true → Awaits r.now by start p → IsUnanswered start p
       → by ≤ r.now → r.timeout.answer ≡ Done → r.now < MAX → AreInRound r.following → (run : CourseRounds mac answers (r ∷ later) start end)
-      → ((x : CourseRound P) → Has later x → IsOpenRound by x) → Suffices by r.now start run.1 end (length later) 0 0 → IsTimed pace delay start r later
+      → ((x : CourseRound P) → Has later x → IsOpenRound by x) → IsTimed pace delay start r later → MayReach r later start end run (path_of start p)
       → Reached (r.now + length later * (pace + delay)) r later start end run (path_of start p)
-  reached-open reach first start end xs r later p by pace delay fresh course role waits unanswered from done early between run opens enough timed =
+  reached-open first start end xs r later p by pace delay fresh course role waits unanswered from done early between run opens timed found =
       elim (rounds-come-soon mac answers first start end xs r later p by pace delay fresh course (lined-unanswered r.now by start p waits unanswered) (omega (arith, from)) done (λ y has. between y has)
       pass (λ x has. opens x has) (λ x has valid. never valid (unanswered.invalid p waits.there)) timed) [
         | inr (inl checks) ↦ inl checks
         | inr (inr (inl answered)) ↦ inr (inl (on-path (path_of start p) _ (r ∷ later) answered))
         | inr (inr (inr ends)) ↦ inr (inr ends)
-        | inl come ↦ elim (reach first start end xs r later p by fresh course role waits unanswered (omega (arith, from)) done (omega (arith, early)) (λ y has. between y has) pass (λ x has. opens x has) enough) [
+        | inl come ↦ elim found [
           | inl (x, has, accepts) ↦ inr (inl (among-rounds _ (r ∷ later) (in-time come) x has accepts))
           | inr (inl (y, id, has, out)) ↦ inl (y, has, (id, out), in-time come y has)
           | inr (inr (inl (x, has, answered))) ↦ inr (inl (among-rounds _ (r ∷ later) (in-time come) x has (along-path (path_of start p) x.following answered)))
@@ -105,9 +110,9 @@ module _ {H P : Type 0} (mac : H → List ℕ → List ℕ → List ℕ) (answer
 
   -- ---- the theorem
 
-  pub courses-select-in-time : CoursesCheckFromDue {H = H} {P = P} mac answers → CoursesReachUnanswered {H = H} {P = P} mac answers → SuccessesSelect {H = H} {P = P} mac answers
+  pub courses-select-in-time : CoursesCheckFromDue {H = H} {P = P} mac answers → CoursesReachUnanswered {H = H} {P = P} mac answers → CoursesReachServed {H = H} {P = P} mac answers → SuccessesSelect {H = H} {P = P} mac answers
       → CoursesSelectInTime {H = H} {P = P} mac answers
-  courses-select-in-time check reach select first start end last xs r later more p by pace delay trip fresh course role waits unanswered from done early between run on opens after enough timed answered =
+  courses-select-in-time check reach serve select first start end last xs r later more p by pace delay trip fresh course role waits unanswered from done early between run on opens after enough timed answered =
       elim enough [
         | inl (plain, few) ↦
             elim (check-or-select mac answers check select first start end xs r later p by pace delay fresh course controls waits unanswered (omega (arith, from)) done (omega (arith, early)) (λ x has. (let fits = plain r (inl refl) x has in search fits))
@@ -116,7 +121,7 @@ module _ {H P : Type 0} (mac : H → List ℕ → List ℕ → List ℕ) (answer
               | inr (c, has, selected, by_then) ↦ inl (c, front_has (r ∷ later) more c has, selected, omega (arith, by_then))
             ]
         | inr many ↦
-            elim (reached-open reach first start end xs r later p by pace delay fresh course controls waits unanswered (omega (arith, from)) done (omega (arith, early)) (λ x has. between x has) run (λ x has. opens x has) (search many) timed) [
+            elim (reached-open first start end xs r later p by pace delay fresh course controls waits unanswered (omega (arith, from)) done (omega (arith, early)) (λ x has. between x has) run (λ x has. opens x has) timed (may-reach many)) [
               | inl checks ↦ inl (by-check checks)
               | inr (inl accepts) ↦ inl (by-success (accepts-later _ limit rounds (omega arith) (accepts-before _ (r ∷ later) more accepts)))
               | inr (inr ends) ↦ inr (search ends)
@@ -130,6 +135,15 @@ module _ {H P : Type 0} (mac : H → List ℕ → List ℕ → List ℕ) (answer
 
         controls : start.controlling ≡ true
         controls = cc
+
+        may-reach : Suffices by r.now start run.1 end (length later) 0 0 ⊎ SufficesForServed mac answers start p later run.1 end (in_any_role mac answers later run.1 end run.8)
+            → MayReach r later start end run (path_of start p)
+        may-reach (inl suffices) =
+            reach first start end xs r later p by fresh course controls waits unanswered (omega (arith, from)) done (omega (arith, early)) (λ y has. between y has)
+            (in_any_role mac answers (r ∷ later) start end run) (λ x has. opens x has) (search suffices)
+        may-reach (inr served) =
+            serve first start end xs r later p by fresh course controls waits unanswered (omega (arith, from)) done (λ y has. between y has)
+            (in_any_role mac answers (r ∷ later) start end run) (λ x has. opens x has) (search served)
 
         sound : IsSound start
         sound = sound-after mac answers first start xs fresh course

@@ -1,5 +1,5 @@
 -- A path is selected in time in the rounds of a log. What mutants/specifications changes is read by tactics.
-use Rattle.std.proofs.Common.{◌≡◌, ℕ, ◌+◌, ◌*◌, ◌≤◌, ◌⊎◌, true, List, [], ◌∷◌, ◌++◌, length, is_some, inl, inr, refl, ap, sym, ◌∙◌, subst, arith, append_assoc}
+use Rattle.std.proofs.Common.{◌≡◌, ℕ, ◌+◌, ◌*◌, ◌≤◌, ◌⊎◌, true, List, [], ◌∷◌, ◌++◌, length, suc, is_some, inl, inr, refl, ap, sym, ◌∙◌, subst, arith, append_assoc}
 use Rattle.std.proofs.lemmas.List.{append-nil}
 use Rattle.rand_core.specs.Stream.{Stream}
 use Rattle.is_proto.specs.Lists.{Has}
@@ -20,11 +20,14 @@ use Rattle.is_theorems.specs.Reached.{is_in_round, IsEndedIn, IsPassing}
 use Rattle.is_theorems.specs.ReachedCourses.{PassRounds}
 use Rattle.is_theorems.specs.Rounds.{LoggedRound, entries_of, is_between, RunsOn, IsControllingIn}
 use Rattle.is_theorems.specs.SelectedInTime.{AcceptsBy, CoursesSelectInTime, in_any_role, IsAnsweredWithin, SelectsBy, SufficeForCheck}
-use Rattle.is_theorems.specs.TimedSelections.{AcceptsInBy, logged_times, PathsAreSelectedInTime, SelectsInBy}
+use Rattle.is_theorems.specs.ServedSoon.{IsOvertakenAmong}
+use Rattle.is_theorems.specs.UrgentFirst.{IsOvertaken, IsOvertakenIn}
+use Rattle.is_theorems.specs.TimedSelections.{AcceptsInBy, logged_times, OvertakeLater, PathsAreSelectedInTime, SelectsInBy}
 use Rattle.is_theorems.proofs.CallEffects.ExternalViews.{Has-front, Has-rear}
 use Rattle.is_theorems.proofs.ExecutionLogs.LogSegments.{now-controlling, starts-controlling}
 use Rattle.is_theorems.proofs.ExecutionLogs.SegmentsAsExecutions.{among_onto, calls_onto, course_from, course_onto, course_to, onto_has, pass_from, pass_onto, round_from, rounds_count, rounds_is, rounds_onto, split-run}
 use Rattle.is_theorems.proofs.PunctualTimeouts.ChecksInTimeInLogs.{call-is, timed}
+use Rattle.is_theorems.proofs.UrgentPairs.RoundsOfUrgentPairs.{split-overtaken}
 
 module _ {P : Type 0} where
   -- ---- the rounds of a log in parts
@@ -204,6 +207,44 @@ module _ {H P : Type 0} (mac : H → List ℕ → List ℕ → List ℕ) (answer
       (subst (λ (z : PassRounds mac answers (rounds_onto rounds more) start last). EndsAmong mac answers (rounds_onto rounds more) start last z path)
       (any-onto rounds more before start mid last s t comes run role course) ended)
 
+  -- ---- how many rounds check other pairs before the one with the number
+
+  overtaken-from : (n k : ℕ) (more : List (CourseRound P)) (a b last : AgentRecord H P) (same : a ≡ b) (pass : PassRounds mac answers more a last)
+      → IsOvertakenAmong mac answers n k more b last (pass_from mac answers more a b last same pass) → IsOvertakenAmong mac answers n k more a last pass
+  overtaken-from n k [] a b last same pass overtaken = overtaken
+  overtaken-from n k (r ∷ later) a b last same pass (inl others) = inl others
+  overtaken-from n k (r ∷ later) a b last same pass (inr (j, is, here, others)) =
+      inr (j, is, subst (λ (z : AgentRecord H P). IsOvertaken n r.now z r.timeout.emitted) (sym same) here, others)
+
+  overtaken-onto : (n k : ℕ) (rounds : List (LoggedRound P)) (more : List (CourseRound P)) (before : List (Logged P)) (start mid last : AgentRecord H P) (s t : Stream) (comes : Comes rounds)
+      → (run : RunsOn mac answers before start s (entries_of rounds) mid t) (pass : PassRounds mac answers more mid last)
+      → IsOvertakenAmong mac answers n k (rounds_onto rounds more) start last (pass_onto mac answers rounds more before start mid last s t comes run pass)
+      → (i j : ℕ) × (k ≡ i + j) × IsOvertakenIn mac answers n i before start s (entries_of rounds) mid t run × IsOvertakenAmong mac answers n j more mid last pass
+  overtaken-onto n k [] more before start mid last s t comes is pass overtaken = (0, k, none k, refl, overtaken-from n k more mid start last is.0 pass overtaken) where
+    none : (k : ℕ) → k ≡ 0 + k
+    none k = omega arith
+  overtaken-onto n k (r ∷ older) more before start mid last s t comes run pass overtaken =
+      let h = split-run mac answers before start mid s t r.following (r.timeout ∷ entries_of older) run in
+      by-parts {Here = λ now. IsOvertaken n now h.2.0 r.timeout.entry.emitted} (λ i later. split-overtaken mac answers n i before start mid s t r.following (r.timeout ∷ entries_of older) run later)
+      (overtaken-onto n k older (round_from r ∷ more) before start h.2.0 last s h.2.1 (λ x has. comes x (inr has)) h.2.2 (
+        h.0,
+        mid,
+        h.2.1,
+        h.1,
+        subst (λ (c : Call P). Step mac answers h.2.0 h.2.1 c r.timeout.entry h.0 h.1) (comes r (inl refl)) h.2.5,
+        course_onto mac answers r.following [] ((r.timeout ∷ entries_of older) ++ before) h.0 mid mid h.1 t h.3 refl,
+        pass,
+      ) overtaken) where
+        by-parts : {Whole In Among Here : ℕ → Type 0}
+            → ((i : ℕ) → (In i ⊎ ((now c : ℕ) × (i ≡ suc c) × (r.timeout.call ≡ HandleTimeout now) × Here now × In c)) → Whole i)
+            → ((i j : ℕ) × (k ≡ i + j) × In i × (Among j ⊎ ((c : ℕ) × (j ≡ suc c) × Here r.now × Among c)))
+            → (i j : ℕ) × (k ≡ i + j) × Whole i × Among j
+        by-parts joins (i, j, all, older_ones, inl others) = (i, j, all, joins i (inl older_ones), others)
+        by-parts joins (i, j, all, older_ones, inr (c, is, here, others)) =
+            (suc i, c, moved i j c (omega (arith, all)) is, joins (suc i) (inr (r.now, i, refl, comes r (inl refl), here, older_ones)), others) where
+              moved : (i j c : ℕ) → k ≡ i + j → j ≡ suc c → k ≡ suc i + c
+              moved i j c all is = omega (arith, all, is)
+
   -- ---- the theorem
 
   pub selected-in-time : CoursesSelectInTime {H = H} {P = P} mac answers → PathsAreSelectedInTime {H = H} {P = P} mac answers
@@ -310,8 +351,25 @@ module _ {H P : Type 0} (mac : H → List ℕ → List ℕ → List ℕ) (answer
         plain-round plain x (inl is) = plain-fits (k.later ++ k.opening ∷ []) plain k.opening (Has-rear k.later (k.opening ∷ []) k.opening (inl refl)) x is
         plain-round plain x (inr has) = let z = round-of k.later x has in plain-fits (k.later ++ k.opening ∷ []) plain z.0 (Has-front k.later (k.opening ∷ []) z.0 z.1) x z.2
 
-        enough : SufficeForCheck by k.start k.second k.end r later
+        -- what overtakes the pair in the execution does so in the log
+        in-log : (m : ℕ) → IsOvertakenAmong mac answers p.number m later k.second k.end (in_any_role mac answers later k.second k.end run_later) → OvertakeLater mac answers k p.number m
+        in-log m overtaken =
+            let both = overtaken-onto p.number m k.later [] (entries_of (k.opening ∷ []) ++ k.before) k.second k.end k.end k.others.at k.others.following comes_later k.others.run refl
+            (subst (λ (z : PassRounds mac answers later k.second k.end). IsOvertakenAmong mac answers p.number m later k.second k.end z)
+            (any-onto k.later [] (entries_of (k.opening ∷ []) ++ k.before) k.second k.end k.end k.others.at k.others.following comes_later k.others.run role_later refl) overtaken) in
+            let all : m ≡ both.0 = whole m both.0 both.1 both.2 both.4 in
+            subst (λ i. OvertakeLater mac answers k p.number i) (sym all) both.3 where
+              whole : (m i j : ℕ) → m ≡ i + j → j ≡ 0 → m ≡ i
+              whole m i j all none = omega (arith, all, none)
+
+        enough : SufficeForCheck mac answers by p k.start k.second k.end r later (in_any_role mac answers later k.second k.end run_later)
         enough = elim f.enough [
           | inl (plain, few) ↦ inl (λ x has. plain-round plain x has, subst (λ ts. SufficeForDue by r.now k.start k.second ts) (sym (times-are k.later)) (search few))
-          | inr many ↦ inr (subst (λ n. Suffices by r.now k.start k.second k.end n 0 0) (sym count) (search many))
+          | inr (inl many) ↦ inr (inl (subst (λ n. Suffices by r.now k.start k.second k.end n 0 0) (sym count) (search many)))
+          | inr (inr served) ↦ inr (inr (record {
+            served = search (served.served);
+            m = served.m;
+            enough = (let few = served.enough in omega (arith, count, few));
+            few = λ overtaken. (let few = served.few in let o : OvertakeLater mac answers k p.number served.m = in-log served.m overtaken in search (few, o));
+          }))
         ]

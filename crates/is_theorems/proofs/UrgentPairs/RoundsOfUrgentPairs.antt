@@ -81,7 +81,7 @@ module _ {H P : Type 0} (mac : H → List ℕ → List ℕ → List ℕ) (answer
     split-urgent path before start last u t [] older run turns = turns
     split-urgent path before start last u t (x ∷ xs) older (m, v, run, number, given, step) turns = split-urgent path before start m u v xs older run turns.1
 
-    split-overtaken : (c : ℕ) (before : List (Logged P)) (start last : AgentRecord H P) (u t : Stream) (xs older : List (Logged P)) (run : RunsOn mac answers before start u (xs ++ older) last t)
+    pub split-overtaken : (c : ℕ) (before : List (Logged P)) (start last : AgentRecord H P) (u t : Stream) (xs older : List (Logged P)) (run : RunsOn mac answers before start u (xs ++ older) last t)
         → IsOvertakenIn mac answers n c before start u older (split-run mac answers before start last u t xs older run).0 (split-run mac answers before start last u t xs older run).1
         (split-run mac answers before start last u t xs older run).2
         → IsOvertakenIn mac answers n c before start u (xs ++ older) last t run

@@ -8,8 +8,8 @@ use Rattle.is_agent.specs.View.{record_of}
 use Rattle.is_agent.proofs.AgentParts.EarlyRequests.{begun, started}
 use Rattle.is_agent.proofs.agent.Agent.begin_later_timeout.Goals as goal
 
-pub returns-clause-begun : goal.returns-clause-begun
-returns-clause-begun g c =
+pub returns-then-expired-gt0-clause-begun : goal.returns-then-expired-gt0-clause-begun
+returns-then-expired-gt0-clause-begun g c =
     let now = c.args.now.0 in let many = c.args.expired in
     let old = record_of c.args.self.now in let mid = c.start_state.new.self in
     let start : start_emitted old ≡ old = started old c.requires.later in
