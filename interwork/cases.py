@@ -249,7 +249,7 @@ def far_title(hosts, delay, loss):
     return f"{hosts} host{'s' * (hosts > 1)}, {1000 * delay:.0f} ms, {100 * loss:.0f} % loss"
 
 
-def far_case(stacks, network, who, roles, words=((), ())):
+def far_case(stacks, network, who, roles):
     """Chat is not said: what counts is when media could flow. With loss a session may need long.
 
     Without NATs and loss the pair that works has a random place among those of 5 hosts: the times differ more, so there are more sessions.
@@ -259,25 +259,18 @@ def far_case(stacks, network, who, roles, words=((), ())):
     at_least, why = (0.9 if loss else 1.0), ""
     if stacks == ("libnice", "libnice") and delay == 0.3:
         at_least, why = 0.0, "libnice fails in some sessions with this delay; why is not known"
-    return Case(network, stacks, far_title(hosts, delay, loss) + who, words, roles, sessions=60 if is_spread else 20, quick=0,
+    return Case(network, stacks, far_title(hosts, delay, loss) + who, roles=roles, sessions=60 if is_spread else 20, quick=0,
                 at_least=at_least, why=why, seconds=40 if loss else 20, chat=False)
 
 
 def over_distance(is_foreign):
-    """Our programs with themselves, and the one in C with each other stack in both roles; or each of the others with itself.
-
-    libnice and aioice pace their checks at 20 ms, ours at 50 ms: from 5 hosts ours is also played with 20 ms.
-    """
+    """Our programs with themselves, and the one in C with each other stack in both roles; or each of the others with itself."""
     others = ("libnice", "pion", "aioice")
     own = [(name, name) for name in (others if is_foreign else ("peer", "Connection"))]
     for hosts, loss, kinds, delay in itertools.product(HOSTS_A_SIDE, LOSSES, FAR_KINDS, DELAYS):
         network = ("far", *kinds, hosts, delay, loss)
         yield from (far_case(stacks, network, "", (ING, ED)) for stacks in own)
-        if is_foreign:
-            continue
-        if hosts > 1:
-            yield far_case(("peer", "peer"), network, ", Ta 20 ms", (ING, ED), (("-p", "20"), ("-p", "20")))
-        for other in others:
+        for other in () if is_foreign else others:
             yield from (far_case(("peer", other), network, f", {who}", roles) for who, roles in ROLES)
 
 

@@ -31,6 +31,7 @@ RULES: dict[str, dict[str, Any]] = {
     "no triggered checks": {"triggered_checks": 0},
     "no early retransmissions": {"early_retransmits": 0},
     "no selection at once": {"selects_at_once": False},
+    "no early pacing": {"early_pacing_ms": 0},
     "only kinds in turn": {"rules": "original", "kinds_in_turn": True},
     "original": {"rules": "original"},
 }

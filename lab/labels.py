@@ -11,7 +11,7 @@ HALF = 6.5
 LETTER = 6.3
 ASIDE = 9.0
 # How much lower than the end of its arrow a text may be, or higher, the best first.
-ASIDES = (0.0, 7.0, -7.0, 11.0, -11.0, 16.0, -16.0, 22.0, -22.0, 29.0, -29.0)
+ASIDES = (0.0, 7.0, -7.0, 11.0, -11.0, 16.0, -16.0, 22.0, -22.0, 29.0, -29.0, 36.0, -36.0, 43.0, -43.0)
 # How far over or under its arrow a label may be, if it is free nowhere on it.
 BESIDES = (-9.0, 9.0, -15.0, 15.0, -22.0, 22.0)
 # Where a label may be: as a share of the arrow, the best first.

@@ -371,7 +371,7 @@ static void early(void)
     HOLD(is_ice_poll_timeout_soon(&b, &at) == IS_ICE_NOTHING && at == 7);
     HOLD(is_ice_early_count(&b, &count) == IS_ICE_OK && count == 0);
     HOLD(is_ice_handle_timeout(&a, 0, TEXT("twelve bytes")) == IS_ICE_OK);
-    HOLD(is_ice_poll_timeout(&a, &at) == IS_ICE_OK && at == 20000000);
+    HOLD(is_ice_poll_timeout(&a, &at) == IS_ICE_OK && at == 10000000);
     HOLD(is_ice_poll_timeout_soon(&a, &at) == IS_ICE_OK && at == 5000000);
     carry(&a, &b, &at_a, &at_b, 88, 10000000);
     HOLD(is_ice_early_count(&b, &count) == IS_ICE_OK && count == 1);

@@ -137,7 +137,7 @@ static void has_a_session()
     HOLD(agent.add_remote(remote) == is_ice::added::yes && agent.add_remote(remote) == is_ice::added::known);
     HOLD(agent.add_remote("candidate:1 2 udp 1 10.0.0.3 1 typ host") == is_ice::added::other_component);
     agent.handle_timeout(60s, NONE);
-    HOLD(agent.poll_timeout() == 60020ms && agent.poll_timeout_soon() == 60005ms && agent.early_count() == 0);
+    HOLD(agent.poll_timeout() == 60010ms && agent.poll_timeout_soon() == 60005ms && agent.early_count() == 0);
     HOLD(std::holds_alternative<is_ice::restarted>(*agent.poll_event()));
     auto changed = agent.poll_event();
     HOLD(std::get<is_ice::state_changed>(*changed).state == is_ice::connection_state::checking);

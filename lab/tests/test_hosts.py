@@ -19,10 +19,11 @@ class Sessions(unittest.TestCase):
         return None if first is None else first / MILLISECOND - GATHERED_MS
 
     def test_ten_hosts_connect_soon(self) -> None:
-        # The second check, after 20 ms, is that of the server-reflexive candidates. Its response comes after 40 ms, just after A's timeout
-        # at 60 ms. Since A has a path then, it nominates that one Ta later, after 110 ms. B receives it 20 ms later, and selects at once or
-        # at its next timeout, after 140 ms. With kinds in turn only, checks are 50 ms apart: it is the last timeout, after 150 ms.
-        for rules, expected in (("modern", 130), ("no selection at once", 140), ("only kinds in turn", 150)):
+        # The second check, after 10 ms, is that of the server-reflexive candidates. Its response comes after 50 ms, just after A's timeout,
+        # so A nominates the pair in its next one, after 60 ms. B receives that 20 ms later, and selects at once or at its next timeout,
+        # after 90 ms. Without early pacing checks are 50 ms apart. Then the response comes after 90 ms, before A's timeout at 100 ms. With
+        # kinds in turn only, B selects at its next timeout, after 150 ms.
+        for rules, expected in (("modern", 80), ("no selection at once", 90), ("no early pacing", 120), ("only kinds in turn", 150)):
             for count in (5, 10, 20):
                 time = self.time(count, rules)
                 assert time is not None

@@ -216,21 +216,23 @@ class Early(unittest.TestCase):
 class Pacing(unittest.TestCase):
     """How soon the next timeout of an agent comes that has pairs to check, in ms."""
 
-    def after(self, early: float | None, advance: float = 50, is_connected: bool = False) -> list[float]:
-        """With a packet queued, and without one."""
+    def after(self, early: float | None, advance: float = 50, checks: int = 0, side: str = "a") -> list[float]:
+        """With a packet queued, and without one. Before that, so many checks of the side succeed. A is controlling."""
         story = Story(hosts=(1, 3), rules=Rules(early_pacing=None if early is None else round(early * MILLISECOND)))
-        story.set("a", "set_timing_advance", round(advance * MILLISECOND))
-        if is_connected:
-            story.exchange("a", 0)
-        else:
-            story.passes("a", 0)
+        story.set(side, "set_timing_advance", round(advance * MILLISECOND))
+        for check in range(checks):
+            story.exchange(side, 50 * check)
+        if not checks:
+            story.passes(side, 0)
         story.session()
-        last, polled = story.agents["a"].last, [story.agents["a"].poll_timeout(is_waiting)[1] for is_waiting in (True, False)]
-        assert last is not None
-        return [(time - last) / MILLISECOND for time in polled if time is not None]
+        agent = story.agents[side]
+        polled = [agent.poll_timeout(is_waiting)[1] for is_waiting in (True, False)]
+        assert agent.last is not None
+        return [(time - agent.last) / MILLISECOND for time in polled if time is not None]
 
-    def test_it_is_shorter_until_there_is_a_path(self) -> None:
-        self.assertEqual([self.after(20), self.after(20, is_connected=True), self.after(None)], [[20, 20], [50, 50], [50, 50]])
+    def test_it_is_shorter_until_the_agent_is_settled(self) -> None:
+        self.assertEqual([self.after(20), self.after(20, checks=1), self.after(20, checks=2)], [[20, 20], [20, 20], [50, 50]])
+        self.assertEqual([self.after(20, side="b"), self.after(None)], [[20, 20], [50, 50]])
 
     def test_not_below_5_ms_and_not_longer(self) -> None:
         self.assertEqual([self.after(4.999), self.after(5.001), self.after(51)], [[5, 5], [5.001, 5.001], [50, 50]])
@@ -285,7 +287,8 @@ class Settings(unittest.TestCase):
         expected = {
             "modern": MODERN, "original": ORIGINAL, "only kinds in turn": Rules(kinds_in_turn=True),
             "no kinds in turn": replace(MODERN, kinds_in_turn=False), "no triggered checks": replace(MODERN, triggered_checks=None),
-            "no early retransmissions": replace(MODERN, early_rto=None), "no selection at once": replace(MODERN, selects_at_once=False)}
+            "no early retransmissions": replace(MODERN, early_rto=None), "no selection at once": replace(MODERN, selects_at_once=False),
+            "no early pacing": replace(MODERN, early_pacing=None)}
         self.assertEqual({name: rules_of(endpoint.rules_by(AgentSettings(**RULES[name]))) for name in RULES}, expected)
         own = endpoint.rules_by(AgentSettings(triggered_checks=7, early_retransmits=2, early_interval_ms=30, early_pacing_ms=7))
         expected_own = replace(MODERN, triggered_checks=7, early_rto=EarlyRto(2, 30 * MILLISECOND), early_pacing=7 * MILLISECOND)

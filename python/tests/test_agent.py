@@ -166,7 +166,7 @@ def first_checks(rules: Rules | None) -> list[str]:
 
 
 def paced(rules: Rules, advance: int = SECOND // 20) -> tuple[int, int]:
-    """Returns how soon after a timeout the next one comes, before the agent has a path and after it. Other pairs wait for their check."""
+    """Returns how soon after a timeout the next one comes, before the agent has a path, and once that is nominated. Other pairs wait."""
     a, b = agents = two_agents()
     a.set_rules(rules)
     a.set_timing_advance(advance)
@@ -177,9 +177,11 @@ def paced(rules: Rules, advance: int = SECOND // 20) -> tuple[int, int]:
     for agent, other in (agents, agents[::-1]):
         while packet := agent.poll_transmit():
             other.handle_packet(BEGINNING, packet.source, packet.destination, packet.contents)
+    assert before is not None and a.state.is_connected()
+    a.handle_timeout(before)
     after = a.poll_timeout()
-    assert before is not None and after is not None and a.state.is_connected()
-    return before - BEGINNING, after - BEGINNING
+    assert after is not None
+    return before - BEGINNING, after - before
 
 
 def repeated(rules: Rules) -> list[int]:
@@ -455,7 +457,7 @@ class Sessions(unittest.TestCase):
         a, _ = two_agents()
         self.assertIsNone(a.poll_timeout())
         a.handle_timeout(BEGINNING)
-        self.assertEqual(a.poll_timeout(), BEGINNING + SECOND // 50)
+        self.assertEqual(a.poll_timeout(), BEGINNING + SECOND // 100)
 
 
 class Errors(unittest.TestCase):
@@ -581,10 +583,10 @@ class Errors(unittest.TestCase):
         self.assertEqual(repeated(Rules.modern()), [0, 100, 200, 300, 400, 650, 1150])
         self.assertEqual(repeated(Rules.original()), [0, 250, 750, 1750])
 
-    def test_checks_are_closer_until_there_is_a_path(self) -> None:
+    def test_checks_are_closer_until_the_path_is_nominated(self) -> None:
         """By the rule, unless Ta is shorter, and at least 5 ms apart."""
         ms = SECOND // 1000
-        self.assertEqual(paced(Rules.modern()), (20 * ms, 50 * ms))
+        self.assertEqual(paced(Rules.modern()), (10 * ms, 50 * ms))
         self.assertEqual(paced(Rules.modern(), 10 * ms), (10 * ms, 10 * ms))
         self.assertEqual(paced(Rules.original()), (50 * ms, 50 * ms))
         for early, expected in ((1, 5 * ms), (5 * ms + 1, 5 * ms + 1), (60 * ms, 50 * ms)):

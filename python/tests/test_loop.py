@@ -124,7 +124,7 @@ class Handlers(unittest.IsolatedAsyncioTestCase):
                     if not begun:
                         a.loop.begin()
                     await asyncio.sleep(0.32)
-                self.assertIn(failed.call_count, range(2, 8))
+                self.assertIn(failed.call_count, range(2, 9))
                 b.loop.begin()
                 await asyncio.wait_for(asyncio.gather(a.path, b.path), 2)
                 a.loop.close()

@@ -141,7 +141,7 @@ fn an_agent_that_changed_is_called_soon() {
     let (mut agent, began) = (paired(), Instant::now());
     assert_eq!(agent.poll_timeout_soon(), None);
     agent.handle_timeout(began);
-    assert_eq!((agent.poll_timeout(), agent.poll_timeout_soon()), (Some(began + ms(20)), Some(began + ms(5))));
+    assert_eq!((agent.poll_timeout(), agent.poll_timeout_soon()), (Some(began + ms(10)), Some(began + ms(5))));
     agent.set_timing_advance(ms(2));
     assert_eq!((agent.poll_timeout(), agent.poll_timeout_soon()), (Some(began + ms(2)), Some(began + ms(2))));
 }

@@ -114,7 +114,7 @@ fn an_agent_that_changed_has_a_timeout_soon(rt: HostRuntime) {
     assert!(rt; known == codes::OK);
     // A response waits to be sent.
     assert!(rt; takes(alloc, &mut slot, 10 * MS, 2000));
-    assert!(rt; later(alloc, &mut slot) == 50 * MS);
+    assert!(rt; later(alloc, &mut slot) == 10 * MS);
     assert!(rt; soon(alloc, &mut slot) == 5 * MS);
     let paced = is_ice_set_timing_advance(alloc, &mut slot, 2 * MS);
     assert!(rt; paced == codes::OK);
