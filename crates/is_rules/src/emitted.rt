@@ -75,12 +75,9 @@ impl Emitted {
     pub fn selected_only(path: Option<Path>) -> Emitted
         ensures { result ≡ selected_only path }
     {
-        match path {
-            None => Emitted::nothing(),
-            Some(_) => Emitted {
-                issued: None,
-                selected_paths: [path, None],
-            },
+        Emitted {
+            issued: None,
+            selected_paths: [path, None],
         }
     }
 
