@@ -341,7 +341,7 @@ typedef struct is_ice_agent_rules {
     uint64_t consent_timeout;  /* so long after its last answered check a pair is removed */
     uint64_t suspicion_timeout; /* so long after its last answered check a pair is suspected, */
     uint64_t suspicion_interval; /* and the time between its checks before that, once one has no response */
-    uint64_t early_pacing;     /* until there is a path, the pacing interval Ta is at most this */
+    uint64_t early_pacing;     /* until the agent is settled, the pacing interval Ta is at most this */
     bool kinds_in_turn;        /* until a path is selected, every second check goes to the next kind of pairs */
     bool selects_at_once;      /* a controlled agent selects a valid pair when the request that nominates it arrives */
     bool strict_consent;       /* the other agent's checks do not keep a pair */
@@ -477,8 +477,8 @@ IS_ICE_QUIET_CALL int32_t is_ice_set_max_candidates(is_ice_agent *agent, size_t 
 
 /* is_ice_set_timing_advance - sets the pacing interval Ta (RFC 8445, section 14.2): the least time from the last
  * is_ice_handle_timeout call to the next one that is_ice_poll_timeout returns. Each is_ice_handle_timeout call sends at
- * most one packet. By the rule early_pacing of is_ice_set_rules the interval is shorter until there is a path. IS_ICE_OK.
- * Value: 50 ms. */
+ * most one packet. By the rule early_pacing of is_ice_set_rules the interval is shorter until the agent is settled.
+ * IS_ICE_OK. Value: 50 ms. */
 IS_ICE_QUIET_CALL int32_t is_ice_set_timing_advance(is_ice_agent *agent, uint64_t nanoseconds);
 
 /* is_ice_set_initial_rto - sets the time from a pair's first check until the second one is due; early retransmissions
@@ -556,9 +556,10 @@ IS_ICE_QUIET_CALL int32_t is_ice_original_rules(is_ice_agent_rules *rules);
  * allows. These checks end no pair sooner. The time should be longer than is_ice_set_max_rto, at which pairs are checked
  * that answer. 0: no such rule.
  *
- * early_pacing: the pacing interval Ta is at most this, and at least 5 ms (RFC 8445, section 14.2), until the agent has a
- * path. A controlling agent has to have sent the check that nominates it, too. So the pair that works is checked sooner
- * if there are many. A shorter one of is_ice_set_timing_advance stays. Less than 5 ms counts as 5 ms. 0: no such rule.
+ * early_pacing: until the agent is settled, the pacing interval Ta is at most this, and at most half a second divided by
+ * the number of pairs. It is at least 5 ms (RFC 8445, section 14.2). The agent is settled once it has a path and, if it is
+ * controlling, has sent the check that nominates it. So the pair that works is checked sooner if there are many. A
+ * shorter one of is_ice_set_timing_advance stays. Less than 5 ms counts as 5 ms. 0: no such rule.
  *
  * selected_first: every second check may go to the selected pair, if it is due, before all others. So its consent is
  * renewed in time, however many pairs there are.

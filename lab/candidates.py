@@ -20,6 +20,8 @@ KINDS = {CandidateKind.HOST: "host", CandidateKind.SERVER_REFLEXIVE: "srflx", Ca
          CandidateKind.PEER_REFLEXIVE: "prflx"}
 # The least pacing interval Ta (RFC 8445, section 14.2).
 LEAST_ADVANCE = 5 * MILLISECOND
+# With many pairs, the time in which each of them can be checked once.
+CYCLE = 500 * MILLISECOND
 # How many candidates of each side packets may bring to an agent that the library makes.
 DISCOVERED_LIMIT = 32
 
@@ -145,7 +147,9 @@ class Candidates:
     def pacing(self) -> int:
         """The pacing interval Ta: by the rule it is shorter until the agent is settled (`pacing_of`)."""
         early = self.rules.early_pacing
-        return self.advance if early is None or self.is_settled else min(self.advance, max(LEAST_ADVANCE, early))
+        if early is None or self.is_settled:
+            return self.advance
+        return min(self.advance, max(LEAST_ADVANCE, min(early, CYCLE // max(1, len(self.pairs)))))
 
     def chosen(self) -> Pair | None:
         """Returns the pair to be selected: of an agent that follows its peer the followed pair, or the one that was selected last; else an

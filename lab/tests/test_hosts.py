@@ -19,12 +19,14 @@ class Sessions(unittest.TestCase):
         return None if first is None else first / MILLISECOND - GATHERED_MS
 
     def test_ten_hosts_connect_soon(self) -> None:
-        # The second check, after 10 ms, is that of the server-reflexive candidates. Its response comes after 50 ms, just after A's timeout,
+        # The second check, after 10 ms, is that of the server-reflexive candidates. The response comes after 50 ms, just after A's timeout,
         # so A nominates the pair in its next one, after 60 ms. B receives that 20 ms later, and selects at once or at its next timeout,
-        # after 90 ms. Without early pacing checks are 50 ms apart. Then the response comes after 90 ms, before A's timeout at 100 ms. With
-        # kinds in turn only, B selects at its next timeout, after 150 ms.
-        for rules, expected in (("modern", 80), ("no selection at once", 90), ("no early pacing", 120), ("only kinds in turn", 150)):
-            for count in (5, 10, 20):
+        # after 90 ms. With 100 pairs checks are 5 ms apart, so all this comes after 5, 45, 50, 70 and 75 ms. Without early pacing they are
+        # 50 ms apart. Then the response comes after 90 ms, before A's timeout at 100 ms. With kinds in turn only, B selects at its next
+        # timeout, after 150 ms.
+        for rules, with_five, with_more in (("modern", 80, 70), ("no selection at once", 90, 75), ("no early pacing", 120, 120),
+                                            ("only kinds in turn", 150, 150)):
+            for count, expected in ((5, with_five), (10, with_more), (20, with_more)):
                 time = self.time(count, rules)
                 assert time is not None
                 self.assertTrue(expected <= time < expected + 5, (rules, count, time))

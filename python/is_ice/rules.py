@@ -83,8 +83,9 @@ class Rules:
     as Ta allows. These checks end no pair sooner.
 
     `early_pacing`: until the agent has a path, and if it is controlling has sent the check that nominates it, the pacing interval Ta is at
-    most so many nanoseconds, and at least 5 ms (RFC 8445, section 14.2). So the pair that works is checked sooner if there are many. A
-    shorter `set_timing_advance` stays. Less than 5 ms counts as 5 ms, and 0 is the same as None.
+    most so many nanoseconds, and so short that each pair can be checked once in half a second; but at least 5 ms (RFC 8445, section 14.2).
+    So the pair that works is checked sooner if there are many. A shorter `set_timing_advance` stays. Less than 5 ms counts as 5 ms, and 0
+    is the same as None.
 
     `selected_first`: every second check may go to the selected pair, if it is due, before all others. So its consent is renewed in
     time, however many pairs there are.

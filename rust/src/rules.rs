@@ -53,8 +53,9 @@ pub struct Rules {
     /// far as Ta allows. These checks end no pair sooner.
     pub suspicion: Option<Suspicion>,
     /// Until the agent has a path, and if it is controlling has sent the check that nominates it, the pacing interval Ta is at most this,
-    /// and at least 5 ms (RFC 8445, section 14.2). So the pair that works is checked sooner if there are many. A shorter
-    /// [`IceAgent::set_timing_advance`] stays. Less than 5 ms counts as 5 ms, and `Some(Duration::ZERO)` is the same as `None`.
+    /// and so short that each pair can be checked once in half a second; but at least 5 ms (RFC 8445, section 14.2). So the pair that works
+    /// is checked sooner if there are many. A shorter [`IceAgent::set_timing_advance`] stays. Less than 5 ms counts as 5 ms, and
+    /// `Some(Duration::ZERO)` is the same as `None`.
     pub early_pacing: Option<Duration>,
     /// Every second check may go to the selected pair, if it is due, before all others. So its consent is renewed in time, however many
     /// pairs there are.

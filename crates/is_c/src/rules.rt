@@ -29,7 +29,7 @@ pub struct AgentRules {
     pub suspicion_timeout: u64,
     /// and so long after a check without a response the next one is due.
     pub suspicion_interval: u64,
-    /// At most so many nanoseconds apart are checks until there is a path.
+    /// At most so many nanoseconds apart are checks until the agent is settled.
     pub early_pacing: u64,
     pub kinds_in_turn: bool,
     pub selects_at_once: bool,

@@ -1,5 +1,5 @@
 -- What the polls return.
-use Rattle.std.specs.Prelude.{◌≡◌, ℕ, ◌*◌, min, max, ◌&&◌, ◌||◌, not, Bool, List, [], ◌∷◌, map, fold, Option, Some, None, is_some, MatchBool, IsSomeAnd, if◌then◌else◌}
+use Rattle.std.specs.Prelude.{◌≡◌, ℕ, ◌*◌, ◌/◌, min, max, ◌&&◌, ◌||◌, not, Bool, List, [], ◌∷◌, map, fold, length, Option, Some, None, is_some, MatchBool, IsSomeAnd, if◌then◌else◌}
 use Rattle.is_proto.specs.Lists.{is_empty}
 use Rattle.is_proto.specs.Times.{MAX, MILLISECOND, SECOND, later}
 use Rattle.is_proto.specs.declared.Duration.{Duration}
@@ -19,10 +19,14 @@ IsPolled old (Some x) new = old ≡ x ∷ new
 abbrev pub LEAST_TA : ℕ
 LEAST_TA = 5 * MILLISECOND
 
--- the pacing interval by the rule `early_pacing`
-abbrev pub early_advance : Option Duration → ℕ → ℕ
-early_advance None advance = advance
-early_advance (Some early) advance = min advance (max LEAST_TA early.0)
+-- with many pairs, the time in which each of them can be checked once
+abbrev pub CYCLE : ℕ
+CYCLE = 500 * MILLISECOND
+
+-- the pacing interval by the rule `early_pacing`, with so many pairs
+abbrev pub early_advance : Option Duration → ℕ → ℕ → ℕ
+early_advance None count advance = advance
+early_advance (Some early) count advance = min advance (max LEAST_TA (min early.0 (CYCLE / max 1 count)))
 
 module _ {H P : Type 0} where
   -- `poll_transmit`
@@ -43,7 +47,7 @@ module _ {H P : Type 0} where
 
   -- the pacing interval Ta; until the agent is settled, no longer than by the rule `early_pacing`
   abbrev pub pacing_of : AgentRecord H P → ℕ
-  pacing_of a = if is_settled a then a.timing_advance else early_advance a.rules.early_pacing a.timing_advance
+  pacing_of a = if is_settled a then a.timing_advance else early_advance a.rules.early_pacing (length a.pairs) a.timing_advance
 
   -- one pacing interval after the last call
   abbrev pub soon : AgentRecord H P → ℕ → ℕ

@@ -59,7 +59,8 @@ pub struct Rules {
     /// leaves the choice to it.
     pub suspicion: Option<Suspicion>,
     /// Until the agent has a path, and if it is controlling has sent the check that nominates it, the pacing interval Ta is at most this, and
-    /// at least 5 ms (RFC 8445, section 14.2). So the pair that works is checked sooner if there are many. A shorter one that is set stays.
+    /// so short that each pair can be checked once in half a second; but at least 5 ms (RFC 8445, section 14.2). So the pair that works is
+    /// checked sooner if there are many. A shorter interval that is set stays.
     pub early_pacing: Option<Duration>,
 }
 
@@ -69,7 +70,7 @@ const MODERN_EARLY_RTO: EarlyRto = EarlyRto {
     interval: Duration(100_000_000),
 };
 
-/// How often checks are sent until there is a path.
+/// How far apart checks are at most until the agent is settled.
 const MODERN_EARLY_PACING: Duration = Duration(10_000_000);
 
 /// Within the 30 s of RFC 7675, section 5.1.

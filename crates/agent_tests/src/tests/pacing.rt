@@ -65,7 +65,7 @@ const ANOTHER: &str = "candidate:1 1 udp 900 10.0.0.4 2000 typ host";
 
 // ---- the pacing interval (RFC 8445, section 14.2). The default is 50 ms
 
-const PACED: [Story; 7] = [
+const PACED: [Story; 9] = [
     // since more than 60 s have passed, the nominated pair is due before all others
     Story(
         "checks_are_closer_until_the_path_is_nominated",
@@ -153,6 +153,36 @@ const PACED: [Story; 7] = [
             Does(Peers(3)),
             Does(CheckTo(0, FIRST, false)),
             Shows(NextAt(50)),
+        ],
+    ),
+    // 20 ms for each of 25 pairs are half a second, and so are 10 ms for each of 50
+    Story(
+        "many_pairs_are_checked_once_in_half_a_second",
+        &[
+            Begin(Unpaired),
+            Set(Setting::Rules(EARLY)),
+            Does(Peers(25)),
+            Does(CheckTo(0, FIRST, false)),
+            Shows(NextAt(20)),
+            Begin(Unpaired),
+            Set(Setting::Rules(EARLY)),
+            Does(Peers(50)),
+            Does(CheckTo(0, FIRST, false)),
+            Shows(NextAt(10)),
+            Does(CheckTo(10, SECOND, false)),
+            Shows(NextAt(20)),
+        ],
+    ),
+    // which would be 2.5 ms each
+    Story(
+        "with_more_pairs_they_are_at_least_5_ms_apart",
+        &[
+            Begin(Unpaired),
+            Set(Setting::Rules(EARLY)),
+            Set(Setting::MaxPairs(200)),
+            Does(Peers(200)),
+            Does(CheckTo(0, FIRST, false)),
+            Shows(NextAt(5)),
         ],
     ),
     // the state is evaluated at the next timeout
