@@ -10,10 +10,10 @@ use Rattle.is_theorems.specs.Asked.{IsAnsweredOn, IsAnsweredIn}
 use Rattle.is_theorems.specs.AskedCourses.{Ends, EndsAlong}
 use Rattle.is_proto.specs.Times.{MAX}
 use Rattle.is_pair.specs.Pairs.{PairRecord}
-use Rattle.is_theorems.specs.Courses.{AcceptsSuccess, CourseRound}
+use Rattle.is_theorems.specs.Courses.{CourseRound}
 use Rattle.is_theorems.specs.Exchange.{Course}
 use Rattle.is_theorems.specs.Logs.{Logged}
-use Rattle.is_theorems.specs.Progress.{Awaits, IsUnanswered, checks_for}
+use Rattle.is_theorems.specs.Progress.{checks_for}
 use Rattle.is_theorems.specs.Reached.{IsLasting, IsPassing, ChecksIn, IsEndedIn, nominations_ahead}
 use Rattle.is_theorems.specs.ReachedCourses.{ChecksAmong, IsAnsweredAmong, PassRounds, selections_among}
 use Rattle.is_theorems.specs.Rounds.{LoggedRound, Part, entries_of, RunsOn}
@@ -39,9 +39,9 @@ module _ {P : Type 0} where
   is_passing : (by : ℕ) (before : List (Logged P)) (r : CourseRound P) → IsOpenRound by r → IsPassing by (round_of before r)
   is_passing by before r round = record {
     comes = refl;
-    done = round.done;
+    done = (let done = round.done in search done);
     late = (let late = round.late in omega (arith, late));
-    early = round.early;
+    early = (let early = round.early in omega (arith, early));
     between = λ x has. round.between (x.call, x.entry) (part_is (entry_of before (HandleTimeout r.now) r.timeout ∷ before) r.following x has);
   }
 

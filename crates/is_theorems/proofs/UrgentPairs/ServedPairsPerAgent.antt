@@ -1,13 +1,12 @@
 -- A controlling agent without a valid pair, and one of its pairs on which a request was served: in rounds of an execution its path is reached as
 -- in those of a log. What mutants/specifications changes is read by tactics.
-use Rattle.std.proofs.Common.{◌≡◌, ℕ, suc, ◌+◌, ◌*◌, ◌<◌, ◌≤◌, Bool, true, false, not, List, [], ◌∷◌, ◌++◌, length, nat_lt, Option, Some, None, is_some, inl, inr, ◌⊎◌, refl, ap, sym, ◌∙◌, subst, arith, append_assoc}
+use Rattle.std.proofs.Common.{◌≡◌, ℕ, suc, ◌+◌, ◌*◌, ◌<◌, ◌≤◌, true, false, not, List, [], ◌∷◌, ◌++◌, length, nat_lt, Option, Some, None, is_some, inl, inr, ◌⊎◌, refl, ap, sym, ◌∙◌, subst, arith, append_assoc}
 use Rattle.std.specs.Option.{option_or}
 use Rattle.std.proofs.lemmas.Bool.Decides.{nat_tests}
 use Rattle.rand_core.specs.Stream.{Stream}
 use Rattle.is_proto.specs.Lists.{Has}
 use Rattle.is_candidate.specs.Candidates.{CandidateRecord}
 use Rattle.is_pair.specs.Checks.{unanswered_count}
-use Rattle.is_pair.specs.Due.{due_time_of}
 use Rattle.is_pair.specs.Pairs.{PairRecord, is_valid}
 use Rattle.is_stun.specs.declared.header.Class.TheVariants as class
 use Rattle.is_rules.specs.Agent.{AgentRecord}
@@ -17,17 +16,15 @@ use Rattle.is_rules.specs.declared.rules.Rules.{Rules}
 use Rattle.is_rules.specs.Effects.{last_of}
 use Rattle.is_rules.specs.Emitted.{issued_as}
 use Rattle.is_rules.specs.Sending.{path_of}
-use Rattle.is_rules.specs.Sound.{IsSound, GivesBased}
-use Rattle.is_rules.specs.Steps.{Call, Entry, Done, HandleTimeout, Step}
+use Rattle.is_rules.specs.Sound.{IsSound}
+use Rattle.is_rules.specs.Steps.{Call, Entry, HandleTimeout, Step}
 use Rattle.is_rules.specs.Timeouts.{timeout_begun}
-use Rattle.is_theorems.specs.Asked.{IsAnsweredIn}
 use Rattle.is_theorems.specs.AskedCourses.{Ends, EndsAlong, IsAnsweredAlong}
 use Rattle.is_theorems.specs.Courses.{AcceptsSuccess, CourseRound}
 use Rattle.is_theorems.specs.Exchange.{Course}
 use Rattle.is_theorems.specs.FirstTimeouts.{AreInRound, EndsAmong, IsOpenRound, IsReached}
 use Rattle.is_theorems.specs.Logs.{Logged}
-use Rattle.is_theorems.specs.Progress.{Awaits, IsUnanswered}
-use Rattle.is_theorems.specs.Reached.{ChecksIn, IsEndedIn, IsInLine, IsLasting, is_in_round, selects}
+use Rattle.is_theorems.specs.Reached.{IsEndedIn, IsInLine, IsLasting, is_in_round, selects}
 use Rattle.is_theorems.specs.ReachedCourses.{ChecksAmong, IsAnsweredAmong, PassRounds}
 use Rattle.is_theorems.specs.Rounds.{LoggedRound, RunsOn, entries_of}
 use Rattle.is_theorems.specs.Runs.{IsFresh}
@@ -49,7 +46,7 @@ use Rattle.is_theorems.proofs.PollingRounds.FirstRound.{Waits, between-keeps, lt
 use Rattle.is_theorems.proofs.PollingRounds.InTurnAlong.{Lined, lined-unanswered}
 use Rattle.is_theorems.proofs.RuleEffects.SelectedPaths.{one_pair}
 use Rattle.is_rules.proofs.PairLists.RisingNumbers.{rising-each}
-use Rattle.is_theorems.proofs.StoredPairs.PairsThatStay.{pairs-stay, stays-here, stays-on}
+use Rattle.is_theorems.proofs.StoredPairs.PairsThatStay.{pairs-stay, stays-on}
 use Rattle.is_theorems.proofs.StoredPairs.TransactionsOverPackets.{sound-course}
 
 lt-is : (n m : ℕ) → n < m → nat_lt n m ≡ true
@@ -210,7 +207,7 @@ module _ {H P : Type 0} (mac : H → List ℕ → List ℕ → List ℕ) (answer
           in-all : (c : ℕ) → Both (Both Acc (InCall r old)) (λ j. IsOvertakenAmong mac answers n j later next new more) c
               → Both Acc (λ j. IsOvertakenAmong mac answers n j (r ∷ later) old new (mid, next, s, t, step, course, more)) c
           in-all c (i, j, all, (a, b, both, acc, inl none), among) = (a, j, none-then c a b j i all both none, acc, inl among)
-          in-all c (i, j, all, (a, b, both, acc, inr (d, some, overtaken, none)), among) = (a, suc j, one-then c a b d j i all both some none, acc, inr (j, refl, overtaken, among))
+          in-all c (i, j, all, (a, b, both, acc, inr (d, some, overtaken, none)), among) = (a, suc j, one-then c a b d j i all both some none, acc, inr (j, omega arith, search overtaken, among))
 
   -- no `handle_timeout` call of the rounds selects a path
   are_silent : (before : List (Logged P)) (older : List (LoggedRound P)) (rounds : List (CourseRound P)) → ((r : LoggedRound P) → Has older r → selects r.timeout.entry ≡ false)
@@ -284,7 +281,7 @@ module _ {H P : Type 0} (mac : H → List ℕ → List ℕ → List ℕ) (answer
         | inl checks ↦ inl (inl checks)
         | inr (inl answered) ↦ inl (inr (inl answered))
         | inr (inr (inl ends)) ↦ inl (inr (inr ends))
-        | inr (inr (inr overtaken)) ↦ inr overtaken
+        | inr (inr (inr overtaken)) ↦ inr (search overtaken)
       ]
 
   -- ---- no pair is valid, so no `handle_timeout` call selects a path
