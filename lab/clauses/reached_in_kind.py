@@ -12,7 +12,7 @@ from .execution import Execution, Lacks, Round, is_in_round, lacks
 from .fair import is_new_agent
 from .opening import most_rounds, pair_of
 from .progress import is_in_line, is_lasting
-from .reached_in_turn import MOST_CALLS, MOST_DELAYS, Choice, has_path, kind_in, kinds_at, kinds_of, takes_turns
+from .reached_in_turn import MOST_CALLS, MOST_DELAYS, Choice, has_path, kind_in, kinds_at, kinds_of, reached_by, takes_turns
 from .single import is_passing
 from .staying import may_end_in_rounds
 from .verdict import Verdict, first_of_all
@@ -61,19 +61,7 @@ def is_held_up(x: Execution, side: str, number: int, r: Round) -> bool:
 
 def reached_at(x: Execution, c: Choice) -> int | None:
     """Returns when a check is sent on the pair's path, or so many rounds have checked urgent pairs, or the agent has a path."""
-    agent, delays = x.state(c.first, c.side), 0
-    path = agent.path(pair_of(agent, c.pair))
-    for r in c.rounds(x):
-        if x.steps[r.moment].checks(c.side, path):
-            return r.now
-        if not any(p.number == c.pair for p in x.state(r.moment, c.side).pairs):
-            return None
-        delays += is_held_up(x, c.side, c.pair, r)
-        if delays == c.delays:
-            return r.now
-        if (at := next((at for at in (r.moment, *r.behind) if has_path(x.state(at + 1, c.side))), None)) is not None:
-            return x.time(at)
-    return None
+    return reached_by(x, c, lambda r: is_held_up(x, c.side, c.pair, r), has_path)
 
 
 # ---- the search

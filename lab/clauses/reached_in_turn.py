@@ -3,7 +3,7 @@ is checked in one of them, or m of them check pairs that go before all kinds, or
 
 from __future__ import annotations
 
-from collections.abc import Iterator
+from collections.abc import Callable, Iterator
 from dataclasses import dataclass
 from weakref import WeakKeyDictionary
 
@@ -101,22 +101,29 @@ def has_path(agent: Agent) -> bool:
     return agent.selected is not None or agent.state.is_connected()
 
 
-def reached_at(x: Execution, c: Choice) -> int | None:
-    """Returns when a check is sent on the pair's path, or so many rounds have delayed the pair, or the agent has a path."""
+def reached_by(x: Execution, c: Choice, is_delay: Callable[[Round], bool], ends: Callable[[Agent], bool]) -> int | None:
+    """Returns when a check is sent on the pair's path, or as many rounds have delayed the pair as the choice allows, or the agent's state
+    ends the rounds. None if the pair is gone before."""
     agent, delays = x.state(c.first, c.side), 0
-    own = pair_of(agent, c.pair)
-    path, kind = agent.path(own), kind_in(agent, own)
+    path = agent.path(pair_of(agent, c.pair))
     for r in c.rounds(x):
         if x.steps[r.moment].checks(c.side, path):
             return r.now
         if not any(p.number == c.pair for p in x.state(r.moment, c.side).pairs):
             return None
-        delays += is_delayed(x, c.side, kind, c.pair, r)
+        delays += is_delay(r)
         if delays == c.delays:
             return r.now
-        if (at := next((at for at in (r.moment, *r.behind) if has_path(x.state(at + 1, c.side))), None)) is not None:
+        if (at := next((at for at in (r.moment, *r.behind) if ends(x.state(at + 1, c.side))), None)) is not None:
             return x.time(at)
     return None
+
+
+def reached_at(x: Execution, c: Choice) -> int | None:
+    """Returns when a check is sent on the pair's path, or so many rounds have delayed the pair, or the agent has a path."""
+    agent = x.state(c.first, c.side)
+    kind = kind_in(agent, pair_of(agent, c.pair))
+    return reached_by(x, c, lambda r: is_delayed(x, c.side, kind, c.pair, r), has_path)
 
 
 # ---- the search

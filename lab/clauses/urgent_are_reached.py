@@ -11,7 +11,7 @@ from .execution import Execution, Lacks, Round, is_in_round, lacks
 from .fair import is_new_agent
 from .opening import most_rounds, pair_of
 from .progress import is_in_line, is_lasting
-from .reached_in_turn import MOST_DELAYS, Choice
+from .reached_in_turn import MOST_DELAYS, Choice, reached_by
 from .served import is_overtaken
 from .single import is_passing
 from .staying import may_end_in_rounds
@@ -46,17 +46,7 @@ def lacking(x: Execution, c: Choice) -> Lacks:
 
 def reached_at(x: Execution, c: Choice) -> int | None:
     """Returns when a check is sent on the pair's path, or so many rounds have checked other pairs before it."""
-    agent, overtaken = x.state(c.first, c.side), 0
-    path = agent.path(pair_of(agent, c.pair))
-    for r in c.rounds(x):
-        if x.steps[r.moment].checks(c.side, path):
-            return r.now
-        if not any(p.number == c.pair for p in x.state(r.moment, c.side).pairs):
-            return None
-        overtaken += is_overtaken(x, c.side, c.pair, r)
-        if overtaken == c.delays:
-            return r.now
-    return None
+    return reached_by(x, c, lambda r: is_overtaken(x, c.side, c.pair, r), lambda _: False)
 
 
 # ---- the search
