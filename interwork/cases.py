@@ -259,7 +259,8 @@ def far_case(stacks, network, who, roles):
     at_least, why = (0.9 if loss else 1.0), ""
     if stacks == ("libnice", "libnice") and delay == 0.3:
         at_least, why = 0.0, "libnice fails in some sessions with this delay; why is not known"
-    return Case(network, stacks, far_title(hosts, delay, loss) + who, roles=roles, sessions=60 if is_spread else 20, quick=0,
+    words = ("-A",) if stacks[1] == "chromium" else ()  # it gathers at all addresses
+    return Case(network, stacks, far_title(hosts, delay, loss) + who, ((), words), roles, sessions=60 if is_spread else 20, quick=0,
                 at_least=at_least, why=why, seconds=40 if loss else 20, chat=False)
 
 
@@ -270,7 +271,7 @@ def over_distance(is_foreign):
     for hosts, loss, kinds, delay in itertools.product(HOSTS_A_SIDE, LOSSES, FAR_KINDS, DELAYS):
         network = ("far", *kinds, hosts, delay, loss)
         yield from (far_case(stacks, network, "", (ING, ED)) for stacks in own)
-        for other in () if is_foreign else others:
+        for other in () if is_foreign else (*others, "chromium"):
             yield from (far_case(("peer", other), network, f", {who}", roles) for who, roles in ROLES)
 
 

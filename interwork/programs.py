@@ -6,10 +6,12 @@ reports states, paths and what was heard.
 import asyncio
 import contextlib
 import os
+import re
 import time
 
 CONNECTED = ("connected", "completed", "ready")
 TRICKLE = 0.05  # seconds from the signal to its first candidate, and from each candidate to the next one
+LATE = re.compile(r" ([\d.]+) s ago$")  # a report of what was so many seconds earlier
 PIPE = asyncio.subprocess.PIPE
 
 
@@ -63,7 +65,8 @@ class Program:
             elif word == "heard":
                 self.heard.setdefault(rest, now)
             if self.connected_at is None and self.is_connected():
-                self.connected_at = now
+                late = LATE.search(line)
+                self.connected_at = now - (float(late[1]) if late else 0)
             self.changed.set()
 
     def tell(self, line):
