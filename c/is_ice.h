@@ -236,7 +236,7 @@ typedef struct is_ice_agent_status {
     bool lite;
     size_t mtu;
     size_t mtu_warn;
-    uint64_t ice_timeout; /* how long a pair's checks go on without a response, before the pair is removed */
+    uint64_t ice_timeout; /* how long a whole series of checks without a response takes */
     size_t max_candidates; /* see is_ice_set_max_candidates */
 } is_ice_agent_status;
 
@@ -337,7 +337,8 @@ typedef struct is_ice_preference_table {
 typedef struct is_ice_agent_rules {
     uint64_t triggered_checks; /* so many requests on a pair trigger a check of it */
     size_t early_retransmits;  /* so many early retransmissions without a response, */
-    uint64_t early_interval;   /* and the time before each */
+    uint64_t early_interval;   /* the time before each, */
+    uint64_t early_cap;        /* and before a later one at most */
     uint64_t consent_timeout;  /* so long after its last answered check a pair is removed */
     uint64_t suspicion_timeout; /* so long after its last answered check a pair is suspected, */
     uint64_t suspicion_interval; /* and the time between its checks before that, once one has no response */
@@ -481,10 +482,10 @@ IS_ICE_QUIET_CALL int32_t is_ice_set_max_candidates(is_ice_agent *agent, size_t 
  * IS_ICE_OK. Value: 50 ms. */
 IS_ICE_QUIET_CALL int32_t is_ice_set_timing_advance(is_ice_agent *agent, uint64_t nanoseconds);
 
-/* is_ice_set_initial_rto - sets the time from a pair's first check until the second one is due; early retransmissions
- * (is_ice_set_rules) come before it. It doubles with each further check, up to the limit of is_ice_set_max_rto. If a
- * check has had no response for longer than half that limit, only the checks without a response count, so that checks
- * become more frequent again. IS_ICE_OK. Value: 250 ms. */
+/* is_ice_set_initial_rto - sets the time from a pair's first check until the second one is due. It doubles with each
+ * further check, up to the limit of is_ice_set_max_rto. If a check has had no response for longer than half that limit,
+ * only the checks without a response count, so that checks become more frequent again. Early retransmissions
+ * (is_ice_set_rules) have delays of their own. IS_ICE_OK. Value: 250 ms. */
 IS_ICE_QUIET_CALL int32_t is_ice_set_initial_rto(is_ice_agent *agent, uint64_t nanoseconds);
 
 /* is_ice_set_max_rto - sets the longest time from one check of a pair until the next one is due. A pair that works is
@@ -494,14 +495,16 @@ IS_ICE_QUIET_CALL int32_t is_ice_set_max_rto(is_ice_agent *agent, uint64_t nanos
 /* is_ice_set_max_retransmits - sets after how many checks in a row without a response a pair is removed. It is not
  * removed while the last of them may still be answered in time, nor within 15 s of a check of the other agent on it.
  * With the default values and few pairs that is up to 29.6 s after its last answered check; with many pairs each check
- * waits for its turn, and the consent_timeout of is_ice_set_rules ends the pair. A pair without any response has its
- * early retransmissions (is_ice_set_rules) besides.
+ * waits for its turn, and the consent_timeout of is_ice_set_rules ends the pair. With early retransmissions
+ * (is_ice_set_rules) a pair is not removed within ice_timeout of is_ice_status after the first of its checks without a
+ * response, either.
+ *
  * IS_ICE_OK. IS_ICE_BAD_LIMIT: the limit is 0. Value: 11. */
 IS_ICE_CALL int32_t is_ice_set_max_retransmits(is_ice_agent *agent, size_t limit);
 
 /* is_ice_retransmit_timeout, is_ice_retransmit_delay - return times of an agent with these settings, without an agent.
- * The first is how long a pair's checks go on without a response: ice_timeout of is_ice_status. The second is how long
- * the agent waits after the last of so many checks of a pair before the next one: 0 if none was sent. Early
+ * The first is how long a whole series of checks without a response takes: ice_timeout of is_ice_status. The second is
+ * how long the agent waits after the last of so many checks of a pair before the next one: 0 if none was sent. Early
  * retransmissions do not count. Neither allocates. On any thread.
  *
  * IS_ICE_OK. IS_ICE_BAD_LIMIT (the first): max_retransmits is 0; *timeout is unchanged. */
@@ -511,17 +514,17 @@ IS_ICE_QUIET_CALL int32_t is_ice_retransmit_delay(
     uint64_t initial_rto, uint64_t max_rto, size_t max_retransmits, size_t sent, uint64_t *delay);
 
 /* is_ice_modern_rules, is_ice_original_rules - return the rules that connect sooner and end consent in time, and those of
- * the Rust crate `is` 0.12.0, of which each is off. The first are: 4 requests trigger checks; 4 early retransmissions,
- * each after 100 ms; consent for 29.6 s, not strict; early pacing of 10 ms; each other rule is on, except for suspicion.
- * On any thread. IS_ICE_OK. */
+ * the Rust crate `is` 0.12.0, of which each is off. By the first, one request triggers a check; there are 8 early
+ * retransmissions, each after 160 ms, and later ones after 400 ms at most. Consent lasts 29.6 s, and is not strict. Early
+ * pacing is 10 ms. Each other rule is on, except for suspicion. On any thread. IS_ICE_OK. */
 IS_ICE_QUIET_CALL int32_t is_ice_modern_rules(is_ice_agent_rules *rules);
 IS_ICE_QUIET_CALL int32_t is_ice_original_rules(is_ice_agent_rules *rules);
 
 /* is_ice_set_rules - sets what the agent does beyond the behavior of the Rust crate `is` 0.12.0. To change one rule,
  * change its field in what is_ice_rules or is_ice_modern_rules returned: a later version of this header may have further
  * fields. The other agent may have other rules. The struct is copied. is_ice_rules returns what was set, except for
- * early_interval without early retransmissions, strict_consent without consent_timeout, and suspicion_interval without
- * suspicion_timeout: these are 0, false and 0.
+ * early_interval and early_cap without early retransmissions, strict_consent without consent_timeout, and
+ * suspicion_interval without suspicion_timeout: these are 0, 0, false and 0.
  * IS_ICE_OK. Value: is_ice_modern_rules.
  *
  * kinds_in_turn: until a path is selected, every second check goes to the next kind of pairs, and the others to the pair
@@ -535,10 +538,14 @@ IS_ICE_QUIET_CALL int32_t is_ice_original_rules(is_ice_agent_rules *rules);
  * yet, before pairs that are due earlier.
  *
  * early_retransmits: as long as no response arrived on a pair, its first so many retransmissions come early_interval
- * apart, at least 1 ms, and the next ones after the RTO. So do those of a check that nominates the pair, until its
- * response. A pair without any response is given so many checks more before it is removed. Pairs whose due time is fixed
- * already keep it when rules are set. RFC 8445, section 14.3, has an RTO of 500 ms or more: an interval below it finds a
- * path sooner on a network that loses packets, and sends more on one with long delays.
+ * apart. Each later delay is twice the one before, up to early_cap. This goes on for ice_timeout of is_ice_status after
+ * the pair's first check; then the RTO counts. The checks that nominate a pair which had a response come so, too, until
+ * one has a response, or as many have none as is_ice_set_max_retransmits says. An interval below 1 ms counts as 1 ms, and
+ * a cap below the interval as the interval. The number of checks ends no pair sooner. One without any response is kept for
+ * ice_timeout after its first check at least, and one that had a response for as long after the first check without one.
+ * Pairs whose due time is fixed already keep it when rules are set. RFC 8445, section 14.3, has an RTO of 500 ms or
+ * more. Shorter delays find a path sooner if the network loses packets or the other agent begins late, and send more on
+ * a path with long delays.
  *
  * selects_at_once: a controlled agent selects a pair in the is_ice_handle_packet call of the request that nominates it,
  * if the pair was valid before (RFC 8445, section 7.3.1.5), and not only in the next is_ice_handle_timeout call.
@@ -1230,7 +1237,7 @@ IS_ICE_SIZE(is_ice_pair, 96);
 IS_ICE_SIZE(is_ice_removed_pair, 104);
 IS_ICE_SIZE(is_ice_kind_preferences, 8);
 IS_ICE_SIZE(is_ice_preference_table, 16);
-IS_ICE_SIZE(is_ice_agent_rules, 72);
+IS_ICE_SIZE(is_ice_agent_rules, 80);
 IS_ICE_SIZE(is_ice_stun_transaction, 12);
 IS_ICE_SIZE(is_ice_stun_result, 32);
 IS_ICE_SIZE(is_ice_stun_number, 16);

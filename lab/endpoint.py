@@ -29,7 +29,7 @@ def rules_by(s: AgentSettings) -> Rules:
     if s.triggered_checks is not None:
         rules = replace(rules, triggered_checks=s.triggered_checks or None)
     if s.early_retransmits is not None:
-        early = EarlyRto(s.early_retransmits, nanoseconds(s.early_interval_ms))
+        early = EarlyRto(s.early_retransmits, nanoseconds(s.early_interval_ms), nanoseconds(s.early_cap_ms))
         rules = replace(rules, early_rto=early if s.early_retransmits else None)
     if s.consent_ms is not None:
         consent = Consent(nanoseconds(s.consent_ms), s.strict_consent)

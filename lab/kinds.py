@@ -45,14 +45,14 @@ class Rules:
 
 ORIGINAL = Rules()
 # With these an agent that the library makes begins.
-MODERN = Rules(True, 4, EarlyRto(4, 100 * MILLISECOND), True, Consent(29600 * MILLISECOND), None, 10 * MILLISECOND,
+MODERN = Rules(True, 1, EarlyRto(8, 160 * MILLISECOND, 400 * MILLISECOND), True, Consent(29600 * MILLISECOND), None, 10 * MILLISECOND,
                True, True, True, True, True, True, True)
 
 
 def rules_of(given: Any) -> Rules:
     """Returns rules of the library as those of the model. There 0 is the same as None."""
     early = given.early_rto
-    own = EarlyRto(early.retransmits, early.interval) if early is not None and early.retransmits else None
+    own = EarlyRto(early.retransmits, early.interval, early.cap) if early is not None and early.retransmits else None
     consent = given.consent
     kept = Consent(consent.timeout, consent.strict) if consent is not None and consent.timeout else None
     suspicion = given.suspicion

@@ -19,10 +19,19 @@ def reversed_path(path: Path) -> Path:
 
 @dataclass(frozen=True)
 class EarlyRto:
-    """How the first checks of a pair are repeated: so many retransmissions, each after this many nanoseconds."""
+    """How checks are repeated while a pair has no response: so many retransmissions, each after an interval, and later ones after at most
+    a cap. Durations are nanoseconds."""
 
     retransmits: int
     interval: int
+    cap: int
+
+    def delay(self, count: int) -> int:
+        """Returns the delay after the last of `count` checks: after the early retransmissions it doubles up to the cap. The interval is at
+        least a millisecond, and the cap at least the interval."""
+        interval = max(MILLISECOND, self.interval)
+        doubled: int = interval * 2 ** max(0, count - self.retransmits)
+        return min(doubled, max(interval, self.cap))
 
 
 @dataclass(frozen=True)
@@ -61,10 +70,6 @@ class Timing:
             return 0
         doubled: int = self.initial // MILLISECOND * 2 ** min(count - 1, self.retransmits)
         return min(doubled, self.greatest // MILLISECOND) * MILLISECOND
-
-    def early_delay(self, early: EarlyRto, count: int) -> int:
-        """Returns the delay after the last of `count` checks, if the first ones are repeated early: at least a millisecond."""
-        return max(MILLISECOND, early.interval) if count <= early.retransmits else self.delay(count - early.retransmits)
 
     def timeout(self) -> int:
         """Returns how long a full series of checks without a response takes."""
@@ -124,8 +129,9 @@ def unanswered(checks: tuple[Check, ...]) -> int:
 @dataclass(frozen=True)
 class Pair:
     """A pair. `nomination` is none, nominated, attempt or success; `state` is waiting, progress or succeeded. `sent`, `requests` and
-    `answers` count checks, checks of the peer, and responses. `consented` is when the last check that got a response was sent,
-    `greatest` the greatest number by which the peer nominated it, and `error` the code of the last error response."""
+    `answers` count checks, checks of the peer, and responses. `first_sent` is when its first check was sent, `consented` when the last
+    check that got a response was, `greatest` the greatest number by which the peer nominated it, and `error` the code of the last error
+    response."""
 
     number: int
     local: int
@@ -137,6 +143,7 @@ class Pair:
     last_request: int | None = None
     due: int | None = None
     sent: int = 0
+    first_sent: int | None = None
     requests: int = 0
     answers: int = 0
     consented: int | None = None
@@ -159,9 +166,9 @@ class Pair:
         return self.nomination in ("nominated", "attempt")
 
     @property
-    def awaits_response(self) -> bool:
-        """Whether no response arrived on it, or none to a check that nominates it."""
-        return self.answers == 0 or self.is_nominating
+    def silent_count(self) -> int:
+        """How many checks have no response: all, as long as there was none."""
+        return self.sent if self.answers == 0 else unanswered(self.checks)
 
     @property
     def is_urgent(self) -> bool:
@@ -195,10 +202,15 @@ class Pair:
         """Whether it had a response, its last check has none, and it is not suspected yet."""
         return self.consented is not None and now < self.consented + suspicion.timeout and unanswered(self.checks) > 0
 
+    def is_repeated_early(self, now: int, timing: Timing) -> bool:
+        """Whether its checks are repeated early: while no response arrived on it, as long as a whole series of checks takes; and those that
+        nominate a pair with a response, until `max_retransmits` checks have none."""
+        return self.is_young(now, timing) if self.answers == 0 else self.is_nominating and self.may_repeat(timing)
+
     def _usual_delay(self, now: int, timing: Timing) -> int:
+        if timing.early is not None and self.is_repeated_early(now, timing):
+            return timing.early.delay(self.silent_count)
         silent = unanswered(self.checks)
-        if timing.early is not None and self.awaits_response and self.is_young(timing):
-            return timing.early_delay(timing.early, silent)
         first = len(self.checks) - silent
         is_silent = first < len(self.checks) and timing.greatest < 2 * (now - self.checks[first].sent)
         return timing.delay(silent if is_silent else len(self.checks))
@@ -217,7 +229,7 @@ class Pair:
 
     def is_possible(self, now: int, timing: Timing) -> bool:
         """Whether the checks of a pair with this record may go on."""
-        if self.has_early_checks(now, timing) or self.is_young(timing) or self.is_kept_by_probes(now, timing):
+        if self.has_early_checks(now, timing) or self.may_repeat(timing) or self.is_kept_by_probes(now, timing):
             return True
         return self.is_heard(now) or now < self.checks[-1].sent + timing.delay(timing.retransmits)
 
@@ -242,12 +254,12 @@ class Pair:
         return min(due, max(self.consented + timing.consent.timeout, heard))
 
     def has_early_checks(self, now: int, timing: Timing) -> bool:
-        """Whether the path may still work since early retransmissions end no pair sooner: as long as no response arrived, they are not
-        counted; after that, the time of a whole series has to pass."""
+        """Whether the path may still work since checks that are repeated early end no pair sooner: the time of a whole series has to pass,
+        since its first check if there was no response at all, otherwise since the first one without."""
         if timing.early is None:
             return False
         if self.answers == 0:
-            return max(self.sent - timing.early.retransmits, 0) < timing.retransmits
+            return self.is_young(now, timing)
         silent = unanswered(self.checks)
         return silent > 0 and now < self.checks[-silent].sent + timing.timeout()
 
@@ -260,7 +272,11 @@ class Pair:
         """Whether it is suspected as of the last `handle_timeout`: by the rule, its last answered check was sent so long before."""
         return timing.suspicion is not None and self.consented is not None and self.consented + timing.suspicion.timeout <= last
 
-    def is_young(self, timing: Timing) -> bool:
+    def is_young(self, now: int, timing: Timing) -> bool:
+        """Whether less time passed since its first check than a whole series of checks takes."""
+        return self.first_sent is not None and now < self.first_sent + timing.timeout()
+
+    def may_repeat(self, timing: Timing) -> bool:
         """Whether fewer than `max_retransmits` checks follow its last answered one."""
         return unanswered(self.checks) < timing.retransmits
 
@@ -275,7 +291,8 @@ class Pair:
         checks = (*self.checks, Check(id, now, self.is_nominated, controlling))[-timing.retransmits:]
         nomination = "attempt" if self.nomination == "nominated" else self.nomination
         state = "progress" if self.state == "waiting" else self.state
-        return replace(self, checks=checks, due=None, sent=self.sent + 1, nomination=nomination, state=state)
+        first = now if self.first_sent is None else self.first_sent
+        return replace(self, checks=checks, due=None, sent=self.sent + 1, first_sent=first, nomination=nomination, state=state)
 
     def answered(self, now: int, id: bytes) -> Pair:
         """Returns it after a success response to the check."""

@@ -17,7 +17,7 @@ enum {
 #define LONGEST_GAP (3 * SECOND + PAIRS * 51 * MS)
 
 /* When a new address has a valid pair after a flood at the latest, by the original's rules: a pair without a response is removed
- * 21.5 s after its first check, and each of its nine checks can wait for one of each other pair. With all rules it is after 34 s. */
+ * 21.5 s after its first check, and each of its nine checks can wait for one of each other pair. With all rules it is after 31 s. */
 #define LONGEST_WAIT (UINT64_C(21500) * MS + 9 * PAIRS * 51 * MS)
 
 struct flood {

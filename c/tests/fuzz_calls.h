@@ -84,7 +84,7 @@ static const char *const passwords[AGENTS] = {"password of the left one", "passw
 
 /* What queries say of an agent. */
 struct view {
-    uint64_t values[37];
+    uint64_t values[38];
 };
 
 /* A code as the number of a bit. */
@@ -108,7 +108,7 @@ static void view(is_ice_agent *agent, struct view *v)
     *to++ = (uint64_t)status.state, *to++ = status.controlling, *to++ = status.lite, *to++ = status.mtu, *to++ = status.mtu_warn;
     *to++ = status.ice_timeout, *to++ = status.max_candidates;
     if (is_ice_rules(agent, &rules) == IS_ICE_OK) {
-        *to++ = rules.triggered_checks, *to++ = rules.early_retransmits, *to++ = rules.early_interval;
+        *to++ = rules.triggered_checks, *to++ = rules.early_retransmits, *to++ = rules.early_interval, *to++ = rules.early_cap;
         *to++ = (uint64_t)rules.kinds_in_turn * 2 + rules.selects_at_once, *to++ = rules.consent_timeout;
         *to++ = (uint64_t)rules.strict_consent * 4 + (uint64_t)rules.selected_first * 2 + rules.timeout_after_requests;
         *to++ = rules.suspicion_timeout, *to++ = rules.suspicion_interval, *to++ = rules.early_pacing;

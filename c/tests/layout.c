@@ -53,14 +53,14 @@ static void offsets(void)
     AT(is_ice_kind_preferences, server_reflexive, 4), AT(is_ice_kind_preferences, relayed, 6);
     AT(is_ice_preference_table, v4, 0), AT(is_ice_preference_table, v6, 8);
     AT(is_ice_agent_rules, triggered_checks, 0), AT(is_ice_agent_rules, early_retransmits, 8);
-    AT(is_ice_agent_rules, early_interval, 16), AT(is_ice_agent_rules, consent_timeout, 24);
-    AT(is_ice_agent_rules, suspicion_timeout, 32), AT(is_ice_agent_rules, suspicion_interval, 40);
-    AT(is_ice_agent_rules, early_pacing, 48);
-    AT(is_ice_agent_rules, kinds_in_turn, 56), AT(is_ice_agent_rules, selects_at_once, 57), AT(is_ice_agent_rules, strict_consent, 58);
-    AT(is_ice_agent_rules, selected_first, 59), AT(is_ice_agent_rules, timeout_after_requests, 60);
-    AT(is_ice_agent_rules, lite_keeps_role, 61), AT(is_ice_agent_rules, numbered_nominations, 62);
-    AT(is_ice_agent_rules, discovered_if_served, 63), AT(is_ice_agent_rules, state_after_nomination, 64),
-    AT(is_ice_agent_rules, invalidates_listed, 65);
+    AT(is_ice_agent_rules, early_interval, 16), AT(is_ice_agent_rules, early_cap, 24), AT(is_ice_agent_rules, consent_timeout, 32);
+    AT(is_ice_agent_rules, suspicion_timeout, 40), AT(is_ice_agent_rules, suspicion_interval, 48);
+    AT(is_ice_agent_rules, early_pacing, 56);
+    AT(is_ice_agent_rules, kinds_in_turn, 64), AT(is_ice_agent_rules, selects_at_once, 65), AT(is_ice_agent_rules, strict_consent, 66);
+    AT(is_ice_agent_rules, selected_first, 67), AT(is_ice_agent_rules, timeout_after_requests, 68);
+    AT(is_ice_agent_rules, lite_keeps_role, 69), AT(is_ice_agent_rules, numbered_nominations, 70);
+    AT(is_ice_agent_rules, discovered_if_served, 71), AT(is_ice_agent_rules, state_after_nomination, 72),
+    AT(is_ice_agent_rules, invalidates_listed, 73);
 }
 
 static is_ice_agent made(void)
@@ -95,7 +95,8 @@ static void settings(void)
 static bool same_rules(const is_ice_agent_rules *a, const is_ice_agent_rules *b)
 {
     return a->triggered_checks == b->triggered_checks && a->early_retransmits == b->early_retransmits
-        && a->early_interval == b->early_interval && a->consent_timeout == b->consent_timeout && a->kinds_in_turn == b->kinds_in_turn
+        && a->early_interval == b->early_interval && a->early_cap == b->early_cap
+        && a->consent_timeout == b->consent_timeout && a->kinds_in_turn == b->kinds_in_turn
         && a->suspicion_timeout == b->suspicion_timeout && a->suspicion_interval == b->suspicion_interval
         && a->early_pacing == b->early_pacing
         && a->selects_at_once == b->selects_at_once && a->strict_consent == b->strict_consent && a->selected_first == b->selected_first
@@ -118,14 +119,14 @@ static void rules(void)
     is_ice_agent agent = made();
     is_ice_agent_rules modern, original, r;
     memset(&modern, 0, sizeof modern), memset(&original, 0xff, sizeof original), memset(&r, 0, sizeof r);
-    HOLD(is_ice_modern_rules(&modern) == IS_ICE_OK && modern.kinds_in_turn && modern.triggered_checks == 4);
-    HOLD(modern.early_retransmits == 4 && modern.early_interval == 100000000 && modern.selects_at_once);
+    HOLD(is_ice_modern_rules(&modern) == IS_ICE_OK && modern.kinds_in_turn && modern.triggered_checks == 1);
+    HOLD(modern.early_retransmits == 8 && modern.early_interval == 160000000 && modern.early_cap == 400000000 && modern.selects_at_once);
     HOLD(modern.consent_timeout == 29600000000 && !modern.strict_consent && modern.selected_first && modern.timeout_after_requests);
     HOLD(modern.lite_keeps_role && modern.numbered_nominations && modern.discovered_if_served && modern.state_after_nomination);
     HOLD(modern.invalidates_listed && modern.suspicion_timeout == 0 && modern.suspicion_interval == 0);
     HOLD(modern.early_pacing == 10000000);
     HOLD(is_ice_original_rules(&original) == IS_ICE_OK && !original.kinds_in_turn && original.triggered_checks == 0);
-    HOLD(original.early_retransmits == 0 && original.early_interval == 0 && !original.selects_at_once);
+    HOLD(original.early_retransmits == 0 && original.early_interval == 0 && original.early_cap == 0 && !original.selects_at_once);
     HOLD(original.consent_timeout == 0 && !original.strict_consent && !original.selected_first && !original.timeout_after_requests);
     HOLD(!original.lite_keeps_role && !original.numbered_nominations && !original.discovered_if_served);
     HOLD(!original.state_after_nomination && !original.invalidates_listed);
@@ -136,6 +137,8 @@ static void rules(void)
     r = original, r.triggered_checks = UINT64_MAX, keeps_rules(&agent, &r);
     r = original, r.early_retransmits = SIZE_MAX, keeps_rules(&agent, &r);
     r.early_interval = UINT64_MAX, keeps_rules(&agent, &r);
+    r.early_cap = 1, keeps_rules(&agent, &r);
+    r.early_cap = UINT64_MAX, keeps_rules(&agent, &r);
     r = original, r.selects_at_once = true, keeps_rules(&agent, &r);
     r = original, r.consent_timeout = UINT64_MAX, keeps_rules(&agent, &r);
     r.strict_consent = true, keeps_rules(&agent, &r);
@@ -150,7 +153,7 @@ static void rules(void)
     r = original, r.discovered_if_served = true, keeps_rules(&agent, &r);
     r = original, r.state_after_nomination = true, keeps_rules(&agent, &r);
     r = original, r.invalidates_listed = true, keeps_rules(&agent, &r);
-    r = original, r.early_interval = 7, r.strict_consent = true, r.suspicion_interval = 7;
+    r = original, r.early_interval = 7, r.early_cap = 7, r.strict_consent = true, r.suspicion_interval = 7;
     HOLD(is_ice_set_rules(&agent, &r) == IS_ICE_OK && is_ice_rules(&agent, &r) == IS_ICE_OK && same_rules(&r, &original));
     is_ice_agent_free(&agent);
     r = modern;

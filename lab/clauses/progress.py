@@ -36,14 +36,14 @@ def awaits(at: int, by: int, agent: Agent, pair: Pair) -> Lacks:
 
 def is_unanswered(agent: Agent, pair: Pair) -> Lacks:
     """No pair is valid yet, no nomination is to be sent at once, and this pair will not be removed before its check (`IsUnanswered`)."""
-    return lacks(calm=not agent.nominates_at_once, invalid=not any(p.is_valid for p in agent.pairs), young=pair.is_young(agent.timing))
+    return lacks(calm=not agent.nominates_at_once, invalid=not any(p.is_valid for p in agent.pairs), young=pair.may_repeat(agent.timing))
 
 
 def is_in_line(at: int, by: int, agent: Agent, pair: Pair) -> Lacks:
     """The pair waits for its check, and nothing nominates it first (`IsInLine`)."""
     return lacks(checking=is_checking(agent), queue=not agent.queue, there=is_there(agent, pair),
                  due=pair.due_at(at, agent.timing) <= by, settled=not pair.is_valid or pair.due is not None,
-                 young=pair.is_young(agent.timing), lasting=is_lasting(at, agent, pair))
+                 young=pair.may_repeat(agent.timing), lasting=is_lasting(at, agent, pair))
 
 
 def is_lasting(now: int, agent: Agent, pair: Pair) -> bool:

@@ -1,6 +1,7 @@
 """Tests sessions of agents with many host candidates, and the tables and curves of them."""
 
 import unittest
+from dataclasses import replace
 
 from lab import hosts, plot
 from lab.clock import MILLISECOND
@@ -14,8 +15,9 @@ def outcome(milliseconds: int | None) -> Outcome:
 
 
 class Sessions(unittest.TestCase):
-    def time(self, hosts: int, rules: str, late: int = 0, delay: int = 20) -> float | None:
-        first = Session(Cell(True, delay, 0, hosts, rules, late).scenario(), 0).run().first
+    def time(self, hosts: int, rules: str, late: int = 0, delay: int = 20, **settings: int) -> float | None:
+        made = Cell(True, delay, 0, hosts, rules, late).scenario()
+        first = Session(replace(made, a=replace(made.a, **settings), b=replace(made.b, **settings)), 0).run().first
         return None if first is None else first / MILLISECOND - GATHERED_MS
 
     def test_ten_hosts_connect_soon(self) -> None:
@@ -33,16 +35,23 @@ class Sessions(unittest.TestCase):
 
     def test_a_peer_that_starts_later(self) -> None:
         # A's check of the server-reflexive candidate opens its NAT. B receives it 20 ms later, and checks its pair in the next two
-        # timeouts, although that is due seconds later.
+        # timeouts, although that may be due 300 ms later.
         for late in (200, 1700, 5000, 9000):
             time = self.time(5, "modern", late)
             assert time is not None
             self.assertTrue(late < time < late + 250, (late, time))
 
-    def test_without_triggered_checks_such_a_peer_waits_long(self) -> None:
+    def test_without_triggered_checks_such_a_peer_waits_longer(self) -> None:
+        # B's next check is due 300 ms after its last one. If that was sent just before A's check arrived, it comes 300 ms later.
         time = self.time(1, "no triggered checks", 5000)
         assert time is not None
-        self.assertGreater(time, 6000)
+        self.assertTrue(5100 < time < 5400, time)
+
+    def test_and_without_early_retransmissions_much_longer(self) -> None:
+        # The delays after B's checks are 250, 500, 1000, 2000 and 3000 ms, so the fifth comes before A's check and the sixth after 6.75 s.
+        time = self.time(1, "no triggered checks", 5000, early_retransmits=0)
+        assert time is not None
+        self.assertTrue(6750 < time < 6850, time)
 
     def test_without_the_rule_five_take_long_and_ten_never_connect(self) -> None:
         time = self.time(5, "original")

@@ -15,7 +15,7 @@ from lab.scenario import AgentSettings
 from lab.tests.stories import LINE, A, B, Story
 
 TRIGGERED = Rules(triggered_checks=2)
-EARLY = Rules(early_rto=EarlyRto(4, 100 * MILLISECOND))
+EARLY = Rules(early_rto=EarlyRto(2, 100 * MILLISECOND, 300 * MILLISECOND))
 AT_ONCE = Rules(selects_at_once=True)
 SECOND_A, THIRD_A = A._replace(port=A.port + 1), A._replace(port=A.port + 2)
 OUTSIDE = B._replace(ip="203.0.113.9")
@@ -166,14 +166,22 @@ class Early(unittest.TestCase):
         story.session()
         return times
 
-    def test_the_first_retransmissions(self) -> None:
-        self.assertEqual(self.due_times(Story(rules=EARLY), 8), [0, 100, 200, 300, 400, 650, 1150, 2150, 4150])
+    def test_the_delays_double_up_to_the_cap(self) -> None:
+        self.assertEqual(self.due_times(Story(rules=EARLY), 6), [0, 100, 200, 400, 700, 1000, 1300])
+        longer = Rules(early_rto=EarlyRto(1, 100 * MILLISECOND, 500 * MILLISECOND))
+        self.assertEqual(self.due_times(Story(rules=longer), 6), [0, 100, 300, 700, 1200, 1700, 2200])
         self.assertEqual(self.due_times(Story(), 4), [0, 250, 750, 1750, 3750])
 
-    def test_the_interval_is_at_least_a_millisecond(self) -> None:
-        timing = Timing()
-        self.assertEqual([timing.early_delay(EarlyRto(2, 5), n) for n in (1, 2, 3)], [MILLISECOND, MILLISECOND, 250 * MILLISECOND])
-        self.assertEqual(timing.early_delay(EarlyRto(0, 5), 1), timing.delay(1))
+    def delays(self, early: EarlyRto) -> list[float]:
+        """The delays after the first five checks, in ms."""
+        return [early.delay(count) / MILLISECOND for count in range(1, 6)]
+
+    def test_the_interval_is_at_least_a_millisecond_and_the_cap_at_least_the_interval(self) -> None:
+        self.assertEqual(self.delays(EarlyRto(2, 5, 3 * MILLISECOND)), [1, 1, 2, 3, 3])
+        self.assertEqual(self.delays(EarlyRto(0, 5 * MILLISECOND, 15 * MILLISECOND)), [10, 15, 15, 15, 15])
+        for cap in (0, 7 * MILLISECOND):
+            self.assertEqual(self.delays(EarlyRto(2, 7 * MILLISECOND, cap)), [7] * 5)
+        self.assertEqual(self.delays(EarlyRto(2, 0, 0)), [1] * 5)
 
     def test_not_after_a_response(self) -> None:
         story = Story(rules=EARLY)
@@ -186,31 +194,42 @@ class Early(unittest.TestCase):
         story.session()
 
     def test_a_nomination_without_response(self) -> None:
-        story = Story(rules=EARLY)
+        # The ninth has a delay as without the rule: that of the agent whose peer is silent, and which sent nine checks.
+        story, time = Story(rules=EARLY), 50
         story.exchange("a", 0)
-        for time in (50, 150, 250):
+        for delay in (100, 100, 200, 300, 300, 300, 300, 300, 3000):
             story.passes("a", time, time + 50)
-            self.assertEqual(story.agents["a"].pairs[0].due, at(time + 100))
+            self.assertEqual(story.agents["a"].pairs[0].due, at(time + delay))
+            time += delay
         story.session()
 
     def test_they_end_no_pair_sooner(self) -> None:
-        checks = tuple(Check(bytes(12), BEGINNING, False, True) for _ in range(9))
-        pair = Pair(0, 0, 0, 1, checks, sent=12)
-        later, timing = at(60_000), Timing(early=EarlyRto(4, 1))
-        self.assertTrue(pair.is_possible(later, timing))
-        self.assertFalse(replace(pair, sent=13).is_possible(later, timing))
-        self.assertFalse(replace(pair, answers=1).is_possible(later, timing))
-        self.assertTrue(replace(pair, answers=1).is_possible(BEGINNING + timing.timeout() - 1, timing))
-        self.assertFalse(replace(pair, answers=1).is_possible(BEGINNING + timing.timeout(), timing))
-        self.assertFalse(pair.is_possible(later, Timing()))
-        self.assertTrue(Pair(0, 0, 0, 1, checks[1:], sent=13).is_possible(later, timing))
+        # Nine checks at 5 s have no response. A whole series takes 21.5 s: from the first check of all, or, if there was a response
+        # before, from the first without one. Without the rule the last check counts for 3 s.
+        checks = (Check(bytes(12), at(5000), False, True),) * 9
+        pair, timing = Pair(0, 0, 0, 1, checks, sent=12, first_sent=at(0)), Timing(early=EarlyRto(4, 1, 1))
+        for other, rule, end in ((pair, timing, at(21_500)), (replace(pair, answers=1), timing, at(26_500)), (pair, Timing(), at(8000))):
+            self.assertEqual([other.is_possible(now, rule) for now in (end - 1, end)], [True, False])
+        for other in (Pair(0, 0, 0, 1, checks[1:], sent=13, first_sent=at(0)), replace(pair, last_request=at(50_000))):
+            self.assertTrue(other.is_possible(at(60_000), timing))
 
-    def test_thirteen_checks(self) -> None:
+    def test_they_come_for_as_long_as_a_whole_series_takes(self) -> None:
+        # The first check after 21.5 s is the last one: there are more than nine without a response, and the next is due after 3 s.
         story = Story(rules=EARLY)
-        times = self.due_times(story, 13)
-        self.assertEqual(times[9:], [7150, 10150, 13150, 16150, 19150])
+        times = self.due_times(story, 75)
+        self.assertEqual(times, [0, 100, 200, *range(400, 21_701, 300), 24_700])
+        story.passes("a", times[-2] + 2999)
+        self.assertEqual([p.first_sent for p in story.agents["a"].pairs], [at(0)])
         story.passes("a", times[-1])
         self.assertEqual(story.agents["a"].pairs, ())
+        story.session()
+
+    def test_the_number_of_stored_checks_does_not_count(self) -> None:
+        pair = Pair(0, 0, 0, 1, (Check(bytes(12), at(5000), False, True),), sent=12, first_sent=at(0))
+        early = EarlyRto(10, MILLISECOND, 100 * MILLISECOND)
+        found = [replace(pair, sent=sent, answers=answers, nomination="attempt").due_at(at(5000), Timing(early=early))
+                 for sent, answers in ((10, 0), (12, 0), (12, 1))]
+        self.assertEqual(found, [at(5001), at(5004), at(5001)])
 
 
 class Pacing(unittest.TestCase):
@@ -291,8 +310,11 @@ class Settings(unittest.TestCase):
             "no early pacing": replace(MODERN, early_pacing=None)}
         self.assertEqual({name: rules_of(endpoint.rules_by(AgentSettings(**RULES[name]))) for name in RULES}, expected)
         own = endpoint.rules_by(AgentSettings(triggered_checks=7, early_retransmits=2, early_interval_ms=30, early_pacing_ms=7))
-        expected_own = replace(MODERN, triggered_checks=7, early_rto=EarlyRto(2, 30 * MILLISECOND), early_pacing=7 * MILLISECOND)
+        expected_own = replace(MODERN, triggered_checks=7, early_rto=EarlyRto(2, 30 * MILLISECOND, 400 * MILLISECOND),
+                               early_pacing=7 * MILLISECOND)
         self.assertEqual(rules_of(own), expected_own)
+        capped = endpoint.rules_by(AgentSettings(early_retransmits=4, early_cap_ms=50))
+        self.assertEqual(rules_of(capped), replace(MODERN, early_rto=EarlyRto(4, 160 * MILLISECOND, 50 * MILLISECOND)))
         self.assertIsNone(endpoint.rules_by(AgentSettings(early_pacing_ms=0)).early_pacing)
 
     def test_an_agent_with_rules(self) -> None:

@@ -168,6 +168,7 @@ class AgentRules(ctypes.Structure):
         ("triggered_checks", c_uint64),
         ("early_retransmits", c_size_t),
         ("early_interval", c_uint64),
+        ("early_cap", c_uint64),
         ("consent_timeout", c_uint64),
         ("suspicion_timeout", c_uint64),
         ("suspicion_interval", c_uint64),
@@ -242,7 +243,7 @@ class StunTexts(ctypes.Structure):
 
 # The sizes of the structs that c/is_ice.h asserts.
 SIZES = {Agent: 16, Address: 28, Candidate: 60, Fields: 120, Packet: 72, Event: 68, Status: 40, Stats: 40, Nominated: 88, MediaPath: 60,
-         Pair: 96, RemovedPair: 104, KindPreferences: 8, PreferenceTable: 16, AgentRules: 72, StunTransaction: 12, StunResult: 32,
+         Pair: 96, RemovedPair: 104, KindPreferences: 8, PreferenceTable: 16, AgentRules: 80, StunTransaction: 12, StunResult: 32,
          StunNumber: 16, StunMessage: 248, StunSpan: 24, StunTexts: 144}
 
 _AGENT = POINTER(Agent)

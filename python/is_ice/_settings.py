@@ -95,7 +95,7 @@ class Settings(Unique):
     def set_initial_stun_rto(self, nanoseconds: int) -> None:
         """Sets the time from a pair's first check until the second one is due; it doubles with each further check. Default: 250 ms.
 
-        Early retransmissions (`Rules.early_rto`) come before it.
+        Early retransmissions (`Rules.early_rto`) have delays of their own.
         """
         done(self._c.is_ice_set_initial_rto(self._at, in_range(nanoseconds, 64, "a time")))
 
@@ -114,8 +114,9 @@ class Settings(Unique):
     def set_max_stun_retransmits(self, limit: int) -> None:
         """Sets after how many checks in a row without a response a pair is removed. BadLimit for 0. Default: 11.
 
-        A pair is not removed while the last check may still be answered in time, nor within 15 s of a check of the peer on it. A pair
-        without any response has its early retransmissions (`Rules.early_rto`) besides.
+        A pair is not removed while the last check may still be answered in time, nor within 15 s of a check of the peer on it. With
+        early retransmissions (`Rules.early_rto`) it is not removed within `ice_timeout` after the first of its checks without a
+        response, either.
         """
         done(self._c.is_ice_set_max_retransmits(self._at, in_range(limit, 64, "a limit")))
 
@@ -170,7 +171,7 @@ class Settings(Unique):
 
     @property
     def ice_timeout(self) -> int:
-        """How long a pair's checks go on without a response, before the pair is removed."""
+        """How long a whole series of checks without a response takes."""
         return int(self._status.ice_timeout)
 
     @property

@@ -15,13 +15,15 @@ from .errors import done
 
 @dataclass(frozen=True)
 class EarlyRto:
-    """How checks are repeated before the RTO counts: so many early retransmissions, each after an interval in nanoseconds.
+    """How checks are repeated while a pair has no response: so many early retransmissions, each after an interval in nanoseconds.
 
-    With 0 retransmissions there is no such rule. An interval of less than a millisecond counts as one.
+    After them each delay is twice the one before, up to the cap, also in nanoseconds. With 0 retransmissions there is no such rule. An
+    interval of less than a millisecond counts as one, and a cap of less than the interval as the interval.
     """
 
     retransmits: int
     interval: int
+    cap: int
 
 
 @dataclass(frozen=True)
@@ -65,10 +67,13 @@ class Rules:
     8445, section 7.3.1.4). Every second check may go to such a pair, or to one whose nomination has no response yet, before pairs that
     are due earlier. 0 is the same as None.
 
-    `early_rto`: the first checks of a pair, and those that nominate it, are repeated early, as long as no response arrives. A pair
-    without any response is given so many checks more before it is removed. Pairs whose due time is fixed already keep it when rules are
-    set. RFC 8445, section 14.3, has an RTO of 500 ms or more: an interval below it finds a path sooner on a network that loses packets,
-    and sends more on one with long delays.
+    `early_rto`: as long as no response arrived on a pair, its first so many retransmissions come an interval apart. Each later delay is
+    twice the one before, up to the cap. This goes on for `ice_timeout` after the pair's first check; then the RTO counts. The checks that
+    nominate a pair which had a response come so, too, until one has a response, or as many have none as `set_max_stun_retransmits` says.
+    The number of checks ends no pair sooner: one without any response is kept for `ice_timeout` after its first check at least, and one
+    that had a response for as long after the first check without one. Pairs whose due time is fixed already keep it when rules are set.
+    RFC 8445, section 14.3, has an RTO of 500 ms or more: shorter delays find a path sooner if the network loses packets or the peer begins
+    late, and send more on a path with long delays.
 
     `selects_at_once`: a controlled agent selects a pair in the `handle_packet` call of the request that nominates it, if the pair was
     valid before (RFC 8445, section 7.3.1.5), and not only in the next `handle_timeout` call.
@@ -141,7 +146,7 @@ def rules_from(call: Callable[..., int], *arguments: Any) -> Rules:
     """Returns the rules that a call writes."""
     rules = _abi.AgentRules()
     done(call(*arguments, byref(rules)))
-    early = EarlyRto(rules.early_retransmits, rules.early_interval) if rules.early_retransmits else None
+    early = EarlyRto(rules.early_retransmits, rules.early_interval, rules.early_cap) if rules.early_retransmits else None
     consent = Consent(rules.consent_timeout, rules.strict_consent) if rules.consent_timeout else None
     suspicion = Suspicion(rules.suspicion_timeout, rules.suspicion_interval) if rules.suspicion_timeout else None
     return Rules(
@@ -152,11 +157,12 @@ def rules_from(call: Callable[..., int], *arguments: Any) -> Rules:
 
 def struct_of_rules(rules: Rules) -> _abi.AgentRules:
     """Converts to the library's struct. ValueError if a number does not fit into 64 bits."""
-    early, consent, suspicion = rules.early_rto or EarlyRto(0, 0), rules.consent or Consent(0), rules.suspicion or Suspicion(0, 0)
+    early, consent, suspicion = rules.early_rto or EarlyRto(0, 0, 0), rules.consent or Consent(0), rules.suspicion or Suspicion(0, 0)
     return _abi.AgentRules(
         triggered_checks=in_range(rules.triggered_checks or 0, 64, "a number of requests"),
         early_retransmits=in_range(early.retransmits, 64, "a number of retransmissions"),
         early_interval=in_range(early.interval, 64, "a time"),
+        early_cap=in_range(early.cap, 64, "a time"),
         consent_timeout=in_range(consent.timeout, 64, "a time"),
         suspicion_timeout=in_range(suspicion.timeout, 64, "a time"),
         suspicion_interval=in_range(suspicion.interval, 64, "a time"),

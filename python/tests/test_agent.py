@@ -504,7 +504,7 @@ class Errors(unittest.TestCase):
         agent, rules = is_ice.IceAgent(), Rules.modern()
         self.assertEqual((agent.mtu, agent.mtu_warn, agent.ice_timeout, agent.max_candidates), (1150, 1280, 26_700_000_000, 100))
         self.assertEqual((agent.controlling, agent.ice_lite, agent.rules), (False, False, rules))
-        self.assertEqual((rules.triggered_checks, rules.early_rto), (4, EarlyRto(4, 100_000_000)))
+        self.assertEqual((rules.triggered_checks, rules.early_rto), (1, EarlyRto(8, 160_000_000, 400_000_000)))
         self.assertEqual(rules.consent, Consent(29_600_000_000, strict=False))
         self.assertTrue(rules.kinds_in_turn and rules.selects_at_once and rules.selected_first and rules.timeout_after_requests)
         self.assertTrue(rules.lite_keeps_role and rules.numbered_nominations)
@@ -534,10 +534,10 @@ class Errors(unittest.TestCase):
             self.assertEqual({int.from_bytes(number) for packet in sent for number in NOMINATION.findall(packet)}, expected)
 
     def test_rules(self) -> None:
-        early = EarlyRto(retransmits=4, interval=SECOND // 10)
+        early = EarlyRto(retransmits=8, interval=SECOND * 16 // 100, cap=SECOND * 4 // 10)
         self.assertEqual(self.agent.rules, Rules.modern())
         self.assertEqual(Rules.modern(), Rules(
-            kinds_in_turn=True, triggered_checks=4, early_rto=early, selects_at_once=True, consent=Consent(29_600_000_000, strict=False),
+            kinds_in_turn=True, triggered_checks=1, early_rto=early, selects_at_once=True, consent=Consent(29_600_000_000, strict=False),
             suspicion=None, early_pacing=10_000_000, selected_first=True, timeout_after_requests=True, lite_keeps_role=True,
             numbered_nominations=True, discovered_if_served=True, state_after_nomination=True, invalidates_listed=True))
         self.assertEqual(Rules.original(), Rules(
@@ -547,9 +547,10 @@ class Errors(unittest.TestCase):
         most = (1 << 64) - 1
         changes: tuple[dict[str, Any], ...] = (
             {"kinds_in_turn": False}, {"triggered_checks": None}, {"triggered_checks": most}, {"early_rto": None},
-            {"early_rto": EarlyRto(most, most)}, {"early_rto": EarlyRto(1, 0)}, {"selects_at_once": False}, {"consent": None},
-            {"consent": Consent(most, strict=True)}, {"consent": Consent(1)}, {"suspicion": Suspicion(most, most)},
-            {"suspicion": Suspicion(1, 0)}, {"early_pacing": None}, {"early_pacing": 1}, {"early_pacing": most},
+            {"early_rto": EarlyRto(most, most, most)}, {"early_rto": EarlyRto(1, 0, 1)}, {"early_rto": EarlyRto(1, 1, 0)},
+            {"selects_at_once": False}, {"consent": None}, {"consent": Consent(most, strict=True)}, {"consent": Consent(1)},
+            {"suspicion": Suspicion(most, most)}, {"suspicion": Suspicion(1, 0)},
+            {"early_pacing": None}, {"early_pacing": 1}, {"early_pacing": most},
             {"selected_first": False}, {"timeout_after_requests": False}, {"lite_keeps_role": False}, {"numbered_nominations": False},
             {"discovered_if_served": False}, {"state_after_nomination": False}, {"invalidates_listed": False},
         )
@@ -561,13 +562,14 @@ class Errors(unittest.TestCase):
 
     def test_rules_that_count_to_0_are_none(self) -> None:
         self.agent.set_rules(dataclasses.replace(
-            Rules.original(), triggered_checks=0, early_rto=EarlyRto(0, 7), consent=Consent(0, True), suspicion=Suspicion(0, 7),
+            Rules.original(), triggered_checks=0, early_rto=EarlyRto(0, 7, 8), consent=Consent(0, True), suspicion=Suspicion(0, 7),
             early_pacing=0))
         self.assertEqual(self.agent.rules, Rules.original())
 
     def test_rules_that_are_refused(self) -> None:
         refused: tuple[dict[str, Any], ...] = (
-            {"triggered_checks": -1}, {"triggered_checks": 1 << 64}, {"early_rto": EarlyRto(1 << 64, 0)}, {"early_rto": EarlyRto(1, -1)},
+            {"triggered_checks": -1}, {"triggered_checks": 1 << 64}, {"early_rto": EarlyRto(1 << 64, 0, 0)},
+            {"early_rto": EarlyRto(1, -1, 0)}, {"early_rto": EarlyRto(1, 0, -1)}, {"early_rto": EarlyRto(1, 0, 1 << 64)},
             {"consent": Consent(-1)}, {"consent": Consent(1 << 64)}, {"suspicion": Suspicion(1 << 64, 0)}, {"suspicion": Suspicion(1, -1)},
             {"early_pacing": -1}, {"early_pacing": 1 << 64},
         )
@@ -579,9 +581,15 @@ class Errors(unittest.TestCase):
         self.assertRaises(NoAgent, lambda: self.agent.rules)
 
     def test_first_checks_are_repeated_early(self) -> None:
-        """Without a response: at first every 100 ms, then after the RTO, which doubles."""
-        self.assertEqual(repeated(Rules.modern()), [0, 100, 200, 300, 400, 650, 1150])
+        """Without a response: at first an interval apart, then doubled up to the cap; or after the RTO, which doubles."""
+        ms = SECOND // 1000
+        self.assertEqual(repeated(Rules.modern()), [0, 160, 320, 480, 640, 800, 960, 1120, 1280, 1600, 2000])
         self.assertEqual(repeated(Rules.original()), [0, 250, 750, 1750])
+        for early, expected in (
+            (EarlyRto(1, 50 * ms, 500 * ms), [0, 50, 150, 350, 750, 1250, 1750]),
+            (EarlyRto(3, 400 * ms, 100 * ms), [0, 400, 800, 1200, 1600, 2000]),  # a cap below the interval
+        ):
+            self.assertEqual(repeated(dataclasses.replace(Rules.original(), early_rto=early)), expected)
 
     def test_checks_are_closer_until_the_path_is_nominated(self) -> None:
         """By the rule, unless Ta is shorter, and at least 5 ms apart."""

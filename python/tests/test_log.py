@@ -199,6 +199,7 @@ class Failures(unittest.IsolatedAsyncioTestCase):
 
     async def test_it_is_closed(self) -> None:
         a = await self.alone(NOBODY, end=False)
+        a.agent.set_max_stun_retransmits(1000)  # it is closed before all checks fail
         connecting = asyncio.ensure_future(a.connect())
         await asyncio.sleep(0.05)
         await a.close()

@@ -225,6 +225,7 @@ pub(crate) struct AgentRules {
     pub(crate) triggered_checks: u64,
     pub(crate) early_retransmits: usize,
     pub(crate) early_interval: u64,
+    pub(crate) early_cap: u64,
     pub(crate) consent_timeout: u64,
     pub(crate) suspicion_timeout: u64,
     pub(crate) suspicion_interval: u64,
@@ -310,7 +311,7 @@ const _: () = {
     assert!(size_of::<Packet>() == 72 && size_of::<Event>() == 68 && size_of::<Status>() == 40);
     assert!(size_of::<Stats>() == 40 && size_of::<Nominated>() == 88 && size_of::<Pair>() == 96);
     assert!(size_of::<MediaPath>() == 60 && size_of::<RemovedPair>() == 104);
-    assert!(size_of::<KindPreferences>() == 8 && size_of::<PreferenceTable>() == 16 && size_of::<AgentRules>() == 72);
+    assert!(size_of::<KindPreferences>() == 8 && size_of::<PreferenceTable>() == 16 && size_of::<AgentRules>() == 80);
     assert!(size_of::<StunTransaction>() == 12 && size_of::<StunResult>() == 32);
     assert!(size_of::<StunNumber>() == 16 && size_of::<StunMessage>() == 248);
     assert!(size_of::<StunSpan>() == 24 && size_of::<StunTexts>() == 144);

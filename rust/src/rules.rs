@@ -31,11 +31,17 @@ pub struct Rules {
     /// 7.3.1.4). Every second check may go to such a pair, or to one whose nomination has no response yet, before pairs that are due
     /// earlier. `Some(0)` is the same as `None`.
     pub triggered_checks: Option<u64>,
-    /// The first checks of a pair, and those that nominate it, are repeated early, as long as no response arrives. A pair without any
-    /// response is given so many checks more before it is removed. Pairs whose due time is fixed already keep it when rules are set.
+    /// As long as no response arrived on a pair, its first so many retransmissions come an interval apart. Each later delay is twice the
+    /// one before, up to the cap. This goes on for [`IceAgent::ice_timeout`] after the pair's first check; then the RTO counts. The checks
+    /// that nominate a pair which had a response come so, too, until one has a response, or as many have none as
+    /// [`IceAgent::set_max_stun_retransmits`] says.
     ///
-    /// RFC 8445, section 14.3, has an RTO of 500 ms or more: an interval below it finds a path sooner on a network that loses packets,
-    /// and sends more on one with long delays.
+    /// The number of checks ends no pair sooner: one without any response is kept for [`IceAgent::ice_timeout`] after its first check at
+    /// least, and one that had a response for as long after the first check without one. Pairs whose due time is fixed already keep it
+    /// when rules are set.
+    ///
+    /// RFC 8445, section 14.3, has an RTO of 500 ms or more: shorter delays find a path sooner if the network loses packets or the peer
+    /// begins late, and send more on a path with long delays.
     pub early_rto: Option<EarlyRto>,
     /// A controlled agent selects a pair in the [`IceAgent::handle_packet`] call of the request that nominates it, if the pair was valid
     /// before (RFC 8445, section 7.3.1.5), and not only in the next [`IceAgent::handle_timeout`] call.
@@ -104,13 +110,15 @@ pub struct Suspicion {
     pub interval: Duration,
 }
 
-/// How checks are repeated before the RTO counts: see [`Rules::early_rto`].
+/// How checks are repeated while a pair has no response: see [`Rules::early_rto`].
 #[derive(Clone, Copy, Debug, PartialEq, Eq)]
 pub struct EarlyRto {
     /// How many early retransmissions there are. With 0 there is no such rule.
     pub retransmits: usize,
     /// The delay before each of them. Less than a millisecond counts as one.
     pub interval: Duration,
+    /// The longest delay after them, up to which it doubles. Less than the interval counts as the interval.
+    pub cap: Duration,
 }
 
 impl Rules {
@@ -130,13 +138,14 @@ impl Rules {
         let code = call(&mut rules);
         debug_assert_eq!(code, ffi::OK);
         let (retransmits, interval) = (rules.early_retransmits, Duration::from_nanos(rules.early_interval));
+        let cap = Duration::from_nanos(rules.early_cap);
         let (timeout, strict) = (Duration::from_nanos(rules.consent_timeout), rules.strict_consent);
         let suspicion =
             Suspicion { timeout: Duration::from_nanos(rules.suspicion_timeout), interval: Duration::from_nanos(rules.suspicion_interval) };
         Rules {
             kinds_in_turn: rules.kinds_in_turn,
             triggered_checks: (rules.triggered_checks > 0).then_some(rules.triggered_checks),
-            early_rto: (retransmits > 0).then_some(EarlyRto { retransmits, interval }),
+            early_rto: (retransmits > 0).then_some(EarlyRto { retransmits, interval, cap }),
             selects_at_once: rules.selects_at_once,
             consent: (rules.consent_timeout > 0).then_some(Consent { timeout, strict }),
             suspicion: (rules.suspicion_timeout > 0).then_some(suspicion),
@@ -156,6 +165,7 @@ impl Rules {
             triggered_checks: self.triggered_checks.unwrap_or(0),
             early_retransmits: self.early_rto.map_or(0, |early| early.retransmits),
             early_interval: self.early_rto.map_or(0, |early| nanoseconds(early.interval)),
+            early_cap: self.early_rto.map_or(0, |early| nanoseconds(early.cap)),
             consent_timeout: self.consent.map_or(0, |consent| nanoseconds(consent.timeout)),
             suspicion_timeout: self.suspicion.map_or(0, |suspicion| nanoseconds(suspicion.timeout)),
             suspicion_interval: self.suspicion.map_or(0, |suspicion| nanoseconds(suspicion.interval)),

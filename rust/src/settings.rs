@@ -108,7 +108,7 @@ impl IceAgent {
     }
 
     /// Sets the time from a pair's first check until the second one is due; it doubles with each further check. Early retransmissions
-    /// ([`Rules::early_rto`](crate::Rules::early_rto)) come before it. Default: 250 ms.
+    /// ([`Rules::early_rto`](crate::Rules::early_rto)) have delays of their own. Default: 250 ms.
     pub fn set_initial_stun_rto(&mut self, timeout: Duration) {
         self.set(|agent| ffi::is_ice_set_initial_rto(agent, nanoseconds(timeout)));
     }
@@ -128,8 +128,9 @@ impl IceAgent {
     }
 
     /// Sets after how many checks in a row without a response a pair is removed. It is not removed while the last check may still
-    /// be answered in time, nor within 15 s of a check of the peer on it. A pair without any response has its early retransmissions
-    /// ([`Rules::early_rto`](crate::Rules::early_rto)) besides. Default: 11; in the original 9.
+    /// be answered in time, nor within 15 s of a check of the peer on it. With early retransmissions
+    /// ([`Rules::early_rto`](crate::Rules::early_rto)) it is not removed within [`IceAgent::ice_timeout`] after the first of its checks
+    /// without a response, either. Default: 11; in the original 9.
     ///
     /// # Panics
     ///
@@ -167,7 +168,7 @@ impl IceAgent {
         self.set(|agent| ffi::is_ice_reset_local_preference(agent));
     }
 
-    /// How long a pair's checks go on without a response, before the pair is removed.
+    /// How long a whole series of checks without a response takes.
     pub fn ice_timeout(&self) -> Duration {
         Duration::from_nanos(self.status().ice_timeout)
     }

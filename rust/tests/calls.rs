@@ -100,16 +100,30 @@ fn checks_go_out_after(mut agent: IceAgent, delays: &[u64]) {
     assert!(agent.state().is_disconnected());
 }
 
+/// By the rules of a new agent: when the checks after the first one are due, until the last one, and then the end.
+fn early_checks(last: u64, end: u64) -> Vec<u64> {
+    (160..=1280).step_by(160).chain((1600..=last).step_by(400)).chain([end]).collect()
+}
+
 #[test]
 fn checks_go_out_by_the_schedule() {
-    let early = [100, 200, 300, 400, 650, 1150, 2150, 4150, 7050, 9950, 12850, 15750, 18650, 21550, 24450];
-    checks_go_out_after(paired(), &early);
+    checks_go_out_after(paired(), &early_checks(26800, 29700));
     let mut agent = paired();
     agent.set_rules(Rules::original());
     checks_go_out_after(agent, &[250, 750, 1750, 3750, 6650, 9550, 12450, 15350, 18250, 21150, 24050]);
     let mut few = paired();
     few.set_max_stun_retransmits(5);
-    checks_go_out_after(few, &[100, 200, 300, 400, 3300, 6200, 9100, 12000, 14900]);
+    checks_go_out_after(few, &early_checks(9600, 12500));
+    let (mut doubled, mut rules) = (paired(), Rules::original());
+    rules.early_rto = Some(EarlyRto { retransmits: 1, interval: ms(50), cap: ms(400) });
+    doubled.set_rules(rules);
+    doubled.set_max_stun_retransmits(2);
+    checks_go_out_after(doubled, &[50, 150, 350, 750, 1150, 1650]);
+    let (mut even, mut rules) = (paired(), Rules::original());
+    rules.early_rto = Some(EarlyRto { retransmits: 1, interval: ms(400), cap: ms(50) });
+    even.set_rules(rules);
+    even.set_max_stun_retransmits(2);
+    checks_go_out_after(even, &[400, 800, 1200, 1700]);
 }
 
 #[test]
@@ -133,7 +147,7 @@ fn the_clock_may_stand_or_go_back() {
     agent.handle_timeout(began);
     agent.handle_timeout(began - Duration::from_secs(1));
     assert_eq!(agent.poll_transmit(), None);
-    assert_eq!(agent.poll_timeout(), Some(began + ms(100)));
+    assert_eq!(agent.poll_timeout(), Some(began + ms(160)));
 }
 
 #[test]
@@ -242,8 +256,8 @@ fn rules_begin_as_documented() {
     assert!(modern.discovered_if_served && modern.state_after_nomination && modern.invalidates_listed);
     assert!(!original.discovered_if_served && !original.state_after_nomination && !original.invalidates_listed);
     assert_eq!(modern.consent, Some(Consent { timeout: ms(29_600), strict: false }));
-    assert_eq!(modern.triggered_checks, Some(4));
-    assert_eq!(modern.early_rto, Some(EarlyRto { retransmits: 4, interval: ms(100) }));
+    assert_eq!(modern.triggered_checks, Some(1));
+    assert_eq!(modern.early_rto, Some(EarlyRto { retransmits: 8, interval: ms(160), cap: ms(400) }));
     assert!(!original.kinds_in_turn && !original.selects_at_once && !original.selected_first && !original.timeout_after_requests);
     assert_eq!((original.triggered_checks, original.early_rto, original.consent), (None, None, None));
     assert_eq!((modern.suspicion, original.suspicion), (None, None));
@@ -259,20 +273,22 @@ fn rules_after(rules: Rules) -> Rules {
 
 #[test]
 fn rules_are_set() {
-    let changes: [fn(&mut Rules); 20] = [
+    const MOST: Duration = Duration::from_nanos(u64::MAX);
+    let changes: [fn(&mut Rules); 21] = [
         |rules| *rules = Rules::original(),
         |rules| rules.kinds_in_turn = !rules.kinds_in_turn,
         |rules| rules.triggered_checks = Some(u64::MAX),
-        |rules| rules.early_rto = Some(EarlyRto { retransmits: usize::MAX, interval: Duration::from_nanos(u64::MAX) }),
-        |rules| rules.early_rto = Some(EarlyRto { retransmits: 1, interval: Duration::ZERO }),
+        |rules| rules.early_rto = Some(EarlyRto { retransmits: usize::MAX, interval: MOST, cap: MOST }),
+        |rules| rules.early_rto = Some(EarlyRto { retransmits: 1, interval: Duration::ZERO, cap: ms(1) }),
+        |rules| rules.early_rto = Some(EarlyRto { retransmits: 1, interval: ms(1), cap: Duration::ZERO }),
         |rules| rules.selects_at_once = !rules.selects_at_once,
-        |rules| rules.consent = Some(Consent { timeout: Duration::from_nanos(u64::MAX), strict: true }),
+        |rules| rules.consent = Some(Consent { timeout: MOST, strict: true }),
         |rules| rules.consent = Some(Consent { timeout: Duration::from_nanos(1), strict: false }),
-        |rules| rules.suspicion = Some(Suspicion { timeout: Duration::from_nanos(u64::MAX), interval: Duration::from_nanos(u64::MAX) }),
+        |rules| rules.suspicion = Some(Suspicion { timeout: MOST, interval: MOST }),
         |rules| rules.suspicion = Some(Suspicion { timeout: Duration::from_nanos(1), interval: Duration::ZERO }),
         |rules| rules.early_pacing = None,
         |rules| rules.early_pacing = Some(Duration::from_nanos(1)),
-        |rules| rules.early_pacing = Some(Duration::from_nanos(u64::MAX)),
+        |rules| rules.early_pacing = Some(MOST),
         |rules| rules.selected_first = !rules.selected_first,
         |rules| rules.timeout_after_requests = !rules.timeout_after_requests,
         |rules| rules.lite_keeps_role = !rules.lite_keeps_role,
@@ -293,7 +309,7 @@ fn rules_are_set() {
 fn rules_that_count_to_0_are_none() {
     let mut rules = Rules::original();
     rules.triggered_checks = Some(0);
-    rules.early_rto = Some(EarlyRto { retransmits: 0, interval: ms(7) });
+    rules.early_rto = Some(EarlyRto { retransmits: 0, interval: ms(7), cap: ms(8) });
     rules.consent = Some(Consent { timeout: Duration::ZERO, strict: true });
     rules.suspicion = Some(Suspicion { timeout: Duration::ZERO, interval: ms(7) });
     rules.early_pacing = Some(Duration::ZERO);
@@ -601,7 +617,7 @@ fn pairs_are_listed() {
     agent.handle_timeout(now);
     let pair = agent.pairs().next().expect("a pair");
     assert_eq!(pair.state, CheckState::InProgress);
-    assert_eq!(pair.due, Some(now + ms(100)));
+    assert_eq!(pair.due, Some(now + ms(160)));
     agent.add_remote_candidate(Candidate::from_sdp_string("candidate:1 1 udp 2130706431 10.0.0.3 3000 typ host").unwrap());
     let pairs: Vec<_> = agent.pairs().collect();
     assert_eq!(pairs.iter().map(|pair| pair.remote).collect::<Vec<_>>(), [0, 1]);

@@ -208,7 +208,8 @@ impl Session {
 
     /// Rules of a name, or each on or off with any numbers.
     fn rules(&mut self) -> Rules {
-        let (count, retransmits, interval) = (self.random.number(), self.random.number(), self.random.duration());
+        let (count, retransmits) = (self.random.number(), self.random.number());
+        let (interval, cap) = (self.random.duration(), self.random.duration());
         let mut rules = if self.random.once_in(2) { Rules::modern() } else { Rules::original() };
         if self.random.once_in(2) {
             return rules;
@@ -223,7 +224,7 @@ impl Session {
         rules.state_after_nomination = self.random.once_in(2);
         rules.invalidates_listed = self.random.once_in(2);
         rules.triggered_checks = self.random.once_in(2).then_some(count as u64);
-        rules.early_rto = self.random.once_in(2).then_some(EarlyRto { retransmits, interval });
+        rules.early_rto = self.random.once_in(2).then_some(EarlyRto { retransmits, interval, cap });
         let (timeout, strict) = (self.random.duration(), self.random.once_in(2));
         rules.consent = self.random.once_in(2).then_some(Consent { timeout, strict });
         rules.suspicion = self.random.once_in(2).then_some(Suspicion { timeout, interval });

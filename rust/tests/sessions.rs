@@ -167,8 +167,9 @@ fn nobody_answers() {
     for side in &world.sides {
         assert!(side.agent.state().is_disconnected());
         let given_up = side.when(IceConnectionState::Disconnected).unwrap();
-        assert!(given_up < timeout + Duration::from_secs(1), "{given_up:?}");
-        assert_eq!(side.agent.stats().bind_request_sent, 4 + 11);
+        // checks at 0, 160 .. 1,280, 1,600, 2,000 .. 26,800 ms, and the RTO after the last one
+        assert!(timeout < given_up && given_up < timeout + ms(3_500), "{given_up:?}");
+        assert_eq!(side.agent.stats().bind_request_sent, 73);
         assert_eq!(side.agent.nominated_pair_rtt(), None);
     }
 }

@@ -7,6 +7,7 @@ mod consent;
 mod credentials;
 mod discovered;
 mod driver;
+mod early;
 mod followed;
 mod forgotten;
 mod limits;

@@ -2,7 +2,7 @@
 use crate::fault::Stop;
 use crate::fields::Fields;
 use crate::table::{
-    CONSENT, DISCOVERED_IF_SERVED, EARLY_PACING, EARLY_RTO, INTERVAL, INVALIDATES_LISTED,
+    CAP, CONSENT, DISCOVERED_IF_SERVED, EARLY_PACING, EARLY_RTO, INTERVAL, INVALIDATES_LISTED,
     KINDS_IN_TURN, LITE_KEEPS_ROLE, NAME, NUMBERED_NOMINATIONS, RETRANSMITS, SELECTED_FIRST,
     SELECTS_AT_ONCE, STATE_AFTER_NOMINATION, STRICT, SUSPICION, TIMEOUT, TIMEOUT_AFTER_REQUESTS,
     TRIGGERED_CHECKS,
@@ -65,6 +65,7 @@ fn early_rto(fields: Fields<'_>, named: Rules) -> Result<Option<EarlyRto>, Stop>
         Some(fields) => Ok(Some(EarlyRto {
             retransmits: fields.count(RETRANSMITS)?,
             interval: fields.duration(INTERVAL)?,
+            cap: fields.duration(CAP)?,
         })),
         None => Ok(None),
     }

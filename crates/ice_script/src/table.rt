@@ -33,7 +33,7 @@ impl fmt::Display for Kind {
             Kind::WholeOrNull => "a whole number from 0 to 18446744073709551615, or null",
             Kind::Preference => "a whole number from 0 to 65535",
             Kind::RulesName => "original, modern or kinds",
-            Kind::EarlyRto => "an object with retransmits and interval, or null",
+            Kind::EarlyRto => "an object with retransmits, interval and cap, or null",
             Kind::Consent => "an object with timeout and strict, or null",
             Kind::Suspicion => "an object with timeout and interval, or null",
             Kind::Address => "IPv4:port or [IPv6]:port",
@@ -108,6 +108,8 @@ pub const EARLY_RTO: Field = Field("early_rto", Kind::EarlyRto);
 pub const RETRANSMITS: Field = Field("retransmits", Kind::Whole);
 
 pub const INTERVAL: Field = Field("interval", Kind::Whole);
+
+pub const CAP: Field = Field("cap", Kind::Whole);
 
 pub const SELECTS_AT_ONCE: Field = Field("selects_at_once", Kind::Flag);
 

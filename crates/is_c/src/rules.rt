@@ -21,8 +21,10 @@ pub struct AgentRules {
     pub triggered_checks: u64,
     /// So many early retransmissions,
     pub early_retransmits: usize,
-    /// and the nanoseconds before each.
+    /// the nanoseconds before each,
     pub early_interval: u64,
+    /// and before a later one at most.
+    pub early_cap: u64,
     /// So many nanoseconds after its last answered check a pair is removed,
     pub consent_timeout: u64,
     /// So many nanoseconds after its last answered check a pair is suspected,
@@ -51,9 +53,9 @@ fn triggered_of(number: u64) -> Option<u64>
     if number == 0 { None } else { Some(number) }
 }
 
-/// Early retransmissions: without any, the interval means nothing.
-fn early_of(retransmits: usize, interval: u64) -> Option<EarlyRto>
-    ensures { result ≡ early_of retransmits interval }
+/// Early retransmissions: without any, the interval and the cap mean nothing.
+fn early_of(retransmits: usize, interval: u64, cap: u64) -> Option<EarlyRto>
+    ensures { result ≡ early_of retransmits interval cap }
 {
     if retransmits == 0 {
         return None;
@@ -61,6 +63,7 @@ fn early_of(retransmits: usize, interval: u64) -> Option<EarlyRto>
     Some(EarlyRto {
         retransmits,
         interval: Duration(interval),
+        cap: Duration(cap),
     })
 }
 
@@ -108,7 +111,11 @@ fn rules_of(rules: &AgentRules) -> Rules
     Rules {
         kinds_in_turn: rules.kinds_in_turn,
         triggered_checks: triggered_of(rules.triggered_checks),
-        early_rto: early_of(rules.early_retransmits, rules.early_interval),
+        early_rto: early_of(
+            rules.early_retransmits,
+            rules.early_interval,
+            rules.early_cap,
+        ),
         selects_at_once: rules.selects_at_once,
         consent: consent_of(rules.consent_timeout, rules.strict_consent),
         suspicion: suspicion_of(rules.suspicion_timeout, rules.suspicion_interval),
@@ -126,9 +133,9 @@ fn rules_of(rules: &AgentRules) -> Rules
 fn reported_rules(rules: Rules) -> AgentRules
     ensures { result ≡ reported_rules rules }
 {
-    let (early_retransmits, early_interval) = match rules.early_rto {
-        Some(early) => (early.retransmits, early.interval.0),
-        None => (0, 0),
+    let (early_retransmits, early_interval, early_cap) = match rules.early_rto {
+        Some(early) => (early.retransmits, early.interval.0, early.cap.0),
+        None => (0, 0, 0),
     };
     let (consent_timeout, strict_consent) = match rules.consent {
         Some(consent) => (consent.timeout.0, consent.strict),
@@ -146,6 +153,7 @@ fn reported_rules(rules: Rules) -> AgentRules
         triggered_checks: rules.triggered_checks.unwrap_or(0),
         early_retransmits,
         early_interval,
+        early_cap,
         consent_timeout,
         suspicion_timeout,
         suspicion_interval,

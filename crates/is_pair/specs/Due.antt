@@ -33,17 +33,23 @@ delaying_count now t checks = if is_silent now t checks then unanswered_count ch
 abbrev pub usual_delay : ℕ → StunTiming → List Check → ℕ
 usual_delay now t checks = resend_delay t (delaying_count now t checks)
 
--- No response arrived on the pair yet, or none to a check that nominates it: so its first checks may be repeated early.
-abbrev pub awaits_response : PairRecord → Bool
-awaits_response p = p.answers == 0 || is_nominating p.nomination
+-- less time has passed since the pair's first check than a whole series of checks takes
+abbrev pub is_young : ℕ → StunTiming → PairRecord → Bool
+is_young now t p = option_map_or (λ at. nat_lt now (later at (timeout_of t))) p.first_sent false
 
--- The first checks are repeated early, until `max_retransmits` checks have no response.
-abbrev pub is_repeated_early : StunTiming → PairRecord → Bool
-is_repeated_early t p = awaits_response p && nat_lt (unanswered_count p.checks) t.max_retransmits
+-- the checks without a response: all, as long as there was none
+abbrev pub silent_count : PairRecord → ℕ
+silent_count p = if p.answers == 0 then p.checks_sent else unanswered_count p.checks
+
+-- Checks are repeated early while no response arrived on the pair, as long as a whole series of checks takes; and those that nominate a
+-- pair with a response, until `max_retransmits` checks have none.
+abbrev pub is_repeated_early : ℕ → StunTiming → PairRecord → Bool
+is_repeated_early now t p =
+    if p.answers == 0 then is_young now t p else is_nominating p.nomination && nat_lt (unanswered_count p.checks) t.max_retransmits
 
 abbrev pub delay_with : Option EarlyRto → ℕ → StunTiming → PairRecord → ℕ
 delay_with None now t p = usual_delay now t p.checks
-delay_with (Some e) now t p = if is_repeated_early t p then early_delay t e (unanswered_count p.checks) else usual_delay now t p.checks
+delay_with (Some e) now t p = if is_repeated_early now t p then early_delay e (silent_count p) else usual_delay now t p.checks
 
 -- the delay after the last check
 abbrev pub delay_of : ℕ → StunTiming → PairRecord → ℕ
@@ -98,20 +104,21 @@ is_in_time now t checks = option_map_or (λ c. nat_lt now (later c.sent (last_re
 abbrev pub is_early_silence : ℕ → StunTiming → List Check → Bool
 is_early_silence now t checks = option_map_or (λ c. nat_lt now (later c.sent (timeout_of t))) (first_unanswered checks) false
 
--- Early retransmissions end no pair sooner. As long as no response arrived, they are not counted; after that, time counts.
+-- Where checks are repeated early, time counts and not their number: so no pair ends sooner.
 abbrev pub has_early_checks : Option EarlyRto → ℕ → StunTiming → PairRecord → Bool
 has_early_checks None now t p = false
-has_early_checks (Some e) now t p =
-    if p.answers == 0 then nat_lt (p.checks_sent - e.retransmits) t.max_retransmits else is_early_silence now t p.checks
+has_early_checks (Some e) now t p = if p.answers == 0 then is_young now t p else is_early_silence now t p.checks
 
-abbrev pub is_possible : ℕ → StunTiming → PairRecord → Bool
-is_possible now t p =
-    has_early_checks t.early now t p
-    || is_kept_by_series t.suspicion now t p
-    || is_heard now p
+-- a check from the peer arrived, or not so many checks had no response, or the response to the last one may still arrive
+abbrev pub is_open : ℕ → StunTiming → PairRecord → Bool
+is_open now t p =
+    is_heard now p
     || nat_lt (length p.checks) t.max_retransmits
     || nat_lt (unanswered_count p.checks) t.max_retransmits
     || is_in_time now t p.checks
+
+abbrev pub is_possible : ℕ → StunTiming → PairRecord → Bool
+is_possible now t p = has_early_checks t.early now t p || is_kept_by_series t.suspicion now t p || is_open now t p
 
 -- ---- consent (RFC 7675, section 5.1)
 

@@ -1,6 +1,6 @@
 -- A candidate pair (RFC 8445, section 6.1.2), and its state after each operation. Times and durations are in
 -- nanoseconds.
-use Rattle.std.specs.Prelude.{◌≡◌, ℕ, ◌-◌, ◌*◌, Bool, true, false, nat_lt, max, List, [], ◌∷◌, ◌++◌, slice_set, Option, Some, None, if◌then◌else◌}
+use Rattle.std.specs.Prelude.{◌≡◌, ℕ, ◌-◌, ◌*◌, Bool, true, false, nat_lt, max, List, [], ◌∷◌, ◌++◌, slice_set, Option, Some, None, unwrap_or, if◌then◌else◌}
 use Rattle.std.specs.Option.{option_map_or}
 use Rattle.is_proto.specs.Times.{SECOND, counted, later}
 use Rattle.is_stun.specs.declared.timing.StunTiming.{StunTiming}
@@ -22,6 +22,8 @@ pub record PairRecord : Type 0 where
   pub checks : List Check
   -- how many checks were sent, also those that it no longer stores
   pub checks_sent : ℕ
+  -- when the first one was sent
+  pub first_sent : Option ℕ
   pub nomination : NominationState
   -- the greatest number by which the peer nominated it (NOMINATION); 0: none
   pub greatest_number : ℕ
@@ -46,6 +48,7 @@ new_pair number local remote priority = record {
   priority = priority;
   checks = [];
   checks_sent = 0;
+  first_sent = None;
   nomination = Unnominated;
   greatest_number = 0;
   state = Waiting;
@@ -128,17 +131,18 @@ check_of now controlling id p = record {
   controlling = controlling;
 }
 
-abbrev pub once_sent : ℕ → PairRecord → PairRecord
-once_sent kept p = record p {
+abbrev pub once_sent : ℕ → ℕ → PairRecord → PairRecord
+once_sent now kept p = record p {
   checks = last_checks kept p.checks;
   checks_sent = counted p.checks_sent;
+  first_sent = Some (unwrap_or p.first_sent now);
   nomination = nomination_once_sent p.nomination;
   state = state_once_sent p.state;
   due = None;
 }
 
 abbrev pub checked : ℕ → StunTiming → Bool → List ℕ → PairRecord → PairRecord
-checked now t controlling id p = once_sent t.max_retransmits (record p { checks = p.checks ++ check_of now controlling id p ∷ [] })
+checked now t controlling id p = once_sent now t.max_retransmits (record p { checks = p.checks ++ check_of now controlling id p ∷ [] })
 
 -- after a response to a pending transaction, also a repeated one (RFC 8445, section 7.2.5.3)
 

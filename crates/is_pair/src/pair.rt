@@ -39,6 +39,8 @@ pub struct CandidatePair {
     /// The pending transactions: the checks that were sent last, oldest first.
     binding_attempts: VecDeque<BindingAttempt>,
     checks_sent: u64,
+    /// When its first check was sent.
+    first_sent: Option<Instant>,
     nomination_state: NominationState,
     /// The greatest number by which the peer nominated it; 0 if there is none.
     greatest_number: u32,
@@ -68,6 +70,7 @@ impl Model for CandidatePair {
       priority = p.prio;
       checks = p.binding_attempts.items;
       checks_sent = p.checks_sent;
+      first_sent = option_map (λ at. at.0) p.first_sent;
       nomination = p.nomination_state;
       greatest_number = p.greatest_number;
       state = p.state;
@@ -101,6 +104,7 @@ impl CandidatePair {
             prio,
             binding_attempts: VecDeque::new(alloc),
             checks_sent: 0,
+            first_sent: None,
             nomination_state: NominationState::default(),
             greatest_number: 0,
             state: CheckState::default(),
@@ -214,6 +218,7 @@ impl CandidatePair {
             prio: self.prio,
             binding_attempts: self.binding_attempts.clone()?,
             checks_sent: self.checks_sent,
+            first_sent: self.first_sent,
             nomination_state: self.nomination_state,
             greatest_number: self.greatest_number,
             state: self.state,

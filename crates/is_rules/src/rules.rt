@@ -20,9 +20,8 @@ pub struct Rules {
     /// is due at once. Every second check may go to such a pair, and to one whose nomination was not answered, before pairs that are due
     /// earlier. No pending transaction is canceled.
     pub triggered_checks: Option<u64>,
-    /// The first checks of a pair, and those that nominate it, are repeated early, as long as no response arrives. These retransmissions
-    /// end no pair sooner: without any response they are not counted, and after one a pair is kept as long as a whole series of checks
-    /// takes.
+    /// Checks of a pair without any response, and those that nominate it, are repeated early: so many retransmissions come at the interval,
+    /// and the delays after them double up to the cap. That ends no pair sooner: it is kept as long as a whole series of checks takes.
     pub early_rto: Option<EarlyRto>,
     /// A controlled agent selects a pair when the request arrives that nominates it, if the pair is valid (RFC 8445, section
     /// 7.3.1.5), and not only in the next `handle_timeout` call.
@@ -64,10 +63,11 @@ pub struct Rules {
     pub early_pacing: Option<Duration>,
 }
 
-/// How often, and how far apart.
+/// How often, how far apart, and how far apart at most after that.
 const MODERN_EARLY_RTO: EarlyRto = EarlyRto {
-    retransmits: 4,
-    interval: Duration(100_000_000),
+    retransmits: 8,
+    interval: Duration(160_000_000),
+    cap: Duration(400_000_000),
 };
 
 /// How far apart checks are at most until the agent is settled.
@@ -110,7 +110,7 @@ impl Rules {
     {
         Rules {
             kinds_in_turn: true,
-            triggered_checks: Some(4),
+            triggered_checks: Some(1),
             early_rto: Some(MODERN_EARLY_RTO),
             selects_at_once: true,
             consent: Some(MODERN_CONSENT),

@@ -1,5 +1,5 @@
 -- The retransmission timing of checks (RFC 8489, section 6.2.1; RFC 8445, section 14.3). Durations are in nanoseconds.
-use Rattle.std.specs.Prelude.{ℕ, ◌+◌, ◌-◌, ◌*◌, ◌/◌, ◌^◌, ◌==◌, min, max, nat_le, sum_by, if◌then◌else◌}
+use Rattle.std.specs.Prelude.{ℕ, ◌+◌, ◌-◌, ◌*◌, ◌/◌, ◌^◌, ◌==◌, min, max, sum_by, if◌then◌else◌}
 use Rattle.std.specs.List.{range_with_len}
 use Rattle.is_proto.specs.Times.{MAX, MILLISECOND}
 use Rattle.is_stun.specs.declared.timing.StunTiming.{StunTiming}
@@ -15,10 +15,10 @@ delay_millis t n =
 abbrev pub resend_delay : StunTiming → ℕ → ℕ
 resend_delay t n = if n == 0 then 0 else delay_millis t n * MILLISECOND
 
--- the delay after the last of n checks, if the first ones are repeated early: the interval after each of these, and at least a
--- millisecond; then the delays as above
-abbrev pub early_delay : StunTiming → EarlyRto → ℕ → ℕ
-early_delay t e n = if nat_le n e.retransmits then max MILLISECOND e.interval.0 else resend_delay t (n - e.retransmits)
+-- the delay after the last of n checks, while a pair has no response: the interval before each early retransmission, and at least a
+-- millisecond; it doubles with each check after these, up to the cap, or up to the interval if that is longer
+abbrev pub early_delay : EarlyRto → ℕ → ℕ
+early_delay e n = min (max MILLISECOND e.interval.0 * 2 ^ (n - e.retransmits)) (max (max MILLISECOND e.interval.0) e.cap.0)
 
 -- the delay while the path is probed: the interval, at least a millisecond, and no longer than it would be otherwise
 abbrev pub probing_delay : Suspicion → ℕ → ℕ

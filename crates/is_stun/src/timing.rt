@@ -13,13 +13,26 @@ const LEAST_DELAY: Duration = Duration(1_000_000);
 /// How many checks are sent without a response, as in libwebrtc.
 pub const DEFAULT_MAX_RETRANSMITS: usize = 9;
 
-/// How the first checks of a pair are repeated before its RTO counts: so a path is found soon although packets are lost.
+/// How checks are repeated while a pair has no response: so a path is found soon although packets are lost or the peer begins late.
 #[derive(Clone, Copy, Debug, PartialEq, Eq)]
 pub struct EarlyRto {
     /// How many early retransmissions there are.
     pub retransmits: usize,
     /// The delay before each of them. Less than a millisecond counts as one.
     pub interval: Duration,
+    /// The longest delay: after the early retransmissions it doubles up to this. Less than the interval counts as the interval.
+    pub cap: Duration,
+}
+
+impl EarlyRto {
+    /// Returns how long to wait after the last of `send_count` checks before the next one.
+    pub fn delay(self, send_count: u64) -> Duration
+        ensures { result.0 ≡ early_delay self send_count }
+    {
+        let interval = self.interval.max(LEAST_DELAY);
+        let doublings = send_count.saturating_sub(self.retransmits as u64);
+        Duration(doubled(interval.0, doublings as usize, interval.max(self.cap).0))
+    }
 }
 
 /// How long a full agent keeps a pair after its last check that got a response (consent freshness, RFC 7675, section 5.1).
@@ -119,17 +132,6 @@ impl StunTiming {
         let first = self.initial_rto.as_millis();
         let greatest = self.max_rto.as_millis();
         Duration::from_millis(doubled(first, doublings, greatest))
-    }
-
-    /// Returns how long to wait after the last of `send_count` checks before the next one, if the first ones are repeated early.
-    pub fn early_delay(&self, early: EarlyRto, send_count: usize) -> Duration
-        ensures { result.0 ≡ early_delay self.now early send_count }
-    {
-        if send_count <= early.retransmits {
-            early.interval.max(LEAST_DELAY)
-        } else {
-            self.stun_resend_delay(send_count - early.retransmits)
-        }
     }
 
     /// Returns how long to wait after the last check before the path fails.

@@ -1,4 +1,4 @@
-//! What an agent does beyond the original's behavior: triggered checks, early retransmissions, and selection at a request.
+//! What an agent does beyond the original's behavior: triggered checks, and selection at a request.
 
 use super::settings::ORIGINAL;
 use super::step::Call::*;
@@ -11,19 +11,13 @@ use super::step::Step::*;
 use super::step::{At, Count, Message, Setting, Whose};
 use super::story::{Story, play};
 use super::*;
+use is::Rules;
 use is::pair::CheckState;
-use is::stun::EarlyRto;
-use is::{Duration, Rules};
 
 #[test]
 fn requests_trigger_checks(rt: HostRuntime) -> Result<(), Fail> {
     play(rt.alloc(), &TRIGGERED)?;
     play(rt.alloc(), &URGENT)
-}
-
-#[test]
-fn first_checks_are_repeated_early(rt: HostRuntime) -> Result<(), Fail> {
-    play(rt.alloc(), &EARLY)
 }
 
 #[test]
@@ -41,15 +35,6 @@ pub(super) const TRIGGERS: Rules = Rules {
 const TRIGGERS_AND_KINDS: Rules = Rules {
     kinds_in_turn: true,
     ..TRIGGERS
-};
-
-/// Only the first four retransmissions are early, 100 ms apart.
-const REPEATS: Rules = Rules {
-    early_rto: Some(EarlyRto {
-        retransmits: 4,
-        interval: Duration(100_000_000),
-    }),
-    ..ORIGINAL
 };
 
 /// Only a request may select.
@@ -297,101 +282,6 @@ const URGENT: [Story; 5] = [
             Does(CheckTo(550, FIRST, true)),
             Does(CheckTo(600, At(7, 2000), false)),
             Does(CheckTo(650, At(8, 2000), false)),
-        ],
-    ),
-];
-
-// ---- early retransmissions
-
-const EARLY: [Story; 4] = [
-    Story(
-        "four_retransmissions_are_a_tenth_of_a_second_apart",
-        &[
-            Begin(Paired),
-            Set(Setting::Rules(REPEATS)),
-            Does(Check(0)),
-            Shows(NextAt(100)),
-            Does(Check(100)),
-            Shows(NextAt(200)),
-            Does(Check(200)),
-            Shows(NextAt(300)),
-            Does(Check(300)),
-            Shows(NextAt(400)),
-            Does(Check(400)),
-            Shows(NextAt(650)),
-            Does(Check(650)),
-            Shows(NextAt(1150)),
-            Does(Check(1150)),
-            Shows(NextAt(2150)),
-            Does(Check(2150)),
-            Shows(NextAt(4150)),
-            Does(Check(4150)),
-            Shows(NextAt(7150)),
-            // nine checks end no pair: four of them were early
-            Does(Check(7150)),
-            Shows(NextAt(10150)),
-            Does(Check(10150)),
-            Shows(NextAt(13150)),
-            Does(Check(13150)),
-            Shows(NextAt(16150)),
-            Does(Check(16150)),
-            Shows(NextAt(19150)),
-            Counts(Count::Checks, 13),
-            Does(Timeout(19150)),
-            Emits(NoPacket),
-            Holds(HasPair(PEER, false)),
-        ],
-    ),
-    Story(
-        "a_response_ends_early_retransmissions",
-        &[
-            Begin(Paired),
-            Set(Setting::Rules(REPEATS)),
-            Set(Setting::Controlling(false)),
-            Does(Check(0)),
-            Shows(NextAt(100)),
-            Does(Check(100)),
-            Takes(Answer(110, THERE)),
-            // 500 ms after the second check
-            Shows(NextAt(600)),
-        ],
-    ),
-    Story(
-        "a_nomination_without_a_response_is_repeated_early",
-        &[
-            Begin(Paired),
-            Set(Setting::Rules(REPEATS)),
-            Does(Check(0)),
-            Takes(Answer(10, THERE)),
-            Does(CheckTo(50, THERE, true)),
-            Shows(NextAt(150)),
-            Does(CheckTo(150, THERE, true)),
-            Shows(NextAt(250)),
-            Does(CheckTo(250, THERE, true)),
-            Shows(NextAt(350)),
-            Does(CheckTo(350, THERE, true)),
-            Shows(NextAt(450)),
-            Does(CheckTo(450, THERE, true)),
-            Shows(NextAt(700)),
-        ],
-    ),
-    // the due time that is fixed stays when rules are set
-    Story(
-        "rules_leave_a_due_time_that_was_queried",
-        &[
-            Begin(Paired),
-            Set(Setting::Rules(ORIGINAL)),
-            Does(Check(0)),
-            Shows(NextAt(250)),
-            Set(Setting::Rules(REPEATS)),
-            Shows(NextAt(250)),
-            Does(Check(250)),
-            Shows(NextAt(350)),
-            Set(Setting::Rules(ORIGINAL)),
-            Shows(NextAt(350)),
-            Does(Check(350)),
-            // the RTO after the third check
-            Shows(NextAt(1350)),
         ],
     ),
 ];

@@ -40,10 +40,11 @@ pub(super) const ORIGINAL: Rules = Rules {
 /// What connects fastest, keeps consent, and has a next timeout after each call.
 pub(super) const MODERN: Rules = Rules {
     kinds_in_turn: true,
-    triggered_checks: Some(4),
+    triggered_checks: Some(1),
     early_rto: Some(EarlyRto {
-        retransmits: 4,
-        interval: Duration(100_000_000),
+        retransmits: 8,
+        interval: Duration(160_000_000),
+        cap: Duration(400_000_000),
     }),
     selects_at_once: true,
     consent: Some(Consent {

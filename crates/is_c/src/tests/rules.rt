@@ -11,6 +11,7 @@ pub(super) const OFF: AgentRules = AgentRules {
     triggered_checks: 0,
     early_retransmits: 0,
     early_interval: 0,
+    early_cap: 0,
     consent_timeout: 0,
     suspicion_timeout: 0,
     suspicion_interval: 0,
@@ -28,9 +29,10 @@ pub(super) const OFF: AgentRules = AgentRules {
 };
 
 const ON: AgentRules = AgentRules {
-    triggered_checks: 4,
-    early_retransmits: 4,
-    early_interval: 100_000_000,
+    triggered_checks: 1,
+    early_retransmits: 8,
+    early_interval: 160_000_000,
+    early_cap: 400_000_000,
     consent_timeout: 29_600_000_000,
     suspicion_timeout: 0,
     suspicion_interval: 0,
@@ -51,6 +53,7 @@ fn are_same(one: &AgentRules, other: &AgentRules) -> bool {
     one.triggered_checks == other.triggered_checks
         && one.early_retransmits == other.early_retransmits
         && one.early_interval == other.early_interval
+        && one.early_cap == other.early_cap
         && one.kinds_in_turn == other.kinds_in_turn
         && one.selects_at_once == other.selects_at_once
         && one.consent_timeout == other.consent_timeout
@@ -107,6 +110,7 @@ fn what_belongs_to_no_rule_is_not_kept(rt: HostRuntime) {
     assert!(rt; made == codes::OK);
     let mut rules = OFF;
     rules.early_interval = 7;
+    rules.early_cap = 8;
     rules.strict_consent = true;
     rules.suspicion_interval = 9;
     let set = is_ice_set_rules(alloc, &mut slot, &rules);

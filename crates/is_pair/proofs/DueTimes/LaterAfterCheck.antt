@@ -1,5 +1,5 @@
 -- A pair that was checked is due after the time of the check, whenever its due time is computed from then on.
-use Rattle.std.proofs.Common.{◌≡◌, ℕ, zero, suc, ◌+◌, ◌-◌, ◌*◌, ◌/◌, ◌^◌, ◌==◌, ◌<◌, ◌≤◌, Bool, true, false, List, [], ◌∷◌, ◌++◌, length, drop, reverse, position, min, max, nat_le, Option, Some, None, unwrap_or, if◌then◌else◌, refl, ap, sym, ◌∙◌, subst, arith}
+use Rattle.std.proofs.Common.{◌≡◌, ℕ, zero, suc, ◌+◌, ◌-◌, ◌*◌, ◌/◌, ◌^◌, ◌==◌, ◌<◌, ◌≤◌, Bool, true, false, List, [], ◌∷◌, ◌++◌, length, drop, reverse, position, min, max, Option, Some, None, unwrap_or, if◌then◌else◌, refl, ap, sym, ◌∙◌, subst, arith}
 use Rattle.std.specs.Prelude.{slice_get}
 use Rattle.std.specs.Option.{option_map_or}
 use Rattle.std.proofs.Math.Nat.{one-le-pow, one-le-mul}
@@ -18,7 +18,7 @@ use Rattle.is_pair.specs.declared.pair.states.NominationState.TheVariants.{None 
 use Rattle.is_pair.specs.States.{nomination_once_sent}
 use Rattle.is_pair.specs.Checks.{Check, is_answered, last_checks, last_check, unanswered_count}
 use Rattle.is_pair.specs.Pairs.{PairRecord, check_of, checked}
-use Rattle.is_pair.specs.Due.{is_silent, delaying_count, usual_delay, is_repeated_early, delay_with, delay_of, next_due_time, computed_due_time}
+use Rattle.is_pair.specs.Due.{is_silent, delaying_count, usual_delay, is_repeated_early, silent_count, delay_with, delay_of, next_due_time, computed_due_time}
 use Rattle.is_pair.specs.Suspicion.{delay_probed, is_probed}
 use Rattle.is_pair.specs.Turns.{IsPaced, CheckedIsLater}
 
@@ -97,17 +97,12 @@ delaying : (now : ℕ) (t : StunTiming) (checks : List Check) → 0 < unanswered
 delaying now t checks open_still some = by-silence (is_silent now t checks) (unanswered_count checks) (length checks) open_still some
 
 -- the delay after it, early or not
-early-positive : (t : StunTiming) (e : EarlyRto) (n : ℕ) → IsPaced t → 0 < early_delay t e n
-early-positive t e n paced = of (nat_le n e.retransmits) refl where
-  least : (a b : ℕ) → 0 < a → 0 < max a b
-  least a b h = omega (arith, h)
-
-  more : (n r : ℕ) → nat_le n r ≡ false → 0 < n - r
-  more n r is = grind (arith, nat_tests, is)
-
-  of : (b : Bool) → nat_le n e.retransmits ≡ b → 0 < (if b then max MILLISECOND e.interval.0 else resend_delay t (n - e.retransmits))
-  of true is = least MILLISECOND e.interval.0 (omega arith)
-  of false is = delay-positive t (n - e.retransmits) paced (more n e.retransmits is)
+early-positive : (e : EarlyRto) (n : ℕ) → 0 < early_delay e n
+early-positive e n =
+    let some : 1 ≤ max MILLISECOND e.interval.0 = omega arith in
+    least _ _ (product _ _ some (one-le-pow (n - e.retransmits) 2 (omega arith))) some where
+      least : (x y : ℕ) → 1 ≤ x → 1 ≤ y → 0 < min x (max y e.cap.0)
+      least x y h k = omega (arith, h, k)
 
 wait-positive : (at : ℕ) (t : StunTiming) (o : Option EarlyRto) (q : PairRecord) → IsPaced t → 0 < unanswered_count q.checks → 0 < length q.checks
     → 0 < delay_with o at t q
@@ -115,13 +110,13 @@ wait-positive at t o q paced open_still some = with_early o where
   usual : 0 < usual_delay at t q.checks
   usual = delay-positive t (delaying_count at t q.checks) paced (delaying at t q.checks open_still some)
 
-  either : (e : EarlyRto) (b : Bool) → 0 < (if b then early_delay t e (unanswered_count q.checks) else usual_delay at t q.checks)
-  either e true = early-positive t e (unanswered_count q.checks) paced
+  either : (e : EarlyRto) (b : Bool) → 0 < (if b then early_delay e (silent_count q) else usual_delay at t q.checks)
+  either e true = early-positive e (silent_count q)
   either e false = usual
 
   with_early : (o : Option EarlyRto) → 0 < delay_with o at t q
   with_early None = usual
-  with_early (Some e) = either e (is_repeated_early t q)
+  with_early (Some e) = either e (is_repeated_early at t q)
 
 -- and no probe comes at once
 probed-positive : (now usual : ℕ) (o : Option Suspicion) (p : PairRecord) → 0 < usual → 0 < delay_probed o now p usual

@@ -41,7 +41,7 @@ impl CandidatePair {
         let trans_id = TransId::new(rng);
         let attempt = self.attempt(trans_id, now, controlling);
         self.binding_attempts.push_back_reserved(attempt);
-        self.once_sent(timing_config);
+        self.once_sent(now, timing_config);
         Ok(trans_id)
     }
 
@@ -73,12 +73,13 @@ impl CandidatePair {
         }
     }
 
-    /// Updates the state after a check was sent.
-    fn once_sent(&mut self, timing_config: &StunTiming)
-        ensures { self.new ≡ once_sent timing_config.now.max_retransmits self.old }
+    /// Updates the state after a check was sent now.
+    fn once_sent(&mut self, now: Instant, timing_config: &StunTiming)
+        ensures { self.new ≡ once_sent now.0 timing_config.now.max_retransmits self.old }
     {
         attempts::keep_last(&mut self.binding_attempts, timing_config.max_retransmits);
         self.checks_sent = self.checks_sent.saturating_add(1);
+        self.first_sent = Some(self.first_sent.unwrap_or(now));
         self.nomination_state = self.nomination_state.once_sent();
         self.state = self.state.once_sent();
         self.cached_next_attempt_time = None;
@@ -107,7 +108,7 @@ impl CandidatePair {
         let trans_id = TransId::new(rng);
         let attempt = self.attempt(trans_id, now, controlling);
         self.binding_attempts.push_back_reserved(attempt);
-        self.once_sent(timing_config);
+        self.once_sent(now, timing_config);
         trans_id
     }
 

@@ -4,7 +4,7 @@ ghost use Rattle.std.specs.Prelude.{◌≡◌, ◌<◌, is_some, min};
 ghost use Rattle.is_proto.specs.Times.{later};
 ghost use Rattle.is_pair.specs.Pairs.{is_valid, undue};
 ghost use Rattle.is_pair.specs.Due.{asked, delaying_count, due_time_of, is_heard, is_in_time, is_possible, long_before, next_due_time, computed_due_time};
-ghost use Rattle.is_pair.specs.Due.{awaits_response, delay_with, has_early_checks, is_early_silence, is_repeated_early, is_triggered, is_urgent, moved_up, triggered, usual_delay};
+ghost use Rattle.is_pair.specs.Due.{delay_with, has_early_checks, is_early_silence, is_open, is_repeated_early, is_triggered, is_urgent, is_young, moved_up, silent_count, triggered, usual_delay};
 ghost use Rattle.is_pair.specs.Due.{delay_of};
 
 use super::attempt::BindingAttempt;
@@ -25,7 +25,7 @@ impl CandidatePair {
     /// A nominated pair without a check since its nomination is due before all others. A pair that was never checked is
     /// due now. Otherwise the check is due one RTO after the last one. The RTO depends on the number of pending
     /// transactions, or, if the peer has been silent for longer than half of `max_rto`, on the number of checks without a
-    /// response. With `early`, the first checks without a response are due after its interval. With `suspicion`, so are those of a pair
+    /// response. With `early`, checks are due sooner while there is no response: after its interval at first, later after at most its cap. With `suspicion`, so are those of a pair
     /// that had a response before. The due time is at most `max_rto` from now.
     pub fn next_binding_attempt(&mut self, now: Instant, timing_config: &StunTiming) -> Instant
         requires { 0 < timing_config.now.max_retransmits }
@@ -69,49 +69,70 @@ impl CandidatePair {
     }
 
     /// Whether the path may still work. It fails if no check from the peer arrived for 15 s, `max_retransmits` checks
-    /// had no response, and the delay after the last of them has passed. Early retransmissions end it no sooner: if there was
-    /// no response at all, they are not counted, and otherwise the time of a whole series of checks has to pass. It has to pass with
+    /// had no response, and the delay after the last of them has passed. With `early` the time of a whole series of checks has to pass
+    /// besides: since the first check if there was no response at all, otherwise since the first one without. It has to pass with
     /// `suspicion` too.
     pub fn is_still_possible(&self, now: Instant, timing_config: &StunTiming) -> bool
         requires { 0 < timing_config.now.max_retransmits }
         ensures { result ≡ is_possible now.0 timing_config.now self.now }
     {
-        self.is_heard(now)
-            || self.binding_attempts.len() < timing_config.max_retransmits()
-            || attempts::unanswered(&self.binding_attempts) < timing_config.max_retransmits()
-            || is_in_time(&self.binding_attempts, now, timing_config)
+        self.is_open(now, timing_config)
             || self.has_early_checks(now, timing_config)
             || self.is_kept_by_series(now, timing_config)
     }
 
-    /// Whether the path may still work because early retransmissions end no pair sooner: as long as no response arrived, they are not
-    /// counted; after that, time counts.
+    /// Whether a check from the peer arrived, or not so many checks had no response, or the response to the last one may still arrive.
+    fn is_open(&self, now: Instant, timing: &StunTiming) -> bool
+        ensures { result ≡ is_open now.0 timing.now self.now }
+    {
+        self.is_heard(now)
+            || self.binding_attempts.len() < timing.max_retransmits()
+            || attempts::unanswered(&self.binding_attempts) < timing.max_retransmits()
+            || is_in_time(&self.binding_attempts, now, timing)
+    }
+
+    /// Whether the path may still work because checks are repeated early: then time counts, and not their number.
     fn has_early_checks(&self, now: Instant, timing: &StunTiming) -> bool
         ensures { result ≡ has_early_checks timing.now.early now.0 timing.now self.now }
     {
         match timing.early {
             None => false,
-            Some(early) if self.responses_received == 0 => {
-                let counted = self.checks_sent.saturating_sub(early.retransmits as u64);
-                counted < timing.max_retransmits() as u64
-            }
+            Some(_) if self.responses_received == 0 => self.is_young(now, timing),
             Some(_) => is_early_silence(&self.binding_attempts, now, timing),
         }
     }
 
-    /// Whether no response arrived on the pair yet, or none to a check that nominates it.
-    fn awaits_response(&self) -> bool
-        ensures { result ≡ awaits_response self.now }
+    /// Whether less time has passed since the first check than a whole series of checks takes.
+    fn is_young(&self, now: Instant, timing: &StunTiming) -> bool
+        ensures { result ≡ is_young now.0 timing.now self.now }
     {
-        self.responses_received == 0 || self.nomination_state.is_nominating()
+        match self.first_sent {
+            Some(at) => now < at + timing.timeout(),
+            None => false,
+        }
     }
 
-    /// Whether the first checks are repeated early: until `max_retransmits` checks have no response.
-    fn is_repeated_early(&self, timing: &StunTiming) -> bool
-        ensures { result ≡ is_repeated_early timing.now self.now }
+    /// Returns the number of checks without a response: of all, as long as there was none.
+    fn silent_count(&self) -> u64
+        ensures { result ≡ silent_count self.now }
     {
-        self.awaits_response()
-            && attempts::unanswered(&self.binding_attempts) < timing.max_retransmits()
+        if self.responses_received == 0 {
+            self.checks_sent
+        } else {
+            attempts::unanswered(&self.binding_attempts) as u64
+        }
+    }
+
+    /// Whether checks are repeated early: while no response arrived on the pair, or none to a check that nominates it.
+    fn is_repeated_early(&self, now: Instant, timing: &StunTiming) -> bool
+        ensures { result ≡ is_repeated_early now.0 timing.now self.now }
+    {
+        if self.responses_received == 0 {
+            self.is_young(now, timing)
+        } else {
+            self.nomination_state.is_nominating()
+                && attempts::unanswered(&self.binding_attempts) < timing.max_retransmits()
+        }
     }
 
     /// Returns the delay after the last check, if the pair is not probed.
@@ -119,8 +140,8 @@ impl CandidatePair {
         ensures { result.0 ≡ delay_with timing.now.early now.0 timing.now self.now }
     {
         match timing.early {
-            Some(early) if self.is_repeated_early(timing) => {
-                timing.early_delay(early, attempts::unanswered(&self.binding_attempts))
+            Some(early) if self.is_repeated_early(now, timing) => {
+                early.delay(self.silent_count())
             }
             _ => usual_delay(&self.binding_attempts, now, timing),
         }

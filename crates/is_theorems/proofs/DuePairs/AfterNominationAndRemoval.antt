@@ -178,7 +178,7 @@ at-alike n c l p = apart (is_numbered n p) where
   apart true = self-alike c l p
   apart false = alike-same p
 
-possible : (e s h b u i : Bool) → u ≡ true → (e || s || h || b || u || i) ≡ true
+possible : (e s h b u i : Bool) → u ≡ true → (e || s || (h || b || u || i)) ≡ true
 possible true s h b u i is = refl
 possible false true h b u i is = refl
 possible false false true b u i is = refl

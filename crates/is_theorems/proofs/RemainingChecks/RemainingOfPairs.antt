@@ -44,7 +44,7 @@ pub unspent-checked : (m now : ℕ) (t : StunTiming) (b : Bool) (id : List ℕ) 
 unspent-checked m now t b id p = let k = checked-length t.max_retransmits p.checks (check_of now b id p) in omega (arith, k)
 
 -- a pair that is removed after timeout
-spent-by : (c e s h b u i : Bool) → c ≡ true → not (not (c && (e || s || h || b || u || i))) ≡ false → b ≡ false
+spent-by : (c e s h b u i : Bool) → c ≡ true → not (not (c && (e || s || (h || b || u || i)))) ≡ false → b ≡ false
 spent-by false e s h b u i has is = absurd (cc)
 spent-by true true s h b u i has is = absurd (cc)
 spent-by true false true h b u i has is = absurd (cc)

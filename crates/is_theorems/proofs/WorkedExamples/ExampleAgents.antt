@@ -76,6 +76,7 @@ module _ {H P : Type 0} (mac : H → List ℕ → List ℕ → List ℕ) (provid
     pairs = record (new_pair 0 0 0 9151313343271665150) {
       checks = record { id = id; sent = 0; answered = None; nominated = false; controlling = true } ∷ [];
       checks_sent = 1;
+      first_sent = Some 0;
       state = InProgress;
     } ∷ [];
     packets = record {
@@ -101,6 +102,7 @@ module _ {H P : Type 0} (mac : H → List ℕ → List ℕ → List ℕ) (provid
     pairs = record (new_pair 0 0 0 9151313343271665150) {
       checks = record { id = id; sent = 0; answered = Some (milliseconds 50); nominated = false; controlling = true } ∷ [];
       checks_sent = 1;
+      first_sent = Some 0;
       state = Succeeded;
       nomination = Nominated;
       answers = 1;

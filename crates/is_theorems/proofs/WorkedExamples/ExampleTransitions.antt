@@ -135,7 +135,7 @@ module _ {H P : Type 0} (mac : H → List ℕ → List ℕ → List ℕ) (answer
   sent_check = record { id = zero_id; sent = 0; answered = None; nominated = false; controlling = true }
 
   checked_pair : PairRecord
-  checked_pair = record (new_pair 0 0 0 9151313343271665150) { checks = sent_check ∷ []; checks_sent = 1; state = InProgress }
+  checked_pair = record (new_pair 0 0 0 9151313343271665150) { checks = sent_check ∷ []; checks_sent = 1; first_sent = Some 0; state = InProgress }
 
   valid_pair : PairRecord
   valid_pair = answered (milliseconds 50) 0 sent_check checked_pair

@@ -5,7 +5,7 @@ use std::alloc::{AllocError, Global};
 use std::test::Fail;
 
 /// Lines, and what is wrong with them.
-static FAULTS: [(&str, &str); 38] = [
+static FAULTS: [(&str, &str); 40] = [
     ("[1]", "not a script line: no JSON object"),
     ("\r", "not a script line: no JSON at column 1"),
     (" ", "not a script line: no JSON at column 1"),
@@ -103,11 +103,19 @@ static FAULTS: [(&str, &str); 38] = [
     ),
     (
         r#"{"call":"rules","name":"modern","early_rto":4}"#,
-        "bad early_rto: 4 is not an object with retransmits and interval, or null",
+        "bad early_rto: 4 is not an object with retransmits, interval and cap, or null",
     ),
     (
         r#"{"call":"rules","name":"modern","early_rto":{"retransmits":4}}"#,
         "missing interval, which is a whole number from 0 to 18446744073709551615",
+    ),
+    (
+        r#"{"call":"rules","name":"modern","early_rto":{"retransmits":4,"interval":5}}"#,
+        "missing cap, which is a whole number from 0 to 18446744073709551615",
+    ),
+    (
+        r#"{"call":"rules","name":"modern","early_rto":{"retransmits":4,"interval":5,"cap":null}}"#,
+        "bad cap: null is not a whole number from 0 to 18446744073709551615",
     ),
     (
         r#"{"call":"rules","name":"modern","consent":true}"#,

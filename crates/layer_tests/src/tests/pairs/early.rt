@@ -1,24 +1,34 @@
-//! Early retransmissions: the first checks without a response come soon after one another.
+//! Early retransmissions: as long as a pair has no response, its checks come soon after one another, until a whole series of checks would
+//! have ended.
 
 use super::{Path, at};
+use is_pair::take_over;
 use is_proto::{Duration, Instant};
 use is_stun::stun::EarlyRto;
 use std::alloc::Global;
 use std::test::Fail;
 
-/// So many early retransmissions, 100 ms apart.
-fn so_many(retransmits: usize) -> Option<EarlyRto> {
+/// How long a whole series of checks takes, in milliseconds: 0.5, 1 and 2 s, five times 3 s to the ninth one, and 3 s more.
+const SERIES: u64 = 21_500;
+
+/// So many early retransmissions after this interval each, and then delays of at most this cap, in milliseconds.
+fn rule(retransmits: usize, interval: u64, cap: u64) -> Option<EarlyRto> {
     Some(EarlyRto {
         retransmits,
-        interval: Duration::from_millis(100),
+        interval: Duration::from_millis(interval),
+        cap: Duration::from_millis(cap),
     })
 }
 
-/// A path with four early retransmissions.
-fn early_path(alloc: Global) -> Path {
+fn path_with(alloc: Global, early: Option<EarlyRto>) -> Path {
     let mut path = Path::new(alloc);
-    path.timing.early = so_many(4);
+    path.timing.early = early;
     path
+}
+
+/// A path with two early retransmissions 100 ms apart, and delays of at most 300 ms.
+fn early_path(alloc: Global) -> Path {
+    path_with(alloc, rule(2, 100, 300))
 }
 
 /// A check at this time, and when the next one is due.
@@ -27,23 +37,100 @@ fn next_after(path: &mut Path, now: Instant) -> Result<Instant, Fail> {
     Ok(path.due(now))
 }
 
-/// So many checks, all at the beginning.
-fn check_often(path: &mut Path, count: usize) -> Result<(), Fail> {
+/// So many checks when they are due, the first at this time; returns when the next one is due.
+fn due_after(path: &mut Path, start: Instant, count: usize) -> Result<Instant, Fail> {
+    let mut now = start;
     for _ in 0..count {
-        path.check(at(0))?;
+        now = next_after(path, now)?;
+    }
+    Ok(now)
+}
+
+/// So many checks, all at this time, in milliseconds.
+fn check_often(path: &mut Path, count: usize, now: u64) -> Result<(), Fail> {
+    for _ in 0..count {
+        path.check(at(now))?;
     }
     Ok(())
 }
 
-/// Four retransmissions after 100 ms each, then those of a first RTO of 250 ms.
+/// The pair is possible until this time, in milliseconds, and not from then on.
+fn ends_at(path: &Path, end: u64) -> bool {
+    let nearly = at(end.saturating_sub(1)) + Duration(999_999);
+    path.is_possible(nearly) && !path.is_possible(at(end))
+}
+
+/// Checks when they are due, from the beginning until this time, at most a hundred; returns how many, and when the next one is due.
+fn check_until(path: &mut Path, end: Instant) -> Result<(usize, Instant), Fail> {
+    let mut now = at(0);
+    for count in 0..100 {
+        if now >= end {
+            return Ok((count, now));
+        }
+        now = next_after(path, now)?;
+    }
+    Err(Fail::from("there are more than a hundred checks"))
+}
+
+/// Checks when they are due, as long as the pair is possible, at most a hundred; returns how many, and when it is not.
+fn check_until_removed(path: &mut Path, start: Instant) -> Result<(usize, Instant), Fail> {
+    let mut now = start;
+    for count in 0..100 {
+        if !path.is_possible(now) {
+            return Ok((count, now));
+        }
+        now = next_after(path, now)?;
+    }
+    Err(Fail::from("the pair is checked for ever"))
+}
+
+// ---- when checks are due
+
+/// Two retransmissions after 100 ms each, one after 200 ms, and the others after 300 ms, more than nine of them.
 #[test]
 fn checks_without_a_response_are_repeated_early(rt: HostRuntime) -> Result<(), Fail> {
     let mut path = early_path(rt.alloc());
     let mut now = path.due(at(0));
     assert!(rt; now == at(0));
-    for next in [100, 200, 300, 400, 650, 1150, 2150, 4150, 7150, 10150] {
+    for next in [
+        100, 200, 400, 700, 1000, 1300, 1600, 1900, 2200, 2500, 2800, 3100,
+    ] {
         now = next_after(&mut path, now)?;
         assert!(rt; now == at(next));
+    }
+    Ok(())
+}
+
+#[test]
+fn with_a_cap_below_the_interval_no_delay_doubles(rt: HostRuntime) -> Result<(), Fail> {
+    let mut path = path_with(rt.alloc(), rule(2, 100, 50));
+    let mut now = at(0);
+    for next in [100, 200, 300, 400, 500, 600, 700, 800, 900, 1000] {
+        now = next_after(&mut path, now)?;
+        assert!(rt; now == at(next));
+    }
+    Ok(())
+}
+
+/// The delays are 1, 1, 2, 4 ms and so on up to 256 ms; twice as much is above the cap.
+#[test]
+fn an_interval_of_zero_counts_as_a_millisecond(rt: HostRuntime) -> Result<(), Fail> {
+    let mut path = path_with(rt.alloc(), rule(2, 0, 300));
+    let mut now = at(0);
+    for next in [1, 2, 4, 8, 16, 32, 64, 128, 256, 512, 812, 1112] {
+        now = next_after(&mut path, now)?;
+        assert!(rt; now == at(next));
+    }
+    Ok(())
+}
+
+/// Just before its end the second early retransmission still follows, after 100 ms. Then the RTO counts: 500 ms after the second check.
+#[test]
+fn after_a_whole_series_the_rto_counts(rt: HostRuntime) -> Result<(), Fail> {
+    for (sent, due) in [(SERIES - 1, SERIES + 99), (SERIES, SERIES + 500)] {
+        let mut path = early_path(rt.alloc());
+        path.check(at(0))?;
+        assert!(rt; next_after(&mut path, at(sent))? == at(due));
     }
     Ok(())
 }
@@ -68,6 +155,20 @@ fn a_response_to_the_first_check_ends_early_retransmissions(rt: HostRuntime) -> 
     Ok(())
 }
 
+/// Nine checks were sent before. The delay after nine pending transactions is 3 s.
+#[test]
+fn a_response_to_a_later_check_ends_them_too(rt: HostRuntime) -> Result<(), Fail> {
+    let mut path = early_path(rt.alloc());
+    assert!(rt; check_until(&mut path, at(2200))? == (9, at(2200)));
+    path.check_answered(2200, 2250)?;
+    assert!(rt; path.due(at(2250)) == at(5200));
+    assert!(rt; next_after(&mut path, at(5200))? == at(8200));
+    Ok(())
+}
+
+// ---- nominations
+
+/// Until nine of them have no response: then the RTO counts, 3 s.
 #[test]
 fn a_check_that_nominates_is_repeated_early(rt: HostRuntime) -> Result<(), Fail> {
     let mut path = early_path(rt.alloc());
@@ -75,7 +176,9 @@ fn a_check_that_nominates_is_repeated_early(rt: HostRuntime) -> Result<(), Fail>
     path.nominate()?;
     assert!(rt; path.due(at(70000)) == at(10000));
     let mut now = at(70000);
-    for next in [70100, 70200, 70300, 70400, 70650, 71150] {
+    for next in [
+        70100, 70200, 70400, 70700, 71000, 71300, 71600, 71900, 74900, 77900,
+    ] {
         now = next_after(&mut path, now)?;
         assert!(rt; now == at(next));
     }
@@ -94,85 +197,144 @@ fn the_response_to_a_nomination_ends_early_retransmissions(rt: HostRuntime) -> R
     Ok(())
 }
 
-/// Without a response, a pair has its nine checks and the four early retransmissions.
+/// The nominating checks are sent at 1, 1.1, 1.2, 1.4 and 1.7 s, then every 0.3 s until the ninth at 2.9 s, and then every 3 s. After fifteen
+/// of them the first one that is stored was sent at 2.3 s, a whole series before 23.8 s.
 #[test]
-fn early_retransmissions_end_no_pair_sooner(rt: HostRuntime) -> Result<(), Fail> {
+fn a_nominated_pair_ends_by_the_clock(rt: HostRuntime) -> Result<(), Fail> {
     let mut path = early_path(rt.alloc());
-    for _ in 0..12 {
-        path.check(at(0))?;
-        assert!(rt; path.is_possible(at(1_000_000)));
+    path.check_answered(0, 50)?;
+    path.nominate()?;
+    assert!(rt; check_until_removed(&mut path, at(1000))? == (15, at(23_900)));
+    Ok(())
+}
+
+// ---- when a pair without a response ends
+
+/// Not by the number of its checks.
+#[test]
+fn a_pair_without_a_response_is_kept_for_a_whole_series(rt: HostRuntime) -> Result<(), Fail> {
+    for count in [9, 10, 13, 30] {
+        let mut path = early_path(rt.alloc());
+        check_often(&mut path, count, 0)?;
+        assert!(rt; ends_at(&path, SERIES));
     }
+    Ok(())
+}
+
+/// Though it is the tenth last, and no longer stored, also in a copy.
+#[test]
+fn the_series_begins_at_the_first_check(rt: HostRuntime) -> Result<(), Fail> {
+    let mut path = early_path(rt.alloc());
     path.check(at(0))?;
-    assert!(rt; path.is_possible(at(2999)));
-    assert!(rt; !path.is_possible(at(3000)));
+    check_often(&mut path, 9, 10_000)?;
+    assert!(rt; ends_at(&path, SERIES));
+    path.pair = path.pair.try_clone()?;
+    assert!(rt; ends_at(&path, SERIES));
+    Ok(())
+}
+
+/// The response to the last check may still come for 3 s.
+#[test]
+fn the_last_response_is_waited_for(rt: HostRuntime) -> Result<(), Fail> {
+    let mut path = early_path(rt.alloc());
+    path.check(at(0))?;
+    check_often(&mut path, 9, SERIES - 1)?;
+    assert!(rt; ends_at(&path, SERIES + 2999));
     Ok(())
 }
 
 #[test]
-fn with_one_retransmit_there_are_five_checks(rt: HostRuntime) -> Result<(), Fail> {
-    let mut path = Path::impatient(rt.alloc());
-    path.timing.early = so_many(4);
-    check_often(&mut path, 4)?;
+fn eight_checks_end_no_pair(rt: HostRuntime) -> Result<(), Fail> {
+    let mut path = early_path(rt.alloc());
+    check_often(&mut path, 8, 0)?;
     assert!(rt; path.is_possible(at(1_000_000)));
-    path.check(at(0))?;
-    assert!(rt; path.is_possible(at(249)));
-    assert!(rt; !path.is_possible(at(250)));
     Ok(())
 }
 
-/// Checks when they are due, as long as the pair is possible, at most twenty; returns when it is not.
-fn check_until_removed(path: &mut Path, start: Instant) -> Result<(usize, Instant), Fail> {
-    let mut now = start;
-    for count in 0..20 {
-        if !path.is_possible(now) {
-            return Ok((count, now));
-        }
-        now = next_after(path, now)?;
-    }
-    Err(Fail::from("the pair is checked for ever"))
+/// The fourth check is sent at 0.4 s, and seventy more every 0.3 s until 21.4 s. The next one is due at 21.7 s, while the response to that one
+/// may still come. It is the last one, and is waited for by the RTO, 3 s.
+#[test]
+fn a_pair_without_a_response_has_75_checks(rt: HostRuntime) -> Result<(), Fail> {
+    let mut path = early_path(rt.alloc());
+    assert!(rt; check_until_removed(&mut path, at(0))? == (75, at(24_700)));
+    Ok(())
 }
 
-/// With two retransmissions there are six checks: the second one early, and the others after the last delay, 500 ms.
+/// A check from the peer at 21 s keeps it until 36 s, and the response to the last check, at 33.7 s, may come until 36.7 s.
+#[test]
+fn a_pair_that_is_still_heard_goes_on_with_the_rto(rt: HostRuntime) -> Result<(), Fail> {
+    let mut path = early_path(rt.alloc());
+    let (count, mut now) = check_until(&mut path, at(SERIES))?;
+    assert!(rt; count == 74 && now == at(21_700));
+    path.pair.increase_remote_binding_requests(at(21_000));
+    assert!(rt; path.is_possible(now));
+    now = next_after(&mut path, now)?;
+    assert!(rt; now == at(24_700) && path.is_possible(now));
+    assert!(rt; due_after(&mut path, now, 4)? == at(36_700));
+    assert!(rt; ends_at(&path, 36_700));
+    Ok(())
+}
+
+/// With one check a whole series takes 250 ms. The first three are sent at 0, 100 and 200 ms; the next one is due at 400 ms, and by then the
+/// RTO counts, 250 ms.
+#[test]
+fn with_one_retransmit_there_are_four_checks(rt: HostRuntime) -> Result<(), Fail> {
+    let mut path = Path::impatient(rt.alloc());
+    path.timing.early = rule(2, 100, 300);
+    assert!(rt; check_until_removed(&mut path, at(0))? == (4, at(650)));
+    Ok(())
+}
+
+/// With two checks it takes 1 s. Five are sent by 0.7 s; the next one is due at 1 s, and by then the RTO counts, 500 ms.
 #[test]
 fn few_retransmits_end_as_well(rt: HostRuntime) -> Result<(), Fail> {
     let mut path = early_path(rt.alloc());
     path.timing.max_retransmits = 2;
-    assert!(rt; check_until_removed(&mut path, at(0))? == (6, at(2600)));
+    assert!(rt; check_until_removed(&mut path, at(0))? == (6, at(1500)));
     Ok(())
 }
 
-/// A whole series of nine checks takes 21.5 s. The nominating checks are sent at 1, 1.1, 1.2, 1.3, 1.4, 1.65, 2.15, 3.15 and 5.15 s, and then
-/// every 3 s. After fourteen of them, the first one that is stored was sent at 1.65 s.
+/// It has a series of its own.
 #[test]
-fn after_a_response_time_counts(rt: HostRuntime) -> Result<(), Fail> {
-    let mut path = early_path(rt.alloc());
-    path.check_answered(0, 50)?;
-    path.nominate()?;
-    assert!(rt; check_until_removed(&mut path, at(1000))? == (14, at(23150)));
+fn a_pair_that_replaces_another_begins_again(rt: HostRuntime) -> Result<(), Fail> {
+    let mut old = early_path(rt.alloc());
+    check_often(&mut old, 9, 0)?;
+    let mut new = early_path(rt.alloc());
+    take_over(&mut new.pair, &old.pair, false);
+    assert!(rt; next_after(&mut new, at(20_000))? == at(20_100));
+    check_often(&mut new, 8, 20_100)?;
+    assert!(rt; ends_at(&new, 20_000 + SERIES));
     Ok(())
 }
 
-/// The same without a nomination: the delays are the usual ones, and a whole series has to pass from the first check without a response on.
+// ---- when others end
+
+/// The delays are the usual ones, and a whole series has to pass from the first check without a response on.
 #[test]
 fn after_a_response_a_whole_series_passes(rt: HostRuntime) -> Result<(), Fail> {
-    let mut path = early_path(rt.alloc());
-    path.check_answered(0, 50)?;
-    check_often(&mut path, 9)?;
-    assert!(rt; path.is_possible(at(21499)));
-    assert!(rt; !path.is_possible(at(21500)));
+    for (sent, received, later, end) in [
+        (0, 50, 100, 100 + SERIES),
+        (20_000, 20_050, 20_100, 20_100 + SERIES),
+    ] {
+        let mut path = early_path(rt.alloc());
+        path.check(at(0))?;
+        path.check_answered(sent, received)?;
+        check_often(&mut path, 9, later)?;
+        assert!(rt; ends_at(&path, end));
+    }
     Ok(())
 }
 
+/// Without the rule the number of checks counts. With it time counts, also where no retransmission is early.
 #[test]
-fn without_early_retransmissions_a_pair_has_nine_checks(rt: HostRuntime) -> Result<(), Fail> {
-    for early in [None, so_many(0)] {
+fn without_the_rule_a_pair_has_nine_checks(rt: HostRuntime) -> Result<(), Fail> {
+    for (early, end) in [(None, 3000), (rule(0, 100, 300), SERIES)] {
         let mut path = Path::new(rt.alloc());
         path.timing.early = early;
-        check_often(&mut path, 8)?;
+        check_often(&mut path, 8, 0)?;
         assert!(rt; path.is_possible(at(1_000_000)));
         path.check(at(0))?;
-        assert!(rt; path.is_possible(at(2999)));
-        assert!(rt; !path.is_possible(at(3000)));
+        assert!(rt; ends_at(&path, end));
     }
     Ok(())
 }
