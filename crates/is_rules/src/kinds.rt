@@ -22,7 +22,7 @@ use is_pair::pair::{CandidatePair, CheckState};
 use is_pair::{due_time_of, is_urgent};
 use is_proto::Instant;
 use is_stun::stun::StunTiming;
-use std::net::SocketAddr;
+use std::net::{IpAddr, SocketAddr};
 
 // ---- the kind of a pair
 
@@ -65,7 +65,32 @@ fn has_reflexive_like(local: &[Candidate], address: SocketAddr) -> bool
 fn reaches_out(local: &[Candidate], address: SocketAddr) -> bool
     ensures { result ≡ reaches_out local.now address }
 {
-    has_reflexive(local, address) || !has_reflexive_like(local, address)
+    has_reflexive(local, address)
+        || (!has_reflexive_like(local, address)
+            && (is_global(address) || !has_global_like(local, address)))
+}
+
+pub fn is_global(address: SocketAddr) -> bool {
+    match address.ip() {
+        IpAddr::V4(ip) => !ip.is_private() && !ip.is_loopback() && !ip.is_link_local(),
+        IpAddr::V6(ip) => ip.segments()[0] >= 8192 && ip.segments()[0] < 16384,
+    }
+}
+
+fn is_global_like(address: SocketAddr, candidate: &Candidate) -> bool {
+    !is_discarded(candidate) && is_global(base(candidate)) && same_version(base(candidate), address)
+}
+
+fn has_global_like(local: &[Candidate], address: SocketAddr) -> bool {
+    local.iter().any(|c| is_global_like(address, c))
+}
+
+fn remote_rank(theirs: &Candidate) -> u8 {
+    if same_kind(theirs.kind(), CandidateKind::Host) && is_global(theirs.addr()) {
+        1
+    } else {
+        kind_rank(theirs.kind())
+    }
 }
 
 /// Packets of the local candidate reach the outside.
@@ -103,7 +128,7 @@ fn kind_between(local: &[Candidate], ours: &Candidate, theirs: &Candidate) -> u8
     ensures within { result < KINDS }
 {
     let side = if is_outer(local, ours) { 0 } else { 8 };
-    side + 2 * kind_rank(theirs.kind()) + version_rank(theirs.addr())
+    side + 2 * remote_rank(theirs) + version_rank(theirs.addr())
 }
 
 /// The kind of a pair, a number from 0 to 15.

@@ -65,9 +65,9 @@ pub struct Rules {
 
 /// How often, how far apart, and how far apart at most after that.
 const MODERN_EARLY_RTO: EarlyRto = EarlyRto {
-    retransmits: 8,
-    interval: Duration(160_000_000),
-    cap: Duration(400_000_000),
+    retransmits: 2,
+    interval: Duration(100_000_000),
+    cap: Duration(350_000_000),
 };
 
 /// How far apart checks are at most until the agent is settled.
