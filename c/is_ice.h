@@ -514,8 +514,8 @@ IS_ICE_QUIET_CALL int32_t is_ice_retransmit_delay(
     uint64_t initial_rto, uint64_t max_rto, size_t max_retransmits, size_t sent, uint64_t *delay);
 
 /* is_ice_modern_rules, is_ice_original_rules - return the rules that connect sooner and end consent in time, and those of
- * the Rust crate `is` 0.12.0, of which each is off. By the first, one request triggers a check; there are 8 early
- * retransmissions, each after 160 ms, and later ones after 400 ms at most. Consent lasts 29.6 s, and is not strict. Early
+ * the Rust crate `is` 0.12.0, of which each is off. By the first, one request triggers a check; there are 2 early
+ * retransmissions, each after 100 ms, and later ones after 350 ms at most. Consent lasts 29.6 s, and is not strict. Early
  * pacing is 10 ms. Each other rule is on, except for suspicion. On any thread. IS_ICE_OK. */
 IS_ICE_QUIET_CALL int32_t is_ice_modern_rules(is_ice_agent_rules *rules);
 IS_ICE_QUIET_CALL int32_t is_ice_original_rules(is_ice_agent_rules *rules);
@@ -531,7 +531,9 @@ IS_ICE_QUIET_CALL int32_t is_ice_original_rules(is_ice_agent_rules *rules);
  * that is due first, as without the rule (RFC 8445, section 6.1.4.2). So a path through NATs is found soon, however many
  * host candidates there are. The kind of a pair is the kind of its remote candidate, its IP version, and whether packets
  * of its local candidate reach the outside. They do if the candidate is relayed, if its base has a server-reflexive
- * candidate, or if no base of its IP version has one.
+ * candidate or a public address, or if no base of its IP version has either. A host candidate with a public address
+ * counts as server-reflexive. An address of IPv4 is public if it is not private (RFC 1918), shared (RFC 6598), loopback
+ * or link-local, and one of IPv6 if it is in 2000::/3 (RFC 4291, section 2.4).
  *
  * triggered_checks: each of the first so many requests on a pair makes its next check due at once, until the pair is
  * valid (RFC 8445, section 7.3.1.4). Every second check may go to such a pair, or to one whose nomination has no response

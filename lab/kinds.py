@@ -5,6 +5,8 @@ from __future__ import annotations
 from collections import Counter
 from collections.abc import Sequence
 from dataclasses import dataclass
+from functools import lru_cache
+from ipaddress import IPv4Network, IPv6Network, ip_address
 from typing import Any
 
 from is_ice import SocketAddress
@@ -16,6 +18,10 @@ from .pairs import Consent, EarlyRto, Pair, Place, Suspicion
 COUNT = 16
 # Peer-reflexive candidates come first, since the peer sent a packet from there. Host candidates come last.
 RANKS = {"prflx": 0, "srflx": 1, "relay": 2, "host": 3}
+# The IPv4 addresses that are not public: private (RFC 1918), shared (RFC 6598), loopback and link-local ones.
+INNER = tuple(map(IPv4Network, ("10.0.0.0/8", "172.16.0.0/12", "192.168.0.0/16", "100.64.0.0/10", "127.0.0.0/8", "169.254.0.0/16")))
+# The IPv6 addresses that are public (RFC 4291, section 2.4; RFC 3587).
+GLOBAL = IPv6Network("2000::/3")
 
 
 @dataclass(frozen=True)
@@ -45,7 +51,7 @@ class Rules:
 
 ORIGINAL = Rules()
 # With these an agent that the library makes begins.
-MODERN = Rules(True, 1, EarlyRto(8, 160 * MILLISECOND, 400 * MILLISECOND), True, Consent(29600 * MILLISECOND), None, 10 * MILLISECOND,
+MODERN = Rules(True, 1, EarlyRto(2, 100 * MILLISECOND, 350 * MILLISECOND), True, Consent(29600 * MILLISECOND), None, 10 * MILLISECOND,
                True, True, True, True, True, True, True)
 
 
@@ -62,9 +68,23 @@ def rules_of(given: Any) -> Rules:
                  given.numbered_nominations, given.discovered_if_served, given.state_after_nomination, given.invalidates_listed)
 
 
+@lru_cache(maxsize=1 << 14)
+def is_public(ip: str) -> bool:
+    """Whether the address is routed on the Internet."""
+    address = ip_address(ip)
+    return address in GLOBAL if address.version == 6 else not any(address in network for network in INNER)
+
+
+def counted_kind(candidate: Place) -> str:
+    """Returns the kind that a candidate counts as: server-reflexive if it is a host candidate with a public address, since a STUN server
+    would return the same address, and that candidate would be redundant (RFC 8445, section 5.1.3)."""
+    return "srflx" if candidate.kind == "host" and is_public(candidate.address.ip) else candidate.kind
+
+
 def reaches_out(local: Sequence[Place], base: SocketAddress) -> bool:
-    """Whether packets from this base reach the outside: a live server-reflexive candidate has it, or none has a base of its IP version."""
-    bases = {c.base for c in local if c.kind == "srflx" and not c.is_discarded}
+    """Whether packets from this base reach the outside: a live candidate that counts as server-reflexive has it, or none has a base of its
+    IP version."""
+    bases = {c.base for c in local if counted_kind(c) == "srflx" and not c.is_discarded}
     return base in bases or all(other.version != base.version for other in bases)
 
 
@@ -74,8 +94,8 @@ def is_outer(local: Sequence[Place], candidate: Place) -> bool:
 
 
 def kind_between(local: Sequence[Place], own: Place, other: Place) -> int:
-    """Returns the kind of a pair of two candidates: outer or not, the kind of the remote one, and the IP version."""
-    return (0 if is_outer(local, own) else 8) + 2 * RANKS[other.kind] + (1 if other.address.version == 4 else 0)
+    """Returns the kind of a pair of two candidates: outer or not, the kind that the remote one counts as, and the IP version."""
+    return (0 if is_outer(local, own) else 8) + 2 * RANKS[counted_kind(other)] + (1 if other.address.version == 4 else 0)
 
 
 def kind_of(local: Sequence[Place], remote: Sequence[Place], pair: Pair) -> int:

@@ -13,7 +13,7 @@ ASIDE = 9.0
 # How much lower than the end of its arrow a text may be, or higher, the best first.
 ASIDES = (0.0, 7.0, -7.0, 11.0, -11.0, 16.0, -16.0, 22.0, -22.0, 29.0, -29.0, 36.0, -36.0, 43.0, -43.0)
 # How far over or under its arrow a label may be, if it is free nowhere on it.
-BESIDES = (-9.0, 9.0, -15.0, 15.0, -22.0, 22.0)
+BESIDES = (-9.0, 9.0, -15.0, 15.0, -22.0, 22.0, -29.0, 29.0, -36.0, 36.0)
 # Where a label may be: as a share of the arrow, the best first.
 SHARES = (0.25, 0.30, 0.20, 0.36, 0.14, 0.42, 0.48, 0.55, 0.62, 0.70, 0.78, 0.86)
 

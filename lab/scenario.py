@@ -51,8 +51,8 @@ class AgentSettings:
     kinds_in_turn: bool | None = None
     triggered_checks: int | None = None  # 0: off
     early_retransmits: int | None = None  # 0: off
-    early_interval_ms: float = 160.0  # before each of these, if `early_retransmits` is set
-    early_cap_ms: float = 400.0  # before each later one at most, if `early_retransmits` is set
+    early_interval_ms: float = 100.0  # before each of these, if `early_retransmits` is set
+    early_cap_ms: float = 350.0  # before each later one at most, if `early_retransmits` is set
     selects_at_once: bool | None = None
     consent_ms: float | None = None  # 0: off
     strict_consent: bool = False  # if `consent_ms` is set

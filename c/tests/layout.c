@@ -120,7 +120,7 @@ static void rules(void)
     is_ice_agent_rules modern, original, r;
     memset(&modern, 0, sizeof modern), memset(&original, 0xff, sizeof original), memset(&r, 0, sizeof r);
     HOLD(is_ice_modern_rules(&modern) == IS_ICE_OK && modern.kinds_in_turn && modern.triggered_checks == 1);
-    HOLD(modern.early_retransmits == 8 && modern.early_interval == 160000000 && modern.early_cap == 400000000 && modern.selects_at_once);
+    HOLD(modern.early_retransmits == 2 && modern.early_interval == 100000000 && modern.early_cap == 350000000 && modern.selects_at_once);
     HOLD(modern.consent_timeout == 29600000000 && !modern.strict_consent && modern.selected_first && modern.timeout_after_requests);
     HOLD(modern.lite_keeps_role && modern.numbered_nominations && modern.discovered_if_served && modern.state_after_nomination);
     HOLD(modern.invalidates_listed && modern.suspicion_timeout == 0 && modern.suspicion_interval == 0);

@@ -35,17 +35,18 @@ class Sessions(unittest.TestCase):
 
     def test_a_peer_that_starts_later(self) -> None:
         # A's check of the server-reflexive candidate opens its NAT. B receives it 20 ms later, and checks its pair in the next two
-        # timeouts, although that may be due 300 ms later.
+        # timeouts, although that may be due 350 ms later.
         for late in (200, 1700, 5000, 9000):
             time = self.time(5, "modern", late)
             assert time is not None
             self.assertTrue(late < time < late + 250, (late, time))
 
     def test_without_triggered_checks_such_a_peer_waits_longer(self) -> None:
-        # B's next check is due 300 ms after its last one. If that was sent just before A's check arrived, it comes 300 ms later.
+        # B's first check of A's server-reflexive candidate comes after 10 ms, and the next ones 100, 100, 200 and then 350 ms apart. A's
+        # check arrives after 5030 ms, and B's next one comes 410 + 14 * 350 = 5310 ms after the start. B selects when its response comes.
         time = self.time(1, "no triggered checks", 5000)
         assert time is not None
-        self.assertTrue(5100 < time < 5400, time)
+        self.assertTrue(5350 <= time < 5355, time)
 
     def test_and_without_early_retransmissions_much_longer(self) -> None:
         # The delays after B's checks are 250, 500, 1000, 2000 and 3000 ms, so the fifth comes before A's check and the sixth after 6.75 s.

@@ -2,20 +2,38 @@
 
 import unittest
 from dataclasses import replace
+from itertools import product
 
-from is_ice import Candidate, IceConnectionState, IceCreds, SocketAddress
+import is_ice
+from is_ice import Candidate, IceAgent, IceConnectionState, IceCreds, SocketAddress, line_fields
 from lab import kinds
 from lab.clauses.progress import are_as_many_as_due, are_open_enough, checks_for
 from lab.clauses.staying import combines_with, most_pairs, rank_count
-from lab.clock import BEGINNING
-from lab.kinds import ORIGINAL, Rules, kind_between, turn_of
+from lab.clock import BEGINNING, MILLISECOND, Clock
+from lab.kinds import ORIGINAL, Rules, counted_kind, is_public, kind_between, kind_of, reaches_out, turn_of
+from lab.log import Beginning, Log, LoggedAgent
 from lab.pairs import Place, Timing
+from lab.replay import replay
 from lab.states import CHECKING, COMPLETED, CONNECTED, DISCONNECTED, NEW, has_possible, next_state
 from lab.tests.stories import LINE, TO_B, A, B, Story
 
-V6, OUTSIDE, MAPPED = SocketAddress("2001:db8::1", 1), SocketAddress("203.0.113.2", 9), SocketAddress("203.0.113.1", 9)
+V6, OUTSIDE, MAPPED = SocketAddress("fd00::1", 1), SocketAddress("203.0.113.2", 9), SocketAddress("203.0.113.1", 9)
+OWN, THEIRS, OWN_V6 = SocketAddress("192.0.2.1", 9), SocketAddress("192.0.2.2", 9), SocketAddress("2001:db8::1", 1)  # public hosts
 SECOND_A, SECOND_B = A._replace(port=A.port + 1), B._replace(port=B.port + 1)
 TURNS = Rules(kinds_in_turn=True)
+# The first and the last address of each range of IPv4 that is not public (RFC 1918, RFC 6598, loopback, link-local).
+INNER = ("10.0.0.0", "10.255.255.255", "172.16.0.0", "172.31.255.255", "192.168.0.0", "192.168.255.255",
+         "100.64.0.0", "100.127.255.255", "127.0.0.0", "127.255.255.255", "169.254.0.0", "169.254.255.255")
+# The last address before each of them and the first one after it. Then second octets of these ranges after other first octets, and
+# addresses for documentation (RFC 5737).
+OUTER = ("9.255.255.255", "11.0.0.0", "172.15.255.255", "172.32.0.0", "192.167.255.255", "192.169.0.0",
+         "100.63.255.255", "100.128.0.0", "126.255.255.255", "128.0.0.0", "169.253.255.255", "169.255.0.0",
+         "171.16.0.1", "173.31.0.1", "191.168.0.1", "193.168.0.1", "99.64.0.1", "101.127.0.1", "168.254.0.1", "170.254.0.1",
+         "192.0.2.1", "198.51.100.1", "203.0.113.1")
+# 2000::/3, and what is before and after it: unique local and link-local addresses, loopback, IPv4 addresses in IPv6.
+OUTER_V6 = ("2000::", "2001:db8::1", "3fff::", "3fff:ffff:ffff:ffff:ffff:ffff:ffff:ffff")
+INNER_V6 = ("1fff:ffff:ffff:ffff:ffff:ffff:ffff:ffff", "4000::", "fc00::1", "fd00::", "fe80::1", "::1", "::ffff:203.0.113.1",
+            "64:ff9b::203.0.113.1")
 
 
 def place(kind: str, address: SocketAddress, base: SocketAddress | None = None) -> Place:
@@ -31,16 +49,114 @@ class Numbers(unittest.TestCase):
     def test_inner_bases_come_last(self) -> None:
         local = (place("host", A), place("srflx", MAPPED, A), place("host", SECOND_A), place("relay", MAPPED), place("host", V6))
         outer = [kinds.is_outer(local, candidate) for candidate in local]
-        self.assertEqual(outer, [True, True, False, True, True])  # no base of IPv6 has a server-reflexive candidate
+        self.assertEqual(outer, [True, True, False, True, True])  # no base of IPv6 has a candidate that counts as server-reflexive
         self.assertEqual(kind_between(local, local[2], place("host", B)), 15)
 
     def test_a_discarded_candidate_does_not_count(self) -> None:
-        local = (place("host", A), replace(place("srflx", MAPPED, A), is_discarded=True), place("host", SECOND_A))
-        self.assertTrue(all(kinds.is_outer(local, candidate) for candidate in local))
+        for candidate in (place("srflx", MAPPED, A), place("host", OWN)):
+            local = (place("host", A), replace(candidate, is_discarded=True), place("host", SECOND_A))
+            self.assertTrue(all(kinds.is_outer(local, candidate) for candidate in local))
 
     def test_the_round_of_the_kinds(self) -> None:
         self.assertEqual(sorted(range(16), key=lambda kind: turn_of(5, kind)), [*range(5, 16), *range(5)])
         self.assertEqual(sorted(range(16), key=lambda kind: turn_of(16, kind)), [*range(16)])
+
+
+class Public(unittest.TestCase):
+    """A host candidate with a public address counts as server-reflexive (RFC 8445, section 5.1.3)."""
+
+    def test_which_addresses_are_public(self) -> None:
+        self.assertEqual([ip for ip in (*INNER, *INNER_V6) if is_public(ip)], [])
+        self.assertEqual([ip for ip in (*OUTER, *OUTER_V6) if not is_public(ip)], [])
+
+    def test_host_candidates_only(self) -> None:
+        for address, expected in ((A, "host"), (V6, "host"), (OWN, "srflx"), (OWN_V6, "srflx")):
+            self.assertEqual([counted_kind(place(kind, address)) for kind in ("host", "srflx", "prflx", "relay")],
+                             [expected, "srflx", "prflx", "relay"])
+
+    def test_a_public_base_reaches_out_and_a_private_one_does_not(self) -> None:
+        local = (place("host", A), place("host", OWN), place("host", SECOND_A))
+        self.assertEqual([reaches_out(local, c.base) for c in local], [False, True, False])
+        self.assertEqual([kind_between(local, c, place("host", B)) for c in local], [15, 7, 15])
+
+    def test_so_does_a_private_one_with_a_server_reflexive_candidate(self) -> None:
+        local = (place("host", A), place("srflx", MAPPED, A), place("host", OWN), place("host", SECOND_A))
+        self.assertEqual([reaches_out(local, c.base) for c in local], [True, True, True, False])
+
+    def test_with_private_bases_only_all_reach_out(self) -> None:
+        local = tuple(place("host", SocketAddress(ip, 1)) for ip in INNER)
+        self.assertEqual([reaches_out(local, c.base) for c in local], [True] * 12)
+
+    def test_a_relay_reaches_out_from_a_private_base(self) -> None:
+        local = (place("host", OWN), place("relay", MAPPED), place("host", A))
+        self.assertEqual([kinds.is_outer(local, c) for c in local], [True, True, False])
+
+    def test_another_ip_version_is_not_concerned(self) -> None:
+        for own, expected in ((OWN, [False, True]), (OWN_V6, [True, False])):
+            local = (place("host", A), place("host", V6), place("host", own))
+            self.assertEqual([reaches_out(local, c.base) for c in local], [*expected, True])
+
+    def test_a_remote_one_has_the_rank_of_a_server_reflexive_one(self) -> None:
+        for address, expected in ((THEIRS, 3), (B, 7), (OWN_V6, 2), (V6, 6)):
+            for other in (place("host", address), replace(place("host", address), is_discarded=True)):
+                self.assertEqual(kind_between((), place("host", A), other), expected)
+        self.assertEqual([kind_between((), place("host", A), place(kind, THEIRS)) for kind in ("prflx", "srflx", "relay")], [1, 3, 5])
+
+    def test_the_others_change_their_kind_when_one_comes_or_goes(self) -> None:
+        story = Story(rules=TURNS)
+        found: list[list[int]] = []
+
+        def note() -> None:
+            agent = story.agents["a"]
+            found.append([kind_of(agent.local, agent.remote, p) for p in sorted(agent.pairs, key=lambda p: p.local)])
+
+        note()
+        story.host("a", OWN, 100 << 24 | 65535 << 8 | 255)
+        note()
+        story.invalidate("a", Candidate.host(OWN))
+        note()
+        self.assertEqual(found, [[7], [15, 7], [7]])
+
+
+class Library(unittest.TestCase):
+    """Of three pairs the library checks first the one with the greatest priority, and then the one of the next kind: that of a public
+    address. Without a public address it is the one with the next priority. The model foresees the same."""
+
+    def checks(self, local: list[str], remote: list[str]) -> list[tuple[str, str]]:
+        """Returns the addresses of the first two checks between these host candidates. Each list is in order of priority."""
+        clock, log, creds = Clock(), Log(), [IceCreds(side * 4, side * 22) for side in "ab"]
+        log.sides = {side: Beginning(own, tie_breaker) for tie_breaker, (side, own) in enumerate(zip("ab", creds))}
+        agent = LoggedAgent(IceAgent(creds[0], 0), "a", clock, log)
+        agent.set_rules(replace(is_ice.Rules.original(), kinds_in_turn=True))
+        agent.set_remote_credentials(creds[1])
+        lines = [agent.add_local_candidate(Candidate.host(SocketAddress(ip, 1))) for ip in local]
+        priorities = [line_fields(line).priority for line in lines]
+        self.assertEqual(priorities, sorted(set(priorities), reverse=True))
+        for n, ip in enumerate(remote):
+            agent.add_remote_candidate(LINE.format(126 << 24 | (65535 - n) << 8 | 255, ip, 2, "host"))
+        found: list[tuple[str, str]] = []
+        for id in (bytes(12), bytes(11) + b"1"):
+            agent.handle_timeout(clock.now, id)
+            agent.poll_timeout()
+            packet = agent.poll_transmit()
+            found.append((packet.source.ip, packet.destination.ip))
+            while agent.poll_event() is not None:
+                pass
+            clock.now += 50 * MILLISECOND
+        self.assertEqual(replay(log).differences, [])
+        return found
+
+    def test_addresses(self) -> None:
+        # link-local addresses of IPv4 are no candidates
+        inner = [ip for ip in INNER if not ip.startswith("169.254.")]
+        for first, second, other, addresses, is_outer in (
+                ("10.0.0.1", "10.0.0.2", "10.0.0.3", inner, False), ("10.0.0.1", "10.0.0.2", "10.0.0.3", OUTER, True),
+                ("fd00::1", "fd00::2", "fd00::3", INNER_V6, False), ("fd00::1", "fd00::2", "fd00::3", OUTER_V6, True)):
+            for ip in addresses:
+                with self.subTest(ip=ip):
+                    expected = ip if is_outer else second
+                    self.assertEqual(self.checks([first, second, ip], [other]), [(first, other), (expected, other)])
+                    self.assertEqual(self.checks([other], [first, second, ip]), [(other, first), (other, expected)])
 
 
 class Turns(unittest.TestCase):
@@ -76,6 +192,18 @@ class Turns(unittest.TestCase):
         line = LINE.format(100 << 24 | 65535 << 8 | 255, MAPPED.ip, MAPPED.port, "srflx")
         story.local("a", Candidate.server_reflexive(MAPPED, SECOND_A), line)
         self.assertEqual(self.checks(story, 4)[1::2], [(SECOND_A, OUTSIDE), (SECOND_A, B)])
+
+    def test_a_public_base_comes_first(self) -> None:
+        story = self.story(TURNS)
+        story.host("a", OWN, 126 << 24 | 65000 << 8 | 255)
+        self.assertEqual(self.checks(story, 4)[1::2], [(OWN, OUTSIDE), (OWN, B)])
+
+    def test_a_remote_public_one_takes_the_turn_of_the_server_reflexive_ones(self) -> None:
+        story = Story(hosts=(2, 2), rules=TURNS)
+        story.remote("a", LINE.format(126 << 24 | 65000 << 8 | 255, THEIRS.ip, THEIRS.port, "host"))
+        story.remote("a", LINE.format(100 << 24 | 65535 << 8 | 255, OUTSIDE.ip, OUTSIDE.port, "srflx"))
+        # in between come the pairs with B by priority: A's first and B's second host, and both second
+        self.assertEqual(self.checks(story, 6)[1::2], [(A, THEIRS), (SECOND_A, B), (SECOND_A, THEIRS)])
 
     def test_the_rule_can_be_set_at_any_time(self) -> None:
         story = self.story(ORIGINAL)
@@ -123,6 +251,19 @@ class Limit(unittest.TestCase):
 
     def test_the_most_numerous_kind_loses_a_pair(self) -> None:
         self.assertEqual([self.remotes(TURNS, limit) for limit in (12, 11, 9, 6, 4, 2)], [(9, 3), (8, 3), (6, 3), (3, 3), (2, 2), (1, 1)])
+
+    def test_a_public_host_is_of_the_same_kind_as_a_server_reflexive_one(self) -> None:
+        # Both have nine pairs of private hosts and six of the others, whose kind comes first. So the other kind loses a pair only if it has
+        # more. Of the six, those with the server-reflexive candidate have the lower priorities.
+        for limit, expected in ((15, [9, 3, 3]), (12, [6, 3, 3]), (11, [6, 3, 2]), (9, [5, 3, 1]), (2, [1, 1, 0])):
+            story = Story(hosts=(3, 3), rules=TURNS)
+            story.limit("a", limit)
+            story.remote("a", LINE.format(126 << 24 | 65000 << 8 | 255, THEIRS.ip, THEIRS.port, "host"))
+            story.remote("a", LINE.format(100 << 24 | 65535 << 8 | 255, OUTSIDE.ip, OUTSIDE.port, "srflx"))
+            agent = story.agents["a"]
+            addresses = [agent.path(p)[1] for p in agent.pairs]
+            public = [addresses.count(address) for address in (THEIRS, OUTSIDE)]
+            self.assertEqual([len(addresses) - sum(public), *public], expected)
 
     def test_without_the_rule_the_lowest_one_goes(self) -> None:
         self.assertEqual([self.remotes(ORIGINAL, limit) for limit in (12, 11, 9, 6)], [(9, 3), (9, 2), (9, 0), (6, 0)])
@@ -176,9 +317,9 @@ class Bounds(unittest.TestCase):
             self.assertEqual(checks_for(rules, 1), min(n for n in range(12) if are_open_enough(agent, more, n)) - open_rounds)
 
     def test_rivals_at_the_limit(self) -> None:
-        for rules, ranked, most in ((ORIGINAL, 2, 2), (TURNS, 1, 16)):
+        for (rules, ranked, most), kind in product(((ORIGINAL, 2, 2), (TURNS, 1, 16)), ("srflx", "host")):
             story = Story(rules=rules)
-            story.remote("a", LINE.format(200 << 24, OUTSIDE.ip, OUTSIDE.port, "srflx"))  # a greater priority, and another kind
+            story.remote("a", LINE.format(200 << 24, OUTSIDE.ip, OUTSIDE.port, kind))  # a greater priority, and another kind
             agent = story.agents["a"]
             pair = next(p for p in agent.pairs if agent.path(p) == TO_B)
             self.assertEqual(rank_count(agent, [], pair), ranked)

@@ -172,6 +172,11 @@ class Early(unittest.TestCase):
         self.assertEqual(self.due_times(Story(rules=longer), 6), [0, 100, 300, 700, 1200, 1700, 2200])
         self.assertEqual(self.due_times(Story(), 4), [0, 250, 750, 1750, 3750])
 
+    def test_the_modern_delays(self) -> None:
+        # two retransmissions 100 ms apart; then 200 ms, and at most 350 ms, since twice 200 ms is more
+        self.assertEqual(MODERN.early_rto, EarlyRto(2, 100 * MILLISECOND, 350 * MILLISECOND))
+        self.assertEqual(self.due_times(Story(rules=MODERN), 7), [0, 100, 200, 400, 750, 1100, 1450, 1800])
+
     def delays(self, early: EarlyRto) -> list[float]:
         """The delays after the first five checks, in ms."""
         return [early.delay(count) / MILLISECOND for count in range(1, 6)]
@@ -310,11 +315,11 @@ class Settings(unittest.TestCase):
             "no early pacing": replace(MODERN, early_pacing=None)}
         self.assertEqual({name: rules_of(endpoint.rules_by(AgentSettings(**RULES[name]))) for name in RULES}, expected)
         own = endpoint.rules_by(AgentSettings(triggered_checks=7, early_retransmits=2, early_interval_ms=30, early_pacing_ms=7))
-        expected_own = replace(MODERN, triggered_checks=7, early_rto=EarlyRto(2, 30 * MILLISECOND, 400 * MILLISECOND),
+        expected_own = replace(MODERN, triggered_checks=7, early_rto=EarlyRto(2, 30 * MILLISECOND, 350 * MILLISECOND),
                                early_pacing=7 * MILLISECOND)
         self.assertEqual(rules_of(own), expected_own)
         capped = endpoint.rules_by(AgentSettings(early_retransmits=4, early_cap_ms=50))
-        self.assertEqual(rules_of(capped), replace(MODERN, early_rto=EarlyRto(4, 160 * MILLISECOND, 50 * MILLISECOND)))
+        self.assertEqual(rules_of(capped), replace(MODERN, early_rto=EarlyRto(4, 100 * MILLISECOND, 50 * MILLISECOND)))
         self.assertIsNone(endpoint.rules_by(AgentSettings(early_pacing_ms=0)).early_pacing)
 
     def test_an_agent_with_rules(self) -> None:

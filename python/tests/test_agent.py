@@ -144,8 +144,8 @@ def last_paths(
     return selected.get(a), selected.get(b)
 
 
-def first_checks(rules: Rules | None) -> list[str]:
-    """Returns to which hosts the first four checks go, of an agent whose peer has three host candidates and a server-reflexive one.
+def first_checks(rules: Rules | None, kind: str) -> list[str]:
+    """Returns where the first four checks go, of an agent whose peer has three private host candidates and a public one of this kind.
 
     None: the agent keeps the rules that it begins with.
     """
@@ -156,7 +156,7 @@ def first_checks(rules: Rules | None) -> list[str]:
     agent.add_local_candidate(Candidate.host(HERE))
     for number in (2, 3, 4):
         agent.add_remote_candidate(f"candidate:{number} 1 udp {2130706175 - number} 10.0.0.{number} 2000 typ host")
-    agent.add_remote_candidate("candidate:9 1 udp 1694498815 203.0.113.9 2000 typ srflx raddr 0.0.0.0 rport 0")
+    agent.add_remote_candidate(f"candidate:9 1 udp 1694498815 203.0.113.9 2000 typ {kind}")
     checked: list[str] = []
     for count in range(4):
         agent.handle_timeout(BEGINNING + count * SECOND // 20)
@@ -504,7 +504,7 @@ class Errors(unittest.TestCase):
         agent, rules = is_ice.IceAgent(), Rules.modern()
         self.assertEqual((agent.mtu, agent.mtu_warn, agent.ice_timeout, agent.max_candidates), (1150, 1280, 26_700_000_000, 100))
         self.assertEqual((agent.controlling, agent.ice_lite, agent.rules), (False, False, rules))
-        self.assertEqual((rules.triggered_checks, rules.early_rto), (1, EarlyRto(8, 160_000_000, 400_000_000)))
+        self.assertEqual((rules.triggered_checks, rules.early_rto), (1, EarlyRto(2, 100_000_000, 350_000_000)))
         self.assertEqual(rules.consent, Consent(29_600_000_000, strict=False))
         self.assertTrue(rules.kinds_in_turn and rules.selects_at_once and rules.selected_first and rules.timeout_after_requests)
         self.assertTrue(rules.lite_keeps_role and rules.numbered_nominations)
@@ -534,7 +534,7 @@ class Errors(unittest.TestCase):
             self.assertEqual({int.from_bytes(number) for packet in sent for number in NOMINATION.findall(packet)}, expected)
 
     def test_rules(self) -> None:
-        early = EarlyRto(retransmits=8, interval=SECOND * 16 // 100, cap=SECOND * 4 // 10)
+        early = EarlyRto(retransmits=2, interval=SECOND // 10, cap=SECOND * 35 // 100)
         self.assertEqual(self.agent.rules, Rules.modern())
         self.assertEqual(Rules.modern(), Rules(
             kinds_in_turn=True, triggered_checks=1, early_rto=early, selects_at_once=True, consent=Consent(29_600_000_000, strict=False),
@@ -583,7 +583,7 @@ class Errors(unittest.TestCase):
     def test_first_checks_are_repeated_early(self) -> None:
         """Without a response: at first an interval apart, then doubled up to the cap; or after the RTO, which doubles."""
         ms = SECOND // 1000
-        self.assertEqual(repeated(Rules.modern()), [0, 160, 320, 480, 640, 800, 960, 1120, 1280, 1600, 2000])
+        self.assertEqual(repeated(Rules.modern()), [0, 100, 200, 400, 750, 1100, 1450, 1800])
         self.assertEqual(repeated(Rules.original()), [0, 250, 750, 1750])
         for early, expected in (
             (EarlyRto(1, 50 * ms, 500 * ms), [0, 50, 150, 350, 750, 1250, 1750]),
@@ -606,11 +606,28 @@ class Errors(unittest.TestCase):
         self.assertEqual(selections(Rules.original()), ["handle_timeout"])
 
     def test_kinds_take_turns(self) -> None:
-        """The second check goes to the first kind, server-reflexive candidates, and the fourth one to the next kind, host candidates."""
+        """The second check goes to the first kind, server-reflexive candidates, and the fourth one to the next kind, host candidates.
+
+        A host candidate with a public address counts as server-reflexive.
+        """
         in_turn, in_order = ["10.0.0.2", "203.0.113.9", "10.0.0.3", "10.0.0.4"], ["10.0.0.2", "10.0.0.3", "10.0.0.4", "203.0.113.9"]
-        self.assertEqual(first_checks(None), in_turn)
-        self.assertEqual(first_checks(Rules.modern()), in_turn)
-        self.assertEqual(first_checks(Rules.original()), in_order)
+        for kind in ("srflx raddr 0.0.0.0 rport 0", "host"):
+            self.assertEqual(first_checks(None, kind), in_turn)
+            self.assertEqual(first_checks(Rules.modern(), kind), in_turn)
+            self.assertEqual(first_checks(Rules.original(), kind), in_order)
+
+    def test_a_public_base_comes_before_private_ones(self) -> None:
+        """Checks go out by priority, except for the second one, which goes to the first kind: only the public base reaches the outside."""
+        self.agent.set_remote_credentials(IceCreds("BBBB", "Q" * 22))
+        self.agent.add_remote_candidate(LINE_OF_THERE)
+        for ip in ("10.0.0.1", "10.0.1.1", "203.0.113.1"):
+            self.agent.add_local_candidate(Candidate.host(SocketAddress(ip, 1000)))
+        sources: list[str] = []
+        for count in range(3):
+            self.agent.handle_timeout(BEGINNING + count * SECOND // 20)
+            while packet := self.agent.poll_transmit():
+                sources.append(packet.source.ip)
+        self.assertEqual(sources, ["10.0.0.1", "203.0.113.1", "10.0.1.1"])
 
     def test_bytes_that_are_no_message(self) -> None:
         self.assertRaises(Unparsed, self.agent.handle_packet, BEGINNING, THERE, HERE, b"media")

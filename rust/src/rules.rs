@@ -23,9 +23,12 @@ pub struct Rules {
     /// without the rule (RFC 8445, section 6.1.4.2). So a path through NATs is found soon, however many host candidates there are.
     ///
     /// The kind of a pair is the kind of its remote candidate, its IP version, and whether packets of its local candidate reach the
-    /// outside. They do if the candidate is relayed, if its base has a server-reflexive candidate, or if no base of its IP version has
-    /// one. While there are more pairs than [`IceAgent::set_max_candidate_pairs`] allows, the lowest pair of the kind that has the most
-    /// is removed.
+    /// outside. They do if the candidate is relayed, if its base has a server-reflexive candidate or a public address, or if no base of
+    /// its IP version has either. While there are more pairs than [`IceAgent::set_max_candidate_pairs`] allows, the lowest pair of the
+    /// kind that has the most is removed.
+    ///
+    /// A host candidate with a public address counts as server-reflexive. An address of IPv4 is public if it is not private (RFC 1918),
+    /// shared (RFC 6598), loopback or link-local, and one of IPv6 if it is in 2000::/3 (RFC 4291, section 2.4).
     pub kinds_in_turn: bool,
     /// Each of the first so many requests on a pair makes its next check due at once, until the pair is valid (RFC 8445, section
     /// 7.3.1.4). Every second check may go to such a pair, or to one whose nomination has no response yet, before pairs that are due

@@ -102,18 +102,19 @@ fn checks_go_out_after(mut agent: IceAgent, delays: &[u64]) {
 
 /// By the rules of a new agent: when the checks after the first one are due, until the last one, and then the end.
 fn early_checks(last: u64, end: u64) -> Vec<u64> {
-    (160..=1280).step_by(160).chain((1600..=last).step_by(400)).chain([end]).collect()
+    [100, 200].into_iter().chain((400..=last).step_by(350)).chain([end]).collect()
 }
 
 #[test]
 fn checks_go_out_by_the_schedule() {
-    checks_go_out_after(paired(), &early_checks(26800, 29700));
+    // the last check is the first one after `ice_timeout`, which is 26.7 s here and 9.3 s below, and the end is one RTO later
+    checks_go_out_after(paired(), &early_checks(27000, 29900));
     let mut agent = paired();
     agent.set_rules(Rules::original());
     checks_go_out_after(agent, &[250, 750, 1750, 3750, 6650, 9550, 12450, 15350, 18250, 21150, 24050]);
     let mut few = paired();
     few.set_max_stun_retransmits(5);
-    checks_go_out_after(few, &early_checks(9600, 12500));
+    checks_go_out_after(few, &early_checks(9500, 12400));
     let (mut doubled, mut rules) = (paired(), Rules::original());
     rules.early_rto = Some(EarlyRto { retransmits: 1, interval: ms(50), cap: ms(400) });
     doubled.set_rules(rules);
@@ -147,7 +148,7 @@ fn the_clock_may_stand_or_go_back() {
     agent.handle_timeout(began);
     agent.handle_timeout(began - Duration::from_secs(1));
     assert_eq!(agent.poll_transmit(), None);
-    assert_eq!(agent.poll_timeout(), Some(began + ms(160)));
+    assert_eq!(agent.poll_timeout(), Some(began + ms(100)));
 }
 
 #[test]
@@ -257,7 +258,7 @@ fn rules_begin_as_documented() {
     assert!(!original.discovered_if_served && !original.state_after_nomination && !original.invalidates_listed);
     assert_eq!(modern.consent, Some(Consent { timeout: ms(29_600), strict: false }));
     assert_eq!(modern.triggered_checks, Some(1));
-    assert_eq!(modern.early_rto, Some(EarlyRto { retransmits: 8, interval: ms(160), cap: ms(400) }));
+    assert_eq!(modern.early_rto, Some(EarlyRto { retransmits: 2, interval: ms(100), cap: ms(350) }));
     assert!(!original.kinds_in_turn && !original.selects_at_once && !original.selected_first && !original.timeout_after_requests);
     assert_eq!((original.triggered_checks, original.early_rto, original.consent), (None, None, None));
     assert_eq!((modern.suspicion, original.suspicion), (None, None));
@@ -316,16 +317,16 @@ fn rules_that_count_to_0_are_none() {
     assert_eq!(rules_after(rules), Rules::original());
 }
 
-/// Where the first four checks go of an agent whose peer has three host candidates and a server-reflexive one.
-fn first_checks(mut agent: IceAgent) -> Vec<String> {
+/// Where the first four checks go of an agent whose peer has three private host candidates and a public one of this kind.
+fn first_checks(mut agent: IceAgent, kind: &str) -> Vec<String> {
     agent.set_remote_credentials(creds("farr"));
     agent.add_local_candidate(host("10.0.0.1:1000")).expect("a candidate");
     for number in 2..5 {
         let line = format!("candidate:{number} 1 udp {} 10.0.0.{number} 2000 typ host", 2_130_706_175 - number);
         agent.add_remote_candidate(Candidate::from_sdp_string(&line).unwrap());
     }
-    let reflexive = "candidate:9 1 udp 1694498815 203.0.113.9 2000 typ srflx raddr 0.0.0.0 rport 0";
-    agent.add_remote_candidate(Candidate::from_sdp_string(reflexive).unwrap());
+    let public = format!("candidate:9 1 udp 1694498815 203.0.113.9 2000 typ {kind}");
+    agent.add_remote_candidate(Candidate::from_sdp_string(&public).unwrap());
     let begin = Instant::now();
     let checks = (0..4).map(|count| {
         agent.handle_timeout(begin + ms(50) * count);
@@ -336,11 +337,29 @@ fn first_checks(mut agent: IceAgent) -> Vec<String> {
 
 #[test]
 fn kinds_take_turns() {
-    // the second check goes to the first kind, that of server-reflexive candidates, and the fourth one to the next kind, that of hosts
-    assert_eq!(first_checks(IceAgent::new(creds("near"))), ["10.0.0.2", "203.0.113.9", "10.0.0.3", "10.0.0.4"]);
-    let mut original = IceAgent::new(creds("near"));
-    original.set_rules(Rules::original());
-    assert_eq!(first_checks(original), ["10.0.0.2", "10.0.0.3", "10.0.0.4", "203.0.113.9"]);
+    // the second check goes to the first kind, that of server-reflexive candidates, and the fourth one to the next kind, that of hosts;
+    // a host candidate with a public address counts as server-reflexive
+    for kind in ["srflx raddr 0.0.0.0 rport 0", "host"] {
+        assert_eq!(first_checks(IceAgent::new(creds("near")), kind), ["10.0.0.2", "203.0.113.9", "10.0.0.3", "10.0.0.4"]);
+        let mut original = IceAgent::new(creds("near"));
+        original.set_rules(Rules::original());
+        assert_eq!(first_checks(original, kind), ["10.0.0.2", "10.0.0.3", "10.0.0.4", "203.0.113.9"]);
+    }
+}
+
+#[test]
+fn a_public_base_comes_before_private_ones() {
+    let mut agent = paired();
+    for address in ["10.0.1.1:1000", "203.0.113.1:1000"] {
+        agent.add_local_candidate(host(address)).expect("a candidate");
+    }
+    let begin = Instant::now();
+    let sources = [0, 50, 100].map(|after| {
+        agent.handle_timeout(begin + ms(after));
+        agent.poll_transmit().expect("a check").source.ip().to_string()
+    });
+    // by priority, except for the second check, which goes to the first kind: only the public base reaches the outside
+    assert_eq!(sources, ["10.0.0.1", "203.0.113.1", "10.0.1.1"]);
 }
 
 /// How soon after its first timeout the next one of an agent comes, which has three pairs to check.
@@ -617,7 +636,7 @@ fn pairs_are_listed() {
     agent.handle_timeout(now);
     let pair = agent.pairs().next().expect("a pair");
     assert_eq!(pair.state, CheckState::InProgress);
-    assert_eq!(pair.due, Some(now + ms(160)));
+    assert_eq!(pair.due, Some(now + ms(100)));
     agent.add_remote_candidate(Candidate::from_sdp_string("candidate:1 1 udp 2130706431 10.0.0.3 3000 typ host").unwrap());
     let pairs: Vec<_> = agent.pairs().collect();
     assert_eq!(pairs.iter().map(|pair| pair.remote).collect::<Vec<_>>(), [0, 1]);

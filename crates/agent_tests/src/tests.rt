@@ -35,6 +35,7 @@ mod step;
 mod story;
 mod suspicion;
 mod times;
+mod turns;
 mod words;
 mod zeros;
 

@@ -1,5 +1,5 @@
 -- Tests of protocols and addresses, and the addresses that a candidate may have.
-use Rattle.std.specs.Prelude.{ℕ, ◌==◌, ◌&&◌, Bool, true, false, not, nat_le, [], ◌∷◌, take, bytes_eq, slice_index, Option, Some, None}
+use Rattle.std.specs.Prelude.{ℕ, ◌==◌, ◌&&◌, ◌||◌, Bool, true, false, not, nat_le, [], ◌∷◌, take, bytes_eq, slice_index, Option, Some, None}
 use Rattle.std.specs.declared.net.ip_addr.IpAddr.{IpAddr}
 use Rattle.std.specs.declared.net.ip_addr.IpAddr.TheVariants as Ip
 use Rattle.std.specs.declared.net.socket_addr.SocketAddr.{SocketAddr}
@@ -69,3 +69,14 @@ is_valid_ip (Ip.V4 a) =
 is_valid_ip (Ip.V6 a) =
     not (nat_le 0xff00 (slice_index (ipv6_segments a) 0) && nat_le (slice_index (ipv6_segments a) 0) 0xffff)
     && not (bytes_eq (ipv6_segments a) (0 ∷ 0 ∷ 0 ∷ 0 ∷ 0 ∷ 0 ∷ 0 ∷ 0 ∷ []))
+
+-- private (10/8, 172.16/12 and 192.168/16, RFC 1918), shared (100.64/10, RFC 6598), loopback (127/8) or link-local (169.254/16)
+abbrev pub is_inner_v4 : ℕ → ℕ → Bool
+is_inner_v4 a b =
+    a == 10 || (a == 172 && nat_le 16 b && nat_le b 31) || (a == 192 && b == 168)
+    || (a == 100 && nat_le 64 b && nat_le b 127) || a == 127 || (a == 169 && b == 254)
+
+-- An address that is routed on the Internet: of IPv4, one that is no inner one; of IPv6, one of 2000::/3 (RFC 4291, 2.4; RFC 3587).
+abbrev pub is_public : IpAddr → Bool
+is_public (Ip.V4 a) = not (is_inner_v4 (slice_index (ipv4_octets a) 0) (slice_index (ipv4_octets a) 1))
+is_public (Ip.V6 a) = nat_le 0x2000 (slice_index (ipv6_segments a) 0) && nat_le (slice_index (ipv6_segments a) 0) 0x3fff

@@ -104,7 +104,7 @@ is_in_time now t checks = option_map_or (λ c. nat_lt now (later c.sent (last_re
 abbrev pub is_early_silence : ℕ → StunTiming → List Check → Bool
 is_early_silence now t checks = option_map_or (λ c. nat_lt now (later c.sent (timeout_of t))) (first_unanswered checks) false
 
--- Where checks are repeated early, time counts and not their number: so no pair ends sooner.
+-- While checks are repeated early, time counts and not their number: so no pair ends sooner.
 abbrev pub has_early_checks : Option EarlyRto → ℕ → StunTiming → PairRecord → Bool
 has_early_checks None now t p = false
 has_early_checks (Some e) now t p = if p.answers == 0 then is_young now t p else is_early_silence now t p.checks

@@ -94,7 +94,7 @@ abbrev pub modern_rules : Rules
 modern_rules = record {
   kinds_in_turn = true;
   triggered_checks = Some 1;
-  early_rto = Some (record { retransmits = 8; interval = record { 0 = 160 * MILLISECOND }; cap = record { 0 = 400 * MILLISECOND } });
+  early_rto = Some (record { retransmits = 2; interval = record { 0 = 100 * MILLISECOND }; cap = record { 0 = 350 * MILLISECOND } });
   selects_at_once = true;
   consent = Some (record { timeout = record { 0 = 29600 * MILLISECOND }; strict = false });
   selected_first = true;

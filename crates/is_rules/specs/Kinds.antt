@@ -2,9 +2,10 @@
 -- kinds of pairs take turns (RFC 8445, section 6.1.4.2; RFC 8421, section 4).
 use Rattle.std.specs.Prelude.{◌≡◌, ℕ, ◌+◌, ◌*◌, ◌<◌, ◌&&◌, ◌||◌, ◌⊎◌, Bool, true, not, nat_le, List, Option, Some, None, if◌then◌else◌}
 use Rattle.std.specs.List.{list_any}
+use Rattle.std.specs.Net.Socket.{socket_ip}
 use Rattle.std.specs.declared.net.socket_addr.SocketAddr.{SocketAddr}
 use Rattle.is_proto.specs.Lists.{Has, NonePass}
-use Rattle.is_candidate.specs.Addresses.{is_v4, same_address, same_version}
+use Rattle.is_candidate.specs.Addresses.{is_public, is_v4, same_address, same_version}
 use Rattle.is_candidate.specs.Candidates.{CandidateRecord, base_of, candidate_at}
 use Rattle.is_candidate.specs.Kinds.{same_kind}
 use Rattle.is_candidate.specs.declared.candidate.kind.CandidateKind.{CandidateKind}
@@ -17,11 +18,16 @@ use Rattle.is_rules.specs.declared.kinds.Precedence.{Precedence}
 
 -- ---- the kind of a pair
 
--- A live server-reflexive candidate.
-abbrev pub is_reflexive : CandidateRecord → Bool
-is_reflexive c = same_kind c.kind ServerReflexive && not c.discarded
+-- The kind that a candidate counts as. A host candidate with a public address counts as server-reflexive: a STUN server would answer with
+-- this address, and the server-reflexive candidate would be redundant (RFC 8445, section 5.1.3).
+abbrev pub counted_kind : CandidateRecord → CandidateKind
+counted_kind c = if same_kind c.kind Host && is_public (socket_ip c.addr) then ServerReflexive else c.kind
 
--- It has this base: packets from the base reach the server outside.
+-- A live candidate that counts as server-reflexive.
+abbrev pub is_reflexive : CandidateRecord → Bool
+is_reflexive c = same_kind (counted_kind c) ServerReflexive && not c.discarded
+
+-- It has this base: packets from the base reach the outside.
 abbrev pub is_reflexive_of : SocketAddr → CandidateRecord → Bool
 is_reflexive_of base c = is_reflexive c && same_address (base_of c) base
 
@@ -29,7 +35,7 @@ is_reflexive_of base c = is_reflexive c && same_address (base_of c) base
 abbrev pub is_reflexive_like : SocketAddr → CandidateRecord → Bool
 is_reflexive_like base c = is_reflexive c && same_version (base_of c) base
 
--- Packets from this base reach the outside: a server-reflexive candidate has it, or none has a base of its IP version.
+-- Packets from this base reach the outside: such a candidate has it, or none has a base of its IP version.
 abbrev pub reaches_out : List CandidateRecord → SocketAddr → Bool
 reaches_out local base = list_any (is_reflexive_of base) local || not (list_any (is_reflexive_like base) local)
 
@@ -48,9 +54,9 @@ kind_rank Host = 3
 abbrev pub version_rank : SocketAddr → ℕ
 version_rank addr = if is_v4 addr then 1 else 0
 
--- whether the local candidate is an outer one, the kind of the remote candidate, and the IP version
+-- whether the local candidate is an outer one, the kind that the remote candidate counts as, and the IP version
 abbrev pub kind_between : List CandidateRecord → CandidateRecord → CandidateRecord → ℕ
-kind_between local l r = (if is_outer local l then 0 else 8) + 2 * kind_rank r.kind + version_rank r.addr
+kind_between local l r = (if is_outer local l then 0 else 8) + 2 * kind_rank (counted_kind r) + version_rank r.addr
 
 -- the kind of a pair, a number from 0 to 15
 abbrev pub kind_of : List CandidateRecord → List CandidateRecord → PairRecord → ℕ

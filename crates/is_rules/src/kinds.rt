@@ -8,12 +8,12 @@ ghost use Rattle.is_pair.specs.Pairs.{PairRecord};
 ghost use Rattle.is_pair.specs.Due.{is_due};
 ghost use Rattle.is_pair.specs.Checklists.{multiset_of};
 ghost use Rattle.is_rules.specs.Kept.{is_placed, are_placed};
-ghost use Rattle.is_rules.specs.Kinds.{is_reflexive, is_reflexive_of, is_reflexive_like, reaches_out, is_outer, kind_rank, version_rank};
+ghost use Rattle.is_rules.specs.Kinds.{counted_kind, is_reflexive, is_reflexive_of, is_reflexive_like, reaches_out, is_outer, kind_rank, version_rank};
 ghost use Rattle.is_rules.specs.Kinds.{is_brought, kind_between, kind_of, turn_of, turn_of_pair, goes_first, is_first_due, KINDS, TurnsBefore, IsNextAhead};
 
 use crate::nomination::is_named_by;
 use crate::places::candidate_at;
-use is_candidate::candidate::address::{same_address, same_version};
+use is_candidate::candidate::address::{is_public, same_address, same_version};
 use is_candidate::candidate::internals::{base, is_discarded};
 use is_candidate::candidate::kind::same_kind;
 use is_candidate::{Candidate, CandidateKind};
@@ -26,42 +26,54 @@ use std::net::SocketAddr;
 
 // ---- the kind of a pair
 
-/// A live server-reflexive candidate.
+/// The kind that a candidate counts as. A host candidate with a public address counts as server-reflexive: a STUN server would answer with
+/// this address, and the server-reflexive candidate would be redundant (RFC 8445, section 5.1.3).
+fn counted_kind(candidate: &Candidate) -> CandidateKind
+    ensures { result ≡ counted_kind candidate.now }
+{
+    if same_kind(candidate.kind(), CandidateKind::Host) && is_public(candidate.addr().ip()) {
+        CandidateKind::ServerReflexive
+    } else {
+        candidate.kind()
+    }
+}
+
+/// A live candidate that counts as server-reflexive.
 fn is_reflexive(candidate: &Candidate) -> bool
     ensures { result ≡ is_reflexive candidate.now }
 {
-    same_kind(candidate.kind(), CandidateKind::ServerReflexive) && !is_discarded(candidate)
+    same_kind(counted_kind(candidate), CandidateKind::ServerReflexive) && !is_discarded(candidate)
 }
 
-/// A live server-reflexive candidate with this base.
+/// A live candidate that counts as server-reflexive has this base.
 fn is_reflexive_of(address: SocketAddr, candidate: &Candidate) -> bool
     ensures { result ≡ is_reflexive_of address candidate.now }
 {
     is_reflexive(candidate) && same_address(base(candidate), address)
 }
 
-/// A live server-reflexive candidate whose base has the IP version of this one.
+/// A live candidate that counts as server-reflexive, whose base has the IP version of this one.
 fn is_reflexive_like(address: SocketAddr, candidate: &Candidate) -> bool
     ensures { result ≡ is_reflexive_like address candidate.now }
 {
     is_reflexive(candidate) && same_version(base(candidate), address)
 }
 
-/// A live server-reflexive candidate has this base.
+/// Such a candidate has this base.
 fn has_reflexive(local: &[Candidate], address: SocketAddr) -> bool
     ensures { result ≡ list_any (is_reflexive_of address) local.now }
 {
     local.iter().any(|c| is_reflexive_of(address, c))
 }
 
-/// A live server-reflexive candidate has a base of this IP version.
+/// Such a candidate has a base of this IP version.
 fn has_reflexive_like(local: &[Candidate], address: SocketAddr) -> bool
     ensures { result ≡ list_any (is_reflexive_like address) local.now }
 {
     local.iter().any(|c| is_reflexive_like(address, c))
 }
 
-/// Packets from this base reach the outside: a server-reflexive candidate has it, or none has a base of its IP version.
+/// Packets from this base reach the outside: a candidate that counts as server-reflexive has it, or none has a base of its IP version.
 fn reaches_out(local: &[Candidate], address: SocketAddr) -> bool
     ensures { result ≡ reaches_out local.now address }
 {
@@ -75,7 +87,7 @@ fn is_outer(local: &[Candidate], candidate: &Candidate) -> bool
     same_kind(candidate.kind(), CandidateKind::Relayed) || reaches_out(local, base(candidate))
 }
 
-/// The place of the kind of a remote candidate in a round. Peer-reflexive candidates come first, since the peer sent a packet from
+/// The place of the kind that a remote candidate counts as in a round. Peer-reflexive candidates come first, since the peer sent a packet from
 /// there. Host candidates come last, since they have the greatest priorities.
 fn kind_rank(kind: CandidateKind) -> u8
     ensures rank { result ≡ kind_rank kind }
@@ -103,7 +115,7 @@ fn kind_between(local: &[Candidate], ours: &Candidate, theirs: &Candidate) -> u8
     ensures within { result < KINDS }
 {
     let side = if is_outer(local, ours) { 0 } else { 8 };
-    side + 2 * kind_rank(theirs.kind()) + version_rank(theirs.addr())
+    side + 2 * kind_rank(counted_kind(theirs)) + version_rank(theirs.addr())
 }
 
 /// The kind of a pair, a number from 0 to 15.

@@ -14,7 +14,8 @@ pub struct Rules {
     /// path through a NAT is found soon, however many host candidates there are (RFC 8445, section 6.1.4.2).
     ///
     /// The kind of a pair is that of its remote candidate and the IP version. Pairs whose local base has a server-reflexive
-    /// candidate come before the others. At the limit of pairs, a pair of the kind that has the most is removed.
+    /// candidate come before the others. A host candidate with a public address counts as a server-reflexive one. At the
+    /// limit of pairs, a pair of the kind that has the most is removed.
     pub kinds_in_turn: bool,
     /// Each of the first so many requests on a pair triggers a check of it, until the pair is valid (RFC 8445, section 7.3.1.4): the pair
     /// is due at once. Every second check may go to such a pair, and to one whose nomination was not answered, before pairs that are due
@@ -65,9 +66,9 @@ pub struct Rules {
 
 /// How often, how far apart, and how far apart at most after that.
 const MODERN_EARLY_RTO: EarlyRto = EarlyRto {
-    retransmits: 8,
-    interval: Duration(160_000_000),
-    cap: Duration(400_000_000),
+    retransmits: 2,
+    interval: Duration(100_000_000),
+    cap: Duration(350_000_000),
 };
 
 /// How far apart checks are at most until the agent is settled.

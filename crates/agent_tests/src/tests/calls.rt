@@ -2,6 +2,7 @@
 
 use super::driver::Player;
 use super::making::{creds, generator, greatest, host, later, long, numbered, parsed};
+use super::sent::is_on;
 use super::step::{At, Call, Outcome, Whose};
 use super::zeros::Zeros;
 use super::*;
@@ -64,6 +65,7 @@ impl Player {
         match call {
             Call::Timeout(ms) => self.passes_to(ms),
             Call::Check(ms) => done_if(self.checks(ms)),
+            Call::CheckOn(ms, from, to) => done_if(self.checks_on(ms, from, to)),
             Call::CheckTo(ms, to, nominates) => done_if(self.checks_to(ms, to, nominates)),
             Call::CheckBy(ms, to, number) => done_if(self.checks_by(ms, to, number)),
             Call::CheckPublished(ms) => done_if(self.checks_under_published_id(ms)),
@@ -79,6 +81,11 @@ impl Player {
     /// Calls `handle_timeout`, which sends a packet.
     pub(super) fn checks(&mut self, ms: u64) -> bool {
         self.passes_to(ms) == Outcome::Done && self.sends()
+    }
+
+    /// The same, whose packet goes from the first address to the second.
+    fn checks_on(&mut self, ms: u64, from: &str, to: &str) -> bool {
+        self.checks(ms) && is_on(&self.sent, from, to)
     }
 
     /// The same, whose packet goes to this address, with USE-CANDIDATE or without.

@@ -81,6 +81,22 @@ pub(super) fn is_between(sent: &Option<Transmit>, source: At, destination: At) -
     }
 }
 
+/// The same, of addresses as texts.
+pub(super) fn is_on(sent: &Option<Transmit>, source: &str, destination: &str) -> bool {
+    match sent {
+        Some(sent) => is_at(sent.source, source) && is_at(sent.destination, destination),
+        None => false,
+    }
+}
+
+/// The text is this address.
+fn is_at(address: SocketAddr, text: &str) -> bool {
+    match text.parse::<SocketAddr>() {
+        Ok(expected) => address == expected,
+        Err(_) => false,
+    }
+}
+
 /// The letter of the event.
 pub(super) fn sign_of(event: &IceAgentEvent) -> char {
     match event {

@@ -42,9 +42,9 @@ pub(super) const MODERN: Rules = Rules {
     kinds_in_turn: true,
     triggered_checks: Some(1),
     early_rto: Some(EarlyRto {
-        retransmits: 8,
-        interval: Duration(160_000_000),
-        cap: Duration(400_000_000),
+        retransmits: 2,
+        interval: Duration(100_000_000),
+        cap: Duration(350_000_000),
     }),
     selects_at_once: true,
     consent: Some(Consent {

@@ -159,6 +159,8 @@ pub(super) enum Call {
     Timeout(u64),
     /// Calls `handle_timeout`, which sends a packet.
     Check(u64),
+    /// The same, whose packet goes from the first address to the second.
+    CheckOn(u64, &'static str, &'static str),
     /// The same, whose packet goes from 10.0.0.1:1000 to this address, with USE-CANDIDATE or without.
     CheckTo(u64, At, bool),
     /// The same, whose packet has USE-CANDIDATE and NOMINATION of this number, or neither.

@@ -30,9 +30,9 @@ pub(super) const OFF: AgentRules = AgentRules {
 
 const ON: AgentRules = AgentRules {
     triggered_checks: 1,
-    early_retransmits: 8,
-    early_interval: 160_000_000,
-    early_cap: 400_000_000,
+    early_retransmits: 2,
+    early_interval: 100_000_000,
+    early_cap: 350_000_000,
     consent_timeout: 29_600_000_000,
     suspicion_timeout: 0,
     suspicion_interval: 0,

@@ -1,7 +1,7 @@
 //! Tests of addresses and protocols.
 ghost use Rattle.std.specs.Prelude.{◌≡◌, ◌↔◌, IsTrue};
 ghost use Rattle.is_candidate.specs.Addresses.{protocol_number, same_protocol, same_address, same_version, plain_socket, unspecified_like};
-ghost use Rattle.is_candidate.specs.Addresses.{is_valid_ip};
+ghost use Rattle.is_candidate.specs.Addresses.{is_valid_ip, is_inner_v4, is_public};
 
 use is_proto::Protocol;
 use std::net::{IpAddr, Ipv4Addr, Ipv6Addr, SocketAddr, SocketAddrV4, SocketAddrV6};
@@ -69,5 +69,34 @@ pub(crate) fn is_valid_ip(ip: IpAddr) -> bool
             !ip.is_link_local() && !ip.is_broadcast() && !ip.is_multicast() && !ip.is_unspecified()
         }
         IpAddr::V6(ip) => !ip.is_multicast() && !ip.is_unspecified(),
+    }
+}
+
+/// Whether an IPv4 address that begins with these octets is private (RFC 1918), shared (RFC 6598), loopback or link-local.
+fn is_inner_v4(a: u8, b: u8) -> bool
+    ensures { result ≡ is_inner_v4 a b }
+{
+    a == 10
+        || (a == 172 && 16 <= b && b <= 31)
+        || (a == 192 && b == 168)
+        || (a == 100 && 64 <= b && b <= 127)
+        || a == 127
+        || (a == 169 && b == 254)
+}
+
+/// Whether the address is routed on the Internet: of IPv4, one that is not private, shared, loopback or link-local; of IPv6, one of
+/// 2000::/3 (RFC 4291, section 2.4).
+pub fn is_public(ip: IpAddr) -> bool
+    ensures { result ≡ is_public ip }
+{
+    match ip {
+        IpAddr::V4(ip) => {
+            let octets = ip.octets();
+            !is_inner_v4(octets[0], octets[1])
+        }
+        IpAddr::V6(ip) => {
+            let first = ip.segments()[0];
+            0x2000 <= first && first <= 0x3fff
+        }
     }
 }

@@ -25,8 +25,9 @@ impl CandidatePair {
     /// A nominated pair without a check since its nomination is due before all others. A pair that was never checked is
     /// due now. Otherwise the check is due one RTO after the last one. The RTO depends on the number of pending
     /// transactions, or, if the peer has been silent for longer than half of `max_rto`, on the number of checks without a
-    /// response. With `early`, checks are due sooner while there is no response: after its interval at first, later after at most its cap. With `suspicion`, so are those of a pair
-    /// that had a response before. The due time is at most `max_rto` from now.
+    /// response. With `early`, checks are due sooner while there is no response: after its interval at first, later after
+    /// at most its cap. With `suspicion`, so are those of a pair that had a response before. The due time is at most
+    /// `max_rto` from now.
     pub fn next_binding_attempt(&mut self, now: Instant, timing_config: &StunTiming) -> Instant
         requires { 0 < timing_config.now.max_retransmits }
         ensures time { result.0 ≡ due_time_of now.0 timing_config.now self.old }

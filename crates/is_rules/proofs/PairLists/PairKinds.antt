@@ -5,7 +5,7 @@ use Rattle.is_candidate.specs.Candidates.{CandidateRecord, candidate_at}
 use Rattle.is_candidate.specs.declared.candidate.kind.CandidateKind.{CandidateKind}
 use Rattle.is_candidate.specs.declared.candidate.kind.CandidateKind.TheVariants.{Host, PeerReflexive, ServerReflexive, Relayed}
 use Rattle.is_pair.specs.Pairs.{PairRecord}
-use Rattle.is_rules.specs.Kinds.{is_outer, kind_of, kind_rank, KINDS}
+use Rattle.is_rules.specs.Kinds.{counted_kind, is_outer, kind_of, kind_rank, KINDS}
 
 rank-most : (kind : CandidateKind) → kind_rank kind ≤ 3
 rank-most PeerReflexive = omega arith
@@ -26,6 +26,6 @@ kind-below local remote p =
     let l = candidate_at local p.local in
     let r = candidate_at remote p.remote in
     let side = side-most (is_outer local l) in
-    let rank = rank-most r.kind in
+    let rank = rank-most (counted_kind r) in
     let version = one-most (is_v4 r.addr) in
     omega (arith, side, rank, version)

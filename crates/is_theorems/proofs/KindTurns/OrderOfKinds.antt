@@ -7,7 +7,7 @@ use Rattle.is_candidate.specs.Addresses.{is_v4}
 use Rattle.is_candidate.specs.Candidates.{CandidateRecord}
 use Rattle.is_candidate.specs.declared.candidate.kind.CandidateKind.{CandidateKind}
 use Rattle.is_candidate.specs.declared.candidate.kind.CandidateKind.TheVariants.{Host, PeerReflexive, ServerReflexive, Relayed}
-use Rattle.is_rules.specs.Kinds.{KINDS, is_outer, kind_between, kind_rank, turn_of, version_rank}
+use Rattle.is_rules.specs.Kinds.{KINDS, counted_kind, is_outer, kind_between, kind_rank, turn_of, version_rank}
 use Rattle.is_rules.specs.Owed.{one_if}
 
 le-from : (n m : ℕ) → nat_le n m ≡ true → n ≤ m
@@ -44,7 +44,7 @@ version-most a = by (is_v4 a) where
   by false = omega arith
 
 pub kind-within : (local : List CandidateRecord) (l r : CandidateRecord) → kind_between local l r < KINDS
-kind-within local l r = sums (if is_outer local l then 0 else 8) (kind_rank r.kind) (version_rank r.addr) (side-most (is_outer local l)) (rank-most r.kind) (version-most r.addr) where
+kind-within local l r = sums (if is_outer local l then 0 else 8) (kind_rank (counted_kind r)) (version_rank r.addr) (side-most (is_outer local l)) (rank-most (counted_kind r)) (version-most r.addr) where
   sums : (a b c : ℕ) → a ≤ 8 → b ≤ 3 → c ≤ 1 → a + 2 * b + c < 16
   sums a b c h k l = omega (arith, h, k, l)
 

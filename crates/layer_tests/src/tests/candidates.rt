@@ -1,5 +1,6 @@
 //! Public API of candidates.
 
+mod addresses;
 mod foundations;
 mod infos;
 mod lines;

@@ -78,7 +78,7 @@ static SETTINGS: [Setting; 10] = [
         result: "A rules ok",
         check: "000100442112a44200000000010000000200000000060009424242423a41414141000000802900080000000000000001002400046efffeff00080014575e3256ddc75e40fb5a5d995df884a45ae272a380280004c3c4bacc",
         creds: "AAAA PPPP",
-        timeout: "160000000",
+        timeout: "100000000",
     },
     Setting {
         line: r#"{"call":"rules","name":"original","early_rto":{"retransmits":1,"interval":70000000,"cap":90000000},"polls":false}"#,
