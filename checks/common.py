@@ -1,4 +1,5 @@
 """What the scripts of this folder share: their help, the crates that a crate uses, copies of them with what checks stored, and messages."""
+import os
 import pathlib
 import re
 import shutil
@@ -32,8 +33,16 @@ def closure(crate):
 def copy_crate(name, folder, *left_out):
     """Copies a crate again, with what checks stored in out/, except the folders that are left out."""
     shutil.rmtree(folder / "crates" / name, ignore_errors=True)
-    skip = shutil.ignore_patterns("must-fail", "*.o", *left_out)
+    skip = shutil.ignore_patterns("*.o", *left_out)
     shutil.copytree(top / "crates" / name, folder / "crates" / name, ignore=skip)
+
+
+def link_or_copy(old, new):
+    """For a file that nobody writes into."""
+    try:
+        os.link(old, new)
+    except OSError:
+        shutil.copy2(old, new)
 
 
 def copy_lower(crate, folder):
@@ -44,7 +53,10 @@ def copy_lower(crate, folder):
         shutil.copy(top / "HANDLES", folder)
     for name in needs:
         if name != crate:
-            copy_crate(name, folder, "incremental")
+            copy_crate(name, folder, "incremental", "rlib")
+            built = top / "crates" / name / "out" / "rlib"
+            if built.exists():
+                shutil.copytree(built, folder / "crates" / name / "out" / "rlib", copy_function=link_or_copy, dirs_exist_ok=True)
 
 
 def messages(said):

@@ -1,5 +1,5 @@
-"""Reads the mutants: those of CI in crates/CRATE/must-fail/*.edit, and the files mutants/bodies/CRATE.txt and
-mutants/specifications/CRATE.txt. docs/TESTING.md describes the format."""
+"""Reads the mutants: the files mutants/gate/CRATE.txt, mutants/bodies/CRATE.txt and mutants/specifications/CRATE.txt.
+docs/TESTING.md describes the format."""
 import collections, functools, pathlib, re, sys
 
 here = pathlib.Path(__file__).resolve().parent
@@ -9,7 +9,7 @@ top = here.parent
 # within: the function in which the old texts are, or None for the whole file.
 Mutant = collections.namedtuple("Mutant", "name crate kind place rules theorem file within changes")
 
-KINDS = ("ci", "bodies", "specifications")
+KINDS = ("gate", "bodies", "specifications")
 
 FUNCTION = re.compile(r"\s*(?:pub(?:\([^)]*\))?\s+)?(?:(?:const|unsafe|extern(?:\s+\"[^\"]*\")?)\s+)*fn\s+(\w+)")
 
@@ -19,14 +19,11 @@ def stop(path, number, why):
 
 
 def parse(path, crate, kind):
-    """The mutants of a file, of which an edit of CI has one."""
-    found, rule, theorem = [], [], None
-    if kind == "ci":
-        found.append(Mutant(path.stem.rpartition(".")[2], crate, kind, (path, 1), [], None, [None], [None], []))
-    old = None
+    """The mutants of a file."""
+    found, rule, theorem, old = [], [], None, None
     for number, line in enumerate(path.read_text().split("\n"), 1):
         key, text = line[:5], line[5:]
-        if line.startswith("## ") and kind != "ci":
+        if line.startswith("## "):
             rule, theorem = [line[3:]], None
         elif line.startswith("# rule: "):
             found[-1].rules.append(line[8:])
@@ -34,11 +31,11 @@ def parse(path, crate, kind):
             continue
         elif line.startswith("theorem: ") and kind == "specifications":
             theorem = line[9:]
-        elif line.startswith("mutant: ") and kind != "ci":
+        elif line.startswith("mutant: "):
             found.append(Mutant(line[8:], crate, kind, (path, number), [*rule], theorem, [None], [None], []))
         elif line.startswith("file: ") and found and found[-1].file == [None]:
             found[-1].file[0] = line[6:]
-        elif line.startswith("in: ") and kind == "bodies" and found and found[-1].within == [None] and not found[-1].changes:
+        elif line.startswith("in: ") and kind != "specifications" and found and found[-1].within == [None] and not found[-1].changes:
             found[-1].within[0] = line[4:]
         elif key == "old: " and found and old is None:
             old = text
@@ -61,8 +58,6 @@ def finished(mutant):
 
 def paths(kind, crate):
     """The files that have the mutants of this kind."""
-    if kind == "ci":
-        return sorted((top / "crates" / crate / "must-fail").glob("*.edit"))
     return [path for path in [here / kind / f"{crate}.txt"] if path.exists()]
 
 

@@ -1,4 +1,4 @@
-"""Judges mutants of function bodies on copies of their crate: as many in one check as there are functions.
+"""Judges mutants of function bodies on a copy of their crate: as many in one check as there are functions.
 
 A pass puts one mutant of each function into a copy and checks that once. The verdict on a mutant is one of these:
 
@@ -9,21 +9,28 @@ A pass puts one mutant of each function into a copy and checks that once. The ve
   not checked    the function was not checked, for example because one that it calls is not proved; it is tried again in the
                  next pass, without the mutants that were killed, and is NOT CHECKED at the end
 
-What earlier checks stored in out/ is copied too, so that a pass checks only what a mutant affects."""
-import collections, os, pathlib, re, subprocess, sys, tempfile, time
+What earlier checks stored in out/ is copied too, so that a pass checks only what a mutant affects. A check of named functions checks
+these and what they call, and needs nothing of the crate's own that was stored."""
+import collections, os, pathlib, re, subprocess, tempfile, time
 
 from catalog import bounds, functions, text_of
 from common import copy_crate, copy_lower, messages
 
-IMPL = re.compile(r"\s*impl\b(?:<[^{]*?>)?\s+(?:.*\sfor\s+)?(\w+)")
+IMPL = re.compile(r"\s*impl\b(?:<[^{]*?>)?\s+(?:(\w+)(?:<(\w+)>)?.*\sfor\s+)?(\w+)")
 # The words of an unproved goal: as a note at the code, in a function's line, in an error of its stored proof.
 NOTED = "it is not proved that "
 UNPROVED = "did not prove `"
 UNFOUND = ("no proof of `", "found no proof", "the goal does not follow")
 
+
+
+class Unjudged(Exception):
+    """Why there is no verdict."""
+
+
 Change = collections.namedtuple("Change", "start end new line")
-# lines: those of the function that it changes. owner: the type of its impl.
-Edit = collections.namedtuple("Edit", "name file function owner lines changes")
+# lines: those of the function that it changes. owner: the type of its impl. trait: the trait of its impl with its parameter, or nothing.
+Edit = collections.namedtuple("Edit", "name file function owner trait lines changes")
 
 
 def located(mutant):
@@ -43,13 +50,23 @@ def edit_of(mutant):
     if len(homes) != 1 or any(change.line not in own for _, _, own in homes for change in changes):
         return None, "it does not change exactly one function"
     function, head, own = homes.pop()
-    owner = None
+    trait, of, owner = "", "", None
     if lines[head - 1].startswith(" "):
-        owner = next((IMPL.match(line)[1] for line in reversed(lines[:head]) if IMPL.match(line)), None)
-    return Edit(mutant.name, mutant.file, function, owner, own, changes), None
+        trait, of, owner = next((IMPL.match(line).groups("") for line in reversed(lines[:head]) if IMPL.match(line)), ("", "", None))
+    return Edit(mutant.name, mutant.file, function, owner, trait + of[:1].upper() + of[1:], own, changes), None
 
 
-def check(crate, edits, folder):
+def module_of(edit):
+    """The path of its module below the crate."""
+    return edit.file.removeprefix("src/").removesuffix(".rt").replace("/", "::")
+
+
+def path_of(edit):
+    """The path by which a check names its function."""
+    return f"{edit.owner}{edit.trait}::{edit.function}" if edit.owner else f"{module_of(edit)}::{edit.function}".removeprefix("lib::")
+
+
+def check(crate, edits, folder, only_these):
     """The output of a check of a copy with these edits."""
     copy_crate(crate, folder, "rlib")
     changes = collections.defaultdict(list)
@@ -62,7 +79,8 @@ def check(crate, edits, folder):
             text = text[: change.start] + change.new + text[change.end :]
         path.write_text(text)
     jobs = ["--jobs", os.environ["MUTANT_JOBS"]] if "MUTANT_JOBS" in os.environ else []
-    command = ["rt", "check", "--allow-holes", *jobs]
+    only = [word for edit in edits for word in ("--only", path_of(edit))] if only_these else []
+    command = ["rt", "check", "--allow-holes", *only, *jobs]
     ran = subprocess.run(command, cwd=folder / "crates" / crate, capture_output=True, text=True)
     return ran.stdout + ran.stderr
 
@@ -95,8 +113,7 @@ def judged(edit, crate, told, answers):
     if edit.owner:
         home = [path for path in named if any(part.startswith(edit.owner) for part in path.split("::")[:-1])]
     else:
-        module = edit.file.removeprefix("src/").removesuffix(".rt").replace("/", "::")
-        home = [path for path in named if path == f"{crate}::{module}::{edit.function}"]
+        home = [path for path in named if path == f"{crate}::{module_of(edit)}::{edit.function}"]
     found = home or named
     if found and all(told[path][0].startswith("no holes") for path in found):
         return "SURVIVED", f"{', '.join(found)}: proved"
@@ -112,25 +129,25 @@ def judged(edit, crate, told, answers):
     return None, line
 
 
-def pass_over(number, crate, edits, folder):
+def pass_over(number, crate, edits, folder, only_these):
     """A pass: the verdict on each edit of which something was reported."""
     start = time.monotonic()
-    said = check(crate, edits, folder)
+    said = check(crate, edits, folder, only_these)
     told, answers = verdicts(said)
     if not told:
         print("\n".join(line for line in said.split("\n") if "error" in line)[:3000] or said[-3000:])
-        sys.exit(f"pass {number}: the copy did not reach the prover")
+        raise Unjudged(f"{crate}, pass {number}: the copy did not reach the prover")
     found = {}
     for edit in edits:
         verdict, why = judged(edit, crate, told, answers)
         if verdict:
             found[edit.name] = verdict
-        print(f"pass {number}: {edit.name}: {verdict or 'not checked'}: {why[:160]}")
-    print(f"pass {number}: {len(edits)} edits, {time.monotonic() - start:.0f} s", flush=True)
+        print(f"{crate}, pass {number}: {edit.name}: {verdict or 'not checked'}: {why[:160]}")
+    print(f"{crate}, pass {number}: {len(edits)} edits, {time.monotonic() - start:.0f} s", flush=True)
     return found
 
 
-def passes(crate, left):
+def passes(crate, left, only_these):
     """The verdict on each edit, and how many passes it took."""
     verdict, number = {}, 0
     with tempfile.TemporaryDirectory(prefix="mutants-") as folder:
@@ -140,7 +157,7 @@ def passes(crate, left):
             taken = {}
             for edit in left:
                 taken.setdefault((edit.file, edit.lines), edit)
-            verdict.update(pass_over(number, crate, list(taken.values()), pathlib.Path(folder)))
+            verdict.update(pass_over(number, crate, list(taken.values()), pathlib.Path(folder), only_these))
             rest = [edit for edit in left if edit.name not in verdict]
             if len(rest) == len(left):
                 verdict.update((edit.name, "NOT CHECKED") for edit in rest)
@@ -149,15 +166,15 @@ def passes(crate, left):
     return verdict, number
 
 
-def judge(crate, mutants):
-    """Prints the verdicts; whether each mutant was killed."""
+def judge(crate, mutants, only_these=False):
+    """Prints the verdicts, and returns how many mutants were not killed. only_these: checks only the functions that are changed, and what they call."""
     edits = []
     for mutant in mutants:
         edit, why = edit_of(mutant)
         if not edit:
-            sys.exit(f"{mutant.name}: {why}")
+            raise Unjudged(f"{mutant.name}: {why}")
         edits.append(edit)
-    verdict, number = passes(crate, edits)
+    verdict, number = passes(crate, edits, only_these)
     failed = [f"{found}: {name}" for name, found in sorted(verdict.items()) if found != "killed"]
-    print("\n".join([f"{len(edits) - len(failed)} of {len(edits)} killed, {number} passes", *failed]))
-    return not failed
+    print("\n".join([f"{crate}: {len(edits) - len(failed)} of {len(edits)} killed, {number} passes", *failed]), flush=True)
+    return len(failed)
