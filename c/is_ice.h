@@ -133,7 +133,7 @@ static inline const char *is_ice_code_text(int32_t code)
 /* is_ice_version - returns the version of the library's interface. It equals IS_ICE_VERSION if this header belongs to
  * the library. It increases when a name, an argument, a struct or a code changes or goes. A call that is added leaves it,
  * since programs that were built before still run. Does not allocate. */
-#define IS_ICE_VERSION 6
+#define IS_ICE_VERSION 7
 uint32_t is_ice_version(void);
 
 /* The version of the release that this header is of: 0.12 is that of the Rust crate `is` whose API it has. */
@@ -340,8 +340,6 @@ typedef struct is_ice_agent_rules {
     uint64_t early_interval;   /* the time before each, */
     uint64_t early_cap;        /* and before a later one at most */
     uint64_t consent_timeout;  /* so long after its last answered check a pair is removed */
-    uint64_t suspicion_timeout; /* so long after its last answered check a pair is suspected, */
-    uint64_t suspicion_interval; /* and the time between its checks before that, once one has no response */
     uint64_t early_pacing;     /* until the agent is settled, the pacing interval Ta is at most this */
     bool kinds_in_turn;        /* until a path is selected, every second check goes to the next kind of pairs */
     bool selects_at_once;      /* a controlled agent selects a valid pair when the request that nominates it arrives */
@@ -516,15 +514,15 @@ IS_ICE_QUIET_CALL int32_t is_ice_retransmit_delay(
 /* is_ice_modern_rules, is_ice_original_rules - return the rules that connect sooner and end consent in time, and those of
  * the Rust crate `is` 0.12.0, of which each is off. By the first, one request triggers a check; there are 2 early
  * retransmissions, each after 100 ms, and later ones after 350 ms at most. Consent lasts 29.6 s, and is not strict. Early
- * pacing is 10 ms. Each other rule is on, except for suspicion. On any thread. IS_ICE_OK. */
+ * pacing is 10 ms. Each other rule is on. On any thread. IS_ICE_OK. */
 IS_ICE_QUIET_CALL int32_t is_ice_modern_rules(is_ice_agent_rules *rules);
 IS_ICE_QUIET_CALL int32_t is_ice_original_rules(is_ice_agent_rules *rules);
 
 /* is_ice_set_rules - sets what the agent does beyond the behavior of the Rust crate `is` 0.12.0. To change one rule,
  * change its field in what is_ice_rules or is_ice_modern_rules returned: a later version of this header may have further
  * fields. The other agent may have other rules. The struct is copied. is_ice_rules returns what was set, except for
- * early_interval and early_cap without early retransmissions, strict_consent without consent_timeout, and
- * suspicion_interval without suspicion_timeout: these are 0, 0, false and 0.
+ * early_interval and early_cap without early retransmissions, and strict_consent without consent_timeout: these are 0, 0
+ * and false.
  * IS_ICE_OK. Value: is_ice_modern_rules.
  *
  * kinds_in_turn: until a path is selected, every second check goes to the next kind of pairs, and the others to the pair
@@ -556,14 +554,6 @@ IS_ICE_QUIET_CALL int32_t is_ice_original_rules(is_ice_agent_rules *rules);
  * are (RFC 7675, section 5.1). Unless strict_consent is true, the other agent's checks keep the pair too, each for 15 s.
  * is_ice_poll_timeout returns a time no later than this end, except for pacing. What removes a pair without this rule
  * still does. A browser gives a path up after 30 s, and does not nominate it again. 0: no such rule.
- *
- * suspicion_timeout: a pair is suspected so long after its last check that got a response was sent, as of the last
- * is_ice_handle_timeout call. While another pair may be selected that is not suspected, a suspected one is not. So a path
- * that died is left long before its consent ends, and selected again once it answers. A controlled agent with
- * is_ice_set_renomination selects what the other agent nominates all the same. From the first check of a valid pair without a
- * response until the pair is suspected, its checks come at most suspicion_interval apart, and at least 1 ms, as far as Ta
- * allows. These checks end no pair sooner. The time should be longer than is_ice_set_max_rto, at which pairs are checked
- * that answer. 0: no such rule.
  *
  * early_pacing: until the agent is settled, the pacing interval Ta is at most this, and at most half a second divided by
  * the number of pairs. It is at least 5 ms (RFC 8445, section 14.2). The agent is settled once it has a path and, if it is
@@ -1239,7 +1229,7 @@ IS_ICE_SIZE(is_ice_pair, 96);
 IS_ICE_SIZE(is_ice_removed_pair, 104);
 IS_ICE_SIZE(is_ice_kind_preferences, 8);
 IS_ICE_SIZE(is_ice_preference_table, 16);
-IS_ICE_SIZE(is_ice_agent_rules, 80);
+IS_ICE_SIZE(is_ice_agent_rules, 64);
 IS_ICE_SIZE(is_ice_stun_transaction, 12);
 IS_ICE_SIZE(is_ice_stun_result, 32);
 IS_ICE_SIZE(is_ice_stun_number, 16);

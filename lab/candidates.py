@@ -64,8 +64,7 @@ class Candidates:
 
     def with_rules(self, rules: Rules) -> Self:
         """Returns the agent with these rules. Due times that are fixed stay."""
-        timing = replace(self.timing, early=rules.early_rto, consent=rules.consent, suspicion=rules.suspicion)
-        return replace(self, rules=rules, timing=timing)
+        return replace(self, rules=rules, timing=replace(self.timing, early=rules.early_rto, consent=rules.consent))
 
     def with_timing(self, timing: Timing) -> Self:
         """Returns the agent with these settings. If an RTO changes, due times are computed again."""
@@ -85,10 +84,6 @@ class Candidates:
     def is_eligible(self, pair: Pair) -> bool:
         """Whether it may be selected."""
         return pair.is_valid and (self.controlling or pair.is_nominated)
-
-    def is_suspected(self, pair: Pair) -> bool:
-        """Whether it is suspected, so that others are selected before it."""
-        return pair.is_suspected(self.last or 0, self.timing)
 
     def stays_nominated(self, pair: Pair) -> bool:
         """Whether its checks have USE-CANDIDATE if the agent is controlling."""
@@ -153,19 +148,15 @@ class Candidates:
 
     def chosen(self) -> Pair | None:
         """Returns the pair to be selected: of an agent that follows its peer the followed pair, or the one that was selected last; else an
-        eligible one with the greatest priority, of those that are not suspected, if there is one."""
+        eligible one with the greatest priority."""
         eligible = [p for p in self.pairs if self.is_eligible(p)]
         favored = (self.followed, self.selected) if self.follows else ()
-        first = [p for p in eligible if not self.is_suspected(p)] or eligible
-        best = max(first, key=lambda p: p.priority, default=None)
+        best = max(eligible, key=lambda p: p.priority, default=None)
         return next((p for number in favored for p in eligible if p.number == number), best)
 
     def remains(self, top: Pair) -> bool:
         """Whether the pair that was selected last stays selected, if this one is chosen."""
-        selected = next((p for p in self.pairs if p.number == self.selected), None)
-        if selected is None or self.follows:
-            return selected is top
-        return selected.priority == top.priority and (self.is_suspected(top) or not self.is_suspected(selected))
+        return any(p.number == self.selected and (p is top if self.follows else p.priority == top.priority) for p in self.pairs)
 
     def request_at(self, now: int) -> Request | None:
         """Returns the early request that a `handle_timeout` serves."""

@@ -11,7 +11,7 @@ from .clauses import (
     consent_holds, courses_reach_served, courses_select_in_time, due_rounds, in_time, leaves_in_time, meet, nomination_accepted,
     nominations, none_starved_in_time, of_use, one_path, reached_in_kind, reached_in_turn, rounds, run_connected,
     run_connected_answered, run_in_time, run_selects_in_time, selects_in_time, served_are_checked_soon, served_in_time,
-    served_select_in_time, states_agree, successes, suspected_are_left, urgent_are_reached, valid_have_consented, world_rounds)
+    served_select_in_time, states_agree, successes, urgent_are_reached, valid_have_consented, world_rounds)
 from .clauses.execution import Execution
 from .clauses.accepted_nominations import Network
 from .clauses.verdict import Verdict
@@ -43,8 +43,7 @@ THEOREMS: dict[str, Callable[[Execution], Verdict]] = {
     "completed_nominations_are_selected": completed_nominations_are_selected.find,
     "courses_select_in_time": courses_select_in_time.find, "states_agree": states_agree.find, "reached_in_turn": reached_in_turn.find,
     "reached_in_kind": reached_in_kind.find, "urgent_are_reached": urgent_are_reached.find,
-    "served_are_checked_soon": served_are_checked_soon.find, "courses_reach_served": courses_reach_served.find,
-    "suspected_are_left": suspected_are_left.find}
+    "served_are_checked_soon": served_are_checked_soon.find, "courses_reach_served": courses_reach_served.find}
 CLAUSES = (*WORLD, *RUN, *THEOREMS)
 
 

@@ -6,8 +6,7 @@ from dataclasses import replace
 from random import Random
 from typing import Protocol as Interface_, cast
 
-from is_ice import (
-    Candidate, Consent, EarlyRto, IceAgent, IceAgentEvent, IceCreds, Rules, SocketAddress, Suspicion, line_fields, new_creds)
+from is_ice import Candidate, Consent, EarlyRto, IceAgent, IceAgentEvent, IceCreds, Rules, SocketAddress, line_fields, new_creds
 
 from .clock import Clock, nanoseconds
 from .log import Beginning, Log, LoggedAgent
@@ -34,9 +33,6 @@ def rules_by(s: AgentSettings) -> Rules:
     if s.consent_ms is not None:
         consent = Consent(nanoseconds(s.consent_ms), s.strict_consent)
         rules = replace(rules, consent=consent if s.consent_ms else None)
-    if s.suspicion_ms is not None:
-        suspicion = Suspicion(nanoseconds(s.suspicion_ms), nanoseconds(s.probes_ms))
-        rules = replace(rules, suspicion=suspicion if s.suspicion_ms else None)
     if s.early_pacing_ms is not None:
         rules = replace(rules, early_pacing=nanoseconds(s.early_pacing_ms) or None)
     names = ("selects_at_once", "selected_first", "timeout_after_requests", "lite_keeps_role", "numbered_nominations",

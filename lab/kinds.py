@@ -12,7 +12,7 @@ from typing import Any
 from is_ice import SocketAddress
 
 from .clock import MILLISECOND
-from .pairs import Consent, EarlyRto, Pair, Place, Suspicion
+from .pairs import Consent, EarlyRto, Pair, Place
 
 # How many kinds of pairs there are.
 COUNT = 16
@@ -33,7 +33,6 @@ class Rules:
     early_rto: EarlyRto | None = None
     selects_at_once: bool = False
     consent: Consent | None = None
-    suspicion: Suspicion | None = None
     early_pacing: int | None = None
     selected_first: bool = False
     timeout_after_requests: bool = False
@@ -51,7 +50,7 @@ class Rules:
 
 ORIGINAL = Rules()
 # With these an agent that the library makes begins.
-MODERN = Rules(True, 1, EarlyRto(2, 100 * MILLISECOND, 350 * MILLISECOND), True, Consent(29600 * MILLISECOND), None, 10 * MILLISECOND,
+MODERN = Rules(True, 1, EarlyRto(2, 100 * MILLISECOND, 350 * MILLISECOND), True, Consent(29600 * MILLISECOND), 10 * MILLISECOND,
                True, True, True, True, True, True, True)
 
 
@@ -61,10 +60,8 @@ def rules_of(given: Any) -> Rules:
     own = EarlyRto(early.retransmits, early.interval, early.cap) if early is not None and early.retransmits else None
     consent = given.consent
     kept = Consent(consent.timeout, consent.strict) if consent is not None and consent.timeout else None
-    suspicion = given.suspicion
-    suspects = Suspicion(suspicion.timeout, suspicion.interval) if suspicion is not None and suspicion.timeout else None
-    return Rules(given.kinds_in_turn, given.triggered_checks or None, own, given.selects_at_once, kept, suspects,
-                 given.early_pacing or None, given.selected_first, given.timeout_after_requests, given.lite_keeps_role,
+    return Rules(given.kinds_in_turn, given.triggered_checks or None, own, given.selects_at_once, kept, given.early_pacing or None,
+                 given.selected_first, given.timeout_after_requests, given.lite_keeps_role,
                  given.numbered_nominations, given.discovered_if_served, given.state_after_nomination, given.invalidates_listed)
 
 

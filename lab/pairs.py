@@ -44,15 +44,6 @@ class Consent:
 
 
 @dataclass(frozen=True)
-class Suspicion:
-    """When a pair is suspected, in nanoseconds after its last answered check was sent. Before that, once a check has no response, its
-    checks come at most an interval apart."""
-
-    timeout: int
-    interval: int
-
-
-@dataclass(frozen=True)
 class Timing:
     """The settings of retransmission. Durations are nanoseconds."""
 
@@ -62,7 +53,6 @@ class Timing:
     lite: int = 15 * SECOND
     early: EarlyRto | None = None
     consent: Consent | None = None
-    suspicion: Suspicion | None = None
 
     def delay(self, count: int) -> int:
         """Returns the delay after the last of `count` checks, in whole milliseconds: it doubles up to a bound."""
@@ -193,27 +183,17 @@ class Pair:
         return self.checks[-1].sent + self._delay(now, timing)
 
     def _delay(self, now: int, timing: Timing) -> int:
-        usual = self._usual_delay(now, timing)
-        if timing.suspicion is None or not self.is_probed(now, timing.suspicion):
-            return usual
-        return min(usual, max(MILLISECOND, timing.suspicion.interval))
-
-    def is_probed(self, now: int, suspicion: Suspicion) -> bool:
-        """Whether it had a response, its last check has none, and it is not suspected yet."""
-        return self.consented is not None and now < self.consented + suspicion.timeout and unanswered(self.checks) > 0
-
-    def is_repeated_early(self, now: int, timing: Timing) -> bool:
-        """Whether its checks are repeated early: while no response arrived on it, as long as a whole series of checks takes; and those that
-        nominate a pair with a response, until `max_retransmits` checks have none."""
-        return self.is_young(now, timing) if self.answers == 0 else self.is_nominating and self.may_repeat(timing)
-
-    def _usual_delay(self, now: int, timing: Timing) -> int:
         if timing.early is not None and self.is_repeated_early(now, timing):
             return timing.early.delay(self.silent_count)
         silent = unanswered(self.checks)
         first = len(self.checks) - silent
         is_silent = first < len(self.checks) and timing.greatest < 2 * (now - self.checks[first].sent)
         return timing.delay(silent if is_silent else len(self.checks))
+
+    def is_repeated_early(self, now: int, timing: Timing) -> bool:
+        """Whether its checks are repeated early: while no response arrived on it, as long as a whole series of checks takes; and those that
+        nominate a pair with a response, until `max_retransmits` checks have none."""
+        return self.is_young(now, timing) if self.answers == 0 else self.is_nominating and self.may_repeat(timing)
 
     def fixed(self, now: int, timing: Timing) -> Pair:
         """Fixes its due time."""
@@ -229,7 +209,7 @@ class Pair:
 
     def is_possible(self, now: int, timing: Timing) -> bool:
         """Whether the checks of a pair with this record may go on."""
-        if self.has_early_checks(now, timing) or self.may_repeat(timing) or self.is_kept_by_probes(now, timing):
+        if self.has_early_checks(now, timing) or self.may_repeat(timing):
             return True
         return self.is_heard(now) or now < self.checks[-1].sent + timing.delay(timing.retransmits)
 
@@ -262,15 +242,6 @@ class Pair:
             return self.is_young(now, timing)
         silent = unanswered(self.checks)
         return silent > 0 and now < self.checks[-silent].sent + timing.timeout()
-
-    def is_kept_by_probes(self, now: int, timing: Timing) -> bool:
-        """Whether the path may still work since checks of the rule `suspicion` end no pair sooner: less time passed since its last answered
-        check than a whole series takes."""
-        return timing.suspicion is not None and self.consented is not None and now < self.consented + timing.timeout()
-
-    def is_suspected(self, last: int, timing: Timing) -> bool:
-        """Whether it is suspected as of the last `handle_timeout`: by the rule, its last answered check was sent so long before."""
-        return timing.suspicion is not None and self.consented is not None and self.consented + timing.suspicion.timeout <= last
 
     def is_young(self, now: int, timing: Timing) -> bool:
         """Whether less time passed since its first check than a whole series of checks takes."""

@@ -56,8 +56,6 @@ class AgentSettings:
     selects_at_once: bool | None = None
     consent_ms: float | None = None  # 0: off
     strict_consent: bool = False  # if `consent_ms` is set
-    suspicion_ms: float | None = None  # 0: off
-    probes_ms: float = 200.0  # between checks without a response, if `suspicion_ms` is set
     early_pacing_ms: float | None = None  # 0: off
     selected_first: bool | None = None
     timeout_after_requests: bool | None = None

@@ -104,19 +104,16 @@ static void set_preference(void)
     CALL(OK | QUIET, is_ice_set_preference_table(agents[on], given));
 }
 
-/* What is set is read; without early retransmissions their interval and cap are 0, and so is the interval of suspicion without its
- * timeout. */
+/* What is set is read; without early retransmissions their interval and cap are 0. */
 static bool is_read(const is_ice_agent_rules *given, const is_ice_agent_rules *told)
 {
     uint64_t interval = given->early_retransmits > 0 ? given->early_interval : 0;
     uint64_t cap = given->early_retransmits > 0 ? given->early_cap : 0;
     bool strict = given->consent_timeout > 0 && given->strict_consent;
-    uint64_t probes = given->suspicion_timeout > 0 ? given->suspicion_interval : 0;
     return told->kinds_in_turn == given->kinds_in_turn && told->selects_at_once == given->selects_at_once
         && told->triggered_checks == given->triggered_checks && told->early_retransmits == given->early_retransmits
         && told->early_interval == interval && told->early_cap == cap
         && told->consent_timeout == given->consent_timeout && told->strict_consent == strict
-        && told->suspicion_timeout == given->suspicion_timeout && told->suspicion_interval == probes
         && told->early_pacing == given->early_pacing
         && told->selected_first == given->selected_first && told->timeout_after_requests == given->timeout_after_requests
         && told->lite_keeps_role == given->lite_keeps_role && told->numbered_nominations == given->numbered_nominations
@@ -136,7 +133,7 @@ static void set_rules(void)
     else {
         given->triggered_checks = number(), given->early_retransmits = (size_t)number();
         given->early_interval = number(), given->early_cap = number();
-        given->suspicion_timeout = number(), given->suspicion_interval = number(), given->early_pacing = number();
+        given->early_pacing = number();
         given->consent_timeout = number(), given->kinds_in_turn = one_in(2), given->selects_at_once = one_in(2);
         given->strict_consent = one_in(2), given->selected_first = one_in(2), given->timeout_after_requests = one_in(2);
         given->lite_keeps_role = one_in(2), given->numbered_nominations = one_in(2);

@@ -84,7 +84,7 @@ static const char *const passwords[AGENTS] = {"password of the left one", "passw
 
 /* What queries say of an agent. */
 struct view {
-    uint64_t values[38];
+    uint64_t values[36];
 };
 
 /* A code as the number of a bit. */
@@ -111,7 +111,7 @@ static void view(is_ice_agent *agent, struct view *v)
         *to++ = rules.triggered_checks, *to++ = rules.early_retransmits, *to++ = rules.early_interval, *to++ = rules.early_cap;
         *to++ = (uint64_t)rules.kinds_in_turn * 2 + rules.selects_at_once, *to++ = rules.consent_timeout;
         *to++ = (uint64_t)rules.strict_consent * 4 + (uint64_t)rules.selected_first * 2 + rules.timeout_after_requests;
-        *to++ = rules.suspicion_timeout, *to++ = rules.suspicion_interval, *to++ = rules.early_pacing;
+        *to++ = rules.early_pacing;
         *to++ = (uint64_t)rules.lite_keeps_role * 2 + rules.numbered_nominations;
         *to++ = (uint64_t)rules.discovered_if_served * 4 + (uint64_t)rules.state_after_nomination * 2 + rules.invalidates_listed;
     }

@@ -54,13 +54,12 @@ static void offsets(void)
     AT(is_ice_preference_table, v4, 0), AT(is_ice_preference_table, v6, 8);
     AT(is_ice_agent_rules, triggered_checks, 0), AT(is_ice_agent_rules, early_retransmits, 8);
     AT(is_ice_agent_rules, early_interval, 16), AT(is_ice_agent_rules, early_cap, 24), AT(is_ice_agent_rules, consent_timeout, 32);
-    AT(is_ice_agent_rules, suspicion_timeout, 40), AT(is_ice_agent_rules, suspicion_interval, 48);
-    AT(is_ice_agent_rules, early_pacing, 56);
-    AT(is_ice_agent_rules, kinds_in_turn, 64), AT(is_ice_agent_rules, selects_at_once, 65), AT(is_ice_agent_rules, strict_consent, 66);
-    AT(is_ice_agent_rules, selected_first, 67), AT(is_ice_agent_rules, timeout_after_requests, 68);
-    AT(is_ice_agent_rules, lite_keeps_role, 69), AT(is_ice_agent_rules, numbered_nominations, 70);
-    AT(is_ice_agent_rules, discovered_if_served, 71), AT(is_ice_agent_rules, state_after_nomination, 72),
-    AT(is_ice_agent_rules, invalidates_listed, 73);
+    AT(is_ice_agent_rules, early_pacing, 40);
+    AT(is_ice_agent_rules, kinds_in_turn, 48), AT(is_ice_agent_rules, selects_at_once, 49), AT(is_ice_agent_rules, strict_consent, 50);
+    AT(is_ice_agent_rules, selected_first, 51), AT(is_ice_agent_rules, timeout_after_requests, 52);
+    AT(is_ice_agent_rules, lite_keeps_role, 53), AT(is_ice_agent_rules, numbered_nominations, 54);
+    AT(is_ice_agent_rules, discovered_if_served, 55), AT(is_ice_agent_rules, state_after_nomination, 56),
+    AT(is_ice_agent_rules, invalidates_listed, 57);
 }
 
 static is_ice_agent made(void)
@@ -97,7 +96,6 @@ static bool same_rules(const is_ice_agent_rules *a, const is_ice_agent_rules *b)
     return a->triggered_checks == b->triggered_checks && a->early_retransmits == b->early_retransmits
         && a->early_interval == b->early_interval && a->early_cap == b->early_cap
         && a->consent_timeout == b->consent_timeout && a->kinds_in_turn == b->kinds_in_turn
-        && a->suspicion_timeout == b->suspicion_timeout && a->suspicion_interval == b->suspicion_interval
         && a->early_pacing == b->early_pacing
         && a->selects_at_once == b->selects_at_once && a->strict_consent == b->strict_consent && a->selected_first == b->selected_first
         && a->timeout_after_requests == b->timeout_after_requests && a->lite_keeps_role == b->lite_keeps_role
@@ -123,14 +121,14 @@ static void rules(void)
     HOLD(modern.early_retransmits == 2 && modern.early_interval == 100000000 && modern.early_cap == 350000000 && modern.selects_at_once);
     HOLD(modern.consent_timeout == 29600000000 && !modern.strict_consent && modern.selected_first && modern.timeout_after_requests);
     HOLD(modern.lite_keeps_role && modern.numbered_nominations && modern.discovered_if_served && modern.state_after_nomination);
-    HOLD(modern.invalidates_listed && modern.suspicion_timeout == 0 && modern.suspicion_interval == 0);
+    HOLD(modern.invalidates_listed);
     HOLD(modern.early_pacing == 10000000);
     HOLD(is_ice_original_rules(&original) == IS_ICE_OK && !original.kinds_in_turn && original.triggered_checks == 0);
     HOLD(original.early_retransmits == 0 && original.early_interval == 0 && original.early_cap == 0 && !original.selects_at_once);
     HOLD(original.consent_timeout == 0 && !original.strict_consent && !original.selected_first && !original.timeout_after_requests);
     HOLD(!original.lite_keeps_role && !original.numbered_nominations && !original.discovered_if_served);
     HOLD(!original.state_after_nomination && !original.invalidates_listed);
-    HOLD(original.suspicion_timeout == 0 && original.suspicion_interval == 0 && original.early_pacing == 0);
+    HOLD(original.early_pacing == 0);
     HOLD(is_ice_rules(&agent, &r) == IS_ICE_OK && same_rules(&r, &modern));
     keeps_rules(&agent, &original), keeps_rules(&agent, &modern);
     r = original, r.kinds_in_turn = true, keeps_rules(&agent, &r);
@@ -142,8 +140,6 @@ static void rules(void)
     r = original, r.selects_at_once = true, keeps_rules(&agent, &r);
     r = original, r.consent_timeout = UINT64_MAX, keeps_rules(&agent, &r);
     r.strict_consent = true, keeps_rules(&agent, &r);
-    r = original, r.suspicion_timeout = UINT64_MAX, keeps_rules(&agent, &r);
-    r.suspicion_interval = UINT64_MAX, keeps_rules(&agent, &r);
     r = original, r.early_pacing = 1, keeps_rules(&agent, &r);
     r.early_pacing = UINT64_MAX, keeps_rules(&agent, &r);
     r = original, r.selected_first = true, keeps_rules(&agent, &r);
@@ -153,7 +149,7 @@ static void rules(void)
     r = original, r.discovered_if_served = true, keeps_rules(&agent, &r);
     r = original, r.state_after_nomination = true, keeps_rules(&agent, &r);
     r = original, r.invalidates_listed = true, keeps_rules(&agent, &r);
-    r = original, r.early_interval = 7, r.early_cap = 7, r.strict_consent = true, r.suspicion_interval = 7;
+    r = original, r.early_interval = 7, r.early_cap = 7, r.strict_consent = true;
     HOLD(is_ice_set_rules(&agent, &r) == IS_ICE_OK && is_ice_rules(&agent, &r) == IS_ICE_OK && same_rules(&r, &original));
     is_ice_agent_free(&agent);
     r = modern;

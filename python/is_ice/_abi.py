@@ -7,7 +7,7 @@ import os
 from ctypes import POINTER, c_bool, c_char_p, c_int32, c_size_t, c_uint8, c_uint16, c_uint32, c_uint64, c_void_p
 from pathlib import Path
 
-VERSION = 6
+VERSION = 7
 NAME = "libis_ice.so"
 CREDENTIALS_RANDOM = 38
 TIMEOUT_RANDOM = 12
@@ -170,8 +170,6 @@ class AgentRules(ctypes.Structure):
         ("early_interval", c_uint64),
         ("early_cap", c_uint64),
         ("consent_timeout", c_uint64),
-        ("suspicion_timeout", c_uint64),
-        ("suspicion_interval", c_uint64),
         ("early_pacing", c_uint64),
         ("kinds_in_turn", c_bool),
         ("selects_at_once", c_bool),
@@ -243,7 +241,7 @@ class StunTexts(ctypes.Structure):
 
 # The sizes of the structs that c/is_ice.h asserts.
 SIZES = {Agent: 16, Address: 28, Candidate: 60, Fields: 120, Packet: 72, Event: 68, Status: 40, Stats: 40, Nominated: 88, MediaPath: 60,
-         Pair: 96, RemovedPair: 104, KindPreferences: 8, PreferenceTable: 16, AgentRules: 80, StunTransaction: 12, StunResult: 32,
+         Pair: 96, RemovedPair: 104, KindPreferences: 8, PreferenceTable: 16, AgentRules: 64, StunTransaction: 12, StunResult: 32,
          StunNumber: 16, StunMessage: 248, StunSpan: 24, StunTexts: 144}
 
 _AGENT = POINTER(Agent)

@@ -39,19 +39,6 @@ class Consent:
 
 
 @dataclass(frozen=True)
-class Suspicion:
-    """When a pair is suspected: so many nanoseconds after its last answered check was sent.
-
-    Before that, once a check has no response, its checks come at most an interval apart. The time should be longer than
-    `set_max_stun_rto`, at which pairs are checked that answer. With a timeout of 0 there is no such rule. An interval of less than a
-    millisecond counts as one.
-    """
-
-    timeout: int
-    interval: int
-
-
-@dataclass(frozen=True)
 class Rules:
     """What an agent does beyond the original's behavior, one field for each rule. An agent begins with `Rules.modern()`.
 
@@ -82,12 +69,6 @@ class Rules:
 
     `consent`: a pair is removed so long after its last check that got a response was sent, however many pairs there are (RFC 7675,
     section 5.1). `poll_timeout` returns a time no later than this, except for pacing. What removes a pair without this rule still does.
-
-    `suspicion`: a pair is suspected so long after its last check that got a response was sent, as of the last `handle_timeout` call.
-    While another pair may be selected that is not suspected, a suspected one is not. So a path that died is left long before its consent
-    ends, and selected again once it answers. A controlled agent with `set_renomination` selects what the peer nominates all the same.
-    From the first check of a valid pair without a response until the pair is suspected, its checks come at most an interval apart, as far
-    as Ta allows. These checks end no pair sooner.
 
     `early_pacing`: until the agent has a path, and if it is controlling has sent the check that nominates it, the pacing interval Ta is at
     most so many nanoseconds, and so short that each pair can be checked once in half a second; but at least 5 ms (RFC 8445, section 14.2).
@@ -123,7 +104,6 @@ class Rules:
     early_rto: EarlyRto | None
     selects_at_once: bool
     consent: Consent | None
-    suspicion: Suspicion | None
     early_pacing: int | None
     selected_first: bool
     timeout_after_requests: bool
@@ -150,24 +130,21 @@ def rules_from(call: Callable[..., int], *arguments: Any) -> Rules:
     done(call(*arguments, byref(rules)))
     early = EarlyRto(rules.early_retransmits, rules.early_interval, rules.early_cap) if rules.early_retransmits else None
     consent = Consent(rules.consent_timeout, rules.strict_consent) if rules.consent_timeout else None
-    suspicion = Suspicion(rules.suspicion_timeout, rules.suspicion_interval) if rules.suspicion_timeout else None
     return Rules(
-        rules.kinds_in_turn, rules.triggered_checks or None, early, rules.selects_at_once, consent, suspicion, rules.early_pacing or None,
+        rules.kinds_in_turn, rules.triggered_checks or None, early, rules.selects_at_once, consent, rules.early_pacing or None,
         rules.selected_first, rules.timeout_after_requests, rules.lite_keeps_role, rules.numbered_nominations, rules.discovered_if_served,
         rules.state_after_nomination, rules.invalidates_listed)
 
 
 def struct_of_rules(rules: Rules) -> _abi.AgentRules:
     """Converts to the library's struct. ValueError if a number does not fit into 64 bits."""
-    early, consent, suspicion = rules.early_rto or EarlyRto(0, 0, 0), rules.consent or Consent(0), rules.suspicion or Suspicion(0, 0)
+    early, consent = rules.early_rto or EarlyRto(0, 0, 0), rules.consent or Consent(0)
     return _abi.AgentRules(
         triggered_checks=in_range(rules.triggered_checks or 0, 64, "a number of requests"),
         early_retransmits=in_range(early.retransmits, 64, "a number of retransmissions"),
         early_interval=in_range(early.interval, 64, "a time"),
         early_cap=in_range(early.cap, 64, "a time"),
         consent_timeout=in_range(consent.timeout, 64, "a time"),
-        suspicion_timeout=in_range(suspicion.timeout, 64, "a time"),
-        suspicion_interval=in_range(suspicion.interval, 64, "a time"),
         early_pacing=in_range(rules.early_pacing or 0, 64, "a time"),
         kinds_in_turn=rules.kinds_in_turn,
         selects_at_once=rules.selects_at_once,

@@ -51,7 +51,6 @@ from is_ice import (
     RemovedPair,
     Rules,
     SocketAddress,
-    Suspicion,
     TooFewRandomBytes,
     TooManyCandidates,
     Unparsed,
@@ -538,10 +537,10 @@ class Errors(unittest.TestCase):
         self.assertEqual(self.agent.rules, Rules.modern())
         self.assertEqual(Rules.modern(), Rules(
             kinds_in_turn=True, triggered_checks=1, early_rto=early, selects_at_once=True, consent=Consent(29_600_000_000, strict=False),
-            suspicion=None, early_pacing=10_000_000, selected_first=True, timeout_after_requests=True, lite_keeps_role=True,
+            early_pacing=10_000_000, selected_first=True, timeout_after_requests=True, lite_keeps_role=True,
             numbered_nominations=True, discovered_if_served=True, state_after_nomination=True, invalidates_listed=True))
         self.assertEqual(Rules.original(), Rules(
-            kinds_in_turn=False, triggered_checks=None, early_rto=None, selects_at_once=False, consent=None, suspicion=None,
+            kinds_in_turn=False, triggered_checks=None, early_rto=None, selects_at_once=False, consent=None,
             early_pacing=None, selected_first=False, timeout_after_requests=False, lite_keeps_role=False, numbered_nominations=False,
             discovered_if_served=False, state_after_nomination=False, invalidates_listed=False))
         most = (1 << 64) - 1
@@ -549,7 +548,6 @@ class Errors(unittest.TestCase):
             {"kinds_in_turn": False}, {"triggered_checks": None}, {"triggered_checks": most}, {"early_rto": None},
             {"early_rto": EarlyRto(most, most, most)}, {"early_rto": EarlyRto(1, 0, 1)}, {"early_rto": EarlyRto(1, 1, 0)},
             {"selects_at_once": False}, {"consent": None}, {"consent": Consent(most, strict=True)}, {"consent": Consent(1)},
-            {"suspicion": Suspicion(most, most)}, {"suspicion": Suspicion(1, 0)},
             {"early_pacing": None}, {"early_pacing": 1}, {"early_pacing": most},
             {"selected_first": False}, {"timeout_after_requests": False}, {"lite_keeps_role": False}, {"numbered_nominations": False},
             {"discovered_if_served": False}, {"state_after_nomination": False}, {"invalidates_listed": False},
@@ -562,7 +560,7 @@ class Errors(unittest.TestCase):
 
     def test_rules_that_count_to_0_are_none(self) -> None:
         self.agent.set_rules(dataclasses.replace(
-            Rules.original(), triggered_checks=0, early_rto=EarlyRto(0, 7, 8), consent=Consent(0, True), suspicion=Suspicion(0, 7),
+            Rules.original(), triggered_checks=0, early_rto=EarlyRto(0, 7, 8), consent=Consent(0, True),
             early_pacing=0))
         self.assertEqual(self.agent.rules, Rules.original())
 
@@ -570,7 +568,7 @@ class Errors(unittest.TestCase):
         refused: tuple[dict[str, Any], ...] = (
             {"triggered_checks": -1}, {"triggered_checks": 1 << 64}, {"early_rto": EarlyRto(1 << 64, 0, 0)},
             {"early_rto": EarlyRto(1, -1, 0)}, {"early_rto": EarlyRto(1, 0, -1)}, {"early_rto": EarlyRto(1, 0, 1 << 64)},
-            {"consent": Consent(-1)}, {"consent": Consent(1 << 64)}, {"suspicion": Suspicion(1 << 64, 0)}, {"suspicion": Suspicion(1, -1)},
+            {"consent": Consent(-1)}, {"consent": Consent(1 << 64)},
             {"early_pacing": -1}, {"early_pacing": 1 << 64},
         )
         for change in refused:

@@ -227,8 +227,6 @@ pub(crate) struct AgentRules {
     pub(crate) early_interval: u64,
     pub(crate) early_cap: u64,
     pub(crate) consent_timeout: u64,
-    pub(crate) suspicion_timeout: u64,
-    pub(crate) suspicion_interval: u64,
     pub(crate) early_pacing: u64,
     pub(crate) kinds_in_turn: bool,
     pub(crate) selects_at_once: bool,
@@ -311,7 +309,7 @@ const _: () = {
     assert!(size_of::<Packet>() == 72 && size_of::<Event>() == 68 && size_of::<Status>() == 40);
     assert!(size_of::<Stats>() == 40 && size_of::<Nominated>() == 88 && size_of::<Pair>() == 96);
     assert!(size_of::<MediaPath>() == 60 && size_of::<RemovedPair>() == 104);
-    assert!(size_of::<KindPreferences>() == 8 && size_of::<PreferenceTable>() == 16 && size_of::<AgentRules>() == 80);
+    assert!(size_of::<KindPreferences>() == 8 && size_of::<PreferenceTable>() == 16 && size_of::<AgentRules>() == 64);
     assert!(size_of::<StunTransaction>() == 12 && size_of::<StunResult>() == 32);
     assert!(size_of::<StunNumber>() == 16 && size_of::<StunMessage>() == 248);
     assert!(size_of::<StunSpan>() == 24 && size_of::<StunTexts>() == 144);
@@ -524,7 +522,7 @@ type Text = unsafe extern "C" fn(&mut Agent, *mut u8, usize, &mut usize) -> i32;
 impl Agent {
     /// Creates an agent with these credentials.
     pub(crate) fn new(ufrag: &str, pass: &str, tie_breaker: u64) -> Result<Box<Agent>, i32> {
-        assert_eq!(is_ice_version(), 6, "is_ice.h belongs to another library");
+        assert_eq!(is_ice_version(), 7, "is_ice.h belongs to another library");
         let mut agent = Box::new(Agent { is_held: false, at: ptr::null_mut() });
         #[allow(unsafe_code)]
         // SAFETY: both texts are slices that are read. The agent is zeroed, and stays in its box.

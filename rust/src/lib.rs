@@ -55,5 +55,5 @@ pub use pair::{CandidatePair, CheckState};
 pub use preference::{KindPreferences, LocalPreference, PreferenceTable, default_local_preference, try_default_local_preference};
 pub use proto::{Protocol, TcpType};
 pub use removed::{Removal, RemovedPair};
-pub use rules::{Consent, EarlyRto, Rules, Suspicion};
+pub use rules::{Consent, EarlyRto, Rules};
 pub use session_log::SessionLog;

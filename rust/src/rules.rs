@@ -53,14 +53,6 @@ pub struct Rules {
     /// 5.1). [`IceAgent::poll_timeout`] returns a time no later than this, except for pacing. What removes a pair without this rule
     /// still does.
     pub consent: Option<Consent>,
-    /// A pair is suspected this long after its last check that got a response was sent, as of the last [`IceAgent::handle_timeout`] call.
-    /// While another pair may be selected that is not suspected, a suspected one is not. So a path that died is left long before its
-    /// consent ends, and selected again once it answers. A controlled agent with [`IceAgent::set_renomination`] selects what the peer
-    /// nominates all the same.
-    ///
-    /// From the first check of a valid pair without a response until the pair is suspected, its checks come at most an interval apart, as
-    /// far as Ta allows. These checks end no pair sooner.
-    pub suspicion: Option<Suspicion>,
     /// Until the agent has a path, and if it is controlling has sent the check that nominates it, the pacing interval Ta is at most this,
     /// and so short that each pair can be checked once in half a second; but at least 5 ms (RFC 8445, section 14.2). So the pair that works
     /// is checked sooner if there are many. A shorter [`IceAgent::set_timing_advance`] stays. Less than 5 ms counts as 5 ms, and
@@ -103,16 +95,6 @@ pub struct Consent {
     pub strict: bool,
 }
 
-/// When a pair is suspected: see [`Rules::suspicion`].
-#[derive(Clone, Copy, Debug, PartialEq, Eq)]
-pub struct Suspicion {
-    /// How long after its last answered check was sent: longer than [`IceAgent::set_max_stun_rto`], at which pairs are checked that answer.
-    /// With 0 there is no such rule.
-    pub timeout: Duration,
-    /// The most between its checks before that, once one has no response. Less than a millisecond counts as one.
-    pub interval: Duration,
-}
-
 /// How checks are repeated while a pair has no response: see [`Rules::early_rto`].
 #[derive(Clone, Copy, Debug, PartialEq, Eq)]
 pub struct EarlyRto {
@@ -143,15 +125,12 @@ impl Rules {
         let (retransmits, interval) = (rules.early_retransmits, Duration::from_nanos(rules.early_interval));
         let cap = Duration::from_nanos(rules.early_cap);
         let (timeout, strict) = (Duration::from_nanos(rules.consent_timeout), rules.strict_consent);
-        let suspicion =
-            Suspicion { timeout: Duration::from_nanos(rules.suspicion_timeout), interval: Duration::from_nanos(rules.suspicion_interval) };
         Rules {
             kinds_in_turn: rules.kinds_in_turn,
             triggered_checks: (rules.triggered_checks > 0).then_some(rules.triggered_checks),
             early_rto: (retransmits > 0).then_some(EarlyRto { retransmits, interval, cap }),
             selects_at_once: rules.selects_at_once,
             consent: (rules.consent_timeout > 0).then_some(Consent { timeout, strict }),
-            suspicion: (rules.suspicion_timeout > 0).then_some(suspicion),
             early_pacing: (rules.early_pacing > 0).then_some(Duration::from_nanos(rules.early_pacing)),
             selected_first: rules.selected_first,
             timeout_after_requests: rules.timeout_after_requests,
@@ -170,8 +149,6 @@ impl Rules {
             early_interval: self.early_rto.map_or(0, |early| nanoseconds(early.interval)),
             early_cap: self.early_rto.map_or(0, |early| nanoseconds(early.cap)),
             consent_timeout: self.consent.map_or(0, |consent| nanoseconds(consent.timeout)),
-            suspicion_timeout: self.suspicion.map_or(0, |suspicion| nanoseconds(suspicion.timeout)),
-            suspicion_interval: self.suspicion.map_or(0, |suspicion| nanoseconds(suspicion.interval)),
             early_pacing: self.early_pacing.map_or(0, nanoseconds),
             kinds_in_turn: self.kinds_in_turn,
             selects_at_once: self.selects_at_once,

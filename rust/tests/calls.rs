@@ -4,7 +4,7 @@ mod world;
 
 use is::stun::{StunMessage, StunPacket};
 use is::{CallError, Candidate, CandidateKind, CheckState, Consent, EarlyRto, IceAgent, IceAgentEvent, IceConnectionState, IceCreds};
-use is::{IceError, KindPreferences, LocalPreference, PreferenceTable, Protocol, Rules, StunError, Suspicion, TcpType};
+use is::{IceError, KindPreferences, LocalPreference, PreferenceTable, Protocol, Rules, StunError, TcpType};
 use std::time::{Duration, Instant};
 use world::{at, creds, host, ms};
 
@@ -261,7 +261,6 @@ fn rules_begin_as_documented() {
     assert_eq!(modern.early_rto, Some(EarlyRto { retransmits: 2, interval: ms(100), cap: ms(350) }));
     assert!(!original.kinds_in_turn && !original.selects_at_once && !original.selected_first && !original.timeout_after_requests);
     assert_eq!((original.triggered_checks, original.early_rto, original.consent), (None, None, None));
-    assert_eq!((modern.suspicion, original.suspicion), (None, None));
     assert_eq!((modern.early_pacing, original.early_pacing), (Some(ms(10)), None));
 }
 
@@ -275,7 +274,7 @@ fn rules_after(rules: Rules) -> Rules {
 #[test]
 fn rules_are_set() {
     const MOST: Duration = Duration::from_nanos(u64::MAX);
-    let changes: [fn(&mut Rules); 21] = [
+    let changes: [fn(&mut Rules); 19] = [
         |rules| *rules = Rules::original(),
         |rules| rules.kinds_in_turn = !rules.kinds_in_turn,
         |rules| rules.triggered_checks = Some(u64::MAX),
@@ -285,8 +284,6 @@ fn rules_are_set() {
         |rules| rules.selects_at_once = !rules.selects_at_once,
         |rules| rules.consent = Some(Consent { timeout: MOST, strict: true }),
         |rules| rules.consent = Some(Consent { timeout: Duration::from_nanos(1), strict: false }),
-        |rules| rules.suspicion = Some(Suspicion { timeout: MOST, interval: MOST }),
-        |rules| rules.suspicion = Some(Suspicion { timeout: Duration::from_nanos(1), interval: Duration::ZERO }),
         |rules| rules.early_pacing = None,
         |rules| rules.early_pacing = Some(Duration::from_nanos(1)),
         |rules| rules.early_pacing = Some(MOST),
@@ -312,7 +309,6 @@ fn rules_that_count_to_0_are_none() {
     rules.triggered_checks = Some(0);
     rules.early_rto = Some(EarlyRto { retransmits: 0, interval: ms(7), cap: ms(8) });
     rules.consent = Some(Consent { timeout: Duration::ZERO, strict: true });
-    rules.suspicion = Some(Suspicion { timeout: Duration::ZERO, interval: ms(7) });
     rules.early_pacing = Some(Duration::ZERO);
     assert_eq!(rules_after(rules), Rules::original());
 }

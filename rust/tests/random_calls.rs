@@ -7,7 +7,7 @@ mod random;
 
 use is::stun::{BindingResponse, StunMessage, StunMessageBuilder, StunPacket, StunTiming, TransId};
 use is::{Candidate, CandidateKind, DefaultSha1HmacProvider, IceAgent, IceAgentEvent, IceCreds, Sha1HmacProvider, TcpType};
-use is::{Consent, EarlyRto, KindPreferences, PreferenceTable, Protocol, Rules, SessionLog, Suspicion};
+use is::{Consent, EarlyRto, KindPreferences, PreferenceTable, Protocol, Rules, SessionLog};
 use random::Random;
 use random::looks::{PASSWORD, is_named_by_a_word, look_at_candidate, look_at_message, look_at_pair};
 use std::hint::black_box;
@@ -227,7 +227,6 @@ impl Session {
         rules.early_rto = self.random.once_in(2).then_some(EarlyRto { retransmits, interval, cap });
         let (timeout, strict) = (self.random.duration(), self.random.once_in(2));
         rules.consent = self.random.once_in(2).then_some(Consent { timeout, strict });
-        rules.suspicion = self.random.once_in(2).then_some(Suspicion { timeout, interval });
         rules.early_pacing = self.random.once_in(2).then_some(interval);
         rules
     }

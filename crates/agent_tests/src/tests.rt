@@ -33,7 +33,6 @@ mod settings;
 mod settled;
 mod step;
 mod story;
-mod suspicion;
 mod times;
 mod turns;
 mod words;

@@ -4,10 +4,10 @@ use crate::fields::Fields;
 use crate::table::{
     CAP, CONSENT, DISCOVERED_IF_SERVED, EARLY_PACING, EARLY_RTO, INTERVAL, INVALIDATES_LISTED,
     KINDS_IN_TURN, LITE_KEEPS_ROLE, NAME, NUMBERED_NOMINATIONS, RETRANSMITS, SELECTED_FIRST,
-    SELECTS_AT_ONCE, STATE_AFTER_NOMINATION, STRICT, SUSPICION, TIMEOUT, TIMEOUT_AFTER_REQUESTS,
+    SELECTS_AT_ONCE, STATE_AFTER_NOMINATION, STRICT, TIMEOUT, TIMEOUT_AFTER_REQUESTS,
     TRIGGERED_CHECKS,
 };
-use is::{Consent, Duration, EarlyRto, Rules, Suspicion};
+use is::{Consent, Duration, EarlyRto, Rules};
 
 /// The rules of this name, except those that have a field of their own.
 pub fn rules_of(fields: Fields<'_>) -> Result<Rules, Stop> {
@@ -31,7 +31,6 @@ pub fn rules_of(fields: Fields<'_>) -> Result<Rules, Stop> {
             named.state_after_nomination,
         )?,
         invalidates_listed: fields.flag_or(INVALIDATES_LISTED, named.invalidates_listed)?,
-        suspicion: suspicion(fields, named)?,
         early_pacing: early_pacing(fields, named)?,
     })
 }
@@ -79,19 +78,6 @@ fn consent(fields: Fields<'_>, named: Rules) -> Result<Option<Consent>, Stop> {
         Some(fields) => Ok(Some(Consent {
             timeout: fields.duration(TIMEOUT)?,
             strict: fields.flag(STRICT)?,
-        })),
-        None => Ok(None),
-    }
-}
-
-fn suspicion(fields: Fields<'_>, named: Rules) -> Result<Option<Suspicion>, Stop> {
-    if !fields.has(SUSPICION) {
-        return Ok(named.suspicion);
-    }
-    match fields.object_or_null(SUSPICION)? {
-        Some(fields) => Ok(Some(Suspicion {
-            timeout: fields.duration(TIMEOUT)?,
-            interval: fields.duration(INTERVAL)?,
         })),
         None => Ok(None),
     }

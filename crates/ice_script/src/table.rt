@@ -13,7 +13,6 @@ pub enum Kind {
     RulesName,
     EarlyRto,
     Consent,
-    Suspicion,
     Address,
     Protocol,
     Hex,
@@ -35,7 +34,6 @@ impl fmt::Display for Kind {
             Kind::RulesName => "original, modern or kinds",
             Kind::EarlyRto => "an object with retransmits, interval and cap, or null",
             Kind::Consent => "an object with timeout and strict, or null",
-            Kind::Suspicion => "an object with timeout and interval, or null",
             Kind::Address => "IPv4:port or [IPv6]:port",
             Kind::Protocol => "udp, tcp, ssltcp or tls",
             Kind::Hex => "two hexadecimal digits a byte",
@@ -132,8 +130,6 @@ pub const DISCOVERED_IF_SERVED: Field = Field("discovered_if_served", Kind::Flag
 pub const STATE_AFTER_NOMINATION: Field = Field("state_after_nomination", Kind::Flag);
 
 pub const INVALIDATES_LISTED: Field = Field("invalidates_listed", Kind::Flag);
-
-pub const SUSPICION: Field = Field("suspicion", Kind::Suspicion);
 
 pub const EARLY_PACING: Field = Field("early_pacing", Kind::WholeOrNull);
 

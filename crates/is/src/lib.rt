@@ -32,7 +32,7 @@ pub use is_proto::{
 };
 pub use is_rules::emitted::{Issued, Path};
 pub use is_rules::rules::Rules;
-pub use is_stun::stun::{Consent, EarlyRto, Suspicion};
+pub use is_stun::stun::{Consent, EarlyRto};
 pub use runs::{RunLog, run};
 pub use traces::Trace;
 pub use world::{AgentSpec, TwoAgents, World};
@@ -59,6 +59,6 @@ pub mod stun {
     pub use is_stun::stun::{
         Attributes, Builder, Class, Consent, DEFAULT_MAX_RETRANSMITS, EarlyRto, HasClass,
         HasMethod, Method, NoMethod, StunMessage, StunMessageBuilder, StunPacket, StunTiming,
-        Suspicion, TransId,
+        TransId,
     };
 }

@@ -99,8 +99,7 @@ pub fn run<H: Sha1HmacProvider + Drop, P: LocalPreference, R: Rng>(
 
     // Nomination points are accepted success responses, and `handle_timeout` calls that served no early request. After each of
     // them, if a pair is eligible, the path that was selected last since the last clear is that of an eligible pair with the
-    // greatest stored priority, of those that are not passed over by the rule `suspicion`: so the path of a suspected pair is left while
-    // another one may be selected. A controlled agent with renomination selects the pair that it follows instead (`IsChosen`).
+    // greatest stored priority. A controlled agent with renomination selects the pair that it follows instead (`IsChosen`).
     ensures nomination { IsFresh (record_of agent.old)
         → LastPathsAreTop H.mac P.answers (record_of agent.old) (R.stream rng.old) (log_of calls.items result) }
 

@@ -1,9 +1,9 @@
 //! Nomination (RFC 8445, section 8.1.1): selecting a pair; the rules: `is_rules::nomination`.
 //!
-//! Of the eligible pairs, one with the greatest priority is selected; by the rule `suspicion`, suspected ones are passed over. An agent
-//! that follows its peer selects the pair that the peer nominated last.
+//! Of the eligible pairs, one with the greatest priority is selected. An agent that follows its peer selects the pair that the peer
+//! nominated last.
 
-ghost use Rattle.std.specs.Prelude.{◌≡◌, ℕ, is_some, unwrap_or};
+ghost use Rattle.std.specs.Prelude.{◌≡◌, ℕ, is_some};
 ghost use Rattle.is_agent.specs.View.{record_of};
 ghost use Rattle.is_agent.specs.Room.{HasEventRoom, HasPacketRoom, HasCheckRoomAt, UsesNews};
 ghost use Rattle.is_rules.specs.Nominating.{nominates_at_once, followed, is_pressing, nomination_of, numbers, nominated_emitted, pair_selected, stays_nominated};
@@ -13,11 +13,11 @@ ghost use Rattle.is_pair.specs.Pairs.{PairRecord};
 use crate::agent::{Agent, sides};
 use is_candidate::LocalPreference;
 use is_pair::pair::CandidatePair;
-use is_proto::{Instant, Sha1HmacProvider};
+use is_proto::Sha1HmacProvider;
 use is_rules::emitted::Path;
 use is_rules::event::IceAgentEvent;
 use is_rules::nomination::{
-    Suspects, followed_by_number, has_eligible, is_named_by, pair_selected, select_pair,
+    followed_by_number, has_eligible, is_named_by, pair_selected, select_pair,
 };
 use is_rules::sides::Sides;
 
@@ -60,17 +60,6 @@ impl<H: Sha1HmacProvider + Drop, P: LocalPreference> Agent<H, P> {
             followed_by_number(&self.pairs, self.controlling, self.selected_pair)
         } else {
             self.last_nominated
-        }
-    }
-
-    /// Which pairs are suspected.
-    fn suspects(&self) -> Suspects
-        ensures rule { result.rule ≡ (record_of self.now).timing.suspicion }
-        ensures last { result.last.0 ≡ unwrap_or (record_of self.now).last_time 0 }
-    {
-        Suspects {
-            rule: self.timing.suspicion,
-            last: self.last_time.unwrap_or(Instant(0)),
         }
     }
 
@@ -124,9 +113,9 @@ impl<H: Sha1HmacProvider + Drop, P: LocalPreference> Agent<H, P> {
         pair.is_nominated() && (!self.renominates || is_named_by(self.selected_pair, pair))
     }
 
-    /// Selects an eligible pair with the greatest priority, of those that are not passed over, unless the pair that was selected last has
-    /// that priority, and is not left for it. If the agent follows its peer, it selects the pair that the peer nominated last, once it is
-    /// eligible. Returns the path that was selected.
+    /// Selects an eligible pair with the greatest priority, unless the pair that was selected last has that priority. If the
+    /// agent follows its peer, it selects the pair that the peer nominated last, once it is eligible. Returns the path that
+    /// was selected.
     pub(crate) fn evaluate_nomination(&mut self) -> Option<Path>
         requires room { HasEventRoom 1 self.old }
         ensures nominates { Nominates (record_of self.old) result (record_of self.new) }
@@ -135,10 +124,8 @@ impl<H: Sha1HmacProvider + Drop, P: LocalPreference> Agent<H, P> {
         ensures checks { (now : ℕ) → HasCheckRoomAt now self.old → HasCheckRoomAt now self.new }
     {
         let followed = self.followed();
-        let suspects = self.suspects();
         let path = select_pair(
             sides!(self),
-            suspects,
             followed,
             &mut self.pairs,
             &mut self.selected_pair,

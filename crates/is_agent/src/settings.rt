@@ -131,7 +131,6 @@ impl<H: Sha1HmacProvider + Drop, P: LocalPreference> Agent<H, P> {
         self.rules = rules;
         self.timing.early = rules.early_rto;
         self.timing.consent = rules.consent;
-        self.timing.suspicion = rules.suspicion;
     }
 
     /// Sets the pacing interval of what the agent sends, Ta in RFC 8445, section 14.2: 50 ms until it is set.

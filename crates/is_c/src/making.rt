@@ -106,7 +106,7 @@ pub extern "C" fn is_ice_agent_free(alloc: Global, slot: &mut Slot)
 /// The version of this interface. The header has the same number.
 #[unsafe(no_mangle)]
 pub extern "C" fn is_ice_version() -> u32
-    ensures { result ≡ 6 }
+    ensures { result ≡ 7 }
 {
-    6
+    7
 }

@@ -4,13 +4,13 @@ ghost use Rattle.std.specs.Prelude.{◌≡◌, None};
 ghost use Rattle.is_rules.specs.Agent.{original_rules, modern_rules};
 ghost use Rattle.is_rules.specs.Settings.{with_rules};
 ghost use Rattle.is_c.specs.Held.{held_by, At, AgentBecomes};
-ghost use Rattle.is_c.specs.Rules.{triggered_of, early_of, consent_of, suspicion_of, early_pacing_of, rules_of, reported_rules, as_read, ReturnsRules, GivesRules};
+ghost use Rattle.is_c.specs.Rules.{triggered_of, early_of, consent_of, early_pacing_of, rules_of, reported_rules, as_read, ReturnsRules, GivesRules};
 
 use crate::codes;
 use crate::slot::Slot;
 use is_proto::Duration;
 use is_rules::rules::Rules;
-use is_stun::stun::{Consent, EarlyRto, Suspicion};
+use is_stun::stun::{Consent, EarlyRto};
 use std::alloc::Global;
 
 /// The rules of an agent: `Rules` of the library. C has no options, so a count of 0 says that there is no such rule.
@@ -27,10 +27,6 @@ pub struct AgentRules {
     pub early_cap: u64,
     /// So many nanoseconds after its last answered check a pair is removed,
     pub consent_timeout: u64,
-    /// So many nanoseconds after its last answered check a pair is suspected,
-    pub suspicion_timeout: u64,
-    /// and so long after a check without a response the next one is due.
-    pub suspicion_interval: u64,
     /// At most so many nanoseconds apart are checks until the agent is settled.
     pub early_pacing: u64,
     pub kinds_in_turn: bool,
@@ -80,19 +76,6 @@ fn consent_of(timeout: u64, strict: bool) -> Option<Consent>
     })
 }
 
-/// Suspicion: without a timeout no pair is suspected.
-fn suspicion_of(timeout: u64, interval: u64) -> Option<Suspicion>
-    ensures { result ≡ suspicion_of timeout interval }
-{
-    if timeout == 0 {
-        return None;
-    }
-    Some(Suspicion {
-        timeout: Duration(timeout),
-        interval: Duration(interval),
-    })
-}
-
 /// Early pacing: 0 means that there is none.
 fn early_pacing_of(early: u64) -> Option<Duration>
     ensures { result ≡ early_pacing_of early }
@@ -118,7 +101,6 @@ fn rules_of(rules: &AgentRules) -> Rules
         ),
         selects_at_once: rules.selects_at_once,
         consent: consent_of(rules.consent_timeout, rules.strict_consent),
-        suspicion: suspicion_of(rules.suspicion_timeout, rules.suspicion_interval),
         early_pacing: early_pacing_of(rules.early_pacing),
         selected_first: rules.selected_first,
         timeout_after_requests: rules.timeout_after_requests,
@@ -141,10 +123,6 @@ fn reported_rules(rules: Rules) -> AgentRules
         Some(consent) => (consent.timeout.0, consent.strict),
         None => (0, false),
     };
-    let (suspicion_timeout, suspicion_interval) = match rules.suspicion {
-        Some(suspicion) => (suspicion.timeout.0, suspicion.interval.0),
-        None => (0, 0),
-    };
     let early_pacing = match rules.early_pacing {
         Some(early) => early.0,
         None => 0,
@@ -155,8 +133,6 @@ fn reported_rules(rules: Rules) -> AgentRules
         early_interval,
         early_cap,
         consent_timeout,
-        suspicion_timeout,
-        suspicion_interval,
         early_pacing,
         kinds_in_turn: rules.kinds_in_turn,
         selects_at_once: rules.selects_at_once,
@@ -190,7 +166,7 @@ pub extern "C" fn is_ice_modern_rules(rules: &mut AgentRules) -> i32
 }
 
 /// Sets what the agent does beyond the original's behavior. What is set is what `is_ice_rules` returns; without early retransmissions it
-/// returns 0 as their interval, without a timeout of consent false for strict consent, and without a timeout of suspicion 0 as its interval.
+/// returns 0 as their interval, and without a timeout of consent false for strict consent.
 #[unsafe(no_mangle)]
 pub extern "C" fn is_ice_set_rules(alloc: Global, slot: &mut Slot, rules: &AgentRules) -> i32
     ensures set { At (AgentBecomes (with_rules (rules_of rules.now))) (held_by slot.old) result (held_by slot.new) }

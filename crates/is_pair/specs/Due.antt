@@ -12,7 +12,6 @@ use Rattle.is_pair.specs.declared.pair.states.NominationState.{NominationState}
 use Rattle.is_pair.specs.declared.pair.states.NominationState.TheVariants.{None as Unnominated, Nominated, Attempt, Success}
 use Rattle.is_pair.specs.Checks.{Check, last_check, unanswered_count, first_unanswered}
 use Rattle.is_pair.specs.States.{is_nominating}
-use Rattle.is_pair.specs.Suspicion.{delay_probed, is_kept_by_series}
 use Rattle.is_pair.specs.Pairs.{PairRecord, is_valid, is_recent, is_lite_alive}
 
 -- ---- when it is due
@@ -51,13 +50,9 @@ abbrev pub delay_with : Option EarlyRto → ℕ → StunTiming → PairRecord �
 delay_with None now t p = usual_delay now t p.checks
 delay_with (Some e) now t p = if is_repeated_early now t p then early_delay e (silent_count p) else usual_delay now t p.checks
 
--- the delay after the last check
-abbrev pub delay_of : ℕ → StunTiming → PairRecord → ℕ
-delay_of now t p = delay_probed t.suspicion now p (delay_with t.early now t p)
-
 -- that long after the last check, or now if there was none
 abbrev pub next_due_time : ℕ → StunTiming → PairRecord → ℕ
-next_due_time now t p = option_map_or (λ c. later c.sent (delay_of now t p)) (last_check p.checks) now
+next_due_time now t p = option_map_or (λ c. later c.sent (delay_with t.early now t p)) (last_check p.checks) now
 
 -- a nominated pair without a check since its nomination is due before all others
 abbrev pub computed_due_time : NominationState → ℕ → StunTiming → PairRecord → ℕ
@@ -118,7 +113,7 @@ is_open now t p =
     || is_in_time now t p.checks
 
 abbrev pub is_possible : ℕ → StunTiming → PairRecord → Bool
-is_possible now t p = has_early_checks t.early now t p || is_kept_by_series t.suspicion now t p || is_open now t p
+is_possible now t p = has_early_checks t.early now t p || is_open now t p
 
 -- ---- consent (RFC 7675, section 5.1)
 

@@ -7,5 +7,4 @@ pub mod theorems;
 
 pub use pair::due::{due_time_of, is_asked, is_urgent, reset_next_binding_attempt, trigger};
 pub use pair::replacing::take_over;
-pub use pair::suspicion::is_suspected;
 pub use pair::{keep_number, renominate};

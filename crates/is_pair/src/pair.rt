@@ -15,7 +15,6 @@ pub(crate) mod replacing;
 mod requests;
 mod states;
 mod statistics;
-pub(crate) mod suspicion;
 
 pub use attempt::BindingAttempt;
 use is_candidate::{Candidate, CandidateKind};

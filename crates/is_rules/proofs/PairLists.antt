@@ -1,7 +1,6 @@
 -- A list of pairs in the order of their numbers.
 pub mod RisingNumbers
 pub mod PairsByNumber
-pub mod FirstChoice
 pub mod ChosenPair
 pub mod PairsInLists
 pub mod VisitedPairs

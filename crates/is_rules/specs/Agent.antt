@@ -85,7 +85,6 @@ original_rules = record {
   discovered_if_served = false;
   state_after_nomination = false;
   invalidates_listed = false;
-  suspicion = None;
   early_pacing = None;
 }
 
@@ -104,7 +103,6 @@ modern_rules = record {
   discovered_if_served = true;
   state_after_nomination = true;
   invalidates_listed = true;
-  suspicion = None;
   early_pacing = Some (record { 0 = 10 * MILLISECOND });
 }
 
@@ -126,7 +124,6 @@ default_timing = record {
   lite_timeout = record { 0 = 15 * SECOND };
   early = None;
   consent = None;
-  suspicion = None;
 }
 
 module _ {H P : Type 0} where

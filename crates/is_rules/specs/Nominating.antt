@@ -1,10 +1,9 @@
 -- Nomination, which is not final (RFC 8445, section 8.1.1).
-use Rattle.std.specs.Prelude.{◌≡◌, ℕ, ◌+◌, ◌==◌, ◌&&◌, ◌||◌, Bool, true, false, not, nat_lt, min, max, List, [], ◌∷◌, ◌++◌, Option, Some, None, is_some, option_map, unwrap_or, MatchBool, MatchOption, if◌then◌else◌}
+use Rattle.std.specs.Prelude.{◌≡◌, ℕ, ◌+◌, ◌==◌, ◌&&◌, ◌||◌, Bool, true, false, not, nat_lt, min, max, List, [], ◌∷◌, ◌++◌, Option, Some, None, is_some, option_map, MatchBool, MatchOption, if◌then◌else◌}
 use Rattle.std.specs.Option.{option_map_or, option_and_then, option_or}
 use Rattle.std.specs.List.{list_any}
 use Rattle.is_proto.specs.Times.{counted}
 use Rattle.is_candidate.specs.Candidates.{base_of, candidate_at}
-use Rattle.is_pair.specs.Suspicion.{is_suspected}
 use Rattle.is_pair.specs.Pairs.{PairRecord, is_valid, is_nominated, nominated}
 use Rattle.is_rules.specs.declared.event.IceAgentEvent.TheVariants.{NominatedSend}
 use Rattle.is_rules.specs.declared.emitted.Path.{Path}
@@ -15,20 +14,6 @@ use Rattle.is_rules.specs.Forming.{SidesRecord, sides_of}
 -- valid and, if the agent is controlled, nominated
 abbrev pub is_eligible : Bool → PairRecord → Bool
 is_eligible controlling p = is_valid p && (controlling || is_nominated p)
-
--- ---- suspected pairs (the rule `suspicion`)
-
--- eligible and not suspected
-abbrev pub is_trusted : (PairRecord → Bool) → Bool → PairRecord → Bool
-is_trusted suspected controlling p = is_eligible controlling p && not (suspected p)
-
--- A suspected pair is passed over while an eligible pair is not suspected.
-abbrev pub is_passed_over : (PairRecord → Bool) → Bool → List PairRecord → PairRecord → Bool
-is_passed_over suspected controlling pairs p = suspected p && list_any (is_trusted suspected controlling) pairs
-
--- eligible and not passed over
-abbrev pub is_first_choice : (PairRecord → Bool) → Bool → List PairRecord → PairRecord → Bool
-is_first_choice suspected controlling pairs p = is_eligible controlling p && not (is_passed_over suspected controlling pairs p)
 
 -- The agent nominates the pair itself: only if it is controlling or lite. Under lite the nomination succeeds at once.
 abbrev pub nominated_by_self : Bool → Bool → PairRecord → PairRecord
@@ -106,32 +91,27 @@ favored controlling None old = None
 favored controlling (Some number) old =
     option_or (eligible_numbered controlling old.pairs number) (option_and_then (eligible_numbered controlling old.pairs) old.selected_pair)
 
--- The favored pair is chosen. If there is none, of the eligible pairs that are not passed over one with the greatest priority is.
-abbrev pub IsChosen : (PairRecord → Bool) → Bool → Option ℕ → Selection → Option PairRecord → Type 0
-IsChosen suspected controlling followed old top =
-    MatchOption (favored controlling followed old) (IsGreatest (is_first_choice suspected controlling old.pairs) old.pairs top) (λ p. top ≡ Some p)
+-- The favored pair is chosen. If there is none, an eligible pair with the greatest priority is.
+abbrev pub IsChosen : Bool → Option ℕ → Selection → Option PairRecord → Type 0
+IsChosen controlling followed old top =
+    MatchOption (favored controlling followed old) (IsGreatest (is_eligible controlling) old.pairs top) (λ p. top ≡ Some p)
 
--- The pair that was selected last is suspected, and the chosen one is not.
-abbrev pub is_left : (PairRecord → Bool) → PairRecord → Selection → Bool
-is_left suspected top old = not (suspected top) && option_map_or suspected (pair_selected old.selected_pair old.pairs) false
-
--- The pair that was selected last stays selected: it has the priority of the chosen one, and is not left for it. If the agent follows
--- its peer, it is the chosen one.
-abbrev pub remains : (PairRecord → Bool) → Option ℕ → PairRecord → Selection → Bool
-remains suspected None top old = persists_at old.selected_pair top.priority old.pairs && not (is_left suspected top old)
-remains suspected (Some number) top old = is_named_by old.selected_pair top
+-- The pair that was selected last stays selected: it has the priority of the chosen one. If the agent follows its peer, it is the
+-- chosen one.
+abbrev pub remains : Option ℕ → PairRecord → Selection → Bool
+remains None top old = persists_at old.selected_pair top.priority old.pairs
+remains (Some number) top old = is_named_by old.selected_pair top
 
 -- The chosen pair is selected, unless the pair that was selected last stays selected.
-abbrev pub NamesTop : SidesRecord → (PairRecord → Bool) → Option ℕ → Option PairRecord → Selection → Option Path → Selection → Type 0
-NamesTop s suspected followed None old emitted new = (emitted ≡ None) × (new ≡ old)
-NamesTop s suspected followed (Some top) old emitted new =
-    MatchBool (remains suspected followed top old)
+abbrev pub NamesTop : SidesRecord → Option ℕ → Option PairRecord → Selection → Option Path → Selection → Type 0
+NamesTop s followed None old emitted new = (emitted ≡ None) × (new ≡ old)
+NamesTop s followed (Some top) old emitted new =
+    MatchBool (remains followed top old)
     ((emitted ≡ None) × (new ≡ old))
     ((emitted ≡ Some (path_in s top)) × (new ≡ selection (change_pair top.number (nominated_by_self s.controlling s.lite) old.pairs) (Some top.number)))
 
-abbrev pub Names : SidesRecord → (PairRecord → Bool) → Option ℕ → Selection → Option Path → Selection → Type 0
-Names s suspected followed old emitted new =
-    (top : Option PairRecord) × IsChosen suspected s.controlling followed old top × NamesTop s suspected followed top old emitted new
+abbrev pub Names : SidesRecord → Option ℕ → Selection → Option Path → Selection → Type 0
+Names s followed old emitted new = (top : Option PairRecord) × IsChosen s.controlling followed old top × NamesTop s followed top old emitted new
 
 module _ {H P : Type 0} where
   -- Nominations have numbers: with renomination, by the agent's rules.
@@ -173,10 +153,6 @@ module _ {H P : Type 0} where
       && (if is_some (pair_selected a.selected_pair a.pairs) then a.controlling && not a.lite && a.nomination_due
       else list_any (is_eligible a.controlling) a.pairs)
 
-  -- The pair is suspected, at the time of the last `handle_timeout` call.
-  abbrev pub suspected_by : AgentRecord H P → PairRecord → Bool
-  suspected_by a = is_suspected a.timing (unwrap_or a.last_time 0)
-
   -- the pairs, and the number of the pair that was selected last
   abbrev pub selection_of : AgentRecord H P → Selection
   selection_of a = selection a.pairs a.selected_pair
@@ -198,7 +174,7 @@ module _ {H P : Type 0} where
   -- The selection, and the event for its path.
   abbrev pub Nominates : AgentRecord H P → Option Path → AgentRecord H P → Type 0
   Nominates old emitted new =
-      (chosen : Selection) × Names (sides_of old) (suspected_by old) (followed old) (selection_of old) emitted chosen × (new ≡ nominated_emitted emitted (with_selection chosen old))
+      (chosen : Selection) × Names (sides_of old) (followed old) (selection_of old) emitted chosen × (new ≡ nominated_emitted emitted (with_selection chosen old))
 
   -- Nomination is evaluated only if `evaluates` is true.
   abbrev pub NominatesWhere : Bool → AgentRecord H P → Option Path → AgentRecord H P → Type 0

@@ -8,7 +8,7 @@ use Rattle.is_stun.specs.Message.{Message}
 use Rattle.is_rules.specs.declared.emitted.Path.{Path}
 use Rattle.is_rules.specs.Steps.{Done, Entry}
 use Rattle.is_rules.specs.Agent.{AgentRecord}
-use Rattle.is_rules.specs.Nominating.{followed, is_eligible, remains, selection_of, suspected_by, IsChosen}
+use Rattle.is_rules.specs.Nominating.{followed, is_eligible, remains, selection_of, IsChosen}
 use Rattle.is_rules.specs.Sending.{path_of}
 use Rattle.is_rules.specs.Queue.{request_at}
 use Rattle.is_rules.specs.Answers.{keeps_check_on}
@@ -16,19 +16,19 @@ use Rattle.is_rules.specs.Steps.{Call, HandleTimeout}
 use Rattle.is_rules.specs.Brought.{Brings}
 
 module _ {H P : Type 0} where
-  -- If a pair is eligible, the selected pair exists, with the greatest priority of the eligible ones that are not passed over. If the
-  -- agent follows its peer, it is the favored pair, if there is one.
+  -- If a pair is eligible, the selected pair exists, with the greatest priority of the eligible ones. If the agent follows its
+  -- peer, it is the favored pair, if there is one.
   abbrev pub IsTopSelected : AgentRecord H P → Type 0
   IsTopSelected a =
-      (top : Option PairRecord) × IsChosen (suspected_by a) a.controlling (followed a) (selection_of a) top
-      × IfSome top (λ best. remains (suspected_by a) (followed a) best (selection_of a) ≡ true)
+      (top : Option PairRecord) × IsChosen a.controlling (followed a) (selection_of a) top
+      × IfSome top (λ best. remains (followed a) best (selection_of a) ≡ true)
 
-  -- The path is that of an eligible pair with the greatest stored priority of those that are not passed over. If the agent follows its
-  -- peer, it is that of the favored pair, if there is one.
+  -- The path is that of an eligible pair with the greatest stored priority. If the agent follows its peer, it is that of the favored
+  -- pair, if there is one.
   abbrev pub HasSelected : Option Path → AgentRecord H P → Type 0
   HasSelected path a =
       (top : PairRecord) × Has a.pairs top × (is_eligible a.controlling top ≡ true) × (path ≡ Some (path_of a top))
-      × IsChosen (suspected_by a) a.controlling (followed a) (selection_of a) (Some top)
+      × IsChosen a.controlling (followed a) (selection_of a) (Some top)
 
   abbrev pub IsNominationPoint : AgentRecord H P → Call P → Entry → Type 0
   IsNominationPoint old (HandleTimeout now) e = (e.answer ≡ Done) × (request_at now old ≡ None)

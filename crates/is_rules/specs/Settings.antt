@@ -30,7 +30,7 @@ module _ {H P : Type 0} where
 
   -- `set_rules`: due times that are fixed stay.
   abbrev pub with_rules : Rules → AgentRecord H P → AgentRecord H P
-  with_rules rules a = record a { rules = rules; timing = record a.timing { early = rules.early_rto; consent = rules.consent; suspicion = rules.suspicion } }
+  with_rules rules a = record a { rules = rules; timing = record a.timing { early = rules.early_rto; consent = rules.consent } }
 
   -- `set_max_stun_retransmits`: the list of pending transactions is cut when the next check is added.
   abbrev pub with_retransmits : ℕ → AgentRecord H P → AgentRecord H P

@@ -1,7 +1,7 @@
 //! Nomination (RFC 8445, section 8.1.1): which pair is selected; the agent's part: `is_agent::nomination`.
 //!
-//! Of the eligible pairs, one with the greatest priority is selected; by the rule `suspicion`, suspected ones are passed over. An agent
-//! that follows its peer selects the pair that the peer nominated last, or the one that it nominated by the greatest number.
+//! Of the eligible pairs, one with the greatest priority is selected. An agent that follows its peer selects the pair that the peer
+//! nominated last, or the one that it nominated by the greatest number.
 
 ghost use Rattle.std.specs.Prelude.{◌≡◌, ℕ, List, true, option_map, if◌then◌else◌};
 ghost use Rattle.std.specs.Option.{option_and_then, option_copied};
@@ -13,10 +13,9 @@ ghost use Rattle.is_rules.specs.Kept.{is_placed, are_placed};
 ghost use Rattle.is_candidate.specs.Candidates.{CandidateRecord};
 ghost use Rattle.is_pair.specs.Multiset.{are_below, change_pair, has_number, IsGreatest, is_named_by};
 ghost use Rattle.is_pair.specs.Pairs.{renominated};
-ghost use Rattle.is_pair.specs.Suspicion.{is_suspected_with};
 ghost use Rattle.is_pair.specs.Checklists as checklists;
 ghost use Rattle.is_pair.specs.Checklists.{multiset_of, HasRoom};
-ghost use Rattle.is_rules.specs.Nominating.{eligible_numbered, favored, is_eligible, is_first_choice, is_left, is_trusted, nominated_by_self, pair_selected, remains, persists_at};
+ghost use Rattle.is_rules.specs.Nominating.{eligible_numbered, favored, is_eligible, nominated_by_self, pair_selected, remains, persists_at};
 ghost use Rattle.is_rules.specs.Nominating.{selection, path_in, IsChosen, Names};
 ghost use Rattle.is_rules.specs.Nominating.{first_numbered, first_with, number_of, outnumbers};
 
@@ -25,9 +24,7 @@ use crate::places::{address_at, base_at, proto_at};
 use crate::sides::Sides;
 use is_pair::checklist::{Checklist, PairChange, PairTest};
 use is_pair::pair::{CandidatePair, CheckState};
-use is_pair::{is_suspected, renominate};
-use is_proto::Instant;
-use is_stun::stun::Suspicion;
+use is_pair::renominate;
 
 /// The pair may be selected.
 fn is_eligible(pair: &CandidatePair, controlling: bool) -> bool
@@ -52,62 +49,11 @@ impl PairTest for Eligible {
     }
 }
 
-/// Which pairs are suspected: the rule, and the time of the last `handle_timeout` call.
-#[derive(Clone, Copy)]
-pub struct Suspects {
-    /// The rule, if there is one.
-    pub rule: Option<Suspicion>,
-    /// The time of the last `handle_timeout` call.
-    pub last: Instant,
-}
-
-/// Whether a pair may be selected and is not suspected.
-#[derive(Clone, Copy)]
-struct Trusted {
-    controlling: bool,
-    suspects: Suspects,
-}
-
-impl PairTest for Trusted {
-    ghost use Rattle.is_pair.specs.Suspicion.{is_suspected_with};
-    ghost use Rattle.is_rules.specs.Nominating.{is_trusted};
-
-    ghost passes = { λ t p. is_trusted (is_suspected_with t.suspects.rule t.suspects.last.0) t.controlling p };
-
-    fn passes(&self, pair: &CandidatePair) -> bool {
-        is_eligible(pair, self.controlling) && !is_suspected_by(pair, self.suspects)
-    }
-}
-
-/// The pair is suspected.
-fn is_suspected_by(pair: &CandidatePair, suspects: Suspects) -> bool
-    ensures { result ≡ is_suspected_with suspects.rule suspects.last.0 pair.now }
+/// Of the pairs that may be selected, one with the greatest priority.
+fn top_eligible(pairs: &Checklist, controlling: bool) -> Option<&CandidatePair>
+    ensures { IsGreatest (is_eligible controlling) (multiset_of pairs.now) (option_copied result) }
 {
-    is_suspected(pair, suspects.rule, suspects.last)
-}
-
-/// Some pair may be selected and is not suspected. Without the rule this is not asked.
-fn has_trusted(pairs: &Checklist, controlling: bool, suspects: Suspects) -> bool
-    ensures { result ≡ list_any (is_trusted (is_suspected_with suspects.rule suspects.last.0) controlling) (multiset_of pairs.now) }
-{
-    pairs.any(&Trusted {
-        controlling,
-        suspects,
-    })
-}
-
-/// Of the pairs that may be selected and are not passed over, one with the greatest priority.
-fn top_choice(pairs: &Checklist, controlling: bool, suspects: Suspects) -> Option<&CandidatePair>
-    ensures { IsGreatest (is_first_choice (is_suspected_with suspects.rule suspects.last.0) controlling (multiset_of pairs.now)) (multiset_of pairs.now) (option_copied result) }
-{
-    if suspects.rule.is_some() && has_trusted(pairs, controlling, suspects) {
-        pairs.greatest(&Trusted {
-            controlling,
-            suspects,
-        })
-    } else {
-        pairs.greatest(&Eligible { controlling })
-    }
+    pairs.greatest(&Eligible { controlling })
 }
 
 /// The pair that was selected last, if it still exists.
@@ -182,15 +128,14 @@ fn favored(
 fn chosen(
     pairs: &Checklist,
     controlling: bool,
-    suspects: Suspects,
     followed: Option<u64>,
     selected: Option<u64>,
 ) -> Option<&CandidatePair>
-    ensures { IsChosen (is_suspected_with suspects.rule suspects.last.0) controlling followed (selection (multiset_of pairs.now) selected) (option_copied result) }
+    ensures { IsChosen controlling followed (selection (multiset_of pairs.now) selected) (option_copied result) }
 {
     match favored(pairs, controlling, followed, selected) {
         Some(pair) => Some(pair),
-        None => top_choice(pairs, controlling, suspects),
+        None => top_eligible(pairs, controlling),
     }
 }
 
@@ -204,39 +149,18 @@ pub fn is_named_by(selected: Option<u64>, pair: &CandidatePair) -> bool
     }
 }
 
-/// The pair that was selected last is suspected, and this one is not.
-fn is_left(
-    pairs: &Checklist,
-    suspects: Suspects,
-    selected: Option<u64>,
-    top: &CandidatePair,
-) -> bool
-    ensures { result ≡ is_left (is_suspected_with suspects.rule suspects.last.0) top.now (selection (multiset_of pairs.now) selected) }
-{
-    if suspects.rule.is_none() || is_suspected_by(top, suspects) {
-        return false;
-    }
-    match pair_selected(selected, pairs) {
-        Some(pair) => is_suspected_by(pair, suspects),
-        None => false,
-    }
-}
-
 /// The pair that was selected last stays selected, if this one is chosen.
 fn remains(
     pairs: &Checklist,
-    suspects: Suspects,
     followed: Option<u64>,
     selected: Option<u64>,
     top: &CandidatePair,
 ) -> bool
-    ensures { result ≡ remains (is_suspected_with suspects.rule suspects.last.0) followed top.now (selection (multiset_of pairs.now) selected) }
+    ensures { result ≡ remains followed top.now (selection (multiset_of pairs.now) selected) }
 {
     match followed {
         Some(_) => is_named_by(selected, top),
-        None => {
-            persists_at(selected, top.prio(), pairs) && !is_left(pairs, suspects, selected, top)
-        }
+        None => persists_at(selected, top.prio(), pairs),
     }
 }
 
@@ -375,14 +299,13 @@ pub(crate) fn path_in(sides: Sides<'_>, pair: &CandidatePair) -> Path
 /// last, if the agent follows its peer.
 pub fn select_pair(
     sides: Sides<'_>,
-    suspects: Suspects,
     followed: Option<u64>,
     pairs: &mut Checklist,
     selected: &mut Option<u64>,
 ) -> Option<Path>
     requires { are_placed sides.local.now sides.remote.now (multiset_of pairs.old) ≡ true }
     ensures placed { are_placed sides.entry.local.now sides.entry.remote.now (multiset_of pairs.new) ≡ true }
-    ensures named { Names (sides_view sides.entry) (is_suspected_with suspects.rule suspects.last.0) followed (selection (multiset_of pairs.old) selected.old) result (selection (multiset_of pairs.new) selected.new) }
+    ensures named { Names (sides_view sides.entry) followed (selection (multiset_of pairs.old) selected.old) result (selection (multiset_of pairs.new) selected.new) }
     ensures room { (n : ℕ) → HasRoom n pairs.old → HasRoom n pairs.new }
     ensures check_room { (n : ℕ) → checklists.HasCheckRoom n pairs.old → checklists.HasCheckRoom n pairs.new }
     ensures below { (n : ℕ) → are_below n (multiset_of pairs.old) ≡ true → are_below n (multiset_of pairs.new) ≡ true }
@@ -391,10 +314,10 @@ pub fn select_pair(
 {
     pairs.numbers_rise();
     let controlling = sides.controlling;
-    match chosen(pairs, controlling, suspects, followed, *selected) {
+    match chosen(pairs, controlling, followed, *selected) {
         None => None,
         Some(top) => {
-            if remains(pairs, suspects, followed, *selected, top) {
+            if remains(pairs, followed, *selected, top) {
                 return None;
             }
             let number = top.id().0;

@@ -5,7 +5,7 @@ ghost use Rattle.is_rules.specs.Agent.{original_rules, modern_rules};
 ghost use Rattle.is_rules.specs.Checking.{goes_ahead};
 
 use is_proto::Duration;
-use is_stun::stun::{Consent, EarlyRto, Suspicion};
+use is_stun::stun::{Consent, EarlyRto};
 
 /// What an agent does beyond the original's behavior, one field for each rule.
 #[derive(Clone, Copy, Debug, PartialEq, Eq)]
@@ -52,12 +52,6 @@ pub struct Rules {
     /// `invalidate_candidate` passes over candidates that are discarded already, so each one that is listed can be invalidated. A candidate
     /// that was discarded and came again with the same preference is listed once more.
     pub invalidates_listed: bool,
-    /// A suspected pair is not selected while another pair that may be selected is not suspected: a path that stops working is left for
-    /// one that still works, long before consent ends. A pair is suspected this long after its last check that got a response was
-    /// sent, at the time of the last `handle_timeout` call. While its last check has no response, it is probed: checked again at this
-    /// interval. Probes end no pair sooner: a pair is kept as long as a whole series of checks takes. An agent that follows its peer
-    /// leaves the choice to it.
-    pub suspicion: Option<Suspicion>,
     /// Until the agent has a path, and if it is controlling has sent the check that nominates it, the pacing interval Ta is at most this, and
     /// so short that each pair can be checked once in half a second; but at least 5 ms (RFC 8445, section 14.2). So the pair that works is
     /// checked sooner if there are many. A shorter interval that is set stays.
@@ -98,12 +92,11 @@ impl Rules {
             discovered_if_served: false,
             state_after_nomination: false,
             invalidates_listed: false,
-            suspicion: None,
             early_pacing: None,
         }
     }
 
-    /// All rules but `suspicion`: agents connect sooner, consent ends in time, `poll_timeout` returns a time after each successful `handle_timeout`,
+    /// All rules: agents connect sooner, consent ends in time, `poll_timeout` returns a time after each successful `handle_timeout`,
     /// lite agents keep their role, a request that is dropped reports no source, the state says whether a path is selected, and each
     /// listed candidate can be invalidated. With renomination, nominations are numbered.
     pub fn modern() -> Rules
@@ -122,7 +115,6 @@ impl Rules {
             discovered_if_served: true,
             state_after_nomination: true,
             invalidates_listed: true,
-            suspicion: None,
             early_pacing: Some(MODERN_EARLY_PACING),
         }
     }

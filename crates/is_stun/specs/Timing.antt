@@ -4,7 +4,6 @@ use Rattle.std.specs.List.{range_with_len}
 use Rattle.is_proto.specs.Times.{MAX, MILLISECOND}
 use Rattle.is_stun.specs.declared.timing.StunTiming.{StunTiming}
 use Rattle.is_stun.specs.declared.timing.EarlyRto.{EarlyRto}
-use Rattle.is_stun.specs.declared.timing.Suspicion.{Suspicion}
 
 -- the delay after the last of n checks, in whole milliseconds: it doubles with each check, up to a bound
 unfoldable pub delay_millis : StunTiming → ℕ → ℕ
@@ -19,10 +18,6 @@ resend_delay t n = if n == 0 then 0 else delay_millis t n * MILLISECOND
 -- millisecond; it doubles with each check after these, up to the cap, or up to the interval if that is longer
 abbrev pub early_delay : EarlyRto → ℕ → ℕ
 early_delay e n = min (max MILLISECOND e.interval.0 * 2 ^ (n - e.retransmits)) (max (max MILLISECOND e.interval.0) e.cap.0)
-
--- the delay while the path is probed: the interval, at least a millisecond, and no longer than it would be otherwise
-abbrev pub probing_delay : Suspicion → ℕ → ℕ
-probing_delay s usual = min (max MILLISECOND s.interval.0) usual
 
 abbrev pub last_resend_delay : StunTiming → ℕ
 last_resend_delay t = resend_delay t t.max_retransmits

@@ -3,7 +3,7 @@
 
 ghost use Rattle.std.specs.Prelude.{◌≡◌, ◌*◌, ◌^◌, ◌/◌, ◌-◌, ◌<◌, ◌≤◌, ℕ, min, None};
 ghost use Rattle.is_proto.specs.Times.{MILLISECOND, SECOND};
-ghost use Rattle.is_stun.specs.Timing.{early_delay, probing_delay, resend_delay, last_resend_delay, timeout_of};
+ghost use Rattle.is_stun.specs.Timing.{early_delay, resend_delay, last_resend_delay, timeout_of};
 
 use is_proto::Duration;
 
@@ -44,24 +44,6 @@ pub struct Consent {
     pub strict: bool,
 }
 
-/// When a valid pair whose checks get no response any more is suspected, so that another one may be selected in its place.
-#[derive(Clone, Copy, Debug, PartialEq, Eq)]
-pub struct Suspicion {
-    /// How long after its last check that got a response was sent. Each nanosecond counts.
-    pub timeout: Duration,
-    /// How far apart its checks are until then, if the last one got no response. Less than a millisecond counts as one.
-    pub interval: Duration,
-}
-
-impl Suspicion {
-    /// Returns how long to wait after the last check before the next one, while a pair is probed. `usual` is the delay otherwise.
-    pub fn probing_delay(self, usual: Duration) -> Duration
-        ensures { result.0 ≡ probing_delay self usual.0 }
-    {
-        self.interval.max(LEAST_DELAY).min(usual)
-    }
-}
-
 /// The retransmission timeouts (RTO) of checks, how many checks may go without a response before a path fails, and how
 /// long an ICE-lite agent, which sends no checks, waits for those of its peer. A pair requires at least one retransmit.
 #[derive(Debug, Drop)]
@@ -79,13 +61,11 @@ pub struct StunTiming {
     pub early: Option<EarlyRto>,
     /// How long a response keeps a pair of a full agent. None: a pair is kept until enough checks have no response.
     pub consent: Option<Consent>,
-    /// When a valid pair is suspected. None: never.
-    pub suspicion: Option<Suspicion>,
 }
 
 /// An initial RTO of 250 ms, 9 retransmits, a longest RTO of 3 s, and 15 s for an ICE-lite agent.
 impl Default for StunTiming {
-    ghost is_default = { λ t. t ≡ record { initial_rto = record { 0 = 250 * MILLISECOND }; max_retransmits = 9; max_rto = record { 0 = 3000 * MILLISECOND }; lite_timeout = record { 0 = 15 * SECOND }; early = None; consent = None; suspicion = None } };
+    ghost is_default = { λ t. t ≡ record { initial_rto = record { 0 = 250 * MILLISECOND }; max_retransmits = 9; max_rto = record { 0 = 3000 * MILLISECOND }; lite_timeout = record { 0 = 15 * SECOND }; early = None; consent = None } };
 
     fn default() -> StunTiming {
         StunTiming {
@@ -95,7 +75,6 @@ impl Default for StunTiming {
             lite_timeout: Duration(15_000_000_000),
             early: None,
             consent: None,
-            suspicion: None,
         }
     }
 }

@@ -1,6 +1,5 @@
 -- Which path is selected, and after what.
 pub mod FirstNumbered
-pub mod SuspectedPairs
 pub mod GreatestEligiblePair
 pub mod SelectedPairIsNominated
 pub mod NominationPoints
@@ -12,4 +11,3 @@ pub mod NominatedByPeer
 pub mod NominatedByPeerPerAgent
 pub mod SelectedAtRequests
 pub mod SelectedInCall
-pub mod LeftPaths

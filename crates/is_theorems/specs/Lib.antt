@@ -47,7 +47,6 @@ pub mod ConsentCourses
 pub mod ConsentLogs
 pub mod LeftInTime
 pub mod Settled
-pub mod Suspected
 pub mod AtOnceCourses
 pub mod SelectedInTime
 pub mod TimedSelections

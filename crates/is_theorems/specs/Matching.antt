@@ -6,7 +6,7 @@ use Rattle.is_pair.specs.Pairs.{PairRecord}
 use Rattle.is_rules.specs.declared.emitted.Path.{Path}
 use Rattle.is_rules.specs.Agent.{AgentRecord}
 use Rattle.is_theorems.specs.Logs.{Logged, last_selected}
-use Rattle.is_theorems.specs.SamePath.{reverse_of, AreCounterparts, HasFirstChoice, HasLastSelected, IsAtNomination, NoneFollows, RankAlike}
+use Rattle.is_theorems.specs.SamePath.{reverse_of, AreCounterparts, HasEligible, HasLastSelected, IsAtNomination, NoneFollows, RankAlike}
 use Rattle.is_rules.specs.Sending.{path_of}
 
 module _ {H P : Type 0} (mac : H → List ℕ → List ℕ → List ℕ) (answers : P → CandidateRecord → ℕ → ℕ → Type 0) where
@@ -16,7 +16,7 @@ module _ {H P : Type 0} (mac : H → List ℕ → List ℕ → List ℕ) (answer
       (seen : Path → Option Path) (g d : AgentRecord H P) (near far : List (Logged P)) (x y : Path) (q p2 : PairRecord) → NoneFollows g d → RankAlike seen g d
       → IsAtNomination mac answers near g → IsAtNomination mac answers far d
       → last_selected near ≡ Some x → last_selected far ≡ Some y
-      → HasFirstChoice d p2 → seen x ≡ Some (path_of d p2) → HasFirstChoice g q → seen (path_of g q) ≡ Some y
+      → HasEligible d p2 → seen x ≡ Some (path_of d p2) → HasEligible g q → seen (path_of g q) ≡ Some y
       → seen x ≡ Some y
 
 module _ (H P : Type 0) where

@@ -84,8 +84,8 @@ module _ {H P : Type 0} where
       ⊎ ((length new.queue < length old.queue)
       ⊎ ((is_pressing old ≡ true) × ((path : Path) × Has emitted.selected_paths (Some path))))
 
-  -- A pair is eligible, and the selected pair exists, with the greatest priority of the first choices: of the eligible pairs, without those
-  -- that are suspected while another one is not. In a state that no execution leads to it may be another one of this priority.
+  -- A pair is eligible, and the selected pair exists, with the greatest priority of the eligible pairs. In a state that no execution leads
+  -- to it may be another one of this priority.
   abbrev pub MatchesTop : AgentRecord H P → Type 0
   MatchesTop a = IsTopSelected a × ((p : PairRecord) × Has a.pairs p × (is_eligible a.controlling p ≡ true))
 

@@ -11,7 +11,7 @@ use Rattle.is_pair.specs.Priorities.{pair_priority}
 use Rattle.is_rules.specs.declared.emitted.Path.{Path}
 use Rattle.is_rules.specs.Agent.{AgentRecord}
 use Rattle.is_theorems.specs.Logs.{Logged, last_selected}
-use Rattle.is_rules.specs.Nominating.{followed, is_first_choice, pair_selected, suspected_by}
+use Rattle.is_rules.specs.Nominating.{followed, is_eligible, pair_selected}
 use Rattle.is_rules.specs.Points.{IsNominationPoint, IsTopSelected}
 use Rattle.is_theorems.specs.Runs.{IsFresh, IsTopPath, Point}
 use Rattle.is_rules.specs.Sending.{path_of}
@@ -23,20 +23,19 @@ abbrev pub reverse_of : Path → Option Path
 reverse_of path = Some (reversed path)
 
 module _ {H P : Type 0} where
-  -- a first choice of the agent: a pair that is valid and, if the agent is controlled, nominated, and by the rule `suspicion` is not passed
-  -- over. Without the rule each eligible pair is one.
-  abbrev pub HasFirstChoice : AgentRecord H P → PairRecord → Type 0
-  HasFirstChoice a p = Has a.pairs p × (is_first_choice (suspected_by a) a.controlling a.pairs p ≡ true)
+  -- a pair of the agent that is valid and, if the agent is controlled, nominated
+  abbrev pub HasEligible : AgentRecord H P → PairRecord → Type 0
+  HasEligible a p = Has a.pairs p × (is_eligible a.controlling p ≡ true)
 
-  -- a first choice, and none has a higher priority
+  -- an eligible pair, and no eligible pair has a higher priority
   abbrev pub IsTop : AgentRecord H P → PairRecord → Type 0
-  IsTop a p = IsGreatest (is_first_choice (suspected_by a) a.controlling a.pairs) a.pairs (Some p)
+  IsTop a p = IsGreatest (is_eligible a.controlling) a.pairs (Some p)
 
-  -- No two first choices on different paths have the same priority.
+  -- No two eligible pairs on different paths have the same priority.
   abbrev pub HasNoTies : AgentRecord H P → Type 0
-  HasNoTies a = (p q : PairRecord) → HasFirstChoice a p → HasFirstChoice a q → p.priority ≡ q.priority → path_of a p ≡ path_of a q
+  HasNoTies a = (p q : PairRecord) → HasEligible a p → HasEligible a q → p.priority ≡ q.priority → path_of a p ≡ path_of a q
 
-  -- The agent selected this pair last, and the pair that it selected last has the highest priority of the first choices.
+  -- The agent selected this pair last, and the pair that it selected last has the highest priority of the eligible ones.
   pub record HasLastSelected (a : AgentRecord H P) (p : PairRecord) : Type 0 where
     pub last : pair_selected a.selected_pair a.pairs ≡ Some p
     pub top : IsTopSelected a
@@ -50,10 +49,10 @@ module _ {H P : Type 0} where
     abbrev pub IsSamePath : PairRecord → PairRecord → Type 0
     IsSamePath p p2 = seen (path_of g p) ≡ Some (path_of d p2)
 
-    -- Each pair is a first choice of its agent, and both are on the same path.
+    -- Each pair is eligible at its agent, and both are on the same path.
     pub record AreCounterparts (p p2 : PairRecord) : Type 0 where
-      pub near : HasFirstChoice g p
-      pub far : HasFirstChoice d p2
+      pub near : HasEligible g p
+      pub far : HasEligible d p2
       pub path : IsSamePath p p2
 
     -- Neither agent has a tie, and g does not prefer p to q while d prefers q2 to p2.
@@ -76,7 +75,7 @@ module _ {H P : Type 0} where
 -- ---- the theorems
 
 module _ (H P : Type 0) where
-  -- p is a greatest first choice of g, and q2 one of d. Each has a counterpart among the first choices of the other agent. There is no dispute
+  -- p is a greatest eligible pair of g, and q2 one of d. Each has an eligible counterpart at the other agent. There is no dispute
   -- over the two paths, unless they are the same. Then p and q2 are on the same path.
   abbrev pub TopPathsMatch : Type 0
   TopPathsMatch =
@@ -98,8 +97,8 @@ module _ (H P : Type 0) where
       (seen : Path → Option Path) (g d : AgentRecord H P) (p q p2 q2 : PairRecord) → RankAlike seen g d
       → AreCounterparts seen g d p p2 → AreCounterparts seen g d q q2 → IsUndisputed seen g d p q p2 q2
 
-  -- So if two agents rank alike and select by priority, and each has a first choice that is the counterpart of the pair that the other selected last,
-  -- these pairs are on the same path.
+  -- So if two agents rank alike and select by priority, and each has an eligible counterpart of the pair that the other selected last, these pairs are
+  -- on the same path.
   abbrev pub SelectedPairsMatch : Type 0
   SelectedPairsMatch =
       (seen : Path → Option Path) (g d : AgentRecord H P) (p q p2 q2 : PairRecord) → NoneFollows g d → RankAlike seen g d
@@ -109,13 +108,13 @@ module _ (H P : Type 0) where
 
 module _ {H P : Type 0} (mac : H → List ℕ → List ℕ → List ℕ) (answers : P → CandidateRecord → ℕ → ℕ → Type 0) where
   -- The same holds of the path x that g selected last in its log, and the path y that d selected last in its own, if each is the
-  -- path of a greatest first choice.
+  -- path of a greatest eligible pair.
   abbrev pub SelectedPathsMatch : Type 0
   SelectedPathsMatch =
       (seen : Path → Option Path) (g d : AgentRecord H P) (near far : List (Logged P)) (x y : Path) (q p2 : PairRecord) → NoneFollows g d → RankAlike seen g d
       → IsTopPath mac answers near g → IsTopPath mac answers far d
       → last_selected near ≡ Some x → last_selected far ≡ Some y
-      → HasFirstChoice d p2 → seen x ≡ Some (path_of d p2) → HasFirstChoice g q → seen (path_of g q) ≡ Some y
+      → HasEligible d p2 → seen x ≡ Some (path_of d p2) → HasEligible g q → seen (path_of g q) ≡ Some y
       → seen x ≡ Some y
 
   -- g is the state of an agent right after a transition at which nomination was evaluated, in any execution since the agent was
@@ -139,5 +138,5 @@ module _ {H P : Type 0} (mac : H → List ℕ → List ℕ → List ℕ) (answer
       (g d : AgentRecord H P) (near far : List (Logged P)) (x y : Path) (q p2 : PairRecord) → NoneFollows g d → RankAlike reverse_of g d
       → IsAtNomination near g → IsAtNomination far d
       → last_selected near ≡ Some x → last_selected far ≡ Some y
-      → HasFirstChoice d p2 → path_of d p2 ≡ reversed x → HasFirstChoice g q → y ≡ reversed (path_of g q)
+      → HasEligible d p2 → path_of d p2 ≡ reversed x → HasEligible g q → y ≡ reversed (path_of g q)
       → y ≡ reversed x

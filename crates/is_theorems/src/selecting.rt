@@ -6,7 +6,6 @@ ghost use Rattle.is_theorems.specs.AtOnce.{RequestsSelect, NominationsSelectAtOn
 ghost use Rattle.is_theorems.specs.AtOnceCourses.{CompletedNominationsAreSelected};
 ghost use Rattle.is_theorems.specs.Progress.{AnswersSelect, TimeoutsSelect};
 ghost use Rattle.is_theorems.specs.Runs.{SelectedAreAnswered, SelectedAreNominatedByPeer, PointsAreTop, TakersAreValid, AskedAreNominated};
-ghost use Rattle.is_theorems.specs.Suspected.{SuspectedAreLeft};
 
 use is_candidate::LocalPreference;
 use is_proto::Sha1HmacProvider;
@@ -24,16 +23,9 @@ pub fn selected_are_nominated_by_peer<H: Sha1HmacProvider, P: LocalPreference>()
 {}
 
 /// At each nomination point at which a pair is eligible, the path that was selected last is that of one with the greatest stored
-/// priority, of those that are not passed over by the rule `suspicion`. With renomination a controlled agent selects the pair that was
-/// nominated last instead, once it is eligible.
+/// priority. With renomination a controlled agent selects the pair that was nominated last instead, once it is eligible.
 pub fn points_are_top<H: Sha1HmacProvider, P: LocalPreference>()
     ensures { PointsAreTop H.mac P.answers }
-{}
-
-/// With the rule `suspicion`: at each nomination point at which an eligible pair is not suspected, the path that was selected last is that
-/// of such a pair, if the agent does not follow its peer.
-pub fn suspected_are_left<H: Sha1HmacProvider, P: LocalPreference>()
-    ensures { SuspectedAreLeft H.mac P.answers }
 {}
 
 /// After an accepted success response a pair with its pending transaction, on its path, is valid.

@@ -33,7 +33,6 @@ pub(super) const ORIGINAL: Rules = Rules {
     discovered_if_served: false,
     state_after_nomination: false,
     invalidates_listed: false,
-    suspicion: None,
     early_pacing: None,
 };
 
@@ -58,7 +57,6 @@ pub(super) const MODERN: Rules = Rules {
     discovered_if_served: true,
     state_after_nomination: true,
     invalidates_listed: true,
-    suspicion: None,
     early_pacing: Some(Duration(10_000_000)),
 };
 

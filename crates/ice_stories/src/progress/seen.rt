@@ -94,7 +94,6 @@ fn is_fixed(pair: &CandidatePair) -> Option<bool> {
         lite_timeout: Duration(0),
         early: None,
         consent: None,
-        suspicion: None,
     };
     let hour = StunTiming {
         initial_rto: Duration(3_600_000_000_000),
@@ -103,7 +102,6 @@ fn is_fixed(pair: &CandidatePair) -> Option<bool> {
         lite_timeout: Duration(3_600_000_000_000),
         early: None,
         consent: None,
-        suspicion: None,
     };
     let (mut early, mut late) = (pair.try_clone().ok()?, pair.try_clone().ok()?);
     Some(early.next_binding_attempt(Instant(0), &at_once) == late.next_binding_attempt(LATE, &hour))
@@ -120,7 +118,6 @@ fn pair_seen(pair: &CandidatePair, now: Instant, limit: usize) -> Option<Awaited
         lite_timeout: Duration(15_000_000_000),
         early: None,
         consent: None,
-        suspicion: None,
     };
     let mut copy = pair.try_clone().ok()?;
     Some(Awaited {

@@ -13,8 +13,6 @@ pub(super) const OFF: AgentRules = AgentRules {
     early_interval: 0,
     early_cap: 0,
     consent_timeout: 0,
-    suspicion_timeout: 0,
-    suspicion_interval: 0,
     early_pacing: 0,
     kinds_in_turn: false,
     selects_at_once: false,
@@ -34,8 +32,6 @@ const ON: AgentRules = AgentRules {
     early_interval: 100_000_000,
     early_cap: 350_000_000,
     consent_timeout: 29_600_000_000,
-    suspicion_timeout: 0,
-    suspicion_interval: 0,
     early_pacing: 10_000_000,
     kinds_in_turn: true,
     selects_at_once: true,
@@ -57,8 +53,6 @@ fn are_same(one: &AgentRules, other: &AgentRules) -> bool {
         && one.kinds_in_turn == other.kinds_in_turn
         && one.selects_at_once == other.selects_at_once
         && one.consent_timeout == other.consent_timeout
-        && one.suspicion_timeout == other.suspicion_timeout
-        && one.suspicion_interval == other.suspicion_interval
         && one.early_pacing == other.early_pacing
         && one.strict_consent == other.strict_consent
         && one.selected_first == other.selected_first
@@ -112,7 +106,6 @@ fn what_belongs_to_no_rule_is_not_kept(rt: HostRuntime) {
     rules.early_interval = 7;
     rules.early_cap = 8;
     rules.strict_consent = true;
-    rules.suspicion_interval = 9;
     let set = is_ice_set_rules(alloc, &mut slot, &rules);
     assert!(rt; set == codes::OK);
     let asked = is_ice_rules(alloc, &mut slot, &mut rules);

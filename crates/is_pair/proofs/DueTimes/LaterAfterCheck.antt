@@ -11,15 +11,13 @@ use Rattle.std.proofs.lemmas.Option.{slice_get-get_or}
 use Rattle.is_proto.specs.Times.{MAX, MILLISECOND, later}
 use Rattle.is_stun.specs.declared.timing.StunTiming.{StunTiming}
 use Rattle.is_stun.specs.declared.timing.EarlyRto.{EarlyRto}
-use Rattle.is_stun.specs.declared.timing.Suspicion.{Suspicion}
-use Rattle.is_stun.specs.Timing.{delay_millis, resend_delay, early_delay, probing_delay}
+use Rattle.is_stun.specs.Timing.{delay_millis, resend_delay, early_delay}
 use Rattle.is_pair.specs.declared.pair.states.NominationState.{NominationState}
 use Rattle.is_pair.specs.declared.pair.states.NominationState.TheVariants.{None as Unnominated, Nominated, Attempt, Success}
 use Rattle.is_pair.specs.States.{nomination_once_sent}
 use Rattle.is_pair.specs.Checks.{Check, is_answered, last_checks, last_check, unanswered_count}
 use Rattle.is_pair.specs.Pairs.{PairRecord, check_of, checked}
-use Rattle.is_pair.specs.Due.{is_silent, delaying_count, usual_delay, is_repeated_early, silent_count, delay_with, delay_of, next_due_time, computed_due_time}
-use Rattle.is_pair.specs.Suspicion.{delay_probed, is_probed}
+use Rattle.is_pair.specs.Due.{is_silent, delaying_count, usual_delay, is_repeated_early, silent_count, delay_with, next_due_time, computed_due_time}
 use Rattle.is_pair.specs.Turns.{IsPaced, CheckedIsLater}
 
 -- ---- the delay
@@ -118,28 +116,16 @@ wait-positive at t o q paced open_still some = with_early o where
   with_early None = usual
   with_early (Some e) = either e (is_repeated_early at t q)
 
--- and no probe comes at once
-probed-positive : (now usual : ℕ) (o : Option Suspicion) (p : PairRecord) → 0 < usual → 0 < delay_probed o now p usual
-probed-positive now usual None p some = some
-probed-positive now usual (Some s) p some = either (is_probed s now p) where
-  least : (interval : ℕ) → 0 < min (max MILLISECOND interval) usual
-  least interval = omega (arith, some)
-
-  either : (b : Bool) → 0 < (if b then probing_delay s usual else usual)
-  either true = least s.interval.0
-  either false = some
-
 -- so the next one is later
 next-later : (now at : ℕ) (t : StunTiming) (q : PairRecord) (c : Check) (front : List Check) → IsPaced t → now < MAX → c.sent ≡ now → is_answered c ≡ false → q.checks ≡ front ++ c ∷ []
     → now < next_due_time at t q
 next-later now at t q c front paced early sent open_still is =
     let long : length q.checks ≡ length front + 1 = ap length is ∙ length-last front c in
     let counts : 0 < unanswered_count q.checks = subst (λ (xs : List Check). 0 < unanswered_count xs) (sym is) (unanswered front c open_still) in
-    let usual : 0 < delay_with t.early at t q = wait-positive at t t.early q paced counts (omega (arith, long)) in
-    let some : 0 < delay_of at t q = probed-positive at (delay_with t.early at t q) t.suspicion q usual in
-    let here : next_due_time at t q ≡ later c.sent (delay_of at t q) =
-    ap (λ (o : Option Check). option_map_or (λ (d : Check). later d.sent (delay_of at t q)) o at) (ap last_check is ∙ last-is front c) in
-    subst (λ n. now < n) (sym here) (following c.sent (delay_of at t q) sent some) where
+    let some : 0 < delay_with t.early at t q = wait-positive at t t.early q paced counts (omega (arith, long)) in
+    let here : next_due_time at t q ≡ later c.sent (delay_with t.early at t q) =
+    ap (λ (o : Option Check). option_map_or (λ (d : Check). later d.sent (delay_with t.early at t q)) o at) (ap last_check is ∙ last-is front c) in
+    subst (λ n. now < n) (sym here) (following c.sent (delay_with t.early at t q) sent some) where
       following : (from by : ℕ) → from ≡ now → 0 < by → now < later from by
       following from by same some = omega (arith, same, some, early)
 

@@ -5,7 +5,6 @@ ghost use Rattle.is_proto.specs.Times.{later};
 ghost use Rattle.is_pair.specs.Pairs.{is_valid, undue};
 ghost use Rattle.is_pair.specs.Due.{asked, delaying_count, due_time_of, is_heard, is_in_time, is_possible, long_before, next_due_time, computed_due_time};
 ghost use Rattle.is_pair.specs.Due.{delay_with, has_early_checks, is_early_silence, is_open, is_repeated_early, is_triggered, is_urgent, is_young, moved_up, silent_count, triggered, usual_delay};
-ghost use Rattle.is_pair.specs.Due.{delay_of};
 
 use super::attempt::BindingAttempt;
 use super::requests::is_recent;
@@ -26,8 +25,7 @@ impl CandidatePair {
     /// due now. Otherwise the check is due one RTO after the last one. The RTO depends on the number of pending
     /// transactions, or, if the peer has been silent for longer than half of `max_rto`, on the number of checks without a
     /// response. With `early`, checks are due sooner while there is no response: after its interval at first, later after
-    /// at most its cap. With `suspicion`, so are those of a pair that had a response before. The due time is at most
-    /// `max_rto` from now.
+    /// at most its cap. The due time is at most `max_rto` from now.
     pub fn next_binding_attempt(&mut self, now: Instant, timing_config: &StunTiming) -> Instant
         requires { 0 < timing_config.now.max_retransmits }
         ensures time { result.0 ≡ due_time_of now.0 timing_config.now self.old }
@@ -71,15 +69,12 @@ impl CandidatePair {
 
     /// Whether the path may still work. It fails if no check from the peer arrived for 15 s, `max_retransmits` checks
     /// had no response, and the delay after the last of them has passed. With `early` the time of a whole series of checks has to pass
-    /// besides: since the first check if there was no response at all, otherwise since the first one without. It has to pass with
-    /// `suspicion` too.
+    /// besides: since the first check if there was no response at all, otherwise since the first one without.
     pub fn is_still_possible(&self, now: Instant, timing_config: &StunTiming) -> bool
         requires { 0 < timing_config.now.max_retransmits }
         ensures { result ≡ is_possible now.0 timing_config.now self.now }
     {
-        self.is_open(now, timing_config)
-            || self.has_early_checks(now, timing_config)
-            || self.is_kept_by_series(now, timing_config)
+        self.is_open(now, timing_config) || self.has_early_checks(now, timing_config)
     }
 
     /// Whether a check from the peer arrived, or not so many checks had no response, or the response to the last one may still arrive.
@@ -136,8 +131,8 @@ impl CandidatePair {
         }
     }
 
-    /// Returns the delay after the last check, if the pair is not probed.
-    fn usual_delay(&self, now: Instant, timing: &StunTiming) -> Duration
+    /// Returns the delay after the last check.
+    fn delay(&self, now: Instant, timing: &StunTiming) -> Duration
         ensures { result.0 ≡ delay_with timing.now.early now.0 timing.now self.now }
     {
         match timing.early {
@@ -146,13 +141,6 @@ impl CandidatePair {
             }
             _ => usual_delay(&self.binding_attempts, now, timing),
         }
-    }
-
-    /// Returns the delay after the last check.
-    fn delay(&self, now: Instant, timing: &StunTiming) -> Duration
-        ensures { result.0 ≡ delay_of now.0 timing.now self.now }
-    {
-        self.delay_probed(now, timing, self.usual_delay(now, timing))
     }
 
     /// Returns the time that long after the last check, or now if there was none.

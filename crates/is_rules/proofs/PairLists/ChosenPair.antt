@@ -7,7 +7,6 @@ use Rattle.is_proto.specs.Lists.{Has, NonePass}
 use Rattle.is_pair.specs.Pairs.{PairRecord}
 use Rattle.is_pair.specs.Multiset.{is_numbered, pair_numbered, is_named_by}
 use Rattle.is_rules.specs.Nominating.{is_eligible, if_eligible, eligible_numbered, favored, IsChosen, Selection}
-use Rattle.is_rules.proofs.PairLists.FirstChoice.{first-able, first-none}
 
 kept_head : {X : Type 0} (b : Bool) (x : X) (xs : List X) → b ≡ true → (if b then x ∷ xs else xs) ≡ [] → ⊥
 kept_head true x xs passes none = let wrong : x ∷ xs ≡ [] = none in cc
@@ -67,17 +66,16 @@ favored-able c (Some n) old p h = by (eligible_numbered c old.pairs n) refl h wh
   by (Some q) is k = numbered-able c old.pairs n p (is ∙ k)
 
 -- the chosen pair is eligible
-pub chosen-able : (suspected : PairRecord → Bool) (c : Bool) (followed : Option ℕ) (old : Selection) (top : PairRecord) → IsChosen suspected c followed old (Some top)
+pub chosen-able : (c : Bool) (followed : Option ℕ) (old : Selection) (top : PairRecord) → IsChosen c followed old (Some top)
     → Has old.pairs top × (is_eligible c top ≡ true)
-chosen-able suspected c followed old top h = by-option (favored c followed old) h
-    (λ _ k. (k.0, first-able suspected c old.pairs top k.1))
+chosen-able c followed old top h = by-option (favored c followed old) h
+    (λ _ k. (k.0, k.1))
     (λ p is k. favored-able c followed old top (is ∙ sym k))
 
 -- if none is chosen, none is eligible
-pub chosen-none : (suspected : PairRecord → Bool) (c : Bool) (followed : Option ℕ) (old : Selection) → IsChosen suspected c followed old None
-    → NonePass (is_eligible c) old.pairs
-chosen-none suspected c followed old h = by-option (favored c followed old) h
-    (λ _ k. first-none suspected c old.pairs k)
+pub chosen-none : (c : Bool) (followed : Option ℕ) (old : Selection) → IsChosen c followed old None → NonePass (is_eligible c) old.pairs
+chosen-none c followed old h = by-option (favored c followed old) h
+    (λ _ k. k)
     (λ p is k. absurd (no-some p k))
 
 -- the number is the pair's

@@ -1,11 +1,11 @@
 -- A `handle_timeout` call without an early request selects a path if one may be selected, and sends the nomination that is due.
-use Rattle.std.proofs.Common.{if◌then◌else◌, ◌≡◌, ◌==◌, ℕ, ◌&&◌, ◌||◌, ◌⊎◌, Bool, true, false, not, List, [], ◌∷◌, find, map, is_some, Option, Some, None, inl, inr, refl, sym, ap, subst, ◌∙◌}
+use Rattle.std.proofs.Common.{if◌then◌else◌, ◌≡◌, ◌==◌, ℕ, ◌&&◌, ◌||◌, ◌⊎◌, Bool, true, false, not, List, [], ◌∷◌, find, length, map, is_some, Option, Some, None, inl, inr, refl, sym, ap, subst, ◌∙◌}
 use Rattle.std.proofs.lemmas.Bool.{eq-eqb, eqb-true}
 use Rattle.std.specs.Prelude.{MatchOption}
 use Rattle.std.specs.List.{list_any}
 use Rattle.std.specs.Option.{option_map_or}
 use Rattle.rand_core.specs.Stream.{Stream}
-use Rattle.is_proto.specs.Lists.{Has}
+use Rattle.is_proto.specs.Lists.{Has, NonePass}
 use Rattle.is_stun.specs.declared.timing.StunTiming.{StunTiming}
 use Rattle.is_pair.specs.declared.pair.states.CheckState.{CheckState}
 use Rattle.is_pair.specs.declared.pair.states.CheckState.TheVariants.{Waiting, InProgress, Succeeded}
@@ -14,7 +14,7 @@ use Rattle.is_pair.specs.declared.pair.states.NominationState.TheVariants.{None 
 use Rattle.is_pair.specs.States.{is_nominated_state, is_valid_state, nomination_once_sent, state_once_sent}
 use Rattle.is_pair.specs.Pairs.{PairRecord, checked, nominated, renominated}
 use Rattle.is_pair.specs.Due.{asked}
-use Rattle.is_pair.specs.Multiset.{change_pair, has_number, is_numbered}
+use Rattle.is_pair.specs.Multiset.{change_pair, has_number, is_named_by, is_numbered}
 use Rattle.is_rules.specs.declared.credentials.IceCreds.{IceCreds}
 use Rattle.is_rules.specs.declared.emitted.Emitted.{Emitted}
 use Rattle.is_rules.specs.declared.emitted.Issued.{Issued}
@@ -23,12 +23,12 @@ use Rattle.is_rules.specs.Agent.{AgentRecord}
 use Rattle.is_rules.specs.Checking.{all_asked, check_sent, is_selected_number, ChecksTop, IsNextToCheck, MayCheck}
 use Rattle.is_rules.specs.Forming.{sides_of}
 use Rattle.is_rules.specs.Nominating.{followed, is_eligible, is_pressing, nominated_by_self, nominated_emitted, nominates_at_once, numbers, pair_selected, persists_at}
-use Rattle.is_rules.specs.Nominating.{is_left, remains, suspected_by, selection_of, with_selection, IsChosen, NamesTop, Nominates, Selection}
+use Rattle.is_rules.specs.Nominating.{remains, selection, selection_of, with_selection, IsChosen, NamesTop, Nominates, Selection}
 use Rattle.is_rules.specs.Request.{RequestRecord}
 use Rattle.is_rules.specs.Timeouts.{at_request, at_timeout, expired_gone, is_expired, timeout_begun, MaintainsPairs, RemovesExpired, ServesQueued}
 use Rattle.is_rules.specs.TimeoutTimes.{NominationsAreSent}
 use Rattle.is_rules.proofs.PairLists.ChosenPair.{chosen-able, chosen-none, found-in, named-by, no-some}
-use Rattle.is_rules.proofs.PairLists.PairsByNumber.{both, has-any, none-any}
+use Rattle.is_rules.proofs.PairLists.PairsByNumber.{has-any, none-any}
 use Rattle.is_rules.proofs.PollsAndResponses.NextTimeout.{either}
 
 -- ---- the selected pair is in the list
@@ -190,22 +190,21 @@ module _ {H P : Type 0} where
   there : (old : AgentRecord H P) → names_one old.selected_pair old.pairs ≡ true → Settled old
   there old names = inl (selected-there old.selected_pair old.pairs ∙ names)
 
-  remains-there : (old : AgentRecord H P) (by : Option ℕ) (top : PairRecord) → Has old.pairs top → remains (suspected_by old) by top (selection_of old) ≡ true → Settled old
-  remains-there old None top has stays =
-      inl (by (pair_selected old.selected_pair old.pairs) (both (persists_at old.selected_pair top.priority old.pairs) (not (is_left (suspected_by old) top (selection_of old))) stays).0) where
-        by : (o : Option PairRecord) → option_map_or (λ (p : PairRecord). p.priority == top.priority) o false ≡ true → is_some o ≡ true
-        by None h = h
-        by (Some p) h = refl
+  remains-there : (old : AgentRecord H P) (by : Option ℕ) (top : PairRecord) → Has old.pairs top → remains by top (selection_of old) ≡ true → Settled old
+  remains-there old None top has persists = inl (by (pair_selected old.selected_pair old.pairs) persists) where
+    by : (o : Option PairRecord) → option_map_or (λ (p : PairRecord). p.priority == top.priority) o false ≡ true → is_some o ≡ true
+    by None h = h
+    by (Some p) h = refl
   remains-there old (Some n) top has named =
       there old (ap (λ o. names_one o old.pairs) (named-by old.selected_pair top named) ∙ names-has old.pairs top has)
 
-  names-settled : (old : AgentRecord H P) (path : Option Path) (s : Selection) (top : Option PairRecord) → IsChosen (suspected_by old) old.controlling (followed old) (selection_of old) top
-      → NamesTop (sides_of old) (suspected_by old) (followed old) top (selection_of old) path s → Chosen old s
+  names-settled : (old : AgentRecord H P) (path : Option Path) (s : Selection) (top : Option PairRecord) → IsChosen old.controlling (followed old) (selection_of old) top
+      → NamesTop (sides_of old) (followed old) top (selection_of old) path s → Chosen old s
   names-settled old path s None is names =
-      stays-chosen old s names.1 (inr (none-any (is_eligible old.controlling) old.pairs (chosen-none (suspected_by old) old.controlling (followed old) (selection_of old) is)))
+      stays-chosen old s names.1 (inr (none-any (is_eligible old.controlling) old.pairs (chosen-none old.controlling (followed old) (selection_of old) is)))
   names-settled old path s (Some top) is names =
-      let has = (chosen-able (suspected_by old) old.controlling (followed old) (selection_of old) top is).0 in
-      either (remains (suspected_by old) (followed old) top (selection_of old)) names
+      let has = (chosen-able old.controlling (followed old) (selection_of old) top is).0 in
+      either (remains (followed old) top (selection_of old)) names
       (λ stays k. stays-chosen old s k.1 (remains-there old (followed old) top has stays))
       (λ _ k. subst (λ (x : Selection). Settled (with_selection x old)) (sym k.1) (inl (
       selected-there (Some top.number) (change_pair top.number (nominated_by_self old.controlling old.lite) old.pairs)

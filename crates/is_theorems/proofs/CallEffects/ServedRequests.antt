@@ -30,7 +30,7 @@ use Rattle.is_rules.specs.Agent.{AgentRecord}
 use Rattle.is_pair.specs.Multiset.{change_at, is_between, is_numbered, is_valid_at, IsPairBetween}
 use Rattle.is_rules.specs.Sending.{path_between, path_of, carried}
 use Rattle.is_rules.specs.Forming.{formed, with_pair}
-use Rattle.is_rules.specs.Nominating.{nominated_by_self, followed, remains, selection_of, NominatesWhere, numbers, suspected_by}
+use Rattle.is_rules.specs.Nominating.{nominated_by_self, followed, remains, selection_of, NominatesWhere, numbers}
 use Rattle.is_rules.specs.Roles.{conflict_of, switched, switched_sides, with_priority_in}
 use Rattle.is_rules.specs.Serving.{selects_at_requests, after_request, validated_by_peer, nominated_by_peer, served, with_sender, with_sender_at, sender_candidate, request_counted, pair_served, is_misled, Drops, names_another, RecordsAndResponds, FindsOrAddsPair, AddsUnknownSender, CountsAndServes, ResolvesRoleConflictBy, ResolvesRoleConflict, Serves, as_taken, numbered_by_peer}
 use Rattle.is_theorems.specs.Numbered.{given, number_taken}
@@ -149,7 +149,7 @@ module _ {H P : Type 0} where
 
   nominates_keeps : (old new : AgentRecord H P) (path : Option Path) (number : ℕ) (on : Path) → SelectsPath old path new → HasNominated old number on → HasNominated new number on
   nominates_keeps old new path number on (None, chosen, (is, made)) k = subst (λ (a : AgentRecord H P). HasNominated a number on) (sym made) k
-  nominates_keeps old new path number on (Some top, chosen, h) (p, has, numbers, names, via) = either (remains (suspected_by old) (followed old) top (selection_of old)) h
+  nominates_keeps old new path number on (Some top, chosen, h) (p, has, numbers, names, via) = either (remains (followed old) top (selection_of old)) h
       (λ _ k. subst (λ (a : AgentRecord H P). HasNominated a number on) (sym k.1) (p, has, numbers, names, via))
       (λ _ k. subst (λ (a : AgentRecord H P). HasNominated a number on) (sym k.1) (
         f p,

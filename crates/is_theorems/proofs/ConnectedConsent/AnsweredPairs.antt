@@ -31,7 +31,7 @@ use Rattle.is_rules.specs.Answers.{is_role_conflict, LeavesRole, TakesFailure, T
 use Rattle.is_rules.specs.Checking.{all_asked, ChecksTop, MayCheck}
 use Rattle.is_rules.specs.Each.{Each}
 use Rattle.is_rules.specs.Forming.{Combination, combined_priority, formed, Formed, FormsAll, pair_of, SidesRecord, sides_of, Tries, with_pair}
-use Rattle.is_rules.specs.Nominating.{followed, nominated_by_self, Nominates, NominatesWhere, remains, selection_of, nominates_at_once, numbers, suspected_by}
+use Rattle.is_rules.specs.Nominating.{followed, nominated_by_self, Nominates, NominatesWhere, remains, selection_of, nominates_at_once, numbers}
 use Rattle.is_rules.specs.Places.{local_place}
 use Rattle.is_rules.specs.Queue.{first_taken, request_at}
 use Rattle.is_rules.specs.Request.{RequestRecord, request_in}
@@ -164,7 +164,7 @@ module _ {H P : Type 0} where
   nominates-firm old new path h f = from (selects_path old new path h) where
     from : SelectsPath old path new → IsFirm new
     from (None, none, (is, same)) = made-firm old new same f
-    from (Some top, chosen, k) = either (remains (suspected_by old) (followed old) top (selection_of old)) k
+    from (Some top, chosen, k) = either (remains (followed old) top (selection_of old)) k
         (λ _ l. made-firm old new l.1 f)
         (λ _ l. subst (λ (a : AgentRecord H P). IsFirm a) (sym l.1) (
           f.0,

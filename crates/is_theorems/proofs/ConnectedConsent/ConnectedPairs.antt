@@ -15,7 +15,7 @@ use Rattle.is_rules.specs.declared.emitted.Issued.{Issued}
 use Rattle.is_rules.specs.declared.emitted.Path.{Path}
 use Rattle.is_rules.specs.declared.event.IceConnectionState.{IceConnectionState}
 use Rattle.is_rules.specs.declared.event.IceConnectionState.TheVariants.{New, Checking, Connected, Completed, Disconnected}
-use Rattle.is_rules.specs.Nominating.{followed, nominated_by_self, nominated_emitted, with_selection, Nominates, remains, selection_of, nominates_at_once, suspected_by}
+use Rattle.is_rules.specs.Nominating.{followed, nominated_by_self, nominated_emitted, with_selection, Nominates, remains, selection_of, nominates_at_once}
 use Rattle.is_rules.specs.Settling.{settled, settles, state_at}
 use Rattle.is_rules.specs.States.{evaluated, has_nominated, has_possible, is_nominated_and_valid, next_state, same_state}
 use Rattle.is_rules.specs.Timeouts.{at_timeout, is_expired, MaintainsPairs, RemovesExpired, timeout_begun}
@@ -114,7 +114,7 @@ module _ {H P : Type 0} where
   nominates-backs old new path h b = from (selects_path old new path h) where
     from : SelectsPath old path new → IsBacked new
     from (None, none, (is, same)) = same-backs old new same b
-    from (Some top, chosen, k) = either (remains (suspected_by old) (followed old) top (selection_of old)) k
+    from (Some top, chosen, k) = either (remains (followed old) top (selection_of old)) k
         (λ _ l. same-backs old new l.1 b)
         (λ _ l. subst (λ (a : AgentRecord H P). IsBacked a) (sym l.1) (λ connected.
         (let o = b connected in let f = change_at top.number (nominated_by_self old.controlling old.lite) in
@@ -147,7 +147,7 @@ module _ {H P : Type 0} where
         alike-nominated (heard now) old.pairs (λ p. heard_alike false now p.last_request p) (b connected)))
         (λ _ k. next k.0 k.2) where
           asks : is_connected old.state ≡ true → HasNominated (map (asked now old.timing) old.pairs)
-          asks connected = alike-nominated (asked now old.timing) old.pairs (λ p. record { number = refl; priority = refl; greatest = refl; eligible = refl; consented = refl }) (b connected)
+          asks connected = alike-nominated (asked now old.timing) old.pairs (λ p. record { number = refl; priority = refl; greatest = refl; eligible = refl }) (b connected)
 
           next : (due : Option PairRecord) → ChecksTop mac now peer due (all_asked now old) s issued new t → IsBacked new
           next None (is, made, drawn) = subst (λ (a : AgentRecord H P). IsBacked a) (sym made) asks

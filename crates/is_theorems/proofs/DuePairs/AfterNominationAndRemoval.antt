@@ -8,7 +8,6 @@ use Rattle.is_candidate.specs.Candidates.{CandidateRecord}
 use Rattle.is_pair.specs.Pairs.{PairRecord, is_nominated, is_recent, is_valid, nominated}
 use Rattle.is_pair.specs.Checks.{Check, unanswered_count}
 use Rattle.is_pair.specs.Due as due
-use Rattle.is_pair.specs.Suspicion.{is_kept_by_series}
 use Rattle.is_pair.specs.Multiset.{is_numbered, change_at}
 use Rattle.is_stun.specs.declared.timing.StunTiming.{StunTiming}
 use Rattle.is_stun.specs.declared.timing.Consent.{Consent}
@@ -17,7 +16,7 @@ use Rattle.is_rules.specs.declared.emitted.Path.{Path}
 use Rattle.is_rules.specs.declared.rules.Rules.{Rules}
 use Rattle.is_rules.specs.Request.{RequestRecord}
 use Rattle.is_rules.specs.Agent.{AgentRecord}
-use Rattle.is_rules.specs.Nominating.{nominated_by_self, Nominates, followed, remains, selection_of, suspected_by}
+use Rattle.is_rules.specs.Nominating.{nominated_by_self, Nominates, followed, remains, selection_of}
 use Rattle.is_rules.specs.Timeouts.{is_expired, expired_gone, RemovesExpired}
 use Rattle.is_theorems.proofs.RuleEffects.UnchangedSettings.{either}
 use Rattle.is_theorems.proofs.RuleEffects.ChangedPairs.{Has-map}
@@ -178,13 +177,12 @@ at-alike n c l p = apart (is_numbered n p) where
   apart true = self-alike c l p
   apart false = alike-same p
 
-possible : (e s h b u i : Bool) → u ≡ true → (e || s || (h || b || u || i)) ≡ true
-possible true s h b u i is = refl
-possible false true h b u i is = refl
-possible false false true b u i is = refl
-possible false false false true u i is = refl
-possible false false false false true i is = refl
-possible false false false false false i is = absurd (cc)
+possible : (e h b u i : Bool) → u ≡ true → (e || (h || b || u || i)) ≡ true
+possible true h b u i is = refl
+possible false true b u i is = refl
+possible false false true u i is = refl
+possible false false false true i is = refl
+possible false false false false i is = absurd (cc)
 
 -- ---- consent
 
@@ -223,7 +221,7 @@ answered-invalid o now p had invalid = from p.consented refl where
 pub stays-young : (lite : Bool) (now : ℕ) (t : StunTiming) (p : PairRecord) → lite ≡ false → due.stays_answered t.consent now p ≡ true → nat_lt (unanswered_count p.checks) t.max_retransmits ≡ true → not (due.is_pair_expired lite now t p) ≡ true
 stays-young true now t p full answered young = absurd (cc)
 stays-young false now t p full answered young =
-    ap (λ b. not (not b)) (ap (λ b. b && due.is_possible now t p) (answered-consents t.consent now p answered) ∙ possible (due.has_early_checks t.early now t p) (is_kept_by_series t.suspicion now t p) (due.is_heard now p) (nat_lt (length p.checks) t.max_retransmits) (nat_lt (unanswered_count p.checks) t.max_retransmits) (due.is_in_time now t p.checks) young)
+    ap (λ b. not (not b)) (ap (λ b. b && due.is_possible now t p) (answered-consents t.consent now p answered) ∙ possible (due.has_early_checks t.early now t p) (due.is_heard now p) (nat_lt (length p.checks) t.max_retransmits) (nat_lt (unanswered_count p.checks) t.max_retransmits) (due.is_in_time now t p.checks) young)
 
 module _ {H P : Type 0} where
   -- the time of the last `handle_timeout` call
@@ -263,7 +261,7 @@ module _ {H P : Type 0} where
   nominates-thins by old new path h = from (selects_path old new path h) where
     from : SelectsPath old path new → Thins by old new
     from (None, none, (is, same)) = thins-same by old new same
-    from (Some top, greatest, k) = either (remains (suspected_by old) (followed old) top (selection_of old)) k
+    from (Some top, greatest, k) = either (remains (followed old) top (selection_of old)) k
         (λ _ l. thins-same by old new l.1)
         (λ _ l. subst (λ (a : AgentRecord H P). Thins by old a) (sym l.1)
         (refl, thinned-map by (change_at top.number (nominated_by_self old.controlling old.lite)) old.pairs (at-alike top.number old.controlling old.lite)))
@@ -286,7 +284,7 @@ module _ {H P : Type 0} where
 
     from : SelectsPath old path new → (q : PairRecord) × Has new.pairs q × Alike p q
     from (None, none, (is, e)) = same e
-    from (Some top, greatest, k) = either (remains (suspected_by old) (followed old) top (selection_of old)) k
+    from (Some top, greatest, k) = either (remains (followed old) top (selection_of old)) k
         (λ _ l. same l.1)
         (λ _ l. subst (λ (a : AgentRecord H P). (q : PairRecord) × Has a.pairs q × Alike p q) (sym l.1) (
           change_at top.number (nominated_by_self old.controlling old.lite) p,

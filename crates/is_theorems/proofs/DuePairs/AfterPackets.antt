@@ -12,15 +12,13 @@ use Rattle.is_pair.specs.Checks.{Check, last_check, unanswered_count}
 use Rattle.is_pair.specs.States.{is_nominating}
 use Rattle.is_pair.specs.declared.pair.states.NominationState.{NominationState}
 use Rattle.is_pair.specs.declared.pair.states.NominationState.TheVariants.{None as Unnominated, Nominated, Attempt, Success}
-use Rattle.is_pair.specs.Suspicion.{delay_probed}
-use Rattle.is_pair.specs.Due.{computed_due_time, delay_of, delay_with, due_time_of, is_triggered, moved_up, next_due_time, triggered, usual_delay}
+use Rattle.is_pair.specs.Due.{computed_due_time, delay_with, due_time_of, is_triggered, moved_up, next_due_time, triggered, usual_delay}
 use Rattle.is_pair.specs.Multiset.{is_numbered, change_at, passes_at, is_valid_at}
 use Rattle.is_stun.specs.declared.header.Class.{Class}
 use Rattle.is_stun.specs.declared.header.Class.TheVariants as class
 use Rattle.is_stun.specs.declared.timing.StunTiming.{StunTiming}
 use Rattle.is_stun.specs.declared.timing.EarlyRto.{EarlyRto}
-use Rattle.is_stun.specs.declared.timing.Suspicion.{Suspicion}
-use Rattle.is_stun.specs.Timing.{early_delay, probing_delay, timeout_of}
+use Rattle.is_stun.specs.Timing.{early_delay, timeout_of}
 use Rattle.is_stun.specs.Message.{Message}
 use Rattle.is_rules.specs.declared.credentials.IceCreds.{IceCreds}
 use Rattle.is_rules.specs.declared.places.RemotePlace.{RemotePlace}
@@ -66,7 +64,6 @@ pub record CheckedAlike (p q : PairRecord) : Type 0 where
   pub first : q.first_sent ≡ p.first_sent
   pub answers : q.answers ≡ p.answers
   pub nomination : q.nomination ≡ p.nomination
-  pub consented : q.consented ≡ p.consented
 
 delay-same : (e : Option EarlyRto) (now : ℕ) (t : StunTiming) (p q : PairRecord) → CheckedAlike p q → delay_with e now t q ≡ delay_with e now t p
 delay-same None now t p q alike = ap (λ cs. usual_delay now t cs) alike.checks
@@ -82,17 +79,10 @@ delay-same (Some e) now t p q alike =
           then early_delay e (if n == 0 then sent else unanswered_count cs)
           else usual_delay now t cs
 
-probed-same : (o : Option Suspicion) (now usual : ℕ) (p q : PairRecord) → CheckedAlike p q → delay_probed o now q usual ≡ delay_probed o now p usual
-probed-same None now usual p q alike = refl
-probed-same (Some s) now usual p q alike = ap (λ k. by k q.checks) alike.consented ∙ ap (λ cs. by p.consented cs) alike.checks where
-  by : Option ℕ → List Check → ℕ
-  by k cs = if option_map_or (λ at. nat_lt now (later at s.timeout.0)) k false && nat_lt 0 (unanswered_count cs) then probing_delay s usual else usual
-
 next-same : (now : ℕ) (t : StunTiming) (p q : PairRecord) → CheckedAlike p q → next_due_time now t q ≡ next_due_time now t p
 next-same now t p q alike =
-    ap (λ usual. option_map_or (λ (c : Check). later c.sent (delay_probed t.suspicion now q usual)) (last_check q.checks) now) (delay-same t.early now t p q alike)
-    ∙ ap (λ delay. option_map_or (λ (c : Check). later c.sent delay) (last_check q.checks) now) (probed-same t.suspicion now (delay_with t.early now t p) p q alike)
-    ∙ ap (λ cs. option_map_or (λ (c : Check). later c.sent (delay_of now t p)) (last_check cs) now) alike.checks
+    ap (λ delay. option_map_or (λ (c : Check). later c.sent delay) (last_check q.checks) now) (delay-same t.early now t p q alike)
+    ∙ ap (λ cs. option_map_or (λ (c : Check). later c.sent (delay_with t.early now t p)) (last_check cs) now) alike.checks
 
 -- it is computed from these only
 computed-same : (s : NominationState) (now : ℕ) (t : StunTiming) (p q : PairRecord) → CheckedAlike p q → computed_due_time s now t q ≡ computed_due_time s now t p
@@ -258,7 +248,7 @@ moved-stays by to x (Some d) le = omega (arith, le)
 moved-due : (now to : ℕ) (t : StunTiming) (p : PairRecord)
     → due_time_of now t (moved_up to p) ≡ unwrap_or (option_map (min to) p.due) (min (computed_due_time p.nomination now t p) (later now t.max_rto.0))
 moved-due now to t p =
-    ap (λ n. unwrap_or (option_map (min to) p.due) (min n (later now t.max_rto.0))) (computed-same p.nomination now t p (moved_up to p) (record { checks = refl; sent = refl; first = refl; answers = refl; nomination = refl; consented = refl }))
+    ap (λ n. unwrap_or (option_map (min to) p.due) (min n (later now t.max_rto.0))) (computed-same p.nomination now t p (moved_up to p) (record { checks = refl; sent = refl; first = refl; answers = refl; nomination = refl }))
 
 triggered-alike : (by at to : ℕ) (t : StunTiming) (most : Option ℕ) (p : PairRecord) → by < to → DueAlike by at t p (triggered most to p)
 triggered-alike by at to t None p late = due-same by at t p
@@ -294,7 +284,7 @@ module _ (to : ℕ) (n : ℕ) (q : RequestRecord) (most : Option ℕ) where
   served-alike : (by at : ℕ) (t : StunTiming) (c l : Bool) (p : PairRecord) → c ≡ true → l ≡ false → by < to → DueAlike by at t p (change_at n (λ x. served c l q (triggered most to x)) p)
   served-alike by at t true false p is full late = numbered (is_numbered n p) where
     recorded-due : (m : ℕ) (x : PairRecord) → due_time_of m t (with_request q.time x) ≡ due_time_of m t x
-    recorded-due m x = ap (λ k. unwrap_or x.due (min k (later m t.max_rto.0))) (computed-same x.nomination m t x (with_request q.time x) (record { checks = refl; sent = refl; first = refl; answers = refl; nomination = refl; consented = refl }))
+    recorded-due m x = ap (λ k. unwrap_or x.due (min k (later m t.max_rto.0))) (computed-same x.nomination m t x (with_request q.time x) (record { checks = refl; sent = refl; first = refl; answers = refl; nomination = refl }))
 
     recorded-alike : (x : PairRecord) → DueAlike by at t x (with_request q.time x)
     recorded-alike x = record {

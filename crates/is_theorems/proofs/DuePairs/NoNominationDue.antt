@@ -27,7 +27,7 @@ use Rattle.is_rules.specs.declared.emitted.Issued.{Issued}
 use Rattle.is_rules.specs.declared.emitted.Path.{Path}
 use Rattle.is_rules.specs.Effects.{PathEffect, lite_set_by}
 use Rattle.is_rules.specs.Forming.{formed, with_pair, Combination, FormsAll}
-use Rattle.is_rules.specs.Nominating.{followed, selection_of, Nominates, NominatesWhere, nominates_at_once, numbers, pair_selected, suspected_by}
+use Rattle.is_rules.specs.Nominating.{followed, selection_of, Nominates, NominatesWhere, nominates_at_once, numbers, pair_selected}
 use Rattle.is_rules.specs.Places.{local_place}
 use Rattle.is_rules.specs.Queue.{first_taken, request_at}
 use Rattle.is_rules.specs.Request.{RequestRecord, request_in}
@@ -165,7 +165,7 @@ module _ {H P : Type 0} where
     from : SelectsPath old path new → new ≡ old
     from (None, greatest, (is, same)) = same
     from (Some top, chosen, k) =
-        let able = chosen-able (suspected_by old) old.controlling (followed old) (selection_of old) top chosen in
+        let able = chosen-able old.controlling (followed old) (selection_of old) top chosen in
         absurd (and-left (is_valid top) (old.controlling || is_nominated top) (none top able.0) able.1)
 
   pub gives-up-calmer : (now : ℕ) (old new : AgentRecord H P) (path : Option Path) → NoneValid old.pairs → RemovesExpired now old path new

@@ -27,7 +27,7 @@ use Rattle.is_rules.specs.declared.emitted.Path.{Path}
 use Rattle.is_rules.specs.Effects.{last_of}
 use Rattle.is_rules.specs.Emitted.{selected_in, selected_only}
 use Rattle.is_rules.specs.Forming.{formed, with_pair, Combination, FormsAll}
-use Rattle.is_rules.specs.Nominating.{followed, remains, selection_of, Nominates, nominates_at_once, numbers, pair_selected, suspected_by}
+use Rattle.is_rules.specs.Nominating.{followed, remains, selection_of, Nominates, nominates_at_once, numbers, pair_selected}
 use Rattle.is_rules.specs.Owed.{one_if}
 use Rattle.is_rules.specs.Places.{local_place}
 use Rattle.is_rules.specs.Queue.{first_taken, request_at}
@@ -122,7 +122,7 @@ module _ {H P : Type 0} where
   nominates-dues old new path h = from (selects_path old new path h) where
     from : SelectsPath old path new → Dues (is_some path) old new
     from (None, greatest, (is, made)) = dues-same (is_some path) old new made
-    from (Some top, greatest, k) = either (remains (suspected_by old) (followed old) top (selection_of old)) k
+    from (Some top, greatest, k) = either (remains (followed old) top (selection_of old)) k
         (λ _ l. dues-same (is_some path) old new l.1)
         (λ _ l. dues-as (is_some path) old _ new (λ is. is, λ is. inr (ap is_some l.0)) l.1)
 

@@ -18,15 +18,13 @@ use Rattle.is_rules.specs.declared.emitted.Path.{Path}
 use Rattle.is_rules.specs.Agent.{AgentRecord}
 use Rattle.is_rules.specs.Checking.{all_asked, IsNextToCheck, ChecksTop, MayCheck}
 use Rattle.is_rules.specs.Emitted.{issued_as, selected_in}
-use Rattle.is_theorems.proofs.BasicLemmas.EqualAddresses.{both}
-use Rattle.is_rules.specs.Nominating.{followed, is_eligible, is_pressing, nominates_at_once, numbers, is_left, pair_selected, persists_at, remains, selection_of, suspected_by}
+use Rattle.is_rules.specs.Nominating.{followed, is_eligible, is_pressing, nominates_at_once, numbers, pair_selected, remains, selection_of}
 use Rattle.is_rules.specs.Sending.{path_of}
 use Rattle.is_rules.specs.Settling.{settled}
 use Rattle.is_rules.specs.Timeouts.{at_timeout, is_expired, expired_gone, MaintainsPairs, RemovesExpired}
 use Rattle.is_theorems.specs.Progress.{ChecksOn, IsGone}
 use Rattle.is_theorems.proofs.DuePairs.AfterNominationAndRemoval.{Base, Distinct, Thins, base_of, nominates-thins, passed}
 use Rattle.is_theorems.proofs.BasicLemmas.PairsInTurn.{next-has, none-to-send}
-use Rattle.is_theorems.proofs.PathSelection.SuspectedPairs.{any-mapped}
 use Rattle.is_theorems.proofs.DuePairs.FirstDuePair.{check-follows, gone-follows, next-check}
 use Rattle.is_theorems.proofs.RuleEffects.ChangedPairs.{Has-map}
 use Rattle.is_theorems.proofs.RuleEffects.EarlierAndNewPairs.{Has-filter}
@@ -57,13 +55,17 @@ found-some (q ∷ ps) p has = by (is_numbered p.number q) refl (λ rest. found-s
     own = eq-eqb p.number p.number refl
   by false is later (inr rest) = later rest
 
+any-asked : (now : ℕ) (t : StunTiming) (c : Bool) (ps : List PairRecord) → list_any (is_eligible c) (map (asked now t) ps) ≡ list_any (is_eligible c) ps
+any-asked now t c [] = refl
+any-asked now t c (p ∷ ps) = ap (λ b. is_eligible c p || b) (any-asked now t c ps)
+
 -- fixed due times leave what presses
 pub asked-presses : {H P : Type 0} (at : ℕ) (a : AgentRecord H P) → is_pressing (all_asked at a) ≡ is_pressing a
 asked-presses at a =
     ap (λ b. numbers a && (if b then a.controlling && not a.lite && a.nomination_due else list_any (is_eligible a.controlling) (map (asked at a.timing) a.pairs)))
     (asked-selected a.selected_pair at a.timing a.pairs)
     ∙ ap (λ b. numbers a && (if is_some (pair_selected a.selected_pair a.pairs) then a.controlling && not a.lite && a.nomination_due else b))
-    (any-mapped (is_eligible a.controlling) (asked at a.timing) a.pairs (λ p has. refl))
+    (any-asked at a.timing a.controlling a.pairs)
 
 -- what presses
 presses-why : (n e c l d x : Bool) → (n && (if e then c && not l && d else x)) ≡ true → ((c && not l && n && d && e) ≡ true) ⊎ ((e ≡ false) × (x ≡ true))
@@ -90,10 +92,8 @@ passes-any test (p ∷ ps) h = by (test p) refl (λ rest. passes-any test ps res
 
 module _ {H P : Type 0} where
   -- a chosen pair that stays selected is there
-  remains-some : (a : AgentRecord H P) (by : Option ℕ) (top : PairRecord) → Has a.pairs top → remains (suspected_by a) by top (selection_of a) ≡ true → is_some (pair_selected a.selected_pair a.pairs) ≡ true
-  remains-some a None top has stays =
-      some-priority top.priority (pair_selected a.selected_pair a.pairs)
-      (both (persists_at a.selected_pair top.priority a.pairs) (not (is_left (suspected_by a) top (selection_of a))) stays).0
+  remains-some : (a : AgentRecord H P) (by : Option ℕ) (top : PairRecord) → Has a.pairs top → remains by top (selection_of a) ≡ true → is_some (pair_selected a.selected_pair a.pairs) ≡ true
+  remains-some a None top has persists = some-priority top.priority (pair_selected a.selected_pair a.pairs) persists
   remains-some a (Some n) top has named =
       ap (λ o. is_some (pair_selected o a.pairs)) (named-by a.selected_pair top named) ∙ found-some a.pairs top has
 
@@ -102,17 +102,17 @@ module _ {H P : Type 0} where
       → list_any (is_eligible old.controlling) old.pairs ≡ true → ⊥
   selects-some old new (None, chosen, k) gone able =
       let o = passes-any (is_eligible old.controlling) old.pairs able in
-      none_pass (is_eligible old.controlling) old.pairs o.0 (chosen-none (suspected_by old) old.controlling (followed old) (selection_of old) chosen) o.1 o.2
+      none_pass (is_eligible old.controlling) old.pairs o.0 (chosen-none old.controlling (followed old) (selection_of old) chosen) o.1 o.2
   selects-some old new (Some top, chosen, k) gone able =
-      let has = (chosen-able (suspected_by old) old.controlling (followed old) (selection_of old) top chosen).0 in
-      either (remains (suspected_by old) (followed old) top (selection_of old)) k
+      let has = (chosen-able old.controlling (followed old) (selection_of old) top chosen).0 in
+      either (remains (followed old) top (selection_of old)) k
       (λ stays _. (let no : true ≡ false = sym (remains-some old (followed old) top has stays) ∙ gone in cc))
       (λ _ l. (let no : None ≡ Some (path_of old top) = l.0 in cc))
 
   -- and nothing changes if no path is selected
   selects-none : (old new : AgentRecord H P) → SelectsPath old None new → new ≡ old
   selects-none old new (None, chosen, k) = k.1
-  selects-none old new (Some top, chosen, k) = either (remains (suspected_by old) (followed old) top (selection_of old)) k
+  selects-none old new (Some top, chosen, k) = either (remains (followed old) top (selection_of old)) k
       (λ _ l. l.1)
       (λ _ l. absurd (let no : None ≡ Some (path_of old top) = l.0 in cc))
 

@@ -24,7 +24,7 @@ use Rattle.is_rules.specs.declared.emitted.Path.{Path}
 use Rattle.is_rules.specs.declared.emitted.Emitted.{Emitted}
 use Rattle.is_rules.specs.declared.rules.Rules.{Rules}
 use Rattle.is_rules.specs.Forming.{formed, with_pair, priority_between}
-use Rattle.is_rules.specs.Nominating.{nominated_by_self, Nominates, followed, remains, selection_of, numbers, suspected_by}
+use Rattle.is_rules.specs.Nominating.{nominated_by_self, Nominates, followed, remains, selection_of, numbers}
 use Rattle.is_rules.specs.Places.{local_place}
 use Rattle.is_rules.specs.Request.{RequestRecord, request_in}
 use Rattle.is_rules.specs.Roles.{conflict_of, switched, switched_sides, with_priority_in, keeps_role}
@@ -93,7 +93,7 @@ module _ {H P : Type 0} where
 
       from : SelectsPath old path new → GoesFrom at old new
       from (None, greatest, (is, made)) = unchanged made
-      from (Some top, greatest, k) = either (remains (suspected_by old) (followed old) top (selection_of old)) k
+      from (Some top, greatest, k) = either (remains (followed old) top (selection_of old)) k
           (λ _ l. unchanged l.1)
           (λ _ l. subst (λ (a : AgentRecord H P). GoesFrom at old a) (sym l.1) (
             refl,

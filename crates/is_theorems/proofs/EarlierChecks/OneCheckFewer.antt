@@ -21,7 +21,7 @@ use Rattle.is_rules.specs.declared.credentials.IceCreds.{IceCreds}
 use Rattle.is_rules.specs.declared.emitted.Issued.{Issued}
 use Rattle.is_rules.specs.declared.emitted.Path.{Path}
 use Rattle.is_rules.specs.declared.emitted.Emitted.{Emitted}
-use Rattle.is_rules.specs.Nominating.{nominated_by_self, Nominates, followed, remains, selection_of, is_eligible, nominates_at_once, suspected_by}
+use Rattle.is_rules.specs.Nominating.{nominated_by_self, Nominates, followed, remains, selection_of, is_eligible, nominates_at_once}
 use Rattle.is_theorems.specs.Progress.{ChecksOn}
 use Rattle.is_rules.specs.Sending.{path_of}
 use Rattle.is_rules.specs.Timeouts.{at_timeout, is_expired, expired_gone, RemovesExpired, MaintainsPairs}
@@ -151,12 +151,12 @@ module _ (now by : ℕ) (late : by < now) (early : now < MAX) where
     named-ready t old new path h distinct p has (due, inl invalid) = (p, from (selects_path old new path h), alike-none p, (due, inl invalid)) where
       from : SelectsPath old path new → Has new.pairs p
       from (None, greatest, (is, made)) = subst (λ (a : AgentRecord H P). Has a.pairs p) (sym made) has
-      from (Some top, chosen, k) = either (remains (suspected_by old) (followed old) top (selection_of old)) k
+      from (Some top, chosen, k) = either (remains (followed old) top (selection_of old)) k
           (λ _ l. subst (λ (a : AgentRecord H P). Has a.pairs p) (sym l.1) has)
           (λ _ l. subst (λ (a : AgentRecord H P). Has a.pairs p) (sym l.1) (still (is_numbered top.number p) refl
           (Has-mapped (change_at top.number (nominated_by_self old.controlling old.lite)) old.pairs p has))) where
             able : Has old.pairs top × (is_eligible old.controlling top ≡ true)
-            able = chosen-able (suspected_by old) old.controlling (followed old) (selection_of old) top chosen
+            able = chosen-able old.controlling (followed old) (selection_of old) top chosen
 
             still : (b : Bool) → is_numbered top.number p ≡ b
                 → Has (map (change_at top.number (nominated_by_self old.controlling old.lite)) old.pairs) (if b then nominated_by_self old.controlling old.lite p else p)

@@ -24,7 +24,7 @@ use Rattle.is_rules.specs.declared.kinds.Precedence.{Precedence}
 use Rattle.is_rules.specs.declared.rules.Rules.{Rules}
 use Rattle.is_rules.specs.Emitted.{issued_as}
 use Rattle.is_rules.specs.Kinds.{goes_first, is_brought, kind_of, turn_of, IsNextAhead, KINDS, TurnsBefore}
-use Rattle.is_rules.specs.Nominating.{followed, nominates_at_once, numbers, pair_selected, remains, selection_of, Nominates, suspected_by}
+use Rattle.is_rules.specs.Nominating.{followed, nominates_at_once, numbers, pair_selected, remains, selection_of, Nominates}
 use Rattle.is_rules.specs.Sending.{path_of}
 use Rattle.is_rules.specs.Timeouts.{at_timeout, expired_gone, is_expired, MaintainsPairs, RemovesExpired}
 use Rattle.is_rules.proofs.PairLists.ChosenPair.{none_pass}
@@ -282,7 +282,7 @@ module _ {H P : Type 0} where
     nominates-none old new path h none = from (selects_path old new path h) where
       from : SelectsPath old path new → new ≡ old
       from (None, greatest, (is, made)) = made
-      from (Some top, greatest, k) = either (remains (suspected_by old) (followed old) top (selection_of old)) k
+      from (Some top, greatest, k) = either (remains (followed old) top (selection_of old)) k
           (λ _ l. l.1)
           (λ _ l. absurd (some-not-none top.number (sym (ap (λ (a : AgentRecord H P). a.selected_pair) l.1) ∙ none)))
 

@@ -18,16 +18,14 @@ use Rattle.is_pair.specs.declared.pair.states.NominationState.TheVariants.{Succe
 use Rattle.is_rules.specs.declared.emitted.Path.{Path}
 use Rattle.is_rules.specs.Agent.{AgentRecord, fresh}
 use Rattle.is_theorems.proofs.WorkedExamples.ExampleAgents.{address_1, address_2, address_3, creds_1, creds_2, path_12}
-use Rattle.is_rules.specs.Nominating.{followed, is_eligible, is_first_choice, is_left, pair_selected, remains, selection_of, persists_at, IsChosen, suspected_by}
+use Rattle.is_rules.specs.Nominating.{followed, is_eligible, pair_selected, remains, selection_of, persists_at, IsChosen}
 use Rattle.is_theorems.specs.Logs.{Logged}
 use Rattle.is_rules.specs.Points.{IsTopSelected}
 use Rattle.is_theorems.specs.Runs.{IsTopPath, PointsAreTop}
 use Rattle.is_theorems.proofs.BasicLemmas.GreatestAndLeastPairs.{none-has}
-use Rattle.is_theorems.specs.SamePath.{reverse_of, HasFirstChoice, IsTop, HasLastSelected, IsSamePath, AreCounterparts, IsUndisputed, RankAlike, TopPathsMatch, DisputesSplit, RanksSettle, SelectedPairsMatch, SelectedPathsMatch, IsAtNomination, SelectedPathsAreReversed}
+use Rattle.is_theorems.specs.SamePath.{reverse_of, HasEligible, IsTop, HasLastSelected, IsSamePath, AreCounterparts, IsUndisputed, RankAlike, TopPathsMatch, DisputesSplit, RanksSettle, SelectedPairsMatch, SelectedPathsMatch, IsAtNomination, SelectedPathsAreReversed}
 use Rattle.is_pair.specs.Multiset.{IsGreatest}
 use Rattle.is_rules.proofs.PairLists.ChosenPair.{chosen-none}
-use Rattle.is_rules.proofs.PairLists.FirstChoice.{first-able}
-use Rattle.is_rules.proofs.PairLists.PairsByNumber.{both}
 use Rattle.is_rules.specs.Sending.{path_of}
 use Rattle.is_rules.specs.Emitted.{reversed}
 
@@ -41,9 +39,9 @@ below m n h differ = by (m == n) refl where
   by true is = absurd (differ (eqb-true m n is))
   by false is = let other : ¬ (m ≡ n) = differ in omega (arith, h, other)
 
--- no first choice has a higher priority
+-- no eligible pair has a higher priority
 abbrev NoneAbove : {H P : Type 0} → AgentRecord H P → PairRecord → Type 0
-NoneAbove a p = (r : PairRecord) → Has a.pairs r → is_first_choice (suspected_by a) a.controlling a.pairs r ≡ true → r.priority ≤ p.priority
+NoneAbove a p = (r : PairRecord) → Has a.pairs r → is_eligible a.controlling r ≡ true → r.priority ≤ p.priority
 
 module _ {H P : Type 0} (seen : Path → Option Path) (g d : AgentRecord H P) where
   module _ (p q p2 q2 : PairRecord) (top : IsTop g p) (top2 : IsTop d q2) (ps : AreCounterparts seen g d p p2) (qs : AreCounterparts seen g d q q2) where
@@ -52,8 +50,8 @@ module _ {H P : Type 0} (seen : Path → Option Path) (g d : AgentRecord H P) wh
     match (inr calm) =
         let greatest : NoneAbove g p = search top in
         let greatest2 : NoneAbove d q2 = search top2 in
-        let able : HasFirstChoice g q = search qs in
-        let able2 : HasFirstChoice d p2 = search ps in
+        let able : HasEligible g q = search qs in
+        let able2 : HasEligible d p2 = search ps in
         let low : q.priority ≤ p.priority = greatest q able.0 able.1 in
         let low2 : p2.priority ≤ q2.priority = greatest2 p2 able2.0 able2.1 in
         let near : p.priority ≢ q.priority = search calm in
@@ -89,17 +87,15 @@ module _ {H P : Type 0} (seen : Path → Option Path) (g d : AgentRecord H P) wh
           inr record { orders = λ h. omega (arith, h.0, h.1, left, right); near = differ; far = λ e. differ (left ∙ e ∙ sym right) }
 
 module _ {H P : Type 0} where
-  -- the pair that was selected last is a greatest one, if it is a first choice
-  pub top_is : (a : AgentRecord H P) (p : PairRecord) → followed a ≡ None → HasLastSelected a p → HasFirstChoice a p → IsTop a p
+  -- the pair that was selected last is a greatest one, if it is eligible
+  pub top_is : (a : AgentRecord H P) (p : PairRecord) → followed a ≡ None → HasLastSelected a p → HasEligible a p → IsTop a p
   top_is a p unled h (has, able) = by h.top where
     by : IsTopSelected a → IsTop a p
     by (None, none, persists) =
-        absurd (none-has (is_eligible a.controlling) a.pairs (chosen-none (suspected_by a) a.controlling (followed a) (selection_of a) none) p has (first-able (suspected_by a) a.controlling a.pairs p able))
+        absurd (none-has (is_eligible a.controlling) a.pairs (chosen-none a.controlling (followed a) (selection_of a) none) p has able)
     by (Some best, chosen, remaining) =
-        let most : IsGreatest (is_first_choice (suspected_by a) a.controlling a.pairs) a.pairs (Some best) = subst (λ f. IsChosen (suspected_by a) a.controlling f (selection_of a) (Some best)) unled chosen in
-        let persists : persists_at a.selected_pair best.priority a.pairs ≡ true =
-        (both (persists_at a.selected_pair best.priority a.pairs) (not (is_left (suspected_by a) best (selection_of a)))
-        (subst (λ f. remains (suspected_by a) f best (selection_of a) ≡ true) unled remaining)).0 in
+        let most : IsGreatest (is_eligible a.controlling) a.pairs (Some best) = subst (λ f. IsChosen a.controlling f (selection_of a) (Some best)) unled chosen in
+        let persists : persists_at a.selected_pair best.priority a.pairs ≡ true = subst (λ f. remains f best (selection_of a) ≡ true) unled remaining in
         let last : pair_selected a.selected_pair a.pairs ≡ Some p = search h in
         let is : (p.priority == best.priority) ≡ true =
         subst (λ (o : Option PairRecord). option_map_or (λ (x : PairRecord). x.priority == best.priority) o false ≡ true) last persists in
@@ -113,21 +109,20 @@ module _ {H P : Type 0} where
 
     module _ (mac : H → List ℕ → List ℕ → List ℕ) (answers : P → CandidateRecord → ℕ → ℕ → Type 0) where
       pub paths_match : SelectedPathsMatch mac answers
-      paths_match seen g d near far x y q p2 unled alike (p, has, _, is, top) (q2, has2, _, is2, top2) last last2 at_d same at_g same2 =
+      paths_match seen g d near far x y q p2 unled alike (p, has, able, is, top) (q2, has2, able2, is2, top2) last last2 at_d same at_g same2 =
           let from : path_of g p ≡ x = some_is (path_of g p) x (sym is ∙ last) in
           let to : path_of d q2 ≡ y = some_is (path_of d q2) y (sym is2 ∙ last2) in
-          let most : IsTop g p = subst (λ f. IsChosen (suspected_by g) g.controlling f (selection_of g) (Some p)) unled.0 top in
-          let most2 : IsTop d q2 = subst (λ f. IsChosen (suspected_by d) d.controlling f (selection_of d) (Some q2)) unled.1 top2 in
-          let ps : AreCounterparts seen g d p p2 = record { near = (has, most.1); far = at_d; path = ap seen from ∙ same } in
-          let qs : AreCounterparts seen g d q q2 = record { near = at_g; far = (has2, most2.1); path = same2 ∙ ap Some (sym to) } in
-          ap seen (sym from) ∙ matches seen g d p q p2 q2 most most2 ps qs (settles seen g d p q p2 q2 alike ps qs) ∙ ap Some to
+          let ps : AreCounterparts seen g d p p2 = record { near = (has, able); far = at_d; path = ap seen from ∙ same } in
+          let qs : AreCounterparts seen g d q q2 = record { near = at_g; far = (has2, able2); path = same2 ∙ ap Some (sym to) } in
+          ap seen (sym from) ∙ matches seen g d p q p2 q2 (subst (λ f. IsChosen g.controlling f (selection_of g) (Some p)) unled.0 top)
+          (subst (λ f. IsChosen d.controlling f (selection_of d) (Some q2)) unled.1 top2) ps qs (settles seen g d p q p2 q2 alike ps qs) ∙ ap Some to
 
       module _ (tops : PointsAreTop {H = H} mac answers) where
         -- at such a step the path selected last is that of a greatest pair, if a pair is eligible
-        top_path : (log : List (Logged P)) (a : AgentRecord H P) (p : PairRecord) → IsAtNomination mac answers log a → HasFirstChoice a p → IsTopPath mac answers log a
+        top_path : (log : List (Logged P)) (a : AgentRecord H P) (p : PairRecord) → IsAtNomination mac answers log a → HasEligible a p → IsTopPath mac answers log a
         top_path log a p at (has, able) =
             subst (λ (l : List (Logged P)). IsTopPath mac answers l a) (sym at.log_is)
-            (tops at.first at.s at.all at.fresh at.before at.mid a at.x at.point at.evaluates p has (first-able (suspected_by a) a.controlling a.pairs p able))
+            (tops at.first at.s at.all at.fresh at.before at.mid a at.x at.point at.evaluates p has able)
 
         pub reversed_match : SelectedPathsAreReversed mac answers
         reversed_match g d near far x y q p2 unled alike at at2 last last2 at_d same at_g same2 =

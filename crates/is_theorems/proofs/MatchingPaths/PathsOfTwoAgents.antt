@@ -15,18 +15,16 @@ use Rattle.is_rules.specs.declared.credentials.IceCreds.{IceCreds}
 use Rattle.is_rules.specs.Agent.{AgentRecord, fresh}
 use Rattle.is_theorems.specs.Logs.{Logged}
 use Rattle.is_theorems.specs.Runs.{IsTopPath, PointsAreTop}
-use Rattle.is_theorems.specs.SamePath.{HasFirstChoice, IsAtNomination, SelectedPathsMatch}
+use Rattle.is_theorems.specs.SamePath.{HasEligible, IsAtNomination, SelectedPathsMatch}
 use Rattle.is_rules.specs.Sending.{path_of}
-use Rattle.is_rules.specs.Nominating.{suspected_by}
-use Rattle.is_rules.proofs.PairLists.FirstChoice.{first-able}
 use Rattle.is_theorems.specs.Matching.{SelectedPathsAreSeen, PairsMayMatch}
 
 module _ {H P : Type 0} (mac : H → List ℕ → List ℕ → List ℕ) (answers : P → CandidateRecord → ℕ → ℕ → Type 0) (tops : PointsAreTop {H = H} mac answers) where
   -- right after nomination was evaluated, the path selected last is that of a best pair
-  top-path : (log : List (Logged P)) (a : AgentRecord H P) (p : PairRecord) → IsAtNomination mac answers log a → HasFirstChoice a p → IsTopPath mac answers log a
-  top-path log a p at (has, first) =
+  top-path : (log : List (Logged P)) (a : AgentRecord H P) (p : PairRecord) → IsAtNomination mac answers log a → HasEligible a p → IsTopPath mac answers log a
+  top-path log a p at (has, able) =
       subst (λ (l : List (Logged P)). IsTopPath mac answers l a) (sym at.log_is)
-      (tops at.first at.s at.all at.fresh at.before at.mid a at.x at.point at.evaluates p has (first-able (suspected_by a) a.controlling a.pairs p first))
+      (tops at.first at.s at.all at.fresh at.before at.mid a at.x at.point at.evaluates p has able)
 
   pub selected_paths-seen : SelectedPathsMatch mac answers → SelectedPathsAreSeen mac answers
   selected_paths-seen paths seen g d near far x y q p2 unled alike at at2 last last2 at_d same at_g same2 =

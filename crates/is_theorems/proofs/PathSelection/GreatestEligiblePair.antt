@@ -1,6 +1,6 @@
--- After nomination the selected pair exists, and is a greatest one among the eligible pairs that are not passed over.
+-- After nomination the selected pair exists, and is a greatest one among the eligible.
 use Rattle.std.proofs.Common.{◌≡◌, ℕ, ◌≤◌, ◌==◌, ◌&&◌, ◌||◌, Bool, true, false, not, List, [], ◌∷◌, map, Option, Some, None, inl, inr, refl, ap, sym, ◌∙◌, subst, arith, cond, if◌then◌else◌}
-use Rattle.std.specs.Prelude.{find, MatchOption, option_map, unwrap_or}
+use Rattle.std.specs.Prelude.{find, MatchOption, option_map}
 use Rattle.std.specs.Option.{option_map_or, option_and_then, option_or}
 use Rattle.std.proofs.lemmas.Bool.{eqb-true, eq-eqb}
 use Rattle.is_proto.specs.Lists.{Has}
@@ -9,13 +9,12 @@ use Rattle.is_rules.specs.declared.emitted.Path.{Path}
 use Rattle.is_rules.specs.Agent.{AgentRecord}
 use Rattle.is_pair.specs.Multiset.{is_numbered, change_at, change_pair, IsGreatest}
 use Rattle.is_rules.proofs.PairLists.RisingNumbers.{AreRising}
-use Rattle.is_rules.specs.Nominating.{is_eligible, nominated_by_self, persists_at, Nominates, favored, first_numbered, followed, followed_by_number, numbers, remains, selection, selection_of, if_eligible, eligible_numbered, IsChosen, is_first_choice, is_left, suspected_by}
+use Rattle.is_rules.specs.Nominating.{is_eligible, nominated_by_self, persists_at, Nominates, favored, first_numbered, followed, followed_by_number, numbers, remains, selection, selection_of, if_eligible, eligible_numbered, IsChosen}
 use Rattle.is_rules.specs.Points.{IsTopSelected}
 use Rattle.is_rules.proofs.PairLists.ChosenPair.{chosen-able, no-some, same-some}
-use Rattle.is_rules.proofs.PairLists.FirstChoice.{first-able}
-use Rattle.is_theorems.proofs.PathSelection.SuspectedPairs.{first-mapped, greatest-mapped, suspected-same}
 use Rattle.is_theorems.proofs.PathSelection.FirstNumbered.{first-in, first-stays, first-there}
 use Rattle.is_theorems.proofs.RuleEffects.UnchangedSettings.{either}
+use Rattle.is_theorems.proofs.RuleEffects.ChangedPairs.{Has-map}
 use Rattle.is_theorems.proofs.RuleEffects.SelectedPaths.{one_pair}
 use Rattle.is_theorems.proofs.RuleEffects.NominatedPairs.{selected_paths, SelectsPath, selects_path}
 
@@ -48,6 +47,11 @@ same_pairs n g (q ∷ qs) h =
       kept true is = h q (inl refl) is
       kept false is = refl
 
+Has-mapped : {X Y : Type 0} (f : X → Y) (xs : List X) (x : X) → Has xs x → Has (map f xs) (f x)
+Has-mapped f [] x h = absurd h
+Has-mapped f (y ∷ xs) x (inl e) = inl (ap f e)
+Has-mapped f (y ∷ xs) x (inr h) = inr (Has-mapped f xs x h)
+
 same_pair : (c l : Bool) (p : PairRecord) → ((nominated_by_self c l p).number ≡ p.number) × ((nominated_by_self c l p).priority ≡ p.priority) × (is_valid (nominated_by_self c l p) ≡ is_valid p)
 same_pair c l p = elim (not (is_nominated p) && (c || l)) as (λ b. ((if b then nominated l p else p).number ≡ p.number) × ((if b then nominated l p else p).priority ≡ p.priority) × (is_valid (if b then nominated l p else p) ≡ is_valid p)) [
   | true ↦ (elim l as (λ l. ((nominated l p).number ≡ p.number) × ((nominated l p).priority ≡ p.priority) × (is_valid (nominated l p) ≡ is_valid p)) [ true ↦ (refl, refl, refl) | false ↦ (refl, refl, refl) ])
@@ -57,14 +61,6 @@ same_pair c l p = elim (not (is_nominated p) && (c || l)) as (λ b. ((if b then 
 change_priority : (b c l : Bool) (p : PairRecord) → (if b then nominated_by_self c l p else p).priority ≡ p.priority
 change_priority true c l p = (same_pair c l p).1
 change_priority false c l p = refl
-
-change_consented : (b c l : Bool) (p : PairRecord) → (if b then nominated_by_self c l p else p).consented ≡ p.consented
-change_consented true c l p = by (not (is_nominated p) && (c || l)) l where
-  by : (b l : Bool) → (if b then nominated l p else p).consented ≡ p.consented
-  by true true = refl
-  by true false = refl
-  by false l = refl
-change_consented false c l p = refl
 
 -- an eligible pair stays so if the agent nominates it
 still_eligible : (c l n v : Bool) (p : PairRecord) → is_nominated p ≡ n → is_valid p ≡ v → is_eligible c p ≡ true → is_eligible c (nominated_by_self c l p) ≡ true
@@ -102,57 +98,33 @@ found (q ∷ qs) top g rising (inr has) number =
     (λ _. found qs top g rising.1 has number)
 
 module _ {H P : Type 0} where
-  module _ (old : AgentRecord H P) (top : PairRecord) (rising : AreRising old.pairs)
-      (chosen : IsGreatest (is_first_choice (suspected_by old) old.controlling old.pairs) old.pairs (Some top)) where
+  module _ (old : AgentRecord H P) (top : PairRecord) (rising : AreRising old.pairs) (has : Has old.pairs top) (eligible : is_eligible old.controlling top ≡ true)
+      (greatest : (p : PairRecord) → Has old.pairs p → is_eligible old.controlling p ≡ true → p.priority ≤ top.priority) where
     abbrev g : PairRecord → PairRecord
     g = nominated_by_self old.controlling old.lite
 
-    abbrev change : PairRecord → PairRecord
-    change = change_at top.number g
+    at_most : (b : Bool) (q : PairRecord) → Has old.pairs q → is_numbered top.number q ≡ b → is_eligible old.controlling (if b then g q else q) ≡ true
+        → q.priority ≤ top.priority
+    at_most true q there is able =
+        let same : q ≡ top = one_pair old.pairs q top rising there has (eqb-true q.number top.number is) in
+        subst (λ (x : PairRecord). x.priority ≤ top.priority) (sym same) (omega arith)
+    at_most false q there is able = greatest q there able
 
-    has : Has old.pairs top
-    has = chosen.0
+    it_has : Has (change_pair top.number g old.pairs) (g top)
+    it_has = subst (λ (x : PairRecord). Has (change_pair top.number g old.pairs) x) (ap (λ b. if b then g top else top) (eq-eqb top.number top.number refl))
+        (Has-mapped (change_at top.number g) old.pairs top has)
 
-    eligible : is_eligible old.controlling top ≡ true
-    eligible = first-able (suspected_by old) old.controlling old.pairs top chosen.1
-
-    same_able : (q : PairRecord) → Has old.pairs q → is_eligible old.controlling (change q) ≡ is_eligible old.controlling q
-    same_able q there = by (is_numbered top.number q) refl where
-      by : (b : Bool) → is_numbered top.number q ≡ b → is_eligible old.controlling (if b then g q else q) ≡ is_eligible old.controlling q
-      by true is =
-          let same : top ≡ q = sym (one_pair old.pairs q top rising there has (eqb-true q.number top.number is)) in
-          subst (λ (x : PairRecord). is_eligible old.controlling (g x) ≡ is_eligible old.controlling x) same
-          (still_eligible old.controlling old.lite (is_nominated top) (is_valid top) top refl refl eligible ∙ sym eligible)
-      by false is = refl
-
-    same_suspected : (q : PairRecord) → suspected_by old (change q) ≡ suspected_by old q
-    same_suspected q =
-        suspected-same old.timing.suspicion (unwrap_or old.last_time 0) q (change q) (change_consented (is_numbered top.number q) old.controlling old.lite q)
-
-    at_top : change top ≡ g top
-    at_top = ap (λ b. if b then g top else top) (eq-eqb top.number top.number refl)
-
-    it_greatest : IsGreatest (is_first_choice (suspected_by old) old.controlling (change_pair top.number g old.pairs)) (change_pair top.number g old.pairs) (Some (g top))
-    it_greatest =
-        subst (λ (x : PairRecord). IsGreatest (is_first_choice (suspected_by old) old.controlling (map change old.pairs)) (map change old.pairs) (Some x)) at_top
-        (greatest-mapped (is_first_choice (suspected_by old) old.controlling old.pairs) (is_first_choice (suspected_by old) old.controlling (map change old.pairs))
-        change old.pairs (Some top) (first-mapped (suspected_by old) old.controlling change old.pairs same_able same_suspected)
-        (λ q. change_priority (is_numbered top.number q) old.controlling old.lite q) chosen)
+    it_greatest : (p : PairRecord) → Has (change_pair top.number g old.pairs) p → is_eligible old.controlling p ≡ true → p.priority ≤ (g top).priority
+    it_greatest p in_new able =
+        let o = Has-map (change_at top.number g) old.pairs p in_new in
+        let bound : o.0.priority ≤ top.priority =
+        at_most (is_numbered top.number o.0) o.0 o.1 refl (subst (λ (x : PairRecord). is_eligible old.controlling x ≡ true) (sym o.2) able) in
+        let own : p.priority ≡ o.0.priority = ap (λ (x : PairRecord). x.priority) (sym o.2) ∙ change_priority (is_numbered top.number o.0) old.controlling old.lite o.0 in
+        subst (λ n. n ≤ (g top).priority) (sym own) (subst (λ n. o.0.priority ≤ n) (sym (same_pair old.controlling old.lite top).1) bound)
 
     it_persists : persists_at (selected_paths top old).selected_pair (g top).priority (selected_paths top old).pairs ≡ true
     it_persists = ap (λ (o : Option PairRecord). option_map_or (λ (p : PairRecord). p.priority == (g top).priority) o false)
         (found old.pairs top g rising has (same_pair old.controlling old.lite top).0) ∙ eq-eqb (g top).priority (g top).priority refl
-
-    -- a pair is not left for itself
-    it_stays : is_left (suspected_by old) (g top) (selection_of (selected_paths top old)) ≡ false
-    it_stays = ap (λ (o : Option PairRecord). not (suspected_by old (g top)) && option_map_or (suspected_by old) o false)
-        (found old.pairs top g rising has (same_pair old.controlling old.lite top).0) ∙ not-and (suspected_by old (g top)) where
-          not-and : (b : Bool) → (not b && b) ≡ false
-          not-and true = refl
-          not-and false = refl
-
-    it_remains : remains (suspected_by old) None (g top) (selection_of (selected_paths top old)) ≡ true
-    it_remains = ap (λ b. b && not (is_left (suspected_by old) (g top) (selection_of (selected_paths top old)))) it_persists ∙ ap not it_stays
 
     -- an agent that goes by numbers follows some pair, if one is eligible
     follows_none : followed old ≡ None → followed (selected_paths top old) ≡ None
@@ -166,18 +138,19 @@ module _ {H P : Type 0} where
     selects_top is =
         let none : followed (selected_paths top old) ≡ None = follows_none is in (
           Some (g top),
-          subst (λ f. IsChosen (suspected_by old) old.controlling f (selection_of (selected_paths top old)) (Some (g top))) (sym none) it_greatest,
-          subst (λ f. remains (suspected_by old) f (g top) (selection_of (selected_paths top old)) ≡ true) (sym none) it_remains,
+          subst (λ f. IsChosen old.controlling f (selection_of (selected_paths top old)) (Some (g top))) (sym none)
+              (it_has, still_eligible old.controlling old.lite (is_nominated top) (is_valid top) top refl refl eligible, it_greatest),
+          subst (λ f. remains f (g top) (selection_of (selected_paths top old)) ≡ true) (sym none) it_persists,
         )
 
   -- an agent that follows its peer does not nominate, so the pairs stay as they were
-  module _ (old : AgentRecord H P) (top : PairRecord) (rising : AreRising old.pairs) (chosen : IsChosen (suspected_by old) old.controlling (followed old) (selection_of old) (Some top))
+  module _ (old : AgentRecord H P) (top : PairRecord) (rising : AreRising old.pairs) (chosen : IsChosen old.controlling (followed old) (selection_of old) (Some top))
       (n : ℕ) (follows : followed old ≡ Some n) where
     abbrev by_self : PairRecord → PairRecord
     by_self = nominated_by_self old.controlling old.lite
 
     able : Has old.pairs top × (is_eligible old.controlling top ≡ true)
-    able = chosen-able (suspected_by old) old.controlling (followed old) (selection_of old) top chosen
+    able = chosen-able old.controlling (followed old) (selection_of old) top chosen
 
     was_nominated : is_nominated top ≡ true
     was_nominated = and_right (is_valid top) (is_nominated top)
@@ -199,23 +172,23 @@ module _ {H P : Type 0} where
     own_found : eligible_numbered old.controlling old.pairs top.number ≡ Some top
     own_found = able_found top able.0 able.1
 
-    still_chosen : IsChosen (suspected_by old) old.controlling (Some n) (selection old.pairs (Some top.number)) (Some top)
+    still_chosen : IsChosen old.controlling (Some n) (selection old.pairs (Some top.number)) (Some top)
     still_chosen = by (eligible_numbered old.controlling old.pairs n) refl where
-      was : IsChosen (suspected_by old) old.controlling (Some n) (selection_of old) (Some top)
-      was = subst (λ f. IsChosen (suspected_by old) old.controlling f (selection_of old) (Some top)) follows chosen
+      was : IsChosen old.controlling (Some n) (selection_of old) (Some top)
+      was = subst (λ f. IsChosen old.controlling f (selection_of old) (Some top)) follows chosen
 
       by : (o : Option PairRecord) → eligible_numbered old.controlling old.pairs n ≡ o
           → MatchOption (option_or (eligible_numbered old.controlling old.pairs n) (eligible_numbered old.controlling old.pairs top.number))
-          (IsGreatest (is_first_choice (suspected_by old) old.controlling old.pairs) old.pairs (Some top)) (λ p. Some top ≡ Some p)
+          (IsGreatest (is_eligible old.controlling) old.pairs (Some top)) (λ p. Some top ≡ Some p)
       by (Some p) is =
           subst (λ o. MatchOption (option_or o (eligible_numbered old.controlling old.pairs top.number))
-          (IsGreatest (is_first_choice (suspected_by old) old.controlling old.pairs) old.pairs (Some top)) (λ p. Some top ≡ Some p)) (sym is)
+          (IsGreatest (is_eligible old.controlling) old.pairs (Some top)) (λ p. Some top ≡ Some p)) (sym is)
           (subst (λ o. MatchOption (option_or o (option_and_then (eligible_numbered old.controlling old.pairs) old.selected_pair))
-          (IsGreatest (is_first_choice (suspected_by old) old.controlling old.pairs) old.pairs (Some top)) (λ p. Some top ≡ Some p)) is was)
+          (IsGreatest (is_eligible old.controlling) old.pairs (Some top)) (λ p. Some top ≡ Some p)) is was)
       by None is =
           subst (λ o. MatchOption (option_or o (eligible_numbered old.controlling old.pairs top.number))
-          (IsGreatest (is_first_choice (suspected_by old) old.controlling old.pairs) old.pairs (Some top)) (λ p. Some top ≡ Some p)) (sym is)
-          (subst (λ o. MatchOption o (IsGreatest (is_first_choice (suspected_by old) old.controlling old.pairs) old.pairs (Some top)) (λ p. Some top ≡ Some p)) (sym own_found) refl)
+          (IsGreatest (is_eligible old.controlling) old.pairs (Some top)) (λ p. Some top ≡ Some p)) (sym is)
+          (subst (λ o. MatchOption o (IsGreatest (is_eligible old.controlling) old.pairs (Some top)) (λ p. Some top ≡ Some p)) (sym own_found) refl)
 
     -- the first pair by numbers is the chosen one, and stays first
     first_follows : followed_by_number old ≡ Some n → followed_by_number (selected_paths top old) ≡ Some n
@@ -230,8 +203,8 @@ module _ {H P : Type 0} where
           let favored_is : favored old.controlling (Some n) (selection_of old) ≡ Some q =
           ap (λ (o : Option PairRecord). option_or o (option_and_then (eligible_numbered old.controlling old.pairs) old.selected_pair)) found_it in
           let top_is : Some top ≡ Some q =
-          subst (λ (o : Option PairRecord). MatchOption o (IsGreatest (is_first_choice (suspected_by old) old.controlling old.pairs) old.pairs (Some top)) (λ p. Some top ≡ Some p)) favored_is
-          (subst (λ f. IsChosen (suspected_by old) old.controlling f (selection_of old) (Some top)) follows chosen) in
+          subst (λ (o : Option PairRecord). MatchOption o (IsGreatest (is_eligible old.controlling) old.pairs (Some top)) (λ p. Some top ≡ Some p)) favored_is
+          (subst (λ f. IsChosen old.controlling f (selection_of old) (Some top)) follows chosen) in
           let same : q ≡ top = same-some q top (sym top_is) in
           let stays : first_numbered old.controlling (Some top.number) old.pairs ≡ Some top =
           subst (λ (p : PairRecord). first_numbered old.controlling (Some p.number) old.pairs ≡ Some p) same (first-stays old.controlling old.selected_pair old.pairs q rising first) in
@@ -245,22 +218,22 @@ module _ {H P : Type 0} where
     follows_top : IsTopSelected (selected_paths top old)
     follows_top = (
       Some top,
-      subst (λ f. IsChosen (suspected_by old) old.controlling f (selection_of (selected_paths top old)) (Some top)) (sym still_follows)
-          (subst (λ (ps : List PairRecord). IsChosen (suspected_by old) old.controlling (Some n) (selection ps (Some top.number)) (Some top)) (sym pairs_same) still_chosen),
-      subst (λ f. remains (suspected_by old) f top (selection_of (selected_paths top old)) ≡ true) (sym still_follows) (eq-eqb top.number top.number refl),
+      subst (λ f. IsChosen old.controlling f (selection_of (selected_paths top old)) (Some top)) (sym still_follows)
+          (subst (λ (ps : List PairRecord). IsChosen old.controlling (Some n) (selection ps (Some top.number)) (Some top)) (sym pairs_same) still_chosen),
+      subst (λ f. remains f top (selection_of (selected_paths top old)) ≡ true) (sym still_follows) (eq-eqb top.number top.number refl),
     )
 
   -- after nomination a greatest pair is selected, if any is eligible
   selects_greatest : (old new : AgentRecord H P) (path : Option Path) → AreRising old.pairs → SelectsPath old path new → IsTopSelected new
   selects_greatest old new path rising (None, none, (is, same)) =
       subst (λ (a : AgentRecord H P). IsTopSelected a) (sym same) (None, none, tt)
-  selects_greatest old new path rising (Some top, chosen, h) = either (remains (suspected_by old) (followed old) top (selection_of old)) h
+  selects_greatest old new path rising (Some top, chosen, h) = either (remains (followed old) top (selection_of old)) h
       (λ persists k. subst (λ (a : AgentRecord H P). IsTopSelected a) (sym k.1) (Some top, chosen, persists))
       (λ _ k. subst (λ (a : AgentRecord H P). IsTopSelected a) (sym k.1) (by (followed old) refl)) where
         by : (o : Option ℕ) → followed old ≡ o → IsTopSelected (selected_paths top old)
         by None is =
-            let most : IsGreatest (is_first_choice (suspected_by old) old.controlling old.pairs) old.pairs (Some top) = subst (λ f. IsChosen (suspected_by old) old.controlling f (selection_of old) (Some top)) is chosen in
-            selects_top old top rising most is
+            let most : IsGreatest (is_eligible old.controlling) old.pairs (Some top) = subst (λ f. IsChosen old.controlling f (selection_of old) (Some top)) is chosen in
+            selects_top old top rising most.0 most.1 most.2 is
         by (Some n) is = follows_top old top rising chosen n is
 
   pub nominates_top : (old new : AgentRecord H P) (path : Option Path) → AreRising old.pairs → Nominates old path new → IsTopSelected new

@@ -1,7 +1,7 @@
 -- If nomination is evaluated at the end of a step, the selected pair is a greatest one, and the pair that takes a
 -- response is valid.
 use Rattle.std.proofs.Common.{◌≡◌, ℕ, zero, suc, ◌<◌, ◌≤◌, ◌==◌, ◌&&◌, ◌||◌, Bool, true, false, not, List, [], ◌∷◌, map, filter, Option, Some, None, Result, Ok, Err, inl, inr, refl, ap, sym, ◌∙◌, subst, arith, cond, if◌then◌else◌}
-use Rattle.std.specs.Prelude.{find, option_map, slice_get, slice_set, unwrap_or, MatchOption, IfSome}
+use Rattle.std.specs.Prelude.{find, option_map, slice_get, slice_set, MatchOption, IfSome}
 use Rattle.std.specs.List.{list_any}
 use Rattle.std.specs.Option.{option_map_or, option_and_then, option_or}
 use Rattle.std.proofs.lemmas.Bool.{eq-eqb}
@@ -29,7 +29,7 @@ use Rattle.is_rules.specs.Steps.{answer_by, done, Done, Flag, Unparsed, Rejected
 use Rattle.is_rules.specs.Agent.{AgentRecord}
 use Rattle.is_pair.specs.Multiset.{is_numbered, change_at, pair_numbered, IsGreatest, keeps_check}
 use Rattle.is_rules.specs.Sending.{path_of}
-use Rattle.is_rules.specs.Nominating.{is_eligible, nominated_by_self, Nominates, followed, followed_by_number, nominates_at_once, numbers, remains, selection, selection_of, favored, if_eligible, eligible_numbered, IsChosen, suspected_by, is_first_choice, is_left, pair_selected, persists_at}
+use Rattle.is_rules.specs.Nominating.{is_eligible, nominated_by_self, Nominates, followed, followed_by_number, nominates_at_once, numbers, remains, selection, selection_of, favored, if_eligible, eligible_numbered, IsChosen}
 use Rattle.is_rules.specs.Queue.{request_at}
 use Rattle.is_rules.specs.Answers.{goes_back, keeps_check_on, TakesSuccess}
 use Rattle.is_rules.specs.Accepting.{Takes}
@@ -46,7 +46,6 @@ use Rattle.is_theorems.proofs.RuleEffects.ChangedPairs.{Kept_by_self, self_kept,
 use Rattle.is_theorems.proofs.CallEffects.ChecksAndResponses.{Has-get, again_nominated, sent_nominated, records, put_at}
 use Rattle.is_theorems.proofs.CallEffects.ServedRequests.{Has-mapped}
 use Rattle.is_theorems.proofs.PathSelection.FirstNumbered.{SameOrder, number-mapped}
-use Rattle.is_theorems.proofs.PathSelection.SuspectedPairs.{first-mapped, greatest-mapped, or-suspected, suspected-same}
 use Rattle.is_theorems.proofs.PathSelection.GreatestEligiblePair.{followed-on, nominates_top}
 use Rattle.is_theorems.proofs.BasicLemmas.PairsInTurn.{by-begins, sent_at, sent-pairs}
 use Rattle.is_rules.proofs.PairLists.ChosenPair.{none_pass}
@@ -68,18 +67,17 @@ any_set test (x ∷ xs) zero c d is same =
     let here : x ≡ c = some_is x c is in ap (λ b. b || list_any test xs) (same ∙ ap test (sym here))
 any_set test (x ∷ xs) (suc i) c d is same = ap (λ b. test x || b) (any_set test xs i c d is same)
 
--- ---- a change of each pair that leaves eligibility, order and consent
+-- ---- a change of each pair that leaves eligibility and order
 
 pub record Alike (c : Bool) (p q : PairRecord) : Type 0 where
   pub number : q.number ≡ p.number
   pub priority : q.priority ≡ p.priority
   pub greatest : q.greatest_number ≡ p.greatest_number
   pub eligible : is_eligible c q ≡ is_eligible c p
-  pub consented : q.consented ≡ p.consented
 
 pub alike_if : (b c : Bool) (p q : PairRecord) → Alike c p q → Alike c p (if b then q else p)
 alike_if true c p q h = h
-alike_if false c p q h = record { number = refl; priority = refl; greatest = refl; eligible = refl; consented = refl }
+alike_if false c p q h = record { number = refl; priority = refl; greatest = refl; eligible = refl }
 
 pub alike-order : (c : Bool) (p q : PairRecord) → Alike c p q → SameOrder c p q
 alike-order c p q a = record { number = a.number; priority = a.priority; greatest = a.greatest; eligible = a.eligible }
@@ -100,14 +98,9 @@ abbrev Persists : ℕ → List PairRecord → Option ℕ → Type 0
 Persists priority ps number =
     option_map_or (λ (p : PairRecord). p.priority == priority) (option_and_then (λ n. pair_numbered n ps) number) false ≡ true
 
-abbrev TopIn : (PairRecord → Bool) → Bool → Option ℕ → List PairRecord → Option ℕ → Type 0
-TopIn suspected c followed ps number =
-    (top : Option PairRecord) × IsChosen suspected c followed (selection ps number) top
-    × IfSome top (λ best. remains suspected followed best (selection ps number) ≡ true)
-
-both-true : (a b : Bool) → a ≡ true → b ≡ true → (a && b) ≡ true
-both-true true b is h = h
-both-true false b is h = let no : false ≡ true = is in absurd (cc)
+abbrev TopIn : Bool → Option ℕ → List PairRecord → Option ℕ → Type 0
+TopIn c followed ps number =
+    (top : Option PairRecord) × IsChosen c followed (selection ps number) top × IfSome top (λ best. remains followed best (selection ps number) ≡ true)
 
 priority_same : (a b k : ℕ) (o : Option PairRecord) (f : PairRecord → PairRecord) → ((p : PairRecord) → (f p).priority ≡ p.priority) → b ≡ a
     → option_map_or (λ (p : PairRecord). (f p).priority == b) o false ≡ option_map_or (λ (p : PairRecord). p.priority == a) o false
@@ -120,6 +113,22 @@ persists_mapped c f ps None best alike h = h
 persists_mapped c f ps (Some n) best alike h =
     sym (find_mapped n f ps (λ (p : PairRecord). p.priority == (f best).priority) (λ p. (alike p).number))
     ∙ priority_same best.priority (f best).priority n (find (is_numbered n) ps) f (λ p. (alike p).priority) (alike best).priority ∙ h
+
+greatest_mapped : (c : Bool) (f : PairRecord → PairRecord) (ps : List PairRecord) (top : Option PairRecord) → ((p : PairRecord) → Alike c p (f p))
+    → IsGreatest (is_eligible c) ps top → IsGreatest (is_eligible c) (map f ps) (option_map f top)
+greatest_mapped c f ps None alike none =
+    all_fail (is_eligible c) (map f ps) (λ p has is. (
+    let o = Has-map f ps p has in
+    none_pass (is_eligible c) ps o.0 none o.1 (sym (alike o.0).eligible ∙ ap (λ (x : PairRecord). is_eligible c x) o.2 ∙ is)))
+greatest_mapped c f ps (Some best) alike (has, able, greatest) = (
+  Has-mapped f ps best has,
+  (alike best).eligible ∙ able,
+  λ p in_new is. (
+      let o = Has-map f ps p in_new in
+      let le : o.0.priority ≤ best.priority = greatest o.0 o.1 (sym (alike o.0).eligible ∙ ap (λ (x : PairRecord). is_eligible c x) o.2 ∙ is) in
+      let its : p.priority ≡ o.0.priority = ap (λ (x : PairRecord). x.priority) (sym o.2) ∙ (alike o.0).priority in
+      subst (λ n. n ≤ (f best).priority) (sym its) (subst (λ n. o.0.priority ≤ n) (sym (alike best).priority) le)),
+)
 
 -- ---- the favored pair
 
@@ -161,40 +170,26 @@ favored_mapped c (Some n) f ps number alike =
       selected None = refl
       selected (Some m) = eligible_mapped c m f ps alike
 
-module _ (suspected : PairRecord → Bool) (c : Bool) (f : PairRecord → PairRecord) (alike : (p : PairRecord) → Alike c p (f p))
-    (same : (p : PairRecord) → suspected (f p) ≡ suspected p) where
-  chosen_mapped : (followed : Option ℕ) (ps : List PairRecord) (number : Option ℕ) (top : Option PairRecord)
-      → IsChosen suspected c followed (selection ps number) top → IsChosen suspected c followed (selection (map f ps) number) (option_map f top)
-  chosen_mapped followed ps number top h =
-      subst (λ o. MatchOption o (IsGreatest (is_first_choice suspected c (map f ps)) (map f ps) (option_map f top)) (λ p. option_map f top ≡ Some p))
-      (sym (favored_mapped c followed f ps number alike)) (by (favored c followed (selection ps number)) h) where
-        by : (o : Option PairRecord) → MatchOption o (IsGreatest (is_first_choice suspected c ps) ps top) (λ p. top ≡ Some p)
-            → MatchOption (option_map f o) (IsGreatest (is_first_choice suspected c (map f ps)) (map f ps) (option_map f top)) (λ p. option_map f top ≡ Some p)
-        by None k = greatest-mapped (is_first_choice suspected c ps) (is_first_choice suspected c (map f ps)) f ps top
-            (first-mapped suspected c f ps (λ p has. (alike p).eligible) same) (λ p. (alike p).priority) k
-        by (Some p) k = ap (λ (o : Option PairRecord). option_map f o) k
+chosen_mapped : (c : Bool) (followed : Option ℕ) (f : PairRecord → PairRecord) (ps : List PairRecord) (number : Option ℕ) (top : Option PairRecord)
+    → ((p : PairRecord) → Alike c p (f p)) → IsChosen c followed (selection ps number) top → IsChosen c followed (selection (map f ps) number) (option_map f top)
+chosen_mapped c followed f ps number top alike h =
+    subst (λ o. MatchOption o (IsGreatest (is_eligible c) (map f ps) (option_map f top)) (λ p. option_map f top ≡ Some p)) (sym (favored_mapped c followed f ps number alike))
+    (by (favored c followed (selection ps number)) h) where
+      by : (o : Option PairRecord) → MatchOption o (IsGreatest (is_eligible c) ps top) (λ p. top ≡ Some p)
+          → MatchOption (option_map f o) (IsGreatest (is_eligible c) (map f ps) (option_map f top)) (λ p. option_map f top ≡ Some p)
+      by None k = greatest_mapped c f ps top alike k
+      by (Some p) k = ap (λ (o : Option PairRecord). option_map f o) k
 
-  left_mapped : (ps : List PairRecord) (number : Option ℕ) (best : PairRecord)
-      → is_left suspected (f best) (selection (map f ps) number) ≡ is_left suspected best (selection ps number)
-  left_mapped ps number best =
-      ap (λ b. not b && option_map_or suspected (pair_selected number (map f ps)) false) (same best)
-      ∙ ap (λ b. not (suspected best) && b) (of number) where
-        of : (o : Option ℕ) → option_map_or suspected (pair_selected o (map f ps)) false ≡ option_map_or suspected (pair_selected o ps) false
-        of None = refl
-        of (Some n) = sym (find_mapped n f ps suspected (λ p. (alike p).number)) ∙ or-suspected suspected f (find (is_numbered n) ps) same
+remains_mapped : (c : Bool) (followed : Option ℕ) (f : PairRecord → PairRecord) (ps : List PairRecord) (number : Option ℕ) (best : PairRecord) → ((p : PairRecord) → Alike c p (f p))
+    → remains followed best (selection ps number) ≡ true → remains followed (f best) (selection (map f ps) number) ≡ true
+remains_mapped c None f ps number best alike h = persists_mapped c f ps number best alike h
+remains_mapped c (Some n) f ps number best alike h = ap (λ k. option_map_or (λ m. m == k) number false) (alike best).number ∙ h
 
-  remains_mapped : (followed : Option ℕ) (ps : List PairRecord) (number : Option ℕ) (best : PairRecord)
-      → remains suspected followed best (selection ps number) ≡ true → remains suspected followed (f best) (selection (map f ps) number) ≡ true
-  remains_mapped None ps number best h =
-      let k = both (persists_at number best.priority ps) (not (is_left suspected best (selection ps number))) h in
-      both-true (persists_at number (f best).priority (map f ps)) (not (is_left suspected (f best) (selection (map f ps) number)))
-      (persists_mapped c f ps number best alike k.0) (ap not (left_mapped ps number best) ∙ k.1)
-  remains_mapped (Some n) ps number best h = ap (λ k. option_map_or (λ m. m == k) number false) (alike best).number ∙ h
-
-  top_mapped : (followed : Option ℕ) (ps : List PairRecord) (number : Option ℕ) → TopIn suspected c followed ps number → TopIn suspected c followed (map f ps) number
-  top_mapped followed ps number (None, none, _) = (None, chosen_mapped followed ps number None none, tt)
-  top_mapped followed ps number (Some best, chosen, persists) =
-      (Some (f best), chosen_mapped followed ps number (Some best) chosen, remains_mapped followed ps number best persists)
+top_mapped : (c : Bool) (followed : Option ℕ) (f : PairRecord → PairRecord) (ps : List PairRecord) (number : Option ℕ) → ((p : PairRecord) → Alike c p (f p))
+    → TopIn c followed ps number → TopIn c followed (map f ps) number
+top_mapped c followed f ps number alike (None, none, _) = (None, chosen_mapped c followed f ps number None alike none, tt)
+top_mapped c followed f ps number alike (Some best, chosen, persists) =
+    (Some (f best), chosen_mapped c followed f ps number (Some best) alike chosen, remains_mapped c followed f ps number best alike persists)
 
 -- ---- checks leave it
 
@@ -209,12 +204,11 @@ checked_alike c now t role id p = record {
   priority = refl;
   greatest = refl;
   eligible = ap (λ b. b && (c || is_nominated (checked now t role id p))) (sent_alike p.state) ∙ ap (λ b. is_valid p && (c || b)) (sent_nominated p.nomination);
-  consented = refl;
 }
 
 pub heard_alike : (c : Bool) (now : ℕ) (o : Option ℕ) (p : PairRecord) → Alike c p (heard_at now o p)
-heard_alike c now None p = record { number = refl; priority = refl; greatest = refl; eligible = refl; consented = refl }
-heard_alike c now (Some at) p = record { number = refl; priority = refl; greatest = refl; eligible = refl; consented = refl }
+heard_alike c now None p = record { number = refl; priority = refl; greatest = refl; eligible = refl }
+heard_alike c now (Some at) p = record { number = refl; priority = refl; greatest = refl; eligible = refl }
 
 valid_once_answered : (s : CheckState) → is_started_state s ≡ true → is_valid_state (state_once_answered s) ≡ true
 valid_once_answered Waiting h = let no : false ≡ true = h in cc
@@ -243,7 +237,6 @@ sent-alike begins c now t role id p = by-begins begins (λ q. Alike c p q) now t
     priority = refl;
     greatest = refl;
     eligible = (checked_alike c now t role id (renominated p)).eligible ∙ ap (λ b. is_valid p && (c || b)) (again_nominated p.nomination);
-    consented = refl;
   }
 
 module _ {H P : Type 0} where
@@ -254,9 +247,8 @@ module _ {H P : Type 0} where
       let same : followed (record old { pairs = map f old.pairs }) ≡ followed old =
       followed-on (old.renominates && not old.controlling) (numbers old && old.numbers_seen) (followed_by_number old) (followed_by_number (record old { pairs = map f old.pairs })) old.last_nominated (followed old)
       (λ is. number-mapped old.controlling old.selected_pair f (λ p. alike-order old.controlling p (f p) (alike p)) old.pairs ∙ is) refl in
-      subst (λ o. TopIn (suspected_by old) old.controlling o (map f old.pairs) old.selected_pair) (sym same)
-      (top_mapped (suspected_by old) old.controlling f alike
-      (λ p. suspected-same old.timing.suspicion (unwrap_or old.last_time 0) p (f p) (alike p).consented) (followed old) old.pairs old.selected_pair top)
+      subst (λ o. TopIn old.controlling o (map f old.pairs) old.selected_pair) (sym same)
+      (top_mapped old.controlling (followed old) f old.pairs old.selected_pair alike top)
 
   checks_top : (mac : H → List ℕ → List ℕ → List ℕ) (now : ℕ) (remote : Option IceCreds) (old new : AgentRecord H P) (s t : Stream) (issued : Option Issued)
       → MayCheck mac now remote old s issued new t → IsTopSelected old → IsTopSelected new
@@ -266,7 +258,7 @@ module _ {H P : Type 0} where
       (mapped-top old (heard now) (λ p. heard_alike old.controlling now p.last_request p) top))
       (λ _ k. next k.0 k.2) where
         all_top : IsTopSelected (all_asked now old)
-        all_top = mapped-top old (asked now old.timing) (λ p. record { number = refl; priority = refl; greatest = refl; eligible = refl; consented = refl }) top
+        all_top = mapped-top old (asked now old.timing) (λ p. record { number = refl; priority = refl; greatest = refl; eligible = refl }) top
 
         next : (due : Option PairRecord) → ChecksTop mac now remote due (all_asked now old) s issued new t → IsTopSelected new
         next None (is, made, drawn) = subst (λ (a : AgentRecord H P). IsTopSelected a) (sym made) all_top
@@ -319,7 +311,7 @@ module _ {H P : Type 0} where
 
   selects_still : (old new : AgentRecord H P) (path : Option Path) (p : PairRecord) → Has old.pairs p → SelectsPath old path new → Still p old new
   selects_still old new path p has (None, none, (is, same)) = stays_still p old new has same
-  selects_still old new path p has (Some top, chosen, h) = either (remains (suspected_by old) (followed old) top (selection_of old)) h
+  selects_still old new path p has (Some top, chosen, h) = either (remains (followed old) top (selection_of old)) h
       (λ _ k. stays_still p old new has k.1)
       (λ _ k. (
       let q : PairRecord = change_at top.number (nominated_by_self old.controlling old.lite) p in

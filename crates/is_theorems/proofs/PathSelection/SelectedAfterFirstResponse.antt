@@ -6,7 +6,7 @@ use Rattle.is_candidate.specs.Candidates.{CandidateRecord}
 use Rattle.is_pair.specs.Pairs.{PairRecord, is_valid}
 use Rattle.is_rules.specs.declared.emitted.Path.{Path}
 use Rattle.is_rules.specs.Agent.{AgentRecord}
-use Rattle.is_rules.specs.Nominating.{is_eligible, followed, remains, selection_of, suspected_by}
+use Rattle.is_rules.specs.Nominating.{is_eligible, followed, remains, selection_of}
 use Rattle.is_rules.specs.Sound.{IsSound}
 use Rattle.is_rules.specs.Points.{IsTopSelected}
 use Rattle.is_rules.specs.Effects.{last_of, PathEffect}
@@ -25,14 +25,14 @@ module _ {H P : Type 0} where
   pub one-named : (a : AgentRecord H P) (q : PairRecord) → Has a.pairs q → is_eligible a.controlling q ≡ true → IsTopSelected a
       → (p : PairRecord) × Has a.pairs p × (a.selected_pair ≡ Some p.number)
   one-named a q has able (None, none, persists) =
-      absurd (none_pass (is_eligible a.controlling) a.pairs q (chosen-none (suspected_by a) a.controlling (followed a) (selection_of a) none) has able)
+      absurd (none_pass (is_eligible a.controlling) a.pairs q (chosen-none a.controlling (followed a) (selection_of a) none) has able)
   one-named a q has able (Some best, chosen, persists) = by (followed a) refl where
     by : (o : Option ℕ) → followed a ≡ o → (p : PairRecord) × Has a.pairs p × (a.selected_pair ≡ Some p.number)
-    by None none = let k = persists-with a best (subst (λ f. remains (suspected_by a) f best (selection_of a) ≡ true) none persists) in (k.0, k.1, k.2)
+    by None none = let k = persists-with best.priority a (subst (λ f. remains f best (selection_of a) ≡ true) none persists) in (k.0, k.1, k.2)
     by (Some n) follows = (
       best,
-      (chosen-able (suspected_by a) a.controlling (followed a) (selection_of a) best chosen).0,
-      named-by a.selected_pair best (subst (λ f. remains (suspected_by a) f best (selection_of a) ≡ true) follows persists),
+      (chosen-able a.controlling (followed a) (selection_of a) best chosen).0,
+      named-by a.selected_pair best (subst (λ f. remains f best (selection_of a) ≡ true) follows persists),
     )
 
   module _ (mac : H → List ℕ → List ℕ → List ℕ) (answers : P → CandidateRecord → ℕ → ℕ → Type 0) where

@@ -1,6 +1,6 @@
 -- The pair that `selected_pair` names is valid and nominated, and its path was selected last. So after nomination, if a pair is
--- eligible, the path that was selected last is that of an eligible pair with the greatest stored priority of those not passed over.
-use Rattle.std.proofs.Common.{◌≡◌, ℕ, ◌<◌, ◌≤◌, ◌==◌, ◌&&◌, Bool, true, false, not, List, Option, Some, None, inl, inr, refl, ap, sym, ◌∙◌, subst, arith, if◌then◌else◌}
+-- eligible, the path that was selected last is that of an eligible pair with the greatest stored priority.
+use Rattle.std.proofs.Common.{◌≡◌, ℕ, ◌<◌, ◌≤◌, ◌==◌, ◌&&◌, Bool, true, false, List, Option, Some, None, inl, inr, refl, ap, sym, ◌∙◌, subst, arith, if◌then◌else◌}
 use Rattle.std.specs.Option.{option_or, option_map_or, option_and_then}
 use Rattle.std.proofs.lemmas.Bool.{eqb-true}
 use Rattle.is_proto.specs.Lists.{Has}
@@ -10,14 +10,12 @@ use Rattle.is_rules.specs.declared.emitted.Path.{Path}
 use Rattle.is_rules.specs.Agent.{AgentRecord}
 use Rattle.is_rules.specs.Brought.{Continues}
 use Rattle.is_rules.specs.Effects.{clears, last_of, PathEffect}
-use Rattle.is_rules.specs.Nominating.{is_eligible, is_first_choice, is_left, pair_selected, persists_at, followed, remains, selection_of, IsChosen, suspected_by}
+use Rattle.is_rules.specs.Nominating.{is_eligible, persists_at, followed, remains, selection_of, IsChosen}
 use Rattle.is_rules.specs.Points.{HasSelected, IsTopSelected}
 use Rattle.is_rules.specs.Sending.{path_of}
 use Rattle.is_rules.specs.Sound.{IsSound}
 use Rattle.is_rules.specs.Steps.{Call, Entry}
-use Rattle.is_rules.proofs.PairLists.FirstChoice.{first-like}
 use Rattle.is_rules.proofs.PairLists.ChosenPair.{chosen-able, chosen-none, found-in, named-by, none_pass}
-use Rattle.is_theorems.proofs.BasicLemmas.EqualAddresses.{both}
 use Rattle.is_theorems.proofs.CallEffects.PathEffects.{below_is}
 
 -- a valid and nominated pair is eligible in either role
@@ -33,53 +31,41 @@ module _ {H P : Type 0} where
 
   -- ---- the pair that it names
 
-  pub persists-with : (a : AgentRecord H P) (top : PairRecord) → remains (suspected_by a) None top (selection_of a) ≡ true
-      → (p : PairRecord) × Has a.pairs p × (a.selected_pair ≡ Some p.number) × (p.priority ≡ top.priority) × ((not (suspected_by a top) && suspected_by a p) ≡ false)
-  persists-with a top h = by a.selected_pair refl k.0 k.1 where
-    k : (persists_at a.selected_pair top.priority a.pairs ≡ true) × (not (is_left (suspected_by a) top (selection_of a)) ≡ true)
-    k = both (persists_at a.selected_pair top.priority a.pairs) (not (is_left (suspected_by a) top (selection_of a))) h
+  pub persists-with : (priority : ℕ) (a : AgentRecord H P) → persists_at a.selected_pair priority a.pairs ≡ true → (p : PairRecord) × Has a.pairs p × (a.selected_pair ≡ Some p.number) × (p.priority ≡ priority)
+  persists-with priority a h = by a.selected_pair refl h where
+    at : (n : ℕ) (o : Option PairRecord) → pair_numbered n a.pairs ≡ o → a.selected_pair ≡ Some n → option_map_or (λ (p : PairRecord). p.priority == priority) o false ≡ true
+        → (p : PairRecord) × Has a.pairs p × (a.selected_pair ≡ Some p.number) × (p.priority ≡ priority)
+    at n None is named h = let no : false ≡ true = h in absurd (cc)
+    at n (Some p) is named h =
+        let k = found-in (is_numbered n) a.pairs p is in
+        (p, k.0, named ∙ ap Some (sym (eqb-true p.number n k.1)), eqb-true p.priority priority h)
 
-    not-true : (x : Bool) → not x ≡ true → x ≡ false
-    not-true true is = let no : false ≡ true = is in absurd (cc)
-    not-true false is = refl
-
-    at : (n : ℕ) (o : Option PairRecord) → pair_numbered n a.pairs ≡ o → a.selected_pair ≡ Some n → option_map_or (λ (p : PairRecord). p.priority == top.priority) o false ≡ true
-        → not (not (suspected_by a top) && option_map_or (suspected_by a) o false) ≡ true
-        → (p : PairRecord) × Has a.pairs p × (a.selected_pair ≡ Some p.number) × (p.priority ≡ top.priority) × ((not (suspected_by a top) && suspected_by a p) ≡ false)
-    at n None is named priority kept = let no : false ≡ true = priority in absurd (cc)
-    at n (Some p) is named priority kept =
-        let there = found-in (is_numbered n) a.pairs p is in
-        (p, there.0, named ∙ ap Some (sym (eqb-true p.number n there.1)), eqb-true p.priority top.priority priority, not-true (not (suspected_by a top) && suspected_by a p) kept)
-
-    by : (o : Option ℕ) → a.selected_pair ≡ o → option_map_or (λ (p : PairRecord). p.priority == top.priority) (pair_selected o a.pairs) false ≡ true
-        → not (not (suspected_by a top) && option_map_or (suspected_by a) (pair_selected o a.pairs) false) ≡ true
-        → (p : PairRecord) × Has a.pairs p × (a.selected_pair ≡ Some p.number) × (p.priority ≡ top.priority) × ((not (suspected_by a top) && suspected_by a p) ≡ false)
-    by None is priority kept = let no : false ≡ true = priority in absurd (cc)
-    by (Some n) is priority kept = at n (pair_numbered n a.pairs) refl is priority kept
+    by : (o : Option ℕ) → a.selected_pair ≡ o → option_map_or (λ (p : PairRecord). p.priority == priority) (option_and_then (λ number. pair_numbered number a.pairs) o) false ≡ true
+        → (p : PairRecord) × Has a.pairs p × (a.selected_pair ≡ Some p.number) × (p.priority ≡ priority)
+    by None is h = let no : false ≡ true = h in absurd (cc)
+    by (Some n) is h = at n (pair_numbered n a.pairs) refl is h
 
   -- if a pair is eligible, the path that was selected last is that of a best one
   pub names-best : (a : AgentRecord H P) (path : Option Path) (q : PairRecord) → Has a.pairs q → is_eligible a.controlling q ≡ true → IsNamed path a → IsTopSelected a → HasSelected path a
   names-best a path q has able named (None, none, _) =
-      absurd (none_pass (is_eligible a.controlling) a.pairs q (chosen-none (suspected_by a) a.controlling (followed a) (selection_of a) none) has able)
+      absurd (none_pass (is_eligible a.controlling) a.pairs q (chosen-none a.controlling (followed a) (selection_of a) none) has able)
   names-best a path q has able named (Some best, chosen, persists) = by (followed a) refl where
     by : (o : Option ℕ) → followed a ≡ o → HasSelected path a
     by None none =
-        let most : IsGreatest (is_first_choice (suspected_by a) a.controlling a.pairs) a.pairs (Some best) =
-        subst (λ f. IsChosen (suspected_by a) a.controlling f (selection_of a) (Some best)) none chosen in
-        let n = persists-with a best (subst (λ f. remains (suspected_by a) f best (selection_of a) ≡ true) none persists) in
+        let most : IsGreatest (is_eligible a.controlling) a.pairs (Some best) = subst (λ f. IsChosen a.controlling f (selection_of a) (Some best)) none chosen in
+        let n = persists-with best.priority a (subst (λ f. remains f best (selection_of a) ≡ true) none persists) in
         let k = named n.0 n.1 n.2 in
-        let is = eligible a.controlling n.0 k.0 k.1 in
-        let first = first-like (suspected_by a) a.controlling a.pairs best n.0 most.1 is n.4 in (
+        let is = eligible a.controlling n.0 k.0 k.1 in (
           n.0,
           n.1,
           is,
           k.2,
-          subst (λ f. IsChosen (suspected_by a) a.controlling f (selection_of a) (Some n.0)) (sym none)
-              (n.1, first, λ p has_p is_p. subst (λ m. p.priority ≤ m) (sym n.3) (most.2 p has_p is_p)),
+          subst (λ f. IsChosen a.controlling f (selection_of a) (Some n.0)) (sym none)
+              (n.1, is, λ p has_p is_p. subst (λ m. p.priority ≤ m) (sym n.3) (most.2 p has_p is_p)),
         )
     by (Some n) follows =
-        let is = chosen-able (suspected_by a) a.controlling (followed a) (selection_of a) best chosen in
-        let k = named best is.0 (named-by a.selected_pair best (subst (λ f. remains (suspected_by a) f best (selection_of a) ≡ true) follows persists)) in
+        let is = chosen-able a.controlling (followed a) (selection_of a) best chosen in
+        let k = named best is.0 (named-by a.selected_pair best (subst (λ f. remains f best (selection_of a) ≡ true) follows persists)) in
         (best, is.0, is.1, k.2, chosen)
 
   -- ---- one more call

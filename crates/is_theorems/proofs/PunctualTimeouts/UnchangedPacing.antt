@@ -25,7 +25,7 @@ use Rattle.is_rules.specs.declared.emitted.Issued.{Issued}
 use Rattle.is_rules.specs.declared.emitted.Path.{Path}
 use Rattle.is_rules.specs.Discarding.{local_to_discard, remote_to_discard, InvalidatesAt}
 use Rattle.is_rules.specs.Forming.{formed, with_pair, Combination, FormsAll}
-use Rattle.is_rules.specs.Nominating.{followed, remains, selection_of, Nominates, suspected_by}
+use Rattle.is_rules.specs.Nominating.{followed, remains, selection_of, Nominates}
 use Rattle.is_rules.specs.Places.{local_place}
 use Rattle.is_rules.specs.Request.{RequestRecord, request_in}
 use Rattle.is_rules.specs.Roles.{conflict_of, switched, keeps_role}
@@ -70,7 +70,7 @@ module _ {H P : Type 0} where
   nominates-same old new path h = from (selects_path old new path h) where
     from : SelectsPath old path new → Same old new
     from (None, greatest, (is, made)) = made-of old new made
-    from (Some top, greatest, k) = either (remains (suspected_by old) (followed old) top (selection_of old)) k
+    from (Some top, greatest, k) = either (remains (followed old) top (selection_of old)) k
         (λ _ l. made-of old new l.1)
         (λ _ l. made-of _ new l.1)
 

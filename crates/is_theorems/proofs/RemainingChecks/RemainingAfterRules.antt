@@ -33,7 +33,7 @@ use Rattle.is_rules.specs.declared.emitted.Path.{Path}
 use Rattle.is_rules.specs.declared.emitted.Emitted.{Emitted}
 use Rattle.is_rules.specs.declared.emitted.Issued.{Issued}
 use Rattle.is_rules.specs.Forming.{formed, with_pair}
-use Rattle.is_rules.specs.Nominating.{nominated_by_self, Nominates, followed, remains, selection_of, nominates_at_once, numbers, suspected_by}
+use Rattle.is_rules.specs.Nominating.{nominated_by_self, Nominates, followed, remains, selection_of, nominates_at_once, numbers}
 use Rattle.is_rules.specs.Places.{local_place}
 use Rattle.is_rules.specs.Queue.{first_taken, request_at}
 use Rattle.is_rules.specs.Request.{RequestRecord, request_in}
@@ -123,7 +123,7 @@ module _ {H P : Type 0} where
     nominates-spends old new path h = from (selects_path old new path h) where
       from : SelectsPath old path new → Spends 0 old new
       from (None, greatest, (is, made)) = spends-none old new made
-      from (Some top, greatest, k) = either (remains (suspected_by old) (followed old) top (selection_of old)) k
+      from (Some top, greatest, k) = either (remains (followed old) top (selection_of old)) k
           (λ _ l. spends-none old new l.1)
           (λ _ l. spends-to 0 old _ new (
             refl,
@@ -136,7 +136,7 @@ module _ {H P : Type 0} where
     nominates-rises old new path h = from (selects_path old new path h) where
       from : SelectsPath old path new → rises new.pairs ≡ rises old.pairs
       from (None, greatest, (is, made)) = ap (λ (a : AgentRecord H P). rises a.pairs) made
-      from (Some top, greatest, k) = either (remains (suspected_by old) (followed old) top (selection_of old)) k
+      from (Some top, greatest, k) = either (remains (followed old) top (selection_of old)) k
           (λ _ l. ap (λ (a : AgentRecord H P). rises a.pairs) l.1)
           (λ _ l. ap (λ (a : AgentRecord H P). rises a.pairs) l.1
           ∙ rises-changed (change_at top.number (nominated_by_self old.controlling old.lite))

@@ -8,7 +8,6 @@ use Rattle.is_proto.specs.Lists.{Has}
 use Rattle.is_pair.specs.Multiset.{is_numbered, change_at, change_pair}
 use Rattle.is_pair.specs.Checks.{Check, answered_at, last_checks, unanswered_count}
 use Rattle.is_pair.specs.Due as due
-use Rattle.is_pair.specs.Suspicion.{is_kept_by_series}
 use Rattle.is_pair.specs.Pairs.{PairRecord, answered, checked, check_of}
 use Rattle.is_stun.specs.declared.timing.StunTiming.{StunTiming}
 use Rattle.is_rules.proofs.PairLists.RisingNumbers.{AreRising}
@@ -44,20 +43,19 @@ pub unspent-checked : (m now : ℕ) (t : StunTiming) (b : Bool) (id : List ℕ) 
 unspent-checked m now t b id p = let k = checked-length t.max_retransmits p.checks (check_of now b id p) in omega (arith, k)
 
 -- a pair that is removed after timeout
-spent-by : (c e s h b u i : Bool) → c ≡ true → not (not (c && (e || s || (h || b || u || i)))) ≡ false → b ≡ false
-spent-by false e s h b u i has is = absurd (cc)
-spent-by true true s h b u i has is = absurd (cc)
-spent-by true false true h b u i has is = absurd (cc)
-spent-by true false false true b u i has is = absurd (cc)
-spent-by true false false false true u i has is = absurd (cc)
-spent-by true false false false false u i has is = refl
+spent-by : (c e h b u i : Bool) → c ≡ true → not (not (c && (e || (h || b || u || i)))) ≡ false → b ≡ false
+spent-by false e h b u i has is = absurd (cc)
+spent-by true true h b u i has is = absurd (cc)
+spent-by true false true b u i has is = absurd (cc)
+spent-by true false false true u i has is = absurd (cc)
+spent-by true false false false u i has is = refl
 
 pub all-spent : (lite : Bool) (now : ℕ) (t : StunTiming) (p : PairRecord) → lite ≡ false → due.has_consent t.consent now p ≡ true → not (due.is_pair_expired lite now t p) ≡ false → unspent t.max_retransmits p ≡ 0
 all-spent true now t p full has gone = absurd (cc)
 all-spent false now t p full has gone =
     let many : t.max_retransmits ≤ length p.checks =
     ltb-false (length p.checks) t.max_retransmits
-    (spent-by (due.has_consent t.consent now p) (due.has_early_checks t.early now t p) (is_kept_by_series t.suspicion now t p) (due.is_heard now p) (nat_lt (length p.checks) t.max_retransmits) (nat_lt (unanswered_count p.checks) t.max_retransmits) (due.is_in_time now t p.checks) has gone) in
+    (spent-by (due.has_consent t.consent now p) (due.has_early_checks t.early now t p) (due.is_heard now p) (nat_lt (length p.checks) t.max_retransmits) (nat_lt (unanswered_count p.checks) t.max_retransmits) (due.is_in_time now t p.checks) has gone) in
     omega (arith, many)
 
 -- ---- lists of pairs

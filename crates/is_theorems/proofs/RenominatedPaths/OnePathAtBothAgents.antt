@@ -18,7 +18,7 @@ use Rattle.is_theorems.specs.Asked.{IsOnlyPair, IsAnsweredIn, IsAskedOn, MayEndI
 use Rattle.is_rules.specs.Checking.{check_message}
 use Rattle.is_rules.specs.Issuing.{via_out}
 use Rattle.is_theorems.specs.Logs.{Logged, last_selected}
-use Rattle.is_rules.specs.Nominating.{eligible_numbered, favored, followed, if_eligible, is_eligible, is_first_choice, remains, selection_of, stays_nominated, IsChosen, nominates_at_once, numbers, followed_by_number, suspected_by}
+use Rattle.is_rules.specs.Nominating.{eligible_numbered, favored, followed, if_eligible, is_eligible, remains, selection_of, stays_nominated, IsChosen, nominates_at_once, numbers, followed_by_number}
 use Rattle.is_rules.specs.Brought.{IsServing}
 use Rattle.is_rules.specs.Points.{IsNominationPoint, IsTopSelected}
 use Rattle.is_rules.specs.Queue.{request_at}
@@ -119,19 +119,19 @@ module _ {H P : Type 0} (mac : H → List ℕ → List ℕ → List ℕ) (answer
 
   -- the favored pair is chosen
   chosen-is : (a : AgentRecord H P) (number : ℕ) (p : PairRecord) (top : Option PairRecord) → followed a ≡ Some number → eligible_numbered a.controlling a.pairs number ≡ Some p
-      → IsChosen (suspected_by a) a.controlling (followed a) (selection_of a) top → top ≡ Some p
+      → IsChosen a.controlling (followed a) (selection_of a) top → top ≡ Some p
   chosen-is a number p top follows able chosen =
       let is : favored a.controlling (followed a) (selection_of a) ≡ Some p =
       ap (λ f. favored a.controlling f (selection_of a)) follows
       ∙ ap (λ (o : Option PairRecord). option_or o (option_and_then (eligible_numbered a.controlling a.pairs) a.selected_pair)) able in
-      subst (λ (o : Option PairRecord). MatchOption o (IsGreatest (is_first_choice (suspected_by a) a.controlling a.pairs) a.pairs top) (λ q. top ≡ Some q)) is chosen
+      subst (λ (o : Option PairRecord). MatchOption o (IsGreatest (is_eligible a.controlling) a.pairs top) (λ q. top ≡ Some q)) is chosen
 
   pub selects-followed : (a : AgentRecord H P) (number : ℕ) (p : PairRecord) → followed a ≡ Some number → eligible_numbered a.controlling a.pairs number ≡ Some p → IsTopSelected a
       → a.selected_pair ≡ Some number
   selects-followed a number p follows able (None, chosen, persists) = absurd (no-some p (chosen-is a number p None follows able chosen))
   selects-followed a number p follows able (Some best, chosen, persists) =
       let is : best ≡ p = same-some best p (chosen-is a number p (Some best) follows able chosen) in
-      named-by a.selected_pair best (subst (λ f. remains (suspected_by a) f best (selection_of a) ≡ true) follows persists)
+      named-by a.selected_pair best (subst (λ f. remains f best (selection_of a) ≡ true) follows persists)
       ∙ ap Some (ap (λ (q : PairRecord). q.number) is ∙ (numbered-is a.controlling a.pairs number p able).1)
 
   pub followed-selected : FollowedAreSelected mac answers

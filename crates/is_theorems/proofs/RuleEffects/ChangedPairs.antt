@@ -10,7 +10,7 @@ use Rattle.is_rules.specs.Agent.{AgentRecord}
 use Rattle.is_pair.specs.Multiset.{change_at, change_pair, is_numbered}
 use Rattle.is_rules.proofs.PairLists.RisingNumbers.{AreRising}
 use Rattle.is_rules.specs.Sending.{path_of}
-use Rattle.is_rules.specs.Nominating.{is_eligible, nominated_by_self, Nominates, followed, remains, selection_of, suspected_by}
+use Rattle.is_rules.specs.Nominating.{is_eligible, nominated_by_self, Nominates, followed, remains, selection_of}
 use Rattle.is_rules.specs.Timeouts.{is_expired, expired_gone, RemovesExpired}
 use Rattle.is_theorems.proofs.RuleEffects.UnchangedSettings.{either}
 use Rattle.is_theorems.proofs.RuleEffects.SelectedPaths.{Evaluates, evaluates_none, one_pair, some_is, none_is}
@@ -202,7 +202,7 @@ module _ (asks : Path → ℕ → Type 0) (met : Path → Type 0) (sent : Path �
       subst (λ (a : AgentRecord H P). Onward asks met sent (parts_of old) (parts_of a)) (sym same) (here asks met sent (parts_of old) fit),
       evaluates_none asks met sent (parts_of old) (parts_of new) old.selected_pair new.selected_pair path is (ap (λ (a : AgentRecord H P). a.selected_pair) same),
     )
-    selects_one old new path free fit (Some top, chosen, h) = either (remains (suspected_by old) (followed old) top (selection_of old)) h
+    selects_one old new path free fit (Some top, chosen, h) = either (remains (followed old) top (selection_of old)) h
         (λ _ k. (
           subst (λ (a : AgentRecord H P). Onward asks met sent (parts_of old) (parts_of a)) (sym k.1) (here asks met sent (parts_of old) fit),
           evaluates_none asks met sent (parts_of old) (parts_of new) old.selected_pair new.selected_pair path k.0 (ap (λ (a : AgentRecord H P). a.selected_pair) k.1),
@@ -218,10 +218,10 @@ module _ (asks : Path → ℕ → Type 0) (met : Path → Type 0) (sent : Path �
           g = nominated_by_self old.controlling old.lite
 
           has : Has old.pairs top
-          has = (chosen-able (suspected_by old) old.controlling (followed old) (selection_of old) top chosen).0
+          has = (chosen-able old.controlling (followed old) (selection_of old) top chosen).0
 
           eligible : is_eligible old.controlling top ≡ true
-          eligible = (chosen-able (suspected_by old) old.controlling (followed old) (selection_of old) top chosen).1
+          eligible = (chosen-able old.controlling (followed old) (selection_of old) top chosen).1
 
           facts : Kept_by_self top (nominated_by_self old.controlling old.lite top)
           facts = self_kept (not (is_nominated top) && (old.controlling || old.lite)) old.lite top

@@ -124,7 +124,7 @@ module _ {H P : Type 0} where
         (λ _ k. next k.0 k.2) where
           asks : Leaves old (all_asked now old)
           asks = changes old (all_asked now old) (asked now old.timing)
-              (λ p. record { number = refl; priority = refl; greatest = refl; eligible = refl; consented = refl }) refl refl refl
+              (λ p. record { number = refl; priority = refl; greatest = refl; eligible = refl }) refl refl refl
 
           next : (due : Option PairRecord) → ChecksTop mac now peer due (all_asked now old) s issued new t → Leaves old new
           next None (is, made, drawn) = subst (λ (a : AgentRecord H P). Leaves old a) (sym made) asks

@@ -10,7 +10,7 @@ use Rattle.is_rules.specs.Connecting.{is_connected}
 use Rattle.is_rules.specs.declared.emitted.Path.{Path}
 use Rattle.is_rules.specs.declared.event.IceConnectionState.{IceConnectionState}
 use Rattle.is_rules.specs.declared.event.IceConnectionState.TheVariants.{New, Checking, Connected, Completed, Disconnected}
-use Rattle.is_rules.specs.Nominating.{followed, is_eligible, nominated_by_self, nominated_emitted, Nominates, pair_selected, remains, selection_of, with_selection, suspected_by}
+use Rattle.is_rules.specs.Nominating.{followed, is_eligible, nominated_by_self, nominated_emitted, Nominates, pair_selected, remains, selection_of, with_selection}
 use Rattle.is_rules.specs.States.{evaluated, has_nominated, has_possible, is_nominated_and_valid, next_state, same_state}
 use Rattle.is_rules.proofs.PairLists.ChosenPair.{chosen-able, chosen-none, found-in, named-by, none_pass}
 use Rattle.is_theorems.proofs.BasicLemmas.EqualAddresses.{both}
@@ -126,10 +126,10 @@ module _ {H P : Type 0} where
     abbrev change : PairRecord → PairRecord
     change = nominated_by_self old.controlling old.lite
 
-    remains-selected : (top : PairRecord) → Has old.pairs top → remains (suspected_by old) (followed old) top (selection_of old) ≡ true → Selects old
+    remains-selected : (top : PairRecord) → Has old.pairs top → remains (followed old) top (selection_of old) ≡ true → Selects old
     remains-selected top has stays = by (followed old) stays where
-      by : (o : Option ℕ) → remains (suspected_by old) o top (selection_of old) ≡ true → Selects old
-      by None is = let k = persists-with old top is in (k.0, k.1, k.2)
+      by : (o : Option ℕ) → remains o top (selection_of old) ≡ true → Selects old
+      by None is = let k = persists-with top.priority old is in (k.0, k.1, k.2)
       by (Some n) is = (top, has, named-by old.selected_pair top is)
 
     -- the pair that is selected exists if it did, and if a pair is valid and nominated
@@ -143,12 +143,12 @@ module _ {H P : Type 0} where
         λ was. subst (λ (a : AgentRecord H P). Selects a) (sym same) was,
         λ live. (let p = subst (λ (a : AgentRecord H P). HasNominated a.pairs) same live in
             let able = both (is_valid p.0) (is_nominated p.0) p.2 in
-            absurd (none_pass (is_eligible old.controlling) old.pairs p.0 (chosen-none (suspected_by old) old.controlling (followed old) (selection_of old) none) p.1
+            absurd (none_pass (is_eligible old.controlling) old.pairs p.0 (chosen-none old.controlling (followed old) (selection_of old) none) p.1
             (nominated-eligible old.controlling p.0 able.0 able.1))),
       )
       from (Some top, chosen, k) =
-          let able = chosen-able (suspected_by old) old.controlling (followed old) (selection_of old) top chosen in
-          both-ways (either (remains (suspected_by old) (followed old) top (selection_of old)) k
+          let able = chosen-able old.controlling (followed old) (selection_of old) top chosen in
+          both-ways (either (remains (followed old) top (selection_of old)) k
           (λ stays l. subst (λ (a : AgentRecord H P). Selects a) (sym l.1) (remains-selected top able.0 stays))
           (λ _ l. subst (λ (a : AgentRecord H P). Selects a) (sym l.1) (
             change_at top.number change top,

@@ -32,7 +32,7 @@ use Rattle.is_rules.specs.Agent.{AgentRecord}
 use Rattle.is_rules.specs.Answers.{is_left_out, is_role_conflict, local_with, mapped_candidate, success_counted, TakesSuccess, TakesFailure, LeavesRole}
 use Rattle.is_rules.specs.Checking.{MayCheck, ChecksTop, all_asked}
 use Rattle.is_rules.specs.Forming.{Combination, SidesRecord, FormsAll, formed, sides_of, with_pair}
-use Rattle.is_rules.specs.Nominating.{Selection, Nominates, NominatesWhere, NamesTop, nominated_by_self, nominated_emitted, with_selection, followed, remains, selection_of, nominates_at_once, numbers, suspected_by}
+use Rattle.is_rules.specs.Nominating.{Selection, Nominates, NominatesWhere, NamesTop, nominated_by_self, nominated_emitted, with_selection, followed, remains, selection_of, nominates_at_once, numbers}
 use Rattle.is_rules.specs.Places.{is_at, is_live, is_reached, local_place}
 use Rattle.is_rules.specs.Queue.{first_taken, request_at}
 use Rattle.is_rules.specs.Request.{RequestRecord, request_in}
@@ -131,9 +131,9 @@ evicted-most : (limit : ℕ) (gone old new : List PairRecord) → RemovesInTurn 
 evicted-most limit [] old new (fits, same) = subst (λ (ps : List PairRecord). length ps ≤ limit) (sym same) fits
 evicted-most limit (p ∷ gone) old new (over, has, more) = evicted-most limit gone (without (is_numbered p.number) old) new more
 
-names-cells : (s : SidesRecord) (suspected : PairRecord → Bool) (followed : Option ℕ) (top : Option PairRecord) (old : Selection) (path : Option Path) (new : Selection) → NamesTop s suspected followed top old path new → cells new.pairs ≡ cells old.pairs
-names-cells s suspected followed None old path new (is, same) = ap (λ (x : Selection). cells x.pairs) same
-names-cells s suspected followed (Some top) old path new h = either (remains suspected followed top old) h
+names-cells : (s : SidesRecord) (followed : Option ℕ) (top : Option PairRecord) (old : Selection) (path : Option Path) (new : Selection) → NamesTop s followed top old path new → cells new.pairs ≡ cells old.pairs
+names-cells s followed None old path new (is, same) = ap (λ (x : Selection). cells x.pairs) same
+names-cells s followed (Some top) old path new h = either (remains followed top old) h
     (λ _ k. ap (λ (x : Selection). cells x.pairs) k.1)
     (λ _ k. ap (λ (x : Selection). cells x.pairs) k.1
     ∙ cells-map (change_at top.number (nominated_by_self s.controlling s.lite))
@@ -182,7 +182,7 @@ module _ {H P : Type 0} where
   nominates_alike : (old new : AgentRecord H P) (path : Option Path) → Nominates old path new → grid_of new ≡ grid_of old
   nominates_alike old new path (chosen, (top, greatest, names), made) =
       ap (λ (a : AgentRecord H P). grid_of a) made
-      ∙ (emitted path (with_selection chosen old) ∙ recast old chosen.pairs (names-cells (sides_of old) (suspected_by old) (followed old) top (selection_of old) path chosen names)) where
+      ∙ (emitted path (with_selection chosen old) ∙ recast old chosen.pairs (names-cells (sides_of old) (followed old) top (selection_of old) path chosen names)) where
         emitted : (path : Option Path) (a : AgentRecord H P) → grid_of (nominated_emitted path a) ≡ grid_of a
         emitted None a = refl
         emitted (Some path) a = refl

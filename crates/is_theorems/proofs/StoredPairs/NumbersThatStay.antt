@@ -26,7 +26,7 @@ use Rattle.is_rules.specs.Request.{RequestRecord, request_in}
 use Rattle.is_rules.specs.Agent.{AgentRecord}
 use Rattle.is_rules.specs.Places.{local_place}
 use Rattle.is_rules.specs.Forming.{formed, with_pair}
-use Rattle.is_rules.specs.Nominating.{nominated_by_self, Nominates, followed, remains, selection_of, nominates_at_once, numbers, suspected_by}
+use Rattle.is_rules.specs.Nominating.{nominated_by_self, Nominates, followed, remains, selection_of, nominates_at_once, numbers}
 use Rattle.is_rules.specs.Roles.{conflict_of, switched, switched_sides, with_priority_in, keeps_role}
 use Rattle.is_rules.specs.Serving.{selects_at_requests, after_request, served, is_misled, names_another, pair_served, request_counted, with_sender, with_sender_at, validated_by_peer, Drops, Queues, RecordsAndResponds, FindsOrAddsPair, AddsUnknownSender, CountsAndServes, ResolvesRoleConflictBy, ResolvesRoleConflict, Serves, as_taken, nominated_by_peer}
 use Rattle.is_rules.specs.Answers.{is_role_conflict, TakesSuccess, LeavesRole, TakesFailure}
@@ -171,7 +171,7 @@ module _ {H P : Type 0} where
 
     from : SelectsPath old path new → Left now old p new
     from (None, greatest, (is, made)) = as-it-was made
-    from (Some top, greatest, k) = either (remains (suspected_by old) (followed old) top (selection_of old)) k
+    from (Some top, greatest, k) = either (remains (followed old) top (selection_of old)) k
         (λ _ l. as-it-was l.1)
         (λ _ l. (
         let s = self-kept old.controlling old.lite top.number p old.lite now old.timing in

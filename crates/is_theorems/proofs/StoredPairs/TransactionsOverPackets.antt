@@ -28,7 +28,7 @@ use Rattle.is_rules.specs.Answers.{is_left_out, is_role_conflict, goes_back, kee
 use Rattle.is_theorems.specs.Exchange.{AreBetween, Course, ChecksStay}
 use Rattle.is_rules.specs.Forming.{formed, with_pair}
 use Rattle.is_rules.specs.Limit.{IsSenderPlace}
-use Rattle.is_rules.specs.Nominating.{nominated_by_self, Nominates, NominatesWhere, followed, remains, selection_of, numbers, suspected_by}
+use Rattle.is_rules.specs.Nominating.{nominated_by_self, Nominates, NominatesWhere, followed, remains, selection_of, numbers}
 use Rattle.is_rules.specs.Places.{local_place}
 use Rattle.is_rules.specs.Polls.{NextTimeoutFrom}
 use Rattle.is_rules.specs.Request.{RequestRecord, request_in}
@@ -209,7 +209,7 @@ module _ {H P : Type 0} where
 
     by : SelectsPath old path new → Stays old new
     by (None, greatest, (none, is)) = stays_same old new is
-    by (Some p, greatest, k) = either (remains (suspected_by old) (followed old) p (selection_of old)) k
+    by (Some p, greatest, k) = either (remains (followed old) p (selection_of old)) k
         (λ _ l. stays_same old new l.1)
         (λ _ l. subst (λ (a : AgentRecord H P). Stays old a) (sym l.1) (top p))
 

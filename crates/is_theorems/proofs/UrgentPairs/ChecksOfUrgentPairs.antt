@@ -20,7 +20,7 @@ use Rattle.is_rules.specs.declared.emitted.Path.{Path}
 use Rattle.is_rules.specs.Effects.{last_of}
 use Rattle.is_rules.specs.Emitted.{issued_as, selected_in}
 use Rattle.is_rules.specs.Kinds.{is_brought, is_first_due, kind_of, turn_of, IsNextAhead, TurnsBefore}
-use Rattle.is_rules.specs.Nominating.{followed, nominates_at_once, pair_selected, remains, selection_of, Nominates, suspected_by}
+use Rattle.is_rules.specs.Nominating.{followed, nominates_at_once, pair_selected, remains, selection_of, Nominates}
 use Rattle.is_rules.specs.Sending.{path_of}
 use Rattle.is_rules.specs.Timeouts.{at_timeout, expired_gone, is_expired, MaintainsPairs, RemovesExpired}
 use Rattle.is_rules.proofs.PairLists.ChosenPair.{found-in, none_pass}
@@ -197,7 +197,7 @@ module _ {H P : Type 0} where
     nominates-none old new path h none = from (selects_path old new path h) where
       from : SelectsPath old path new → new ≡ old
       from (None, greatest, (is, made)) = made
-      from (Some top, greatest, k) = either (remains (suspected_by old) (followed old) top (selection_of old)) k
+      from (Some top, greatest, k) = either (remains (followed old) top (selection_of old)) k
           (λ _ l. l.1)
           (λ _ l. absurd (let no : Some (path_of old top) ≡ None = sym l.0 ∙ none in cc))
 

@@ -10,7 +10,6 @@ mod consent;
 mod due;
 mod early;
 mod order;
-mod suspicion;
 mod triggered;
 
 use is_candidate::CandidateKind;

@@ -1,5 +1,4 @@
 use Rattle.is_pair.specs.Checklists.{multiset_of}
-use Rattle.is_pair.specs.Suspicion.{is_suspected_with}
 use Rattle.is_rules.specs.Kept.{is_placed}
 use Rattle.is_rules.specs.Nominating.{nominated_by_self, selection}
 use Rattle.is_rules.proofs.PairLists.ChosenPair.{chosen-able}
@@ -10,7 +9,7 @@ use Rattle.is_rules.proofs.nomination.select_pair.Goals as goal
 pub path_in-path-requires : goal.path_in-path-requires
 path_in-path-requires c =
     let s = c.args.sides in
-    let able = chosen-able (is_suspected_with c.args.suspects.rule c.args.suspects.last.0) s.controlling c.args.followed (selection (multiset_of c.args.pairs.now) c.args.selected.now) c.in-Some.top.now c.in-Some.ensures in
+    let able = chosen-able s.controlling c.args.followed (selection (multiset_of c.args.pairs.now) c.args.selected.now) c.in-Some.top.now c.in-Some.ensures in
     all-has (is_placed s.local.now s.remote.now) (multiset_of c.args.pairs.now) c.in-Some.top.now c.requires able.0
 
 pub returns-else-remains-clause-placed : goal.returns-else-remains-clause-placed
@@ -22,6 +21,6 @@ returns-else-remains-clause-placed c =
 pub returns-else-remains-clause-due : goal.returns-else-remains-clause-due
 returns-else-remains-clause-due c = λ now t falls.
     let s = c.args.sides in
-    let able = chosen-able (is_suspected_with c.args.suspects.rule c.args.suspects.last.0) s.controlling c.args.followed (selection (multiset_of c.args.pairs.now) c.args.selected.now) c.in-Some.top.now c.in-Some.ensures in
+    let able = chosen-able s.controlling c.args.followed (selection (multiset_of c.args.pairs.now) c.args.selected.now) c.in-Some.top.now c.in-Some.ensures in
     falls-named s.controlling s.lite now t (multiset_of c.args.pairs.now) c.in-Some.top.now c.numbers_rise.ensures able.0 able.1
     (rw (c.nominate_pair.ensures.nominated, c.id-number.ensures) at falls)

@@ -4,20 +4,16 @@ use Rattle.is_pair.specs.Checklists.{multiset_of}
 use Rattle.is_rules.specs.Due.{falls_due, may_nominate}
 use Rattle.is_agent.specs.View.{record_of}
 use Rattle.is_rules.specs.Forming.{sides_of}
-use Rattle.is_rules.specs.Nominating.{Names, selection, suspected_by}
-use Rattle.is_pair.specs.Suspicion.{is_suspected_with}
+use Rattle.is_rules.specs.Nominating.{Names, selection}
 use Rattle.is_agent.proofs.AgentParts.DuePairsAfterRemoval.{and-third, or-second}
 use Rattle.is_agent.proofs.agent.Agent.evaluate_nomination.Goals as goal
 
 pub returns-clause-nominates : goal.returns-clause-nominates
 returns-clause-nominates g c =
     let self = c.args.self.now in let chosen = selection (multiset_of c.select_pair-path.new.pairs) c.select_pair-path.new.selected in
-    let suspects = c.suspects-suspects.result in
-    let by_result : Names (sides_of (record_of self)) (is_suspected_with suspects.rule suspects.last.0) c.followed-followed.result (selection (multiset_of self.pairs) self.selected_pair) c.select_pair-path.result chosen =
+    let by_result : Names (sides_of (record_of self)) c.followed-followed.result (selection (multiset_of self.pairs) self.selected_pair) c.select_pair-path.result chosen =
     rw (c.deref.ensures.value, c.deref-2.ensures.value) at c.select_pair-path.ensures.named in
-    let by_rule = subst (λ r. Names (sides_of (record_of self)) (is_suspected_with r suspects.last.0) c.followed-followed.result (selection (multiset_of self.pairs) self.selected_pair) c.select_pair-path.result chosen) c.suspects-suspects.ensures.rule by_result in
-    let by_time = subst (λ n. Names (sides_of (record_of self)) (is_suspected_with self.timing.suspicion n) c.followed-followed.result (selection (multiset_of self.pairs) self.selected_pair) c.select_pair-path.result chosen) c.suspects-suspects.ensures.last by_rule in
-    let named = subst (λ f. Names (sides_of (record_of self)) (suspected_by (record_of self)) f (selection (multiset_of self.pairs) self.selected_pair) c.select_pair-path.result chosen) c.followed-followed.ensures by_time in
+    let named = subst (λ f. Names (sides_of (record_of self)) f (selection (multiset_of self.pairs) self.selected_pair) c.select_pair-path.result chosen) c.followed-followed.ensures by_result in
     (chosen, named, c.emit_nominated.ensures.emitted)
 
 pub returns-clause-checks : goal.returns-clause-checks
