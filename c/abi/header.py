@@ -32,6 +32,7 @@ class Field:
     name: str
     type: Type
     offset: int
+    comment: str
 
 
 @dataclasses.dataclass(frozen=True)
@@ -40,6 +41,7 @@ class Struct:
     fields: list
     size: int
     align: int
+    comment: str
 
     @property
     def is_opaque(self):
@@ -96,6 +98,12 @@ def walk(node, kind):
         yield from walk(part, kind)
 
 
+def comment_of(declaration):
+    """The comment above a declaration, or after it in its line."""
+    whole = next((part for part in declaration.get("inner", ()) if part.get("kind") == "FullComment"), {})
+    return " ".join(" ".join(text["text"] for text in walk(whole, "TextComment")).split())
+
+
 def numbers(enum):
     """The names and numbers of an enum."""
     found, number = {}, -1
@@ -139,9 +147,9 @@ def struct_of(record, structs):
         kind = type_of(part["type"]["qualType"], structs)
         size, align = measured(kind, structs)
         offset = -(-end // align) * align
-        fields.append(Field(part["name"], kind, offset))
+        fields.append(Field(part["name"], kind, offset, comment_of(part)))
         end, widest = offset + size, max(widest, align)
-    return Struct(record["name"], fields, -(-end // widest) * widest, widest)
+    return Struct(record["name"], fields, -(-end // widest) * widest, widest, comment_of(record))
 
 
 def call_of(function):
@@ -157,7 +165,7 @@ def clang(*options):
 
 def read():
     """The header. CalledProcessError if it does not compile, FileNotFoundError without clang."""
-    tree = json.loads(clang("-fsyntax-only", "-Xclang", "-ast-dump=json"))
+    tree = json.loads(clang("-fsyntax-only", "-fparse-all-comments", "-Xclang", "-ast-dump=json"))
     version = re.search(r"^#define IS_ICE_VERSION (\d+)$", clang("-E", "-dM"), re.M)
     enums, structs, calls, texts = [], {}, [], {}
     for part in tree["inner"]:

@@ -11,6 +11,12 @@ def short(struct):
     return camel(struct.removeprefix("is_ice_"))
 
 
+def lower_camel(name):
+    """`has_rtt` as `hasRtt`."""
+    joined = camel(name)
+    return joined[:1].lower() + joined[1:]
+
+
 def wrapped(head, parts, tail, most, indent="    ", comma=","):
     """The parts between head and tail in one line, if it is not longer than `most`, else one part a line."""
     line = f"{head}{', '.join(parts)}{tail}"

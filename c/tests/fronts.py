@@ -6,11 +6,13 @@ import re
 import sys
 
 TOP = pathlib.Path(__file__).resolve().parent.parent.parent
-FILES = ("rust/src/*.rs", "python/is_ice/*.py", "c/is_ice.hpp", "js/*.js", "js/*.mjs", "js/src/*.js")
+FILES = ("rust/src/**/*.rs", "python/is_ice/*.py", "c/is_ice.hpp", "js/src/*.js")
 
 # What reads the words of a text; and where it is none of a peer: the zone of an address that the system returns, the grammar of a token.
-READERS = re.compile(r"split\w*\(|partition\(|strtok|sscanf|istringstream|getline\(|\bre\.\w+\(|\.match(?:All)?\(|\bRegExp\(|\.exec\(")
-NO_READERS = ("split_username(", "split_at(", 'socket.ip.split("%")', 're.compile("[A-Za-z0-9+/]*")')
+READERS = re.compile(r"split\w*\(|partition\(|strtok|sscanf|istringstream|getline\(|\bre\.\w+\(|"
+                     r"\.match(?:All)?\(|\.replace\(/|\bRegExp\(|\.exec\(")
+NO_READERS = ("split_username(", "split_at(", 'socket.ip.split("%")', 'text.replace(/%.*$/, "")',
+              're.compile("[A-Za-z0-9+/]*")')
 
 
 def readers(path):
