@@ -3,33 +3,33 @@
 /** What an agent does beyond the behavior of the Rust crate `is` 0.12.0: see is_ice_set_rules. A count of 0: there is no such rule.
  * Durations are milliseconds. */
 export interface AgentRules {
-  /** so many requests on a pair trigger a check of it */
+  /** each of the first so many requests on a pair triggers a check of it */
   triggeredChecks: number;
-  /** so many early retransmissions without a response, */
+  /** so many early retransmissions of a check, as long as no response arrives */
   earlyRetransmits: number;
-  /** the time before each, */
+  /** the time before each; less than 1 ms counts as 1 ms */
   earlyInterval: number;
-  /** and before a later one at most */
+  /** the longest time before a later one, up to which it doubles: early_interval at least */
   earlyCap: number;
-  /** so long after its last answered check a pair is removed */
+  /** so long after its last answered check was sent, a pair is removed */
   consentTimeout: number;
-  /** so long after its last answered check a pair is suspected, */
+  /** so long after its last answered check was sent, a pair is suspected */
   suspicionTimeout: number;
-  /** and the time between its checks before that, once one has no response */
+  /** the time between its checks before that, once one has no response; 1 ms at least */
   suspicionInterval: number;
-  /** until the agent is settled, the pacing interval Ta is at most this */
+  /** until the agent is settled, the pacing interval Ta is at most this; 5 ms at least */
   earlyPacing: number;
   /** until a path is selected, every second check goes to the next kind of pairs */
   kindsInTurn: boolean;
   /** a controlled agent selects a valid pair when the request that nominates it arrives */
   selectsAtOnce: boolean;
-  /** the other agent's checks do not keep a pair */
+  /** the other agent's checks do not keep a pair; else each keeps it for 15 s */
   strictConsent: boolean;
   /** every second check goes to the selected pair if it is due */
   selectedFirst: boolean;
   /** is_ice_poll_timeout returns a time after an early request was served, too */
   timeoutAfterRequests: boolean;
-  /** a lite agent never changes its role */
+  /** a lite agent never changes its role, whatever the tie-breakers are */
   liteKeepsRole: boolean;
   /** with renomination, nominations have numbers, and the greatest one counts */
   numberedNominations: boolean;
