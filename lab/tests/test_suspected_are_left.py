@@ -10,8 +10,8 @@ from lab.clauses.verdict import Verdict
 from lab.clock import MILLISECOND
 from lab.kinds import Rules
 from lab.pairs import Suspicion
-from lab.tests.stories import A, B, Story
-from lab.tests.test_theorems import REQUEST, altered, at, without_selections
+from lab.tests.stories import A, B, Story, at
+from lab.tests.test_theorems import REQUEST, altered, without_selections
 
 SUSPICION = Rules(suspicion=Suspicion(1000 * MILLISECOND, 100 * MILLISECOND))
 OTHER = SocketAddress(B.ip, B.port + 1)  # the pair of smaller priority
