@@ -335,18 +335,18 @@ typedef struct is_ice_preference_table {
 /* What an agent does beyond the behavior of the Rust crate `is` 0.12.0: see is_ice_set_rules. A count of 0: there is no
  * such rule. */
 typedef struct is_ice_agent_rules {
-    uint64_t triggered_checks; /* so many requests on a pair trigger a check of it */
-    size_t early_retransmits;  /* so many early retransmissions without a response, */
-    uint64_t early_interval;   /* the time before each, */
-    uint64_t early_cap;        /* and before a later one at most */
-    uint64_t consent_timeout;  /* so long after its last answered check a pair is removed */
-    uint64_t early_pacing;     /* until the agent is settled, the pacing interval Ta is at most this */
+    uint64_t triggered_checks; /* each of the first so many requests on a pair triggers a check of it */
+    size_t early_retransmits;  /* so many early retransmissions of a check, as long as no response arrives */
+    uint64_t early_interval;   /* the time before each; less than 1 ms counts as 1 ms */
+    uint64_t early_cap;        /* the longest time before a later one, up to which it doubles: early_interval at least */
+    uint64_t consent_timeout;  /* so long after its last answered check was sent, a pair is removed */
+    uint64_t early_pacing;     /* until the agent is settled, the pacing interval Ta is at most this; 5 ms at least */
     bool kinds_in_turn;        /* until a path is selected, every second check goes to the next kind of pairs */
     bool selects_at_once;      /* a controlled agent selects a valid pair when the request that nominates it arrives */
-    bool strict_consent;       /* the other agent's checks do not keep a pair */
+    bool strict_consent;       /* the other agent's checks do not keep a pair; else each keeps it for 15 s */
     bool selected_first;       /* every second check goes to the selected pair if it is due */
     bool timeout_after_requests; /* is_ice_poll_timeout returns a time after an early request was served, too */
-    bool lite_keeps_role;      /* a lite agent never changes its role */
+    bool lite_keeps_role;      /* a lite agent never changes its role, whatever the tie-breakers are */
     bool numbered_nominations; /* with renomination, nominations have numbers, and the greatest one counts */
     bool discovered_if_served; /* no IS_ICE_DISCOVERED_RECV for a request that is dropped */
     bool state_after_nomination; /* the state is evaluated after nomination in each call */
@@ -476,8 +476,8 @@ IS_ICE_QUIET_CALL int32_t is_ice_set_max_candidates(is_ice_agent *agent, size_t 
 
 /* is_ice_set_timing_advance - sets the pacing interval Ta (RFC 8445, section 14.2): the least time from the last
  * is_ice_handle_timeout call to the next one that is_ice_poll_timeout returns. Each is_ice_handle_timeout call sends at
- * most one packet. By the rule early_pacing of is_ice_set_rules the interval is shorter until the agent is settled.
- * IS_ICE_OK. Value: 50 ms. */
+ * most one packet. By the rule early_pacing of is_ice_set_rules the interval is shorter until the agent is settled: it has
+ * a path and, if it is controlling, has sent the check that nominates it. IS_ICE_OK. Value: 50 ms. */
 IS_ICE_QUIET_CALL int32_t is_ice_set_timing_advance(is_ice_agent *agent, uint64_t nanoseconds);
 
 /* is_ice_set_initial_rto - sets the time from a pair's first check until the second one is due. It doubles with each
@@ -518,73 +518,12 @@ IS_ICE_QUIET_CALL int32_t is_ice_retransmit_delay(
 IS_ICE_QUIET_CALL int32_t is_ice_modern_rules(is_ice_agent_rules *rules);
 IS_ICE_QUIET_CALL int32_t is_ice_original_rules(is_ice_agent_rules *rules);
 
-/* is_ice_set_rules - sets what the agent does beyond the behavior of the Rust crate `is` 0.12.0. To change one rule,
- * change its field in what is_ice_rules or is_ice_modern_rules returned: a later version of this header may have further
- * fields. The other agent may have other rules. The struct is copied. is_ice_rules returns what was set, except for
- * early_interval and early_cap without early retransmissions, and strict_consent without consent_timeout: these are 0, 0
- * and false.
- * IS_ICE_OK. Value: is_ice_modern_rules.
- *
- * kinds_in_turn: until a path is selected, every second check goes to the next kind of pairs, and the others to the pair
- * that is due first, as without the rule (RFC 8445, section 6.1.4.2). So a path through NATs is found soon, however many
- * host candidates there are. The kind of a pair is the kind of its remote candidate, its IP version, and whether packets
- * of its local candidate reach the outside. They do if the candidate is relayed, if its base has a server-reflexive
- * candidate or a public address, or if no base of its IP version has either. A host candidate with a public address
- * counts as server-reflexive. An address of IPv4 is public if it is not private (RFC 1918), shared (RFC 6598), loopback
- * or link-local, and one of IPv6 if it is in 2000::/3 (RFC 4291, section 2.4).
- *
- * triggered_checks: each of the first so many requests on a pair makes its next check due at once, until the pair is
- * valid (RFC 8445, section 7.3.1.4). Every second check may go to such a pair, or to one whose nomination has no response
- * yet, before pairs that are due earlier.
- *
- * early_retransmits: as long as no response arrived on a pair, its first so many retransmissions come early_interval
- * apart. Each later delay is twice the one before, up to early_cap. This goes on for ice_timeout of is_ice_status after
- * the pair's first check; then the RTO counts. The checks that nominate a pair which had a response come so, too, until
- * one has a response, or as many have none as is_ice_set_max_retransmits says. An interval below 1 ms counts as 1 ms, and
- * a cap below the interval as the interval. The number of checks ends no pair sooner. One without any response is kept for
- * ice_timeout after its first check at least, and one that had a response for as long after the first check without one.
- * Pairs whose due time is fixed already keep it when rules are set. RFC 8445, section 14.3, has an RTO of 500 ms or
- * more. Shorter delays find a path sooner if the network loses packets or the other agent begins late, and send more on
- * a path with long delays.
- *
- * selects_at_once: a controlled agent selects a pair in the is_ice_handle_packet call of the request that nominates it,
- * if the pair was valid before (RFC 8445, section 7.3.1.5), and not only in the next is_ice_handle_timeout call.
- *
- * consent_timeout: a pair is removed so long after its last check that got a response was sent, however many pairs there
- * are (RFC 7675, section 5.1). Unless strict_consent is true, the other agent's checks keep the pair too, each for 15 s.
- * is_ice_poll_timeout returns a time no later than this end, except for pacing. What removes a pair without this rule
- * still does. A browser gives a path up after 30 s, and does not nominate it again. 0: no such rule.
- *
- * early_pacing: until the agent is settled, the pacing interval Ta is at most this, and at most half a second divided by
- * the number of pairs. It is at least 5 ms (RFC 8445, section 14.2). The agent is settled once it has a path and, if it is
- * controlling, has sent the check that nominates it. So the pair that works is checked sooner if there are many. A
- * shorter one of is_ice_set_timing_advance stays. Less than 5 ms counts as 5 ms. 0: no such rule.
- *
- * selected_first: every second check may go to the selected pair, if it is due, before all others. So its consent is
- * renewed in time, however many pairs there are.
- *
- * timeout_after_requests: is_ice_poll_timeout returns a time after each is_ice_handle_timeout call that returned
- * IS_ICE_OK. Without this rule it returns IS_ICE_NOTHING until one of these has served no early request.
- *
- * lite_keeps_role: a lite agent keeps its role, since only full agents repair roles (RFC 8445, sections 6.1.1 and
- * 7.3.1.1). It sends a 487 to each sender that claims the same role, whatever the tie-breakers are, and a 487 that it
- * receives has no effect. is_ice_set_controlling does not make it controlling.
- *
- * numbered_nominations: with is_ice_set_renomination, nominations have numbers by the attribute NOMINATION (0xC001) of
- * draft-thatcher-ice-renomination, which browsers call `renomination`. A controlling agent numbers the paths that it
- * selects, from 1, also over restarts, and sends the number on each check of its selected pair, next to USE-CANDIDATE. It
- * nominates a path in the next is_ice_handle_timeout call after it selected it. A controlled or lite one selects the
- * valid pair with the greatest number, so a late or repeated check does not turn it back. USE-CANDIDATE without a number
- * counts as 1, once a number came since the last restart.
- *
- * discovered_if_served: an authentic request that is dropped without a response reports no source.
- *
- * state_after_nomination: the state is evaluated after nomination in each call, so that it says whether a path is
- * selected. If a candidate that is added or invalidated takes the selected pair away, another one is selected at once,
- * or the state changes.
- *
- * invalidates_listed: is_ice_invalidate_local and is_ice_invalidate pass over candidates that were invalidated before, so
- * each one that is listed can be invalidated. */
+/* is_ice_set_rules - sets what the agent does beyond the behavior of the Rust crate `is` 0.12.0. docs/GUIDE.md says of each
+ * rule what it does, and what it costs ("Rules"). To change one rule, change its field in what is_ice_rules or
+ * is_ice_modern_rules returned: a later version of this header may have further fields. The other agent may have other
+ * rules. The struct is copied. is_ice_rules returns what was set, except for early_interval and early_cap without early
+ * retransmissions, and strict_consent without consent_timeout: these are 0, 0 and false.
+ * IS_ICE_OK. Value: is_ice_modern_rules. */
 IS_ICE_QUIET_CALL int32_t is_ice_set_rules(is_ice_agent *agent, const is_ice_agent_rules *rules);
 
 /* is_ice_set_mtu - stores how long a packet may be, and the length to warn about; is_ice_status returns both.

@@ -159,7 +159,7 @@ def step_wheel(place, out):
     took = time.monotonic() - begun
     shutil.copy(top / "python" / "examples" / "quick.py", place)
     found_paths(run(python, place / "quick.py", env=bare(), cwd=place))
-    where = run(python, "-c", "import is_ice._abi; print(is_ice._abi.library_path())", env=bare(), cwd=place).strip()
+    where = run(python, "-c", "import is_ice._library; print(is_ice._library.library_path())", env=bare(), cwd=place).strip()
     if not pathlib.Path(where).is_relative_to(place.resolve()):
         raise Failed(f"another library was loaded: {where}")
     with zipfile.ZipFile(the(out, "*.whl")) as archive:

@@ -230,14 +230,6 @@ static double take_block(struct world *w, const struct flood *f, size_t first)
     return quick_tenth(w->took);
 }
 
-static size_t remote_count(struct world *w)
-{
-    uint8_t line[512];
-    size_t length, count = 0;
-    while (is_ice_remote_candidate(&w->victim, count, line, sizeof line, &length) == IS_ICE_OK) count++;
-    return count;
-}
-
 static size_t pair_count(struct world *w)
 {
     size_t count = 0;
@@ -292,7 +284,8 @@ static void play(const struct flood *f)
     for (size_t block = 0; block < f->packets / BLOCK; block++) {
         last = take_block(&w, f, block * BLOCK);
         if (block == 0) first = last, begun = resident();
-        if (remote_count(&w) > 1 + f->limit || pair_count(&w) > 1 + f->limit) fail(f->name, "there are more candidates or pairs");
+        size_t remotes = listed(&w.victim, is_ice_remote_candidate);
+        if (remotes > 1 + f->limit || pair_count(&w) > 1 + f->limit) fail(f->name, "there are more candidates or pairs");
     }
     long grown = resident() - begun;
     if (grown > FLAT) fail(f->name, "memory grows");
@@ -319,7 +312,7 @@ static void play_without_limit(void)
     long begun = resident();
     for (size_t block = 1; block < f.packets / BLOCK; block++) last = take_block(&w, &f, block * BLOCK);
     long grown = resident() - begun;
-    if (w.served != f.packets || remote_count(&w) != 1 + f.packets) fail(f.name, "an address is no candidate");
+    if (w.served != f.packets || listed(&w.victim, is_ice_remote_candidate) != 1 + f.packets) fail(f.name, "an address is no candidate");
     if (grown <= FLAT || last <= first) fail(f.name, "the measurements do not see what grows");
     printf("%s: %zu served, %.0f ns each at first, then %.0f, memory grew by %ld bytes\n", f.name, w.served, first, last, grown);
     end(&w);

@@ -1,13 +1,11 @@
-/* Tests each field of each struct: what the program writes, the library reads, and the reverse. On 64-bit targets the offsets
- * of the fields are those of the library. */
-#include "is_ice.h"
+/* Tests each field of each struct: what the program writes, the library reads, and the reverse. On 64-bit targets sizes and offsets
+ * are those that c/abi/make wrote for the other languages. */
+#include "layout.h"
 #include <stdio.h>
 #include <stdlib.h>
-#include <string.h>
 
 #define TEXT(text) (const uint8_t *)text, sizeof text - 1
 #define HOLD(fact) hold(__LINE__, #fact, fact)
-#define AT(type, field, offset) HOLD(sizeof(void *) != 8 || offsetof(type, field) == (offset))
 
 static const is_ice_address v4 = {4, {10, 0, 0, 1}, 1000, 0, 0}, seen4 = {4, {192, 0, 2, 1}, 2000, 0, 0};
 static const is_ice_address v6 = {6, {0x20, 1, 0xd, 0xb8, 0, 0, 0, 0, 0, 0, 0, 0, 0, 0, 0, 1}, 3000, 0, 0};
@@ -21,45 +19,13 @@ static void hold(int line, const char *fact, bool holds)
     exit(1);
 }
 
+/* The sizes and offsets that Rust, Python and JavaScript have. */
 static void offsets(void)
 {
-    AT(is_ice_agent, is_held, 0), AT(is_ice_agent, at, 8);
-    AT(is_ice_address, family, 0), AT(is_ice_address, bytes, 1), AT(is_ice_address, port, 18);
-    AT(is_ice_address, flow, 20), AT(is_ice_address, scope, 24);
-    AT(is_ice_candidate, address, 0), AT(is_ice_candidate, base, 28), AT(is_ice_candidate, kind, 56), AT(is_ice_candidate, protocol, 57);
-    AT(is_ice_candidate, tcptype, 58);
-    AT(is_ice_packet, source, 0), AT(is_ice_packet, destination, 28), AT(is_ice_packet, length, 56), AT(is_ice_packet, protocol, 64);
-    AT(is_ice_event, source, 0), AT(is_ice_event, destination, 28), AT(is_ice_event, kind, 56);
-    AT(is_ice_event, state, 60), AT(is_ice_event, protocol, 64);
-    AT(is_ice_agent_status, state, 0), AT(is_ice_agent_status, controlling, 4), AT(is_ice_agent_status, lite, 5);
-    AT(is_ice_agent_status, mtu, 8), AT(is_ice_agent_status, mtu_warn, 16), AT(is_ice_agent_status, ice_timeout, 24);
-    AT(is_ice_agent_status, max_candidates, 32);
-    AT(is_ice_agent_stats, bind_request_sent, 0), AT(is_ice_agent_stats, bind_success_recv, 8);
-    AT(is_ice_agent_stats, bind_request_recv, 16), AT(is_ice_agent_stats, discovered_recv_count, 24);
-    AT(is_ice_agent_stats, nomination_send_count, 32);
-    AT(is_ice_nominated_pair, source, 0), AT(is_ice_nominated_pair, destination, 28);
-    AT(is_ice_nominated_pair, total_rtt, 56), AT(is_ice_nominated_pair, responses, 64), AT(is_ice_nominated_pair, rtt, 72);
-    AT(is_ice_nominated_pair, protocol, 80), AT(is_ice_nominated_pair, has_rtt, 81);
-    AT(is_ice_media_path, source, 0), AT(is_ice_media_path, destination, 28), AT(is_ice_media_path, protocol, 56);
-    AT(is_ice_pair, local, 0), AT(is_ice_pair, remote, 8), AT(is_ice_pair, priority, 16), AT(is_ice_pair, checks_sent, 24);
-    AT(is_ice_pair, requests_received, 32), AT(is_ice_pair, responses, 40);
-    AT(is_ice_pair, total_rtt, 48), AT(is_ice_pair, rtt, 56), AT(is_ice_pair, last_request, 64), AT(is_ice_pair, due, 72);
-    AT(is_ice_pair, state, 80), AT(is_ice_pair, nominated, 84), AT(is_ice_pair, selected, 85), AT(is_ice_pair, has_rtt, 86);
-    AT(is_ice_pair, has_request, 87), AT(is_ice_pair, has_due, 88);
-    AT(is_ice_removed_pair, priority, 0), AT(is_ice_removed_pair, checks_sent, 8), AT(is_ice_removed_pair, responses, 16);
-    AT(is_ice_removed_pair, path, 24), AT(is_ice_removed_pair, state, 84), AT(is_ice_removed_pair, reason, 88);
-    AT(is_ice_removed_pair, error, 92), AT(is_ice_removed_pair, has_path, 96);
-    AT(is_ice_kind_preferences, host, 0), AT(is_ice_kind_preferences, peer_reflexive, 2);
-    AT(is_ice_kind_preferences, server_reflexive, 4), AT(is_ice_kind_preferences, relayed, 6);
-    AT(is_ice_preference_table, v4, 0), AT(is_ice_preference_table, v6, 8);
-    AT(is_ice_agent_rules, triggered_checks, 0), AT(is_ice_agent_rules, early_retransmits, 8);
-    AT(is_ice_agent_rules, early_interval, 16), AT(is_ice_agent_rules, early_cap, 24), AT(is_ice_agent_rules, consent_timeout, 32);
-    AT(is_ice_agent_rules, early_pacing, 40);
-    AT(is_ice_agent_rules, kinds_in_turn, 48), AT(is_ice_agent_rules, selects_at_once, 49), AT(is_ice_agent_rules, strict_consent, 50);
-    AT(is_ice_agent_rules, selected_first, 51), AT(is_ice_agent_rules, timeout_after_requests, 52);
-    AT(is_ice_agent_rules, lite_keeps_role, 53), AT(is_ice_agent_rules, numbered_nominations, 54);
-    AT(is_ice_agent_rules, discovered_if_served, 55), AT(is_ice_agent_rules, state_after_nomination, 56),
-    AT(is_ice_agent_rules, invalidates_listed, 57);
+    const char *other = other_layout();
+    if (other == NULL) return;
+    printf("%s has another layout than in the other languages\n", other);
+    exit(1);
 }
 
 static is_ice_agent made(void)
@@ -91,24 +57,12 @@ static void settings(void)
     is_ice_agent_free(&agent);
 }
 
-static bool same_rules(const is_ice_agent_rules *a, const is_ice_agent_rules *b)
-{
-    return a->triggered_checks == b->triggered_checks && a->early_retransmits == b->early_retransmits
-        && a->early_interval == b->early_interval && a->early_cap == b->early_cap
-        && a->consent_timeout == b->consent_timeout && a->kinds_in_turn == b->kinds_in_turn
-        && a->early_pacing == b->early_pacing
-        && a->selects_at_once == b->selects_at_once && a->strict_consent == b->strict_consent && a->selected_first == b->selected_first
-        && a->timeout_after_requests == b->timeout_after_requests && a->lite_keeps_role == b->lite_keeps_role
-        && a->numbered_nominations == b->numbered_nominations && a->discovered_if_served == b->discovered_if_served
-        && a->state_after_nomination == b->state_after_nomination && a->invalidates_listed == b->invalidates_listed;
-}
-
 /* is_ice_agent_rules: what is set is read. */
 static void keeps_rules(is_ice_agent *agent, const is_ice_agent_rules *set)
 {
     is_ice_agent_rules r;
     memset(&r, 0xff, sizeof r);
-    HOLD(is_ice_set_rules(agent, set) == IS_ICE_OK && is_ice_rules(agent, &r) == IS_ICE_OK && same_rules(&r, set));
+    HOLD(is_ice_set_rules(agent, set) == IS_ICE_OK && is_ice_rules(agent, &r) == IS_ICE_OK && same_agent_rules(&r, set));
 }
 
 /* is_ice_agent_rules: the rules of a new agent, those of the original, and each field with a value of its own. */
@@ -129,7 +83,7 @@ static void rules(void)
     HOLD(!original.lite_keeps_role && !original.numbered_nominations && !original.discovered_if_served);
     HOLD(!original.state_after_nomination && !original.invalidates_listed);
     HOLD(original.early_pacing == 0);
-    HOLD(is_ice_rules(&agent, &r) == IS_ICE_OK && same_rules(&r, &modern));
+    HOLD(is_ice_rules(&agent, &r) == IS_ICE_OK && same_agent_rules(&r, &modern));
     keeps_rules(&agent, &original), keeps_rules(&agent, &modern);
     r = original, r.kinds_in_turn = true, keeps_rules(&agent, &r);
     r = original, r.triggered_checks = UINT64_MAX, keeps_rules(&agent, &r);
@@ -150,10 +104,11 @@ static void rules(void)
     r = original, r.state_after_nomination = true, keeps_rules(&agent, &r);
     r = original, r.invalidates_listed = true, keeps_rules(&agent, &r);
     r = original, r.early_interval = 7, r.early_cap = 7, r.strict_consent = true;
-    HOLD(is_ice_set_rules(&agent, &r) == IS_ICE_OK && is_ice_rules(&agent, &r) == IS_ICE_OK && same_rules(&r, &original));
+    HOLD(is_ice_set_rules(&agent, &r) == IS_ICE_OK && is_ice_rules(&agent, &r) == IS_ICE_OK && same_agent_rules(&r, &original));
     is_ice_agent_free(&agent);
     r = modern;
-    HOLD(is_ice_set_rules(&agent, &original) == IS_ICE_NO_AGENT && is_ice_rules(&agent, &r) == IS_ICE_NO_AGENT && same_rules(&r, &modern));
+    HOLD(is_ice_set_rules(&agent, &original) == IS_ICE_NO_AGENT && is_ice_rules(&agent, &r) == IS_ICE_NO_AGENT);
+    HOLD(same_agent_rules(&r, &modern));
 }
 
 /* Adds the candidate: its text has this after the foundation. */
@@ -233,11 +188,6 @@ static is_ice_agent side(const char *near, const char *far, bool controlling, co
     return agent;
 }
 
-static bool same(const is_ice_address *a, const is_ice_address *b)
-{
-    return a->family == b->family && memcmp(a->bytes, b->bytes, 16) == 0 && a->port == b->port && a->flow == b->flow && a->scope == b->scope;
-}
-
 /* Delivers a packet, and tests its addresses and its length. */
 static void carry(
     is_ice_agent *from, is_ice_agent *to, const is_ice_address *source, const is_ice_address *destination, size_t length, uint64_t now)
@@ -246,7 +196,7 @@ static void carry(
     is_ice_packet packet;
     memset(&packet, 0xaa, sizeof packet);
     HOLD(is_ice_poll_transmit(from, bytes, sizeof bytes, &packet) == IS_ICE_OK);
-    HOLD(same(&packet.source, source) && same(&packet.destination, destination));
+    HOLD(same_address(&packet.source, source) && same_address(&packet.destination, destination));
     HOLD(packet.length == length && packet.protocol == IS_ICE_UDP);
     HOLD(is_ice_handle_packet(to, now, packet.protocol, &packet.source, &packet.destination, bytes, packet.length) == IS_ICE_OK);
 }
@@ -269,16 +219,16 @@ static void session(void)
     HOLD(is_ice_poll_event(&a, &e) == IS_ICE_OK && e.kind == IS_ICE_RESTARTED);
     HOLD(is_ice_poll_event(&a, &e) == IS_ICE_OK && e.kind == IS_ICE_STATE_CHANGED && e.state == IS_ICE_CHECKING);
     HOLD(is_ice_poll_event(&a, &e) == IS_ICE_OK && e.kind == IS_ICE_NOMINATED_SEND && e.protocol == IS_ICE_UDP);
-    HOLD(same(&e.source, &at_a) && same(&e.destination, &at_b));
+    HOLD(same_address(&e.source, &at_a) && same_address(&e.destination, &at_b));
     HOLD(is_ice_poll_event(&a, &e) == IS_ICE_OK && e.kind == IS_ICE_STATE_CHANGED && e.state == IS_ICE_COMPLETED);
-    HOLD(is_ice_poll_event(&a, &e) == IS_ICE_OK && e.kind == IS_ICE_DISCOVERED_RECV && same(&e.source, &at_b));
+    HOLD(is_ice_poll_event(&a, &e) == IS_ICE_OK && e.kind == IS_ICE_DISCOVERED_RECV && same_address(&e.source, &at_b));
     HOLD(is_ice_poll_event(&a, &e) == IS_ICE_NOTHING && is_ice_has_viable_remote(&a, &at_b) == IS_ICE_OK);
     HOLD(is_ice_stats(&a, &stats) == IS_ICE_OK && stats.bind_request_sent == 1 && stats.bind_success_recv == 1);
     HOLD(stats.bind_request_recv == 0 && stats.discovered_recv_count == 1 && stats.nomination_send_count == 1);
     HOLD(is_ice_stats(&b, &stats) == IS_ICE_OK && stats.bind_request_sent == 0 && stats.bind_request_recv == 1);
     memset(&path, 0xaa, sizeof path);
     HOLD(is_ice_nominated(&a, &path) == IS_ICE_OK && path.responses == 1 && path.protocol == IS_ICE_UDP);
-    HOLD(same(&path.source, &at_a) && same(&path.destination, &at_b));
+    HOLD(same_address(&path.source, &at_a) && same_address(&path.destination, &at_b));
     HOLD(path.total_rtt == 30000000 && path.rtt == 30000000 && path.has_rtt);
     memset(&pair, 0xaa, sizeof pair);
     HOLD(is_ice_pair_count(&a, &count) == IS_ICE_OK && count == 1 && is_ice_pair_at(&a, 1, &pair) == IS_ICE_NOTHING);
@@ -300,11 +250,11 @@ static void flow_and_scope(void)
     is_ice_event e;
     uint8_t bytes[1500];
     HOLD(is_ice_handle_timeout(&b, UINT64_C(60000000000), TEXT("twelve bytes")) == IS_ICE_OK);
-    HOLD(is_ice_poll_transmit(&b, bytes, sizeof bytes, &packet) == IS_ICE_OK && same(&packet.source, &at_b));
+    HOLD(is_ice_poll_transmit(&b, bytes, sizeof bytes, &packet) == IS_ICE_OK && same_address(&packet.source, &at_b));
     HOLD(is_ice_handle_packet(&a, UINT64_C(60000000000), IS_ICE_UDP, &at_b, &at_a, bytes, packet.length) == IS_ICE_OK);
     HOLD(is_ice_poll_transmit(&a, bytes, sizeof bytes, &packet) == IS_ICE_OK);
-    HOLD(same(&packet.source, &at_a) && same(&packet.destination, &at_b));
-    HOLD(is_ice_poll_event(&a, &e) == IS_ICE_OK && e.kind == IS_ICE_DISCOVERED_RECV && same(&e.source, &at_b));
+    HOLD(same_address(&packet.source, &at_a) && same_address(&packet.destination, &at_b));
+    HOLD(is_ice_poll_event(&a, &e) == IS_ICE_OK && e.kind == IS_ICE_DISCOVERED_RECV && same_address(&e.source, &at_b));
     is_ice_agent_free(&a);
     is_ice_agent_free(&b);
 }
@@ -325,10 +275,10 @@ static void valid_path(void)
     HOLD(is_ice_pair_at(&a, 0, &pair) == IS_ICE_OK && pair.has_request && pair.last_request == 10000000);
     carry(&a, &b, &at_a, &at_b, 76, 30000000);
     HOLD(is_ice_valid_path(&b, &path) == IS_ICE_OK && is_ice_nominated(&b, &nominated) == IS_ICE_NOTHING);
-    HOLD(same(&path.source, &at_b) && same(&path.destination, &at_a) && path.protocol == IS_ICE_UDP);
+    HOLD(same_address(&path.source, &at_b) && same_address(&path.destination, &at_a) && path.protocol == IS_ICE_UDP);
     is_ice_agent_free(&a);
     is_ice_agent_free(&b);
-    HOLD(is_ice_valid_path(&b, &path) == IS_ICE_NO_AGENT && same(&path.source, &at_b));
+    HOLD(is_ice_valid_path(&b, &path) == IS_ICE_NO_AGENT && same_address(&path.source, &at_b));
 }
 
 /* is_ice_removed_pair: of a session, as a candidate is invalidated. */
@@ -350,7 +300,7 @@ static void removed(void)
     HOLD(is_ice_removed_count(&a, &count) == IS_ICE_OK && count == 1 && is_ice_removed_at(&a, 0, &gone) == IS_ICE_OK);
     HOLD(gone.priority == pair.priority && gone.checks_sent == 1 && gone.responses == 1 && gone.state == IS_ICE_PAIR_SUCCEEDED);
     HOLD(gone.reason == IS_ICE_REMOVED_INVALIDATED && gone.error == 0 && gone.has_path && gone.path.protocol == IS_ICE_UDP);
-    HOLD(same(&gone.path.source, &at_a) && same(&gone.path.destination, &at_b));
+    HOLD(same_address(&gone.path.source, &at_a) && same_address(&gone.path.destination, &at_b));
     HOLD(is_ice_removed_at(&a, 1, &gone) == IS_ICE_NOTHING);
     is_ice_agent_free(&a);
     is_ice_agent_free(&b);

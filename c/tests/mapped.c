@@ -74,14 +74,6 @@ static double take_block(struct world *w)
     return quick_tenth(w->took);
 }
 
-static size_t local_count(struct world *w)
-{
-    uint8_t line[512];
-    size_t length, count = 0;
-    while (is_ice_local_candidate(&w->agent, count, line, sizeof line, &length) == IS_ICE_OK) count++;
-    return count;
-}
-
 /* Plays the responses with a limit, and prints what they cost. */
 static void play(const char *name, size_t limit)
 {
@@ -93,7 +85,7 @@ static void play(const char *name, size_t limit)
     long begun = resident();
     while (w.responses < RESPONSES) last = take_block(&w);
     long grown = resident() - begun;
-    size_t locals = local_count(&w);
+    size_t locals = listed(&w.agent, is_ice_local_candidate);
     printf("%s: %zu local candidates, %.0f ns a response at first, then %.0f, memory grew by %ld bytes\n", name, locals, first, last, grown);
     must(name, is_ice_nominated(&w.agent, &path), IS_ICE_OK);
     if (w.is_lost) fail(name, "the path does not stay");

@@ -85,6 +85,15 @@ static inline bool transmit(is_ice_agent *agent, struct message *m, is_ice_packe
     return true;
 }
 
+/* How many candidates the agent lists by is_ice_local_candidate or is_ice_remote_candidate. */
+static inline size_t listed(is_ice_agent *agent, int32_t (*candidate)(is_ice_agent *, size_t, uint8_t *, size_t, size_t *))
+{
+    uint8_t line[512];
+    size_t length, count = 0;
+    while (candidate(agent, count, line, sizeof line, &length) == IS_ICE_OK) count++;
+    return count;
+}
+
 /* The agent takes a message, and accepts it. */
 static inline void receive(is_ice_agent *agent, uint64_t now, const is_ice_address *from, const is_ice_address *to, const struct message *m)
 {

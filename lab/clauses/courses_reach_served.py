@@ -16,7 +16,7 @@ from .progress import awaits, is_unanswered
 from .served import suffices_for_served
 from .single import are_in_round, are_passing
 from .staying import may_end_in_rounds
-from .verdict import Verdict, first_of_all
+from .verdict import Verdict, first_of_all, over
 
 
 @dataclass(frozen=True)
@@ -68,9 +68,4 @@ def choices(x: Execution) -> Iterator[Choice]:
 
 def find(x: Execution) -> Verdict:
     """Returns the first such choice, or one in which the path was not reached."""
-
-    def verdict(c: Choice) -> Verdict:
-        rounds = c.rounds(x)
-        return Verdict("", rounds[0].now, rounds[-1].now, reached_at(x, c), len(rounds))
-
-    return first_of_all(choices(x), lambda c: lacking(x, c), verdict, "IsServed")
+    return first_of_all(choices(x), lambda c: lacking(x, c), lambda c: over(c.rounds(x), reached_at(x, c)), "IsServed")

@@ -177,10 +177,11 @@ def first_call_that_holds(found: Iterable[Choice], lacking_of: Callable[[Choice]
     return Verdict(min(failed, key=lambda names: names.count(","), default="Awaits.there"))
 
 
+def verdict_of(x: Execution, c: Choice) -> Verdict:
+    """Returns the bound of a choice, and when a path was selected."""
+    return Verdict("", x.time(c.first), limit(x, c), selected_at(x, c), c.count)
+
+
 def find(x: Execution) -> Verdict:
     """Returns what holds at the first call with a choice that lacks nothing."""
-
-    def verdict(c: Choice) -> Verdict:
-        return Verdict("", x.time(c.first), limit(x, c), selected_at(x, c), c.count)
-
-    return first_call_that_holds(choices(x), lambda c: lacking(x, c), verdict)
+    return first_call_that_holds(choices(x), lambda c: lacking(x, c), lambda c: verdict_of(x, c))

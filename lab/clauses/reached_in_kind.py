@@ -15,7 +15,7 @@ from .progress import is_in_line, is_lasting
 from .reached_in_turn import MOST_CALLS, MOST_DELAYS, Choice, has_path, kind_in, kinds_at, kinds_of, reached_by, takes_turns
 from .single import is_passing
 from .staying import may_end_in_rounds
-from .verdict import Verdict, first_of_all
+from .verdict import Verdict, first_of_all, over
 
 # While a side has more pairs, no choices are proposed: the search would take too long.
 MOST_PAIRS = 30
@@ -96,9 +96,4 @@ def choices(x: Execution) -> Iterator[Choice]:
 
 def find(x: Execution) -> Verdict:
     """Returns the first such choice, or one in which neither came true."""
-
-    def verdict(c: Choice) -> Verdict:
-        rounds = c.rounds(x)
-        return Verdict("", rounds[0].now, rounds[-1].now, reached_at(x, c), len(rounds))
-
-    return first_of_all(choices(x), lambda c: lacking(x, c), verdict, "TakesTurnsAmong")
+    return first_of_all(choices(x), lambda c: lacking(x, c), lambda c: over(c.rounds(x), reached_at(x, c)), "TakesTurnsAmong")

@@ -18,7 +18,7 @@ from .opening import most_rounds, pair_of
 from .progress import is_in_line, is_lasting
 from .single import is_passing
 from .staying import may_end_in_rounds
-from .verdict import Verdict, first_of_all
+from .verdict import Verdict, first_of_all, over
 
 # The greatest number of rounds that delay the pair, and of `handle_timeout` calls of a side, for which choices are proposed.
 MOST_DELAYS, MOST_CALLS = 4, 24
@@ -156,9 +156,4 @@ def choices(x: Execution) -> Iterator[Choice]:
 
 def find(x: Execution) -> Verdict:
     """Returns the first such choice, or one in which neither came true."""
-
-    def verdict(c: Choice) -> Verdict:
-        rounds = c.rounds(x)
-        return Verdict("", rounds[0].now, rounds[-1].now, reached_at(x, c), len(rounds))
-
-    return first_of_all(choices(x), lambda c: lacking(x, c), verdict, "TakesTurns")
+    return first_of_all(choices(x), lambda c: lacking(x, c), lambda c: over(c.rounds(x), reached_at(x, c)), "TakesTurns")

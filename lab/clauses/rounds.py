@@ -9,7 +9,7 @@ from ..scenario import SIDES
 from .execution import Execution, Lacks, is_between, is_in_round, lacks
 from .opening import Counts, controlling_calls, most_rounds
 from .progress import are_open_enough, checks_for
-from .single import Choice, announces_in, are_enough, are_passing, by_end, due_of, end_of, shared
+from .single import Choice, are_enough, are_passing, by_end, due_of, end_of, shared, verdict_of
 from .verdict import Verdict, first_that_holds
 
 
@@ -45,8 +45,4 @@ def choices(x: Execution) -> Iterator[Choice]:
 
 def find(x: Execution) -> Verdict:
     """Returns the earliest bound."""
-
-    def verdict(c: Choice) -> Verdict:
-        return Verdict("", x.time(c.first), x.time(c.end - 1), announces_in(x, c), len(c.rounds(x)))
-
-    return first_that_holds(by_end(x, choices(x)), lambda c: lacking(x, c), verdict, "Awaits.there")
+    return first_that_holds(by_end(x, choices(x)), lambda c: lacking(x, c), lambda c: verdict_of(x, c), "Awaits.there")

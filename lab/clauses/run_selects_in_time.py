@@ -3,7 +3,7 @@ rounds are consecutive entries of the log, whatever the other agent is."""
 
 from __future__ import annotations
 
-from .courses_select_in_time import Choice, Search, earliest, limit, selected_at, suffice_for_check, trip
+from .courses_select_in_time import Choice, Search, earliest, limit, suffice_for_check, trip, verdict_of
 from .execution import MAX, Execution, Lacks, lacks
 from .fair import is_new_agent
 from .in_time import delay
@@ -36,8 +36,4 @@ def choices(x: Execution) -> list[Choice]:
 
 def find(x: Execution) -> Verdict:
     """Returns the earliest bound."""
-
-    def verdict(c: Choice) -> Verdict:
-        return Verdict("", x.time(c.first), limit(x, c), selected_at(x, c), c.count)
-
-    return first_that_holds(choices(x), lambda c: lacking(x, c), verdict, "Awaits.there")
+    return first_that_holds(choices(x), lambda c: lacking(x, c), lambda c: verdict_of(x, c), "Awaits.there")

@@ -97,10 +97,11 @@ def choices(n: Network) -> Iterator[Choice]:
     return by_first_call(NetworkSearch(n).choices())
 
 
+def verdict_of(n: Network, c: Choice) -> Verdict:
+    """Returns the bound of a choice, and when a path was selected."""
+    return Verdict("", n.x.time(c.first), limit(n, c), selected_at(n.x, c), c.count)
+
+
 def find(n: Network) -> Verdict:
     """Returns what holds at the first call with a choice that lacks nothing."""
-
-    def verdict(c: Choice) -> Verdict:
-        return Verdict("", n.x.time(c.first), limit(n, c), selected_at(n.x, c), c.count)
-
-    return first_call_that_holds(choices(n), lambda c: lacking(n, c), verdict)
+    return first_call_that_holds(choices(n), lambda c: lacking(n, c), lambda c: verdict_of(n, c))

@@ -16,7 +16,7 @@ from .served import is_served
 from .single import is_passing
 from .staying import may_end_in_rounds
 from .urgent_are_reached import reached_at
-from .verdict import Verdict, first_of_all
+from .verdict import Verdict, first_of_all, over
 
 
 # ---- the preconditions
@@ -62,9 +62,4 @@ def choices(x: Execution) -> Iterator[Choice]:
 
 def find(x: Execution) -> Verdict:
     """Returns the first such choice, or one in which neither came true."""
-
-    def verdict(c: Choice) -> Verdict:
-        rounds = c.rounds(x)
-        return Verdict("", rounds[0].now, rounds[-1].now, reached_at(x, c), len(rounds))
-
-    return first_of_all(choices(x), lambda c: lacking(x, c), verdict, "IsServed")
+    return first_of_all(choices(x), lambda c: lacking(x, c), lambda c: over(c.rounds(x), reached_at(x, c)), "IsServed")

@@ -9,7 +9,7 @@ from .accepted_nominations import Network
 from .courses_select_in_time import Choice, by_first_call, first_call_that_holds
 from .execution import Lacks
 from .opening import Counts
-from .selects_in_time import NetworkSearch, lacking_with, limit, selected_at
+from .selects_in_time import NetworkSearch, lacking_with, verdict_of
 from .served import suffices_for_served
 from .verdict import Verdict
 
@@ -34,8 +34,4 @@ def choices(n: Network) -> Iterator[Choice]:
 
 def find(n: Network) -> Verdict:
     """Returns what holds at the first call with a choice that lacks nothing."""
-
-    def verdict(c: Choice) -> Verdict:
-        return Verdict("", n.x.time(c.first), limit(n, c), selected_at(n.x, c), c.count)
-
-    return first_call_that_holds(choices(n), lambda c: lacking(n, c), verdict)
+    return first_call_that_holds(choices(n), lambda c: lacking(n, c), lambda c: verdict_of(n, c))

@@ -12,7 +12,7 @@ from .fair import is_new_agent
 from .opening import pair_of
 from .progress import are_open_enough, awaits, checks_for, due_by, is_unanswered
 from .staying import may_end_in_rounds
-from .verdict import first_in
+from .verdict import Verdict, first_in
 
 
 @dataclass(frozen=True)
@@ -116,6 +116,11 @@ def has_unanswered(x: Execution, c: Choice) -> bool:
 def by_end(x: Execution, choices: Iterable[Choice]) -> list[Choice]:
     """Sorts choices by their end. Those in which a check is not answered in its round come last."""
     return sorted(choices, key=lambda c: (has_unanswered(x, c), c.end))
+
+
+def verdict_of(x: Execution, c: Choice) -> Verdict:
+    """Returns the end of a choice, and when a path was selected in it."""
+    return Verdict("", x.time(c.first), x.time(c.end - 1), announces_in(x, c), len(c.rounds(x)))
 
 
 def announces_in(x: Execution, c: Choice) -> int | None:

@@ -2,11 +2,11 @@
 
 from __future__ import annotations
 
-from collections.abc import Callable, Iterable
+from collections.abc import Callable, Iterable, Sequence
 from dataclasses import dataclass
 from typing import TypeVar
 
-from .execution import Execution, Lacks
+from .execution import Execution, Lacks, Round
 
 C = TypeVar("C")
 C_co = TypeVar("C_co", covariant=True)
@@ -33,6 +33,11 @@ class Verdict:
     def is_broken(self) -> bool:
         """Whether they held, and the conclusion was not true by its bound."""
         return self.held and (self.bound is None or self.fact is None or self.fact > self.bound)
+
+
+def over(rounds: Sequence[Round], fact: int | None) -> Verdict:
+    """Returns the verdict on rounds: what the clause concludes is due in the last one."""
+    return Verdict("", rounds[0].now, rounds[-1].now, fact, len(rounds))
 
 
 def first_that_holds(choices: Iterable[C], lacking: Callable[[C], Lacks], verdict: Callable[[C], Verdict], otherwise: str) -> Verdict:

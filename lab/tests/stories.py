@@ -24,6 +24,11 @@ LINE = "candidate:1 1 udp {} {} {} typ {}"
 TO_A, TO_B = (B, A), (A, B)  # the paths of b and of a
 
 
+def at(time: float) -> int:
+    """Returns the time so many milliseconds after the beginning."""
+    return BEGINNING + round(time * MILLISECOND)
+
+
 def message(kind: str, id: bytes, attributes: dict[int, bytes]) -> bytes:
     """Writes a STUN message."""
     body = b"".join(t.to_bytes(2, "big") + len(v).to_bytes(2, "big") + v + bytes(-len(v) % 4) for t, v in attributes.items())
@@ -83,7 +88,7 @@ class Story:
     # ---- calls
 
     def _log(self, time: float, side: str, call: str, given: tuple[object, ...] = (), returned: object = None) -> None:
-        self.log.entries.append(Entry(BEGINNING + round(time * MILLISECOND), side, call, given, returned))
+        self.log.entries.append(Entry(at(time), side, call, given, returned))
 
     def host(self, side: str, address: SocketAddress, priority: int, time: float = 0) -> None:
         """The side adds a host candidate."""
@@ -139,7 +144,7 @@ class Story:
     def timeout(self, side: str, time: float) -> Transmit | None:
         """The side's `handle_timeout`, followed by its polls. Returns the check that it sends."""
         self.ids += 1
-        now, id = BEGINNING + round(time * MILLISECOND), self.ids.to_bytes(12, "big")
+        now, id = at(time), self.ids.to_bytes(12, "big")
         new, issued, paths = self.agents[side].timeout(now, id)
         self.moments[side].append(self.end)
         self._log(time, side, "handle_timeout", (now, id))
@@ -153,7 +158,7 @@ class Story:
     def deliver(self, packet: Transmit | None, side: str, time: float, via: Path | None = None) -> Transmit | None:
         """Delivers a packet to the side, perhaps with other addresses. Returns the response that the side sends."""
         assert packet is not None
-        now, (source, local) = BEGINNING + round(time * MILLISECOND), via or (packet.source, packet.destination)
+        now, (source, local) = at(time), via or (packet.source, packet.destination)
         new, issued, paths = self.agents[side].packet(now, source, local, packet.contents)
         self._log(time, side, "handle_packet", (now, source, local, packet.contents), True)
         return self._polls(side, time, new, issued, paths)

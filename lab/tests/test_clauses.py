@@ -8,17 +8,13 @@ from is_ice import Candidate, SocketAddress
 from lab.clauses import nomination_accepted, meet, world_rounds
 from lab.clauses.accepted_nominations import Network
 from lab.clauses.verdict import Verdict
-from lab.clock import BEGINNING, MILLISECOND
+from lab.clock import BEGINNING
 from lab.requests import Request
 from lab.pairs import Place, Timing
-from lab.tests.stories import LINE, TO_A, TO_B, A, B, Story
+from lab.tests.stories import LINE, TO_A, TO_B, A, B, Story, at
 
 OUTSIDE = SocketAddress("203.0.113.1", 1000)
 REQUEST = Request(BEGINNING, A, B, bytes(12), 1, False, "aaaa", 1, None)
-
-
-def at(time: float) -> int:
-    return BEGINNING + round(time * MILLISECOND)
 
 
 def discarded(story: Story) -> tuple[Place, ...]:

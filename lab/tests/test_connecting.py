@@ -9,19 +9,15 @@ from lab.clauses import both, connect, in_time
 from lab.clauses.accepted_nominations import Network
 from lab.clauses.selections import are_enough
 from lab.clauses.verdict import Verdict
-from lab.clock import BEGINNING, MILLISECOND
+from lab.clock import BEGINNING
 from lab.kinds import Rules
 from lab.requests import Request
 from lab.pairs import Check, Pair
-from lab.tests.stories import TO_A, TO_B, A, B, Story
+from lab.tests.stories import TO_A, TO_B, A, B, Story, at
 
 OUTSIDE = SocketAddress("203.0.113.1", 1000)
 FEW = ["Opens.enough.AreEachPolled.few", "Opens.enough.SideRoundsSuffice", "Opens.enough.ServedRoundsSuffice"]
 REQUEST = Request(BEGINNING, A, B, bytes(12), 1, False, "aaaa", 1, None)
-
-
-def at(time: float) -> int:
-    return BEGINNING + round(time * MILLISECOND)
 
 
 def silent(pair: Pair) -> Pair:

@@ -18,14 +18,10 @@ from lab.kinds import Rules
 from lab.model import Agent
 from lab.requests import Request
 from lab.pairs import Check, Place, Timing
-from lab.tests.stories import LINE, TO_A, TO_B, A, B, Story
+from lab.tests.stories import LINE, TO_A, TO_B, A, B, Story, at
 
 OUTSIDE = SocketAddress("203.0.113.1", 1000)
 REQUEST = Request(BEGINNING, A, B, bytes(12), 1, False, "aaaa", 1, None)
-
-
-def at(time: float) -> int:
-    return BEGINNING + round(time * MILLISECOND)
 
 
 class Known(unittest.TestCase):

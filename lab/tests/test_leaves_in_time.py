@@ -12,8 +12,8 @@ from lab.kinds import ORIGINAL, Rules
 from lab.pairs import Consent, Pair
 from lab.replay import replay
 from lab.states import NEW
-from lab.tests.stories import TO_A, TO_B, Story
-from lab.tests.test_theorems import CONSENT, REQUEST, altered, at
+from lab.tests.stories import TO_A, TO_B, Story, at
+from lab.tests.test_theorems import CONSENT, REQUEST, altered
 
 
 class Left(unittest.TestCase):

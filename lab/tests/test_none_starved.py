@@ -13,15 +13,11 @@ from lab.kinds import Rules
 from lab.pairs import Consent, Timing
 from lab.replay import replay
 from lab.requests import Request
-from lab.tests.stories import LINE, TO_B, A, B, Story
+from lab.tests.stories import LINE, TO_B, A, B, Story, at
 
 REQUEST = Request(BEGINNING, A, B, bytes(12), 1, False, "aaaa", 1, None)
 PRIORITY = 126 << 24 | 65535 << 8 | 255
 ONCE_MORE = LINE.format(PRIORITY, B.ip, B.port, "host")
-
-
-def at(time: float) -> int:
-    return BEGINNING + round(time * MILLISECOND)
 
 
 def limited(*times: float, call: tuple[str, object] | None = None) -> Story:

@@ -8,16 +8,11 @@ from typing import Any
 from lab.clauses import reached_in_turn as of
 from lab.clauses.execution import Execution, Lacks
 from lab.clauses.verdict import Verdict
-from lab.clock import BEGINNING, MILLISECOND
 from lab.kinds import ORIGINAL, Rules
 from lab.replay import replay
-from lab.tests.stories import Story
+from lab.tests.stories import Story, at
 
 IN_TURN = Rules(kinds_in_turn=True)
-
-
-def at(time: float) -> int:
-    return BEGINNING + round(time * MILLISECOND)
 
 
 class Turns(unittest.TestCase):

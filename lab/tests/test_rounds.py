@@ -12,13 +12,9 @@ from lab.clauses.verdict import Verdict
 from lab.clock import BEGINNING, MILLISECOND
 from lab.requests import Request
 from lab.pairs import Check, Timing
-from lab.tests.stories import A, B, Story
+from lab.tests.stories import A, B, Story, at
 
 REQUEST = Request(BEGINNING, A, B, bytes(12), 1, False, "aaaa", 1, None)
-
-
-def at(time: float) -> int:
-    return BEGINNING + round(time * MILLISECOND)
 
 
 class Rounds(unittest.TestCase):

@@ -12,17 +12,13 @@ from lab.kinds import MODERN, ORIGINAL, Rules, is_brought, rules_of
 from lab.model import Agent
 from lab.pairs import Check, EarlyRto, Pair, Path, Timing
 from lab.scenario import AgentSettings
-from lab.tests.stories import LINE, A, B, Story
+from lab.tests.stories import LINE, A, B, Story, at
 
 TRIGGERED = Rules(triggered_checks=2)
 EARLY = Rules(early_rto=EarlyRto(2, 100 * MILLISECOND, 300 * MILLISECOND))
 AT_ONCE = Rules(selects_at_once=True)
 SECOND_A, THIRD_A = A._replace(port=A.port + 1), A._replace(port=A.port + 2)
 OUTSIDE = B._replace(ip="203.0.113.9")
-
-
-def at(time: float) -> int:
-    return BEGINNING + round(time * MILLISECOND)
 
 
 def path(packet: Transmit | None) -> Path | None:

@@ -13,8 +13,8 @@ from lab.clauses.verdict import Verdict
 from lab.clock import MILLISECOND
 from lab.kinds import Rules
 from lab.replay import replay
-from lab.tests.stories import TO_A, TO_B, Story
-from lab.tests.test_theorems import REQUEST, altered, answered, at, without_selections
+from lab.tests.stories import TO_A, TO_B, Story, at
+from lab.tests.test_theorems import REQUEST, altered, answered, without_selections
 
 OUTSIDE = SocketAddress("203.0.113.1", 1000)
 

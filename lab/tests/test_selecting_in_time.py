@@ -16,14 +16,10 @@ from lab.kinds import Rules
 from lab.pairs import Check, Timing
 from lab.replay import replay
 from lab.requests import Request
-from lab.tests.stories import LINE, A, B, Story
+from lab.tests.stories import LINE, A, B, Story, at
 
 HOST = LINE.format(126 << 24 | 65535 << 8 | 255, "10.9.9.9", 9, "host")
 REQUEST = Request(BEGINNING, A, B, bytes(12), 1, False, "aaaa", 1, None)
-
-
-def at(time: float) -> int:
-    return BEGINNING + round(time * MILLISECOND)
 
 
 def selecting(call: float | None = None, is_answered: bool = True, third: float = 100, name: str = "set_ice_lite",

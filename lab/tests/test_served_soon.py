@@ -17,16 +17,11 @@ from lab.clauses.reached_in_turn import Choice
 from lab.clauses.selects_in_time import selected_at
 from lab.clauses.urgent_are_reached import reached_at
 from lab.clauses.verdict import Verdict
-from lab.clock import BEGINNING, MILLISECOND
 from lab.kinds import ORIGINAL, Rules
 from lab.replay import replay
-from lab.tests.stories import Story
+from lab.tests.stories import Story, at
 
 TRIGGERED = Rules(triggered_checks=4)
-
-
-def at(time: float) -> int:
-    return BEGINNING + round(time * MILLISECOND)
 
 
 class Served(unittest.TestCase):

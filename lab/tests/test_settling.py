@@ -6,12 +6,12 @@ from dataclasses import replace
 
 from is_ice import Candidate, DiscoveredRecv, IceCreds, NominatedSend, Protocol, SocketAddress
 from lab.clauses.staying import may_end_in
-from lab.clock import BEGINNING, MILLISECOND
+from lab.clock import BEGINNING
 from lab.kinds import Rules
 from lab.pairs import Check, Pair, Path
 from lab.replay import replay
 from lab.states import CHECKING, COMPLETED, CONNECTED, DISCONNECTED, NEW
-from lab.tests.stories import LINE, TO_A, TO_B, A, B, Story
+from lab.tests.stories import LINE, TO_A, TO_B, A, B, Story, at
 
 SETTLED = Rules(state_after_nomination=True)
 AT_ONCE = Rules(selects_at_once=True)
@@ -19,10 +19,6 @@ SECOND_A = A._replace(port=A.port + 1)
 OUTSIDE = SocketAddress("203.0.113.9", 9)
 GREAT = 126 << 24 | 65535 << 8 | 255  # the priority of the first host candidate
 LOST = Pair(9, 0, 0, 1, (Check(bytes(12), BEGINNING, False, True),) * 9)  # it is possible for 3 s
-
-
-def at(time: float) -> int:
-    return BEGINNING + round(time * MILLISECOND)
 
 
 def selections(story: Story, side: str) -> list[tuple[int, str, Path]]:

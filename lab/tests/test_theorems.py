@@ -18,16 +18,12 @@ from lab.kinds import ORIGINAL, Rules
 from lab.pairs import Consent, Pair, Timing
 from lab.replay import replay
 from lab.requests import Request
-from lab.tests.stories import TO_A, TO_B, A, B, Story
+from lab.tests.stories import TO_A, TO_B, A, B, Story, at
 
 REQUEST = Request(BEGINNING, A, B, bytes(12), 1, False, "aaaa", 1, None)
 CONSENT = Rules(consent=Consent(1000 * MILLISECOND))
 AT_ONCE = Rules(selects_at_once=True)
 SETTLED = Rules(selects_at_once=True, state_after_nomination=True)
-
-
-def at(time: float) -> int:
-    return BEGINNING + round(time * MILLISECOND)
 
 
 def altered(story: Story, index: int, side: str, is_after: bool = False, **fields: Any) -> Execution:

@@ -1,21 +1,137 @@
-"""The C interface (c/is_ice.h) for ctypes: structs, prototypes, and the shared library."""
+# Made by `c/abi/make` from c/is_ice.h: edit that, and run it again.
+"""The C interface (c/is_ice.h) for ctypes: numbers, structs and prototypes."""
 
 from __future__ import annotations
 
 import ctypes
-import os
-from ctypes import POINTER, c_bool, c_char_p, c_int32, c_size_t, c_uint8, c_uint16, c_uint32, c_uint64, c_void_p
-from pathlib import Path
+from ctypes import POINTER, c_bool, c_char_p, c_int32, c_size_t, c_uint16, c_uint32, c_uint64, c_uint8, c_void_p
 
 VERSION = 7
-NAME = "libis_ice.so"
+
+OK = 0
+NOTHING = 1
+OTHER_COMPONENT = 2
+OTHER_UFRAG = 3
+NO_AGENT = -1
+HAS_AGENT = -2
+NOT_UTF8 = -3
+BAD_ADDRESS = -4
+UNPARSED = -5
+BUFFER_TOO_SHORT = -6
+OUT_OF_MEMORY = -7
+BAD_CANDIDATE = -8
+PAIR_IDS_EXHAUSTED = -9
+MTU_TOO_SMALL = -10
+CREDENTIALS_TOO_LONG = -11
+PRIORITY_TOO_HIGH = -12
+BAD_LIMIT = -13
+TOO_FEW_RANDOM_BYTES = -14
+BAD_MESSAGE = -15
+MESSAGE_TOO_LONG = -16
+TOO_MANY_CANDIDATES = -17
+LITE_STAYS_CONTROLLED = -18
+
+UDP = 0
+TCP = 1
+SSL_TCP = 2
+TLS = 3
+
+HOST = 0
+SERVER_REFLEXIVE = 1
+RELAYED = 2
+PEER_REFLEXIVE = 3
+
+TCP_UNSTATED = 0
+TCP_ACTIVE = 1
+TCP_PASSIVE = 2
+TCP_SO = 3
+
+FOUNDATION_START = 10
+
+NEW = 0
+CHECKING = 1
+CONNECTED = 2
+COMPLETED = 3
+DISCONNECTED = 4
+
+RESTARTED = 1
+STATE_CHANGED = 2
+DISCOVERED_RECV = 3
+NOMINATED_SEND = 4
+
+PAIR_WAITING = 0
+PAIR_IN_PROGRESS = 1
+PAIR_SUCCEEDED = 2
+
+REMOVED_NO_RESPONSE = 1
+REMOVED_CONSENT_LOST = 2
+REMOVED_PEER_SILENT = 3
+REMOVED_EVICTED = 4
+REMOVED_REPLACED = 5
+REMOVED_INVALIDATED = 6
+
 CREDENTIALS_RANDOM = 38
-TIMEOUT_RANDOM = 12
 UFRAG_LENGTH = 16
 PASS_LENGTH = 22
+
+TEXT_UFRAG = 0
+TEXT_PASS = 1
+TEXT_FOUNDATION = 2
+
+TIMEOUT_RANDOM = 12
+
 STUN_REQUEST_LENGTH = 28
+
+STUN_USERNAME = 6
+STUN_ERROR_CODE = 9
+STUN_DATA = 19
+STUN_REALM = 20
+STUN_NONCE = 21
+STUN_SOFTWARE = 34
+
+STUN_REQUEST = 0
+STUN_INDICATION = 1
+STUN_SUCCESS = 2
+STUN_FAILURE = 3
+
+STUN_OTHER = 0
+STUN_BINDING = 1
+STUN_ALLOCATE = 3
+STUN_REFRESH = 4
+STUN_SEND = 6
+STUN_DATA_INDICATION = 7
+STUN_CREATE_PERMISSION = 8
+STUN_CHANNEL_BIND = 9
+
+HMAC_LENGTH = 20
+
 STUN_WRITE_LENGTH = 1236
-FOUNDATION_START = 10
+
+# The text of each code.
+TEXTS = {
+    OK: "done",
+    NOTHING: "nothing",
+    OTHER_COMPONENT: "candidate of another component",
+    OTHER_UFRAG: "candidate of another username fragment",
+    NO_AGENT: "no agent",
+    HAS_AGENT: "there is an agent already",
+    NOT_UTF8: "text is not UTF-8",
+    BAD_ADDRESS: "bad address family, protocol or kind",
+    UNPARSED: "no STUN message",
+    BUFFER_TOO_SHORT: "buffer too short",
+    OUT_OF_MEMORY: "out of memory",
+    BAD_CANDIDATE: "bad candidate",
+    PAIR_IDS_EXHAUSTED: "pair ids exhausted",
+    MTU_TOO_SMALL: "MTU target too small",
+    CREDENTIALS_TOO_LONG: "ICE credentials too long",
+    PRIORITY_TOO_HIGH: "candidate priority too high",
+    BAD_LIMIT: "bad limit",
+    TOO_FEW_RANDOM_BYTES: "too few random bytes",
+    BAD_MESSAGE: "STUN message that cannot be written",
+    MESSAGE_TOO_LONG: "STUN message or one of its texts too long",
+    TOO_MANY_CANDIDATES: "too many candidates",
+    LITE_STAYS_CONTROLLED: "lite agent stays controlled",
+}
 
 
 class Agent(ctypes.Structure):
@@ -65,7 +181,7 @@ class Event(ctypes.Structure):
     _fields_ = [("source", Address), ("destination", Address), ("kind", c_int32), ("state", c_int32), ("protocol", c_uint8)]
 
 
-class Status(ctypes.Structure):
+class AgentStatus(ctypes.Structure):
     """is_ice_agent_status."""
 
     _fields_ = [
@@ -79,7 +195,7 @@ class Status(ctypes.Structure):
     ]
 
 
-class Stats(ctypes.Structure):
+class AgentStats(ctypes.Structure):
     """is_ice_agent_stats."""
 
     _fields_ = [
@@ -91,7 +207,7 @@ class Stats(ctypes.Structure):
     ]
 
 
-class Nominated(ctypes.Structure):
+class NominatedPair(ctypes.Structure):
     """is_ice_nominated_pair."""
 
     _fields_ = [
@@ -236,143 +352,143 @@ class StunSpan(ctypes.Structure):
 class StunTexts(ctypes.Structure):
     """is_ice_stun_texts."""
 
-    _fields_ = [(name, StunSpan) for name in ("username", "reason", "data", "realm", "nonce", "software")]
+    _fields_ = [
+        ("username", StunSpan),
+        ("reason", StunSpan),
+        ("data", StunSpan),
+        ("realm", StunSpan),
+        ("nonce", StunSpan),
+        ("software", StunSpan),
+    ]
 
 
-# The sizes of the structs that c/is_ice.h asserts.
-SIZES = {Agent: 16, Address: 28, Candidate: 60, Fields: 120, Packet: 72, Event: 68, Status: 40, Stats: 40, Nominated: 88, MediaPath: 60,
-         Pair: 96, RemovedPair: 104, KindPreferences: 8, PreferenceTable: 16, AgentRules: 64, StunTransaction: 12, StunResult: 32,
-         StunNumber: 16, StunMessage: 248, StunSpan: 24, StunTexts: 144}
-
-_AGENT = POINTER(Agent)
-_BYTES = [c_char_p, c_size_t]
-_PATH = [c_uint8, POINTER(Address), POINTER(Address)]
-_TEXT = [c_void_p, c_size_t, POINTER(c_size_t)]
-
-# The arguments of each call. All return a code, except for is_ice_version and is_ice_agent_free.
-PROTOTYPES: dict[str, list[object]] = {
-    "is_ice_make_credentials": [*_BYTES, c_void_p, c_size_t, c_void_p, c_size_t],
-    "is_ice_check_text": [c_uint8, *_BYTES],
-    "is_ice_retransmit_timeout": [c_uint64, c_uint64, c_size_t, POINTER(c_uint64)],
-    "is_ice_retransmit_delay": [c_uint64, c_uint64, c_size_t, c_size_t, POINTER(c_uint64)],
-    "is_ice_line_refusal": [*_BYTES, *_TEXT],
-    "is_ice_candidate_refusal": [POINTER(Candidate), *_TEXT],
-    "is_ice_candidate_line": [POINTER(Candidate), *_TEXT],
-    "is_ice_line_fields": [*_BYTES, *_TEXT, POINTER(Fields)],
-    "is_ice_fields_line": [POINTER(Fields), *_BYTES, *_TEXT, POINTER(Fields)],
-    "is_ice_candidate_fields": [POINTER(Candidate), *_TEXT, POINTER(Fields)],
-    "is_ice_line_name": [*_BYTES, *_TEXT],
-    "is_ice_line_with_address": [*_BYTES, POINTER(Address), *_TEXT],
-    "is_ice_line_with_ufrag": [*_BYTES, *_BYTES, *_TEXT],
-    "is_ice_line_with_address_fields": [*_BYTES, POINTER(Address), *_TEXT, POINTER(Fields)],
-    "is_ice_line_with_ufrag_fields": [*_BYTES, *_BYTES, *_TEXT, POINTER(Fields)],
-    "is_ice_json_fields": [*_BYTES, *_TEXT, POINTER(Fields)],
-    "is_ice_line_to_json": [*_BYTES, *_TEXT],
-    "is_ice_line_from_json": [*_BYTES, *_TEXT],
-    "is_ice_json_refusal": [*_BYTES, *_TEXT],
-    "is_ice_candidate_preference": [POINTER(Candidate), c_size_t, POINTER(c_uint32)],
-    "is_ice_line_preference": [*_BYTES, c_size_t, POINTER(c_uint32)],
-    "is_ice_is_host_address": [POINTER(Address)],
-    "is_ice_agent_new": [_AGENT, *_BYTES, *_BYTES, c_uint64],
-    "is_ice_set_controlling": [_AGENT, c_bool],
-    "is_ice_role": [c_bool, c_bool, c_bool],
-    "is_ice_set_lite": [_AGENT, c_bool],
-    "is_ice_set_renomination": [_AGENT, c_bool],
-    "is_ice_set_lite_timeout": [_AGENT, c_uint64],
-    "is_ice_set_tie_breaker": [_AGENT, c_uint64],
-    "is_ice_set_max_pairs": [_AGENT, c_size_t],
-    "is_ice_set_max_discovered": [_AGENT, c_size_t],
-    "is_ice_set_max_candidates": [_AGENT, c_size_t],
-    "is_ice_set_timing_advance": [_AGENT, c_uint64],
-    "is_ice_set_initial_rto": [_AGENT, c_uint64],
-    "is_ice_set_max_rto": [_AGENT, c_uint64],
-    "is_ice_set_max_retransmits": [_AGENT, c_size_t],
-    "is_ice_modern_rules": [POINTER(AgentRules)],
-    "is_ice_original_rules": [POINTER(AgentRules)],
-    "is_ice_set_rules": [_AGENT, POINTER(AgentRules)],
-    "is_ice_set_mtu": [_AGENT, c_size_t, c_size_t],
-    "is_ice_skip_pair_ids": [_AGENT, c_uint64],
-    "is_ice_set_local_preference": [_AGENT, c_uint16],
-    "is_ice_set_preference_table": [_AGENT, POINTER(PreferenceTable)],
-    "is_ice_reset_local_preference": [_AGENT],
-    "is_ice_set_local_credentials": [_AGENT, *_BYTES, *_BYTES],
-    "is_ice_set_remote_credentials": [_AGENT, *_BYTES, *_BYTES],
-    "is_ice_add_local": [_AGENT, POINTER(Candidate), POINTER(c_size_t)],
-    "is_ice_add_remote": [_AGENT, *_BYTES, POINTER(c_size_t)],
-    "is_ice_invalidate_local": [_AGENT, POINTER(Candidate)],
-    "is_ice_invalidate": [_AGENT, *_BYTES],
-    "is_ice_alike_local": [_AGENT, POINTER(Candidate), POINTER(c_size_t)],
-    "is_ice_local_candidate": [_AGENT, c_size_t, *_TEXT],
-    "is_ice_remote_candidate": [_AGENT, c_size_t, *_TEXT],
-    "is_ice_local_fields": [_AGENT, c_size_t, *_TEXT, POINTER(Fields)],
-    "is_ice_remote_fields": [_AGENT, c_size_t, *_TEXT, POINTER(Fields)],
-    "is_ice_handle_packet": [_AGENT, c_uint64, *_PATH, *_BYTES],
-    "is_ice_handle_timeout": [_AGENT, c_uint64, *_BYTES],
-    "is_ice_accepts_packet": [_AGENT, *_PATH, *_BYTES],
-    "is_ice_accepts_message": [_AGENT, *_BYTES],
-    "is_ice_poll_transmit": [_AGENT, c_void_p, c_size_t, POINTER(Packet)],
-    "is_ice_poll_event": [_AGENT, POINTER(Event)],
-    "is_ice_poll_timeout": [_AGENT, POINTER(c_uint64)],
-    "is_ice_poll_timeout_soon": [_AGENT, POINTER(c_uint64)],
-    "is_ice_restart": [_AGENT, *_BYTES, *_BYTES, c_bool],
-    "is_ice_recreate_pairs": [_AGENT],
-    "is_ice_status": [_AGENT, POINTER(Status)],
-    "is_ice_rules": [_AGENT, POINTER(AgentRules)],
-    "is_ice_stats": [_AGENT, POINTER(Stats)],
-    "is_ice_nominated": [_AGENT, POINTER(Nominated)],
-    "is_ice_valid_path": [_AGENT, POINTER(MediaPath)],
-    "is_ice_early_count": [_AGENT, POINTER(c_size_t)],
-    "is_ice_pair_count": [_AGENT, POINTER(c_size_t)],
-    "is_ice_pair_at": [_AGENT, c_size_t, POINTER(Pair)],
-    "is_ice_removed_count": [_AGENT, POINTER(c_size_t)],
-    "is_ice_removed_at": [_AGENT, c_size_t, POINTER(RemovedPair)],
-    "is_ice_find_pair": [_AGENT, *_BYTES, POINTER(Pair)],
-    "is_ice_has_viable_remote": [_AGENT, POINTER(Address)],
-    "is_ice_local_ufrag": [_AGENT, *_TEXT],
-    "is_ice_local_pass": [_AGENT, *_TEXT],
-    "is_ice_remote_ufrag": [_AGENT, *_TEXT],
-    "is_ice_remote_pass": [_AGENT, *_TEXT],
-    "is_ice_stun_request": [POINTER(StunTransaction), *_TEXT],
-    "is_ice_stun_response": [POINTER(StunTransaction), *_BYTES, POINTER(StunResult)],
-    "is_ice_stun_text": [c_uint16, *_BYTES, *_TEXT],
-    "is_ice_is_stun": [*_BYTES],
-    "is_ice_stun_read": [*_BYTES, POINTER(StunMessage)],
-    "is_ice_stun_read_strict": [*_BYTES, POINTER(StunMessage)],
-    "is_ice_stun_username": [*_BYTES, *_TEXT, POINTER(c_size_t)],
-    "is_ice_username_parts": [*_BYTES, POINTER(c_size_t)],
-    "is_ice_hmac_sha1": [*_BYTES, *_BYTES, *_TEXT],
-    "is_ice_stun_verify": [*_BYTES, *_BYTES],
-    "is_ice_stun_write": [POINTER(StunMessage), POINTER(StunTexts), *_BYTES, *_BYTES, *_TEXT],
+# The size that the header asserts of each struct.
+SIZES: dict[type[ctypes.Structure], int] = {
+    Agent: 16,
+    Address: 28,
+    Candidate: 60,
+    Fields: 120,
+    Packet: 72,
+    Event: 68,
+    AgentStatus: 40,
+    AgentStats: 40,
+    NominatedPair: 88,
+    MediaPath: 60,
+    Pair: 96,
+    RemovedPair: 104,
+    KindPreferences: 8,
+    PreferenceTable: 16,
+    AgentRules: 64,
+    StunTransaction: 12,
+    StunResult: 32,
+    StunNumber: 16,
+    StunMessage: 248,
+    StunSpan: 24,
+    StunTexts: 144,
 }
 
-
-def library_path() -> Path:
-    """The shared library: the one next to this module, else that of IS_ICE_LIB, else that of python/build in a clone.
-
-    If IS_ICE_LIB names an archive (.a), as for C and Rust, it is the one that python/build linked from it."""
-    folder = Path(__file__).resolve().parent
-    installed, named = folder / NAME, os.environ.get("IS_ICE_LIB", "")
-    if installed.exists():
-        return installed
-    return Path(named) if named and not named.endswith(".a") else folder.parent / "out" / NAME
-
-
-def load(path: Path | None = None) -> ctypes.CDLL:
-    """Loads the library and sets its prototypes. OSError if it does not exist or has another version."""
-    path = path or library_path()
-    if not path.exists():
-        raise OSError(f"{path} does not exist: run python/build, or set IS_ICE_LIB to a shared library")
-    library = ctypes.CDLL(str(path))
-    library.is_ice_version.restype, library.is_ice_version.argtypes = c_uint32, []
-    if library.is_ice_version() != VERSION:
-        raise OSError(f"{path} has version {library.is_ice_version()} of the interface; this module needs {VERSION}")
-    library.is_ice_agent_free.restype, library.is_ice_agent_free.argtypes = None, [_AGENT]
-    for name, arguments in PROTOTYPES.items():
-        function = getattr(library, name)
-        function.restype, function.argtypes = c_int32, arguments
-    return library
-
-
-def undeclared(library: ctypes.CDLL) -> ctypes.PyDLL:
-    """Returns the same library without prototypes. Its calls hold the interpreter's lock; `_loop_calls` says how to call it."""
-    return ctypes.PyDLL(library._name, handle=library._handle)
+# The arguments of each call that returns a code.
+PROTOTYPES: dict[str, list[object]] = {
+    "is_ice_make_credentials": [c_char_p, c_size_t, c_void_p, c_size_t, c_void_p, c_size_t],
+    "is_ice_check_text": [c_uint8, c_char_p, c_size_t],
+    "is_ice_agent_new": [POINTER(Agent), c_char_p, c_size_t, c_char_p, c_size_t, c_uint64],
+    "is_ice_set_controlling": [POINTER(Agent), c_bool],
+    "is_ice_role": [c_bool, c_bool, c_bool],
+    "is_ice_set_lite": [POINTER(Agent), c_bool],
+    "is_ice_set_renomination": [POINTER(Agent), c_bool],
+    "is_ice_set_lite_timeout": [POINTER(Agent), c_uint64],
+    "is_ice_set_tie_breaker": [POINTER(Agent), c_uint64],
+    "is_ice_set_max_pairs": [POINTER(Agent), c_size_t],
+    "is_ice_set_max_discovered": [POINTER(Agent), c_size_t],
+    "is_ice_set_max_candidates": [POINTER(Agent), c_size_t],
+    "is_ice_set_timing_advance": [POINTER(Agent), c_uint64],
+    "is_ice_set_initial_rto": [POINTER(Agent), c_uint64],
+    "is_ice_set_max_rto": [POINTER(Agent), c_uint64],
+    "is_ice_set_max_retransmits": [POINTER(Agent), c_size_t],
+    "is_ice_retransmit_timeout": [c_uint64, c_uint64, c_size_t, POINTER(c_uint64)],
+    "is_ice_retransmit_delay": [c_uint64, c_uint64, c_size_t, c_size_t, POINTER(c_uint64)],
+    "is_ice_modern_rules": [POINTER(AgentRules)],
+    "is_ice_original_rules": [POINTER(AgentRules)],
+    "is_ice_set_rules": [POINTER(Agent), POINTER(AgentRules)],
+    "is_ice_set_mtu": [POINTER(Agent), c_size_t, c_size_t],
+    "is_ice_skip_pair_ids": [POINTER(Agent), c_uint64],
+    "is_ice_set_local_preference": [POINTER(Agent), c_uint16],
+    "is_ice_set_preference_table": [POINTER(Agent), POINTER(PreferenceTable)],
+    "is_ice_reset_local_preference": [POINTER(Agent)],
+    "is_ice_set_local_credentials": [POINTER(Agent), c_char_p, c_size_t, c_char_p, c_size_t],
+    "is_ice_set_remote_credentials": [POINTER(Agent), c_char_p, c_size_t, c_char_p, c_size_t],
+    "is_ice_is_host_address": [POINTER(Address)],
+    "is_ice_add_local": [POINTER(Agent), POINTER(Candidate), POINTER(c_size_t)],
+    "is_ice_add_remote": [POINTER(Agent), c_char_p, c_size_t, POINTER(c_size_t)],
+    "is_ice_invalidate_local": [POINTER(Agent), POINTER(Candidate)],
+    "is_ice_invalidate": [POINTER(Agent), c_char_p, c_size_t],
+    "is_ice_local_candidate": [POINTER(Agent), c_size_t, c_void_p, c_size_t, POINTER(c_size_t)],
+    "is_ice_remote_candidate": [POINTER(Agent), c_size_t, c_void_p, c_size_t, POINTER(c_size_t)],
+    "is_ice_local_fields": [POINTER(Agent), c_size_t, c_void_p, c_size_t, POINTER(c_size_t), POINTER(Fields)],
+    "is_ice_remote_fields": [POINTER(Agent), c_size_t, c_void_p, c_size_t, POINTER(c_size_t), POINTER(Fields)],
+    "is_ice_line_refusal": [c_char_p, c_size_t, c_void_p, c_size_t, POINTER(c_size_t)],
+    "is_ice_candidate_refusal": [POINTER(Candidate), c_void_p, c_size_t, POINTER(c_size_t)],
+    "is_ice_alike_local": [POINTER(Agent), POINTER(Candidate), POINTER(c_size_t)],
+    "is_ice_candidate_line": [POINTER(Candidate), c_void_p, c_size_t, POINTER(c_size_t)],
+    "is_ice_line_fields": [c_char_p, c_size_t, c_void_p, c_size_t, POINTER(c_size_t), POINTER(Fields)],
+    "is_ice_fields_line": [POINTER(Fields), c_char_p, c_size_t, c_void_p, c_size_t, POINTER(c_size_t), POINTER(Fields)],
+    "is_ice_candidate_fields": [POINTER(Candidate), c_void_p, c_size_t, POINTER(c_size_t), POINTER(Fields)],
+    "is_ice_line_name": [c_char_p, c_size_t, c_void_p, c_size_t, POINTER(c_size_t)],
+    "is_ice_line_with_address": [c_char_p, c_size_t, POINTER(Address), c_void_p, c_size_t, POINTER(c_size_t)],
+    "is_ice_line_with_ufrag": [c_char_p, c_size_t, c_char_p, c_size_t, c_void_p, c_size_t, POINTER(c_size_t)],
+    "is_ice_line_with_address_fields": [c_char_p, c_size_t, POINTER(Address), c_void_p, c_size_t, POINTER(c_size_t), POINTER(Fields)],
+    "is_ice_line_with_ufrag_fields": [c_char_p, c_size_t, c_char_p, c_size_t, c_void_p, c_size_t, POINTER(c_size_t), POINTER(Fields)],
+    "is_ice_line_to_json": [c_char_p, c_size_t, c_void_p, c_size_t, POINTER(c_size_t)],
+    "is_ice_line_from_json": [c_char_p, c_size_t, c_void_p, c_size_t, POINTER(c_size_t)],
+    "is_ice_json_fields": [c_char_p, c_size_t, c_void_p, c_size_t, POINTER(c_size_t), POINTER(Fields)],
+    "is_ice_json_refusal": [c_char_p, c_size_t, c_void_p, c_size_t, POINTER(c_size_t)],
+    "is_ice_candidate_preference": [POINTER(Candidate), c_size_t, POINTER(c_uint32)],
+    "is_ice_line_preference": [c_char_p, c_size_t, c_size_t, POINTER(c_uint32)],
+    "is_ice_handle_timeout": [POINTER(Agent), c_uint64, c_char_p, c_size_t],
+    "is_ice_handle_packet": [POINTER(Agent), c_uint64, c_uint8, POINTER(Address), POINTER(Address), c_char_p, c_size_t],
+    "is_ice_accepts_packet": [POINTER(Agent), c_uint8, POINTER(Address), POINTER(Address), c_char_p, c_size_t],
+    "is_ice_accepts_message": [POINTER(Agent), c_char_p, c_size_t],
+    "is_ice_poll_timeout": [POINTER(Agent), POINTER(c_uint64)],
+    "is_ice_poll_timeout_soon": [POINTER(Agent), POINTER(c_uint64)],
+    "is_ice_poll_transmit": [POINTER(Agent), c_void_p, c_size_t, POINTER(Packet)],
+    "is_ice_poll_event": [POINTER(Agent), POINTER(Event)],
+    "is_ice_restart": [POINTER(Agent), c_char_p, c_size_t, c_char_p, c_size_t, c_bool],
+    "is_ice_recreate_pairs": [POINTER(Agent)],
+    "is_ice_status": [POINTER(Agent), POINTER(AgentStatus)],
+    "is_ice_rules": [POINTER(Agent), POINTER(AgentRules)],
+    "is_ice_stats": [POINTER(Agent), POINTER(AgentStats)],
+    "is_ice_nominated": [POINTER(Agent), POINTER(NominatedPair)],
+    "is_ice_valid_path": [POINTER(Agent), POINTER(MediaPath)],
+    "is_ice_early_count": [POINTER(Agent), POINTER(c_size_t)],
+    "is_ice_pair_count": [POINTER(Agent), POINTER(c_size_t)],
+    "is_ice_pair_at": [POINTER(Agent), c_size_t, POINTER(Pair)],
+    "is_ice_removed_count": [POINTER(Agent), POINTER(c_size_t)],
+    "is_ice_removed_at": [POINTER(Agent), c_size_t, POINTER(RemovedPair)],
+    "is_ice_find_pair": [POINTER(Agent), c_char_p, c_size_t, POINTER(Pair)],
+    "is_ice_has_viable_remote": [POINTER(Agent), POINTER(Address)],
+    "is_ice_local_ufrag": [POINTER(Agent), c_void_p, c_size_t, POINTER(c_size_t)],
+    "is_ice_local_pass": [POINTER(Agent), c_void_p, c_size_t, POINTER(c_size_t)],
+    "is_ice_remote_ufrag": [POINTER(Agent), c_void_p, c_size_t, POINTER(c_size_t)],
+    "is_ice_remote_pass": [POINTER(Agent), c_void_p, c_size_t, POINTER(c_size_t)],
+    "is_ice_stun_request": [POINTER(StunTransaction), c_void_p, c_size_t, POINTER(c_size_t)],
+    "is_ice_stun_response": [POINTER(StunTransaction), c_char_p, c_size_t, POINTER(StunResult)],
+    "is_ice_stun_text": [c_uint16, c_char_p, c_size_t, c_void_p, c_size_t, POINTER(c_size_t)],
+    "is_ice_is_stun": [c_char_p, c_size_t],
+    "is_ice_stun_read": [c_char_p, c_size_t, POINTER(StunMessage)],
+    "is_ice_stun_read_strict": [c_char_p, c_size_t, POINTER(StunMessage)],
+    "is_ice_stun_username": [c_char_p, c_size_t, c_void_p, c_size_t, POINTER(c_size_t), POINTER(c_size_t)],
+    "is_ice_username_parts": [c_char_p, c_size_t, POINTER(c_size_t)],
+    "is_ice_stun_verify": [c_char_p, c_size_t, c_char_p, c_size_t],
+    "is_ice_hmac_sha1": [c_char_p, c_size_t, c_char_p, c_size_t, c_void_p, c_size_t, POINTER(c_size_t)],
+    "is_ice_stun_write": [
+        POINTER(StunMessage),
+        POINTER(StunTexts),
+        c_char_p,
+        c_size_t,
+        c_char_p,
+        c_size_t,
+        c_void_p,
+        c_size_t,
+        POINTER(c_size_t),
+    ],
+}

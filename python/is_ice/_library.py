@@ -3,14 +3,44 @@
 from __future__ import annotations
 
 import ctypes
+import os
 from collections.abc import Callable
-from ctypes import byref, c_size_t, create_string_buffer, string_at
+from ctypes import POINTER, byref, c_int32, c_size_t, c_uint32, create_string_buffer, string_at
 from functools import cached_property
+from pathlib import Path
 
 from . import _abi
-from .errors import BUFFER_TOO_SHORT, BadCandidate, done, error_of
+from .errors import BadCandidate, done, error_of
 
+NAME = "libis_ice.so"
 _BUFFER_LENGTH = 256
+
+
+def library_path() -> Path:
+    """The shared library: the one next to this module, else that of IS_ICE_LIB, else that of python/build in a clone.
+
+    If IS_ICE_LIB names an archive (.a), as for C and Rust, it is the one that python/build linked from it."""
+    folder = Path(__file__).resolve().parent
+    installed, named = folder / NAME, os.environ.get("IS_ICE_LIB", "")
+    if installed.exists():
+        return installed
+    return Path(named) if named and not named.endswith(".a") else folder.parent / "out" / NAME
+
+
+def load(path: Path | None = None) -> ctypes.CDLL:
+    """Loads the library and sets its prototypes. OSError if it does not exist or has another version."""
+    path = path or library_path()
+    if not path.exists():
+        raise OSError(f"{path} does not exist: run python/build, or set IS_ICE_LIB to a shared library")
+    loaded = ctypes.CDLL(str(path))
+    loaded.is_ice_version.restype, loaded.is_ice_version.argtypes = c_uint32, []
+    if loaded.is_ice_version() != _abi.VERSION:
+        raise OSError(f"{path} has version {loaded.is_ice_version()} of the interface; this module needs {_abi.VERSION}")
+    loaded.is_ice_agent_free.restype, loaded.is_ice_agent_free.argtypes = None, [POINTER(_abi.Agent)]
+    for name, arguments in _abi.PROTOTYPES.items():
+        function = getattr(loaded, name)
+        function.restype, function.argtypes = c_int32, arguments
+    return loaded
 
 
 class _Library:
@@ -19,12 +49,12 @@ class _Library:
     @cached_property
     def calls(self) -> ctypes.CDLL:
         """The library with its prototypes."""
-        return _abi.load()
+        return load()
 
     @cached_property
     def loop_calls(self) -> ctypes.PyDLL:
-        """The library for the calls that a loop makes all the time."""
-        return _abi.undeclared(self.calls)
+        """The same library without prototypes, whose calls hold the interpreter's lock: `_loop_calls` says how to call it."""
+        return ctypes.PyDLL(self.calls._name, handle=self.calls._handle)
 
 
 library = _Library()
@@ -36,7 +66,7 @@ def bytes_from(call: Callable[..., int], size: int = _BUFFER_LENGTH) -> bytes | 
     while True:
         buffer = create_string_buffer(size)
         code = call(buffer, size, byref(length))
-        if code == BUFFER_TOO_SHORT:
+        if code == _abi.BUFFER_TOO_SHORT:
             size = length.value
         else:
             return string_at(buffer, length.value) if done(code) else None

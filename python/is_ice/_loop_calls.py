@@ -14,8 +14,9 @@ from ctypes import byref, c_size_t, c_uint8, c_uint64, create_string_buffer
 from functools import partial
 
 from . import _abi
+from ._abi import BUFFER_TOO_SHORT, NOTHING, OK
 from .address import PATHS, POINTERS, PROTOCOLS, Protocol, SocketAddress, in_range
-from .errors import BUFFER_TOO_SHORT, NOTHING, OK, done
+from .errors import done
 from .events import Transmit
 
 # is_ice_packet as bytes: source and destination, the length, the protocol.
@@ -43,7 +44,7 @@ class _Arguments:
         self.poll_timeout_soon = partial(library.is_ice_poll_timeout_soon, agent, byref(self.due))
         self.poll_event = partial(library.is_ice_poll_event, agent, byref(self.event))
         self.poll_transmit = partial(library.is_ice_poll_transmit, agent)
-        self.pair = _abi.Nominated()  # the longer one of both structs
+        self.pair = _abi.NominatedPair()  # the longer one of both structs
         self.nominated = partial(library.is_ice_nominated, agent, byref(self.pair))
         self.valid_path = partial(library.is_ice_valid_path, agent, byref(self.pair))
         self.make_room(_PACKET_LENGTH)

@@ -144,8 +144,8 @@ class Settings(Unique):
     # ---- what is set
 
     @property
-    def _status(self) -> _abi.Status:
-        status = _abi.Status()
+    def _status(self) -> _abi.AgentStatus:
+        status = _abi.AgentStatus()
         done(self._c.is_ice_status(self._at, byref(status)))
         return status
 

@@ -18,10 +18,10 @@ V = TypeVar("V")
 class Protocol(enum.IntEnum):
     """The transport protocol of a candidate's packets."""
 
-    UDP = 0
-    TCP = 1
-    SSL_TCP = 2
-    TLS = 3
+    UDP = _abi.UDP
+    TCP = _abi.TCP
+    SSL_TCP = _abi.SSL_TCP
+    TLS = _abi.TLS
 
 
 PROTOCOLS = tuple(Protocol)  # by number: a subscript takes less time than `Protocol(number)`

@@ -236,11 +236,11 @@ class IceAgent(Settings):
         with self._lock:
             if (event := self._loop.poll_event()) is None:
                 return None
-            if event.kind == 1:
+            if event.kind == _abi.RESTARTED:
                 return IceRestart(self.local_credentials)
-        if event.kind == 2:
+        if event.kind == _abi.STATE_CHANGED:
             return IceConnectionStateChange(IceConnectionState(event.state))
-        if event.kind == 3:
+        if event.kind == _abi.DISCOVERED_RECV:
             return DiscoveredRecv(PROTOCOLS[event.protocol], socket_of(event.source))
         return NominatedSend(PROTOCOLS[event.protocol], socket_of(event.source), socket_of(event.destination))
 
@@ -265,9 +265,9 @@ class IceAgent(Settings):
     @property
     def stats(self) -> IceAgentStats:
         """Counters since the last restart."""
-        stats = _abi.Stats()
+        stats = _abi.AgentStats()
         done(self._c.is_ice_stats(self._at, byref(stats)))
-        return IceAgentStats(*(getattr(stats, name) for name, _ in _abi.Stats._fields_))
+        return IceAgentStats(*(getattr(stats, name) for name, _ in _abi.AgentStats._fields_))
 
     @property
     def early_requests(self) -> int:
@@ -279,7 +279,7 @@ class IceAgent(Settings):
     @property
     def nominated_pair(self) -> NominatedPair | None:
         """Addresses and figures of the selected pair, or None if no pair was selected or it was removed."""
-        pair = _abi.Nominated()
+        pair = _abi.NominatedPair()
         if not done(self._c.is_ice_nominated(self._at, byref(pair))):
             return None
         return NominatedPair(pair.total_rtt, pair.responses, pair.rtt if pair.has_rtt else None, socket_of(pair.source),

@@ -13,18 +13,18 @@ from .address import PROTOCOLS, Protocol, SocketAddress, address_of, in_range, s
 class CandidateKind(enum.IntEnum):
     """The kinds of candidates (RFC 8445, section 5.1.1). The agent discovers peer-reflexive ones: nobody gathers them."""
 
-    HOST = 0
-    SERVER_REFLEXIVE = 1
-    RELAYED = 2
-    PEER_REFLEXIVE = 3
+    HOST = _abi.HOST
+    SERVER_REFLEXIVE = _abi.SERVER_REFLEXIVE
+    RELAYED = _abi.RELAYED
+    PEER_REFLEXIVE = _abi.PEER_REFLEXIVE
 
 
 class TcpType(enum.IntEnum):
     """Which side opens the connection of a TCP candidate (RFC 6544, section 4.5): the candidate's, the other one, or both at once."""
 
-    ACTIVE = 1
-    PASSIVE = 2
-    SO = 3
+    ACTIVE = _abi.TCP_ACTIVE
+    PASSIVE = _abi.TCP_PASSIVE
+    SO = _abi.TCP_SO
 
 
 @dataclass(frozen=True)
@@ -107,10 +107,10 @@ class AddResult(enum.Enum):
     """
 
     # the codes of is_ice_add_remote
-    ADDED = 0
-    KNOWN = 1
-    OTHER_COMPONENT = 2
-    OTHER_UFRAG = 3
+    ADDED = _abi.OK
+    KNOWN = _abi.NOTHING
+    OTHER_COMPONENT = _abi.OTHER_COMPONENT
+    OTHER_UFRAG = _abi.OTHER_UFRAG
 
     @property
     def is_ignored(self) -> bool:
@@ -134,5 +134,5 @@ def struct_of(candidate: Candidate) -> _abi.Candidate:
     ctypes.memmove(ctypes.byref(struct, _abi.Candidate.base.offset), ctypes.byref(address_of(candidate.base)), 28)
     struct.kind = candidate.kind
     struct.protocol = candidate.protocol
-    struct.tcptype = candidate.tcptype or 0
+    struct.tcptype = candidate.tcptype or _abi.TCP_UNSTATED
     return struct

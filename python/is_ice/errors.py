@@ -2,14 +2,11 @@
 
 from __future__ import annotations
 
-OK = 0
-NOTHING = 1
-UNPARSED = -5
-BUFFER_TOO_SHORT = -6
+from . import _abi
 
 
 class IceError(Exception):
-    """A call failed. `code` is its return code in c/is_ice.h."""
+    """A call failed. `code` is its return code in c/is_ice.h, and `text` the text of that."""
 
     code = 0
     text = "unknown code"
@@ -21,112 +18,114 @@ class IceError(Exception):
 class NoAgent(IceError):
     """The agent was closed."""
 
-    code, text = -1, "no agent"
+    code = _abi.NO_AGENT
 
 
 class HasAgent(IceError):
     """An agent was created in the place of another one."""
 
-    code, text = -2, "there is an agent already"
+    code = _abi.HAS_AGENT
 
 
 class NotUtf8(IceError, ValueError):
     """A text is not UTF-8: a `str` has a lone surrogate."""
 
-    code, text = -3, "text is not UTF-8"
+    code = _abi.NOT_UTF8
 
 
 class BadAddress(IceError):
     """An unknown IP version, protocol or kind of candidate."""
 
-    code, text = -4, "bad address family, protocol or kind"
+    code = _abi.BAD_ADDRESS
 
 
 class Unparsed(IceError):
     """The bytes are not a STUN message, as media, or are one without MESSAGE-INTEGRITY, as a STUN server's response."""
 
-    code, text = UNPARSED, "no STUN message"
+    code = _abi.UNPARSED
 
 
 class BufferTooShort(IceError):
     """A buffer is too short. The module enlarges its buffers, so no call raises this."""
 
-    code, text = BUFFER_TOO_SHORT, "buffer too short"
+    code = _abi.BUFFER_TOO_SHORT
 
 
 class OutOfMemory(IceError):
     """An allocation failed."""
 
-    code, text = -7, "out of memory"
+    code = _abi.OUT_OF_MEMORY
 
 
 class BadCandidate(IceError, ValueError):
     """An address that no candidate may have, or a text that is not a candidate. The message says what is wrong."""
 
-    code, text = -8, "bad candidate"
+    code = _abi.BAD_CANDIDATE
 
 
 class PairIdsExhausted(IceError):
     """The call may form more pairs than there are pair numbers left."""
 
-    code, text = -9, "pair ids exhausted"
+    code = _abi.PAIR_IDS_EXHAUSTED
 
 
 class MtuTooSmall(IceError):
     """An MTU below 588 bytes, the length of the longest connectivity check without NOMINATION."""
 
-    code, text = -10, "MTU target too small"
+    code = _abi.MTU_TOO_SMALL
 
 
 class CredentialsTooLong(IceError):
     """Both username fragments and a colon are longer than 508 bytes."""
 
-    code, text = -11, "ICE credentials too long"
+    code = _abi.CREDENTIALS_TOO_LONG
 
 
 class PriorityTooHigh(IceError):
     """A local candidate of priority 4294967295."""
 
-    code, text = -12, "candidate priority too high"
+    code = _abi.PRIORITY_TOO_HIGH
 
 
 class BadLimit(IceError):
     """A limit of 0 retransmits."""
 
-    code, text = -13, "bad limit"
+    code = _abi.BAD_LIMIT
 
 
 class TooFewRandomBytes(IceError):
     """Fewer random bytes than the call needs."""
 
-    code, text = -14, "too few random bytes"
+    code = _abi.TOO_FEW_RANDOM_BYTES
 
 
 class BadMessage(IceError):
     """A STUN message that cannot be written: an unknown method, or an error code outside 300 to 699."""
 
-    code, text = -15, "STUN message that cannot be written"
+    code = _abi.BAD_MESSAGE
 
 
 class MessageTooLong(IceError):
     """USERNAME is longer than 508 bytes, another text than 128, or DATA or all attributes are longer than 65535."""
 
-    code, text = -16, "STUN message or one of its texts too long"
+    code = _abi.MESSAGE_TOO_LONG
 
 
 class TooManyCandidates(IceError):
     """There are as many candidates of the side as `IceAgent.set_max_candidates` allows."""
 
-    code, text = -17, "too many candidates"
+    code = _abi.TOO_MANY_CANDIDATES
 
 
 class LiteStaysControlled(IceError):
     """A lite agent that keeps its role (`Rules.lite_keeps_role`) was to be controlling."""
 
-    code, text = -18, "lite agent stays controlled"
+    code = _abi.LITE_STAYS_CONTROLLED
 
 
 _BY_CODE: dict[int, type[IceError]] = {kind.code: kind for kind in IceError.__subclasses__()}
+for _code, _kind in _BY_CODE.items():
+    _kind.text = _abi.TEXTS[_code]
 
 
 def error_of(code: int, detail: str = "") -> IceError:
@@ -138,7 +137,7 @@ def error_of(code: int, detail: str = "") -> IceError:
 def done(code: int) -> bool:
     """Returns True for IS_ICE_OK and False for another code that is no error; raises the exception of an error."""
     if code >= 0:
-        return code == OK
+        return code == _abi.OK
     raise error_of(code)
 
 

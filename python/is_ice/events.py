@@ -6,6 +6,7 @@ import enum
 from dataclasses import dataclass, field
 from typing import NamedTuple, Union
 
+from . import _abi
 from .address import Protocol, SocketAddress
 
 
@@ -17,11 +18,11 @@ class IceConnectionState(enum.IntEnum):
     is lite. DISCONNECTED: no valid pair is nominated, and none may be; new candidates or checks of the peer may change that.
     """
 
-    NEW = 0
-    CHECKING = 1
-    CONNECTED = 2
-    COMPLETED = 3
-    DISCONNECTED = 4
+    NEW = _abi.NEW
+    CHECKING = _abi.CHECKING
+    CONNECTED = _abi.CONNECTED
+    COMPLETED = _abi.COMPLETED
+    DISCONNECTED = _abi.DISCONNECTED
 
     def __str__(self) -> str:
         return f"State.{self.name.capitalize()}"
@@ -103,9 +104,9 @@ class IceAgentStats:
 class CheckState(enum.IntEnum):
     """States of a pair's checks (RFC 8445, section 6.1.2.6). WAITING: none was sent. IN_PROGRESS: none had a response. SUCCEEDED: valid."""
 
-    WAITING = 0
-    IN_PROGRESS = 1
-    SUCCEEDED = 2
+    WAITING = _abi.PAIR_WAITING
+    IN_PROGRESS = _abi.PAIR_IN_PROGRESS
+    SUCCEEDED = _abi.PAIR_SUCCEEDED
 
 
 @dataclass(frozen=True)
@@ -150,12 +151,12 @@ class Removal(enum.IntEnum):
     the same path replaced it. INVALIDATED: a candidate of it was invalidated. It prints as `no response`.
     """
 
-    NO_RESPONSE = 1
-    CONSENT_LOST = 2
-    PEER_SILENT = 3
-    EVICTED = 4
-    REPLACED = 5
-    INVALIDATED = 6
+    NO_RESPONSE = _abi.REMOVED_NO_RESPONSE
+    CONSENT_LOST = _abi.REMOVED_CONSENT_LOST
+    PEER_SILENT = _abi.REMOVED_PEER_SILENT
+    EVICTED = _abi.REMOVED_EVICTED
+    REPLACED = _abi.REMOVED_REPLACED
+    INVALIDATED = _abi.REMOVED_INVALIDATED
 
     def __str__(self) -> str:
         return self.name.replace("_", " ").lower()

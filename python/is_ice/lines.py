@@ -9,7 +9,7 @@ from . import _abi
 from ._library import bytes_or_refusal, library, text_from
 from .address import SocketAddress, address_of, in_range
 from .candidate import Candidate, CandidateFields, fields_of, struct_of
-from .errors import NOTHING, done, utf8
+from .errors import done, utf8
 
 
 def line_refusal(line: str) -> str | None:
@@ -22,7 +22,7 @@ def _refusal(text: bytes) -> Callable[..., int]:
 
 
 def _no_refusal(*_: object) -> int:
-    return NOTHING
+    return _abi.NOTHING
 
 
 def line_fields(line: str) -> CandidateFields:

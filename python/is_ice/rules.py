@@ -42,58 +42,39 @@ class Consent:
 class Rules:
     """What an agent does beyond the original's behavior, one field for each rule. An agent begins with `Rules.modern()`.
 
-    `dataclasses.replace(agent.rules, kinds_in_turn=False)` changes one rule. A later version may have further fields.
+    `dataclasses.replace(agent.rules, kinds_in_turn=False)` changes one rule. A later version may have further fields. The guide says of
+    each rule what it does, and what it costs (docs/GUIDE.md, "Rules").
 
-    `kinds_in_turn`: until a path is selected, every second check goes to the next kind of pairs, and the others to the pair that is due
-    first, as without the rule (RFC 8445, section 6.1.4.2). So a path through NATs is found soon, however many host candidates there
-    are. The kind of a pair is the kind of its remote candidate, its IP version, and whether packets of its local candidate reach the
-    outside. They do if the candidate is relayed, if its base has a server-reflexive candidate or a public address, or if no base of its
-    IP version has either. A host candidate with a public address counts as server-reflexive. An address of IPv4 is public if it is not
-    private (RFC 1918), shared (RFC 6598), loopback or link-local, and one of IPv6 if it is in 2000::/3 (RFC 4291, section 2.4). While
-    there are more pairs than `set_max_candidate_pairs` allows, the lowest pair of the kind that has the most is removed.
+    `kinds_in_turn`: until a path is selected, every second check goes to the next kind of pairs (RFC 8445, section 6.1.4.2). While there
+    are more pairs than `set_max_candidate_pairs` allows, the lowest pair of the kind that has the most is removed.
 
-    `triggered_checks`: each of the first so many requests on a pair makes its next check due at once, until the pair is valid (RFC
-    8445, section 7.3.1.4). Every second check may go to such a pair, or to one whose nomination has no response yet, before pairs that
-    are due earlier. 0 is the same as None.
+    `triggered_checks`: each of the first so many requests on a pair makes it due at once, until it is valid, and every second check may go
+    to such a pair first (RFC 8445, section 7.3.1.4). 0 is the same as None.
 
-    `early_rto`: as long as no response arrived on a pair, its first so many retransmissions come an interval apart. Each later delay is
-    twice the one before, up to the cap. This goes on for `ice_timeout` after the pair's first check; then the RTO counts. The checks that
-    nominate a pair which had a response come so, too, until one has a response, or as many have none as `set_max_stun_retransmits` says.
-    The number of checks ends no pair sooner: one without any response is kept for `ice_timeout` after its first check at least, and one
-    that had a response for as long after the first check without one. Pairs whose due time is fixed already keep it when rules are set.
-    RFC 8445, section 14.3, has an RTO of 500 ms or more: shorter delays find a path sooner if the network loses packets or the peer begins
-    late, and send more on a path with long delays.
+    `early_rto`: as long as no response arrives on a pair, its first so many retransmissions come at an interval, and the delays after them
+    double up to a cap (RFC 8445, section 14.3).
 
-    `selects_at_once`: a controlled agent selects a pair in the `handle_packet` call of the request that nominates it, if the pair was
-    valid before (RFC 8445, section 7.3.1.5), and not only in the next `handle_timeout` call.
+    `selects_at_once`: a controlled agent selects a valid pair when the request arrives that nominates it (RFC 8445, section 7.3.1.5).
 
-    `consent`: a pair is removed so long after its last check that got a response was sent, however many pairs there are (RFC 7675,
-    section 5.1). `poll_timeout` returns a time no later than this, except for pacing. What removes a pair without this rule still does.
+    `consent`: a pair is removed so long after its last answered check was sent (RFC 7675, section 5.1).
 
     `early_pacing`: until the agent has a path, and if it is controlling has sent the check that nominates it, the pacing interval Ta is at
-    most so many nanoseconds, and so short that each pair can be checked once in half a second; but at least 5 ms (RFC 8445, section 14.2).
-    So the pair that works is checked sooner if there are many. A shorter `set_timing_advance` stays. Less than 5 ms counts as 5 ms, and 0
-    is the same as None.
+    most so many nanoseconds, and at most half a second divided by the number of pairs, but at least 5 ms (RFC 8445, section 14.2). 0 is the
+    same as None.
 
-    `selected_first`: every second check may go to the selected pair, if it is due, before all others. So its consent is renewed in
-    time, however many pairs there are.
+    `selected_first`: every second check may go to the selected pair, if it is due.
 
-    `timeout_after_requests`: `poll_timeout` returns a time after each `handle_timeout` call, also after one that serves an early request.
+    `timeout_after_requests`: `poll_timeout` returns a time after an early request was served, too.
 
-    `lite_keeps_role`: a lite agent keeps its role, since only full agents repair roles (RFC 8445, sections 6.1.1 and 7.3.1.1). It sends
-    a 487 to each sender that claims the same role, whatever the tie-breakers are, and a 487 that it receives has no effect.
-    `set_controlling(True)` raises LiteStaysControlled.
+    `lite_keeps_role`: a lite agent sends a 487 to each sender of its own role, whatever the tie-breakers are (RFC 8445, sections 6.1.1 and
+    7.3.1.1). `set_controlling(True)` raises LiteStaysControlled.
 
-    `numbered_nominations`: with `set_renomination`, nominations have numbers by the attribute NOMINATION (0xC001) of
-    draft-thatcher-ice-renomination, which browsers call `renomination`. A controlling agent numbers the paths that it selects, from 1,
-    also over restarts, and sends the number on each check of its selected pair, next to USE-CANDIDATE. It nominates a path in the next
-    `handle_timeout` call after it selected it. A controlled or lite agent selects the valid pair with the greatest number, so a late or
-    repeated check does not turn it back. USE-CANDIDATE without a number counts as 1, once a number came since the last restart.
+    `numbered_nominations`: with `set_renomination`, nominations have numbers, and the greatest one counts
+    (draft-thatcher-ice-renomination).
 
-    `discovered_if_served`: an authentic request that is dropped without a response reports no source.
+    `discovered_if_served`: no DiscoveredRecv for a request that is dropped.
 
-    `state_after_nomination`: the state is evaluated after nomination in each call, so that it says whether a path is selected. If a
-    candidate that is added or invalidated takes the selected pair away, another one is selected at once, or the state changes.
+    `state_after_nomination`: the state is evaluated after nomination in each call, so that it says whether a path is selected.
 
     `invalidates_listed`: `invalidate_candidate` passes over candidates that were invalidated before, so each one that is listed can be
     invalidated.

@@ -9,7 +9,7 @@ from dataclasses import dataclass
 from . import _abi
 from ._library import bytes_from, library
 from .address import SocketAddress, address_of, in_range, socket_of
-from .errors import UNPARSED, done, utf8
+from .errors import done, utf8
 
 TRANSACTION_LENGTH = 12
 
@@ -17,34 +17,34 @@ TRANSACTION_LENGTH = 12
 class StunMethod(enum.IntEnum):
     """The method of a message (RFC 8489, section 18.2; RFC 8656, section 17). `OTHER`: any method that is not listed here."""
 
-    OTHER = 0
-    BINDING = 1
-    ALLOCATE = 3
-    REFRESH = 4
-    SEND = 6
-    DATA = 7
-    CREATE_PERMISSION = 8
-    CHANNEL_BIND = 9
+    OTHER = _abi.STUN_OTHER
+    BINDING = _abi.STUN_BINDING
+    ALLOCATE = _abi.STUN_ALLOCATE
+    REFRESH = _abi.STUN_REFRESH
+    SEND = _abi.STUN_SEND
+    DATA = _abi.STUN_DATA_INDICATION
+    CREATE_PERMISSION = _abi.STUN_CREATE_PERMISSION
+    CHANNEL_BIND = _abi.STUN_CHANNEL_BIND
 
 
 class StunClass(enum.IntEnum):
     """The class of a message (RFC 8489, section 5)."""
 
-    REQUEST = 0
-    INDICATION = 1
-    SUCCESS = 2
-    FAILURE = 3
+    REQUEST = _abi.STUN_REQUEST
+    INDICATION = _abi.STUN_INDICATION
+    SUCCESS = _abi.STUN_SUCCESS
+    FAILURE = _abi.STUN_FAILURE
 
 
 class StunText(enum.IntEnum):
     """The attributes that contain a text or data, by their type. `ERROR_CODE` stands for its reason phrase."""
 
-    USERNAME = 0x0006
-    ERROR_CODE = 0x0009
-    DATA = 0x0013
-    REALM = 0x0014
-    NONCE = 0x0015
-    SOFTWARE = 0x0022
+    USERNAME = _abi.STUN_USERNAME
+    ERROR_CODE = _abi.STUN_ERROR_CODE
+    DATA = _abi.STUN_DATA
+    REALM = _abi.STUN_REALM
+    NONCE = _abi.STUN_NONCE
+    SOFTWARE = _abi.STUN_SOFTWARE
 
 
 def _id_of(transaction: bytes) -> _abi.StunTransaction:
@@ -76,7 +76,7 @@ def binding_response(transaction: bytes, data: bytes) -> BindingResponse | None:
     """
     result = _abi.StunResult()
     code = library.calls.is_ice_stun_response(byref(_id_of(transaction)), data, len(data), byref(result))
-    if code == UNPARSED or not done(code):
+    if code == _abi.UNPARSED or not done(code):
         return None
     if result.error_code == 0:
         return BindingResponse(mapped=socket_of(result.mapped))

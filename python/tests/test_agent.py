@@ -19,7 +19,7 @@ from typing import Any
 from unittest import mock
 
 import is_ice
-from is_ice import _abi
+from is_ice import _abi, _library
 from is_ice._loop_calls import PACKET
 from is_ice.address import PATHS, POINTERS, address_of
 from is_ice.gather import TurnServer
@@ -841,18 +841,18 @@ class Values(unittest.TestCase):
         self.assertEqual(IceConnectionState.CHECKING, 1)
 
     def test_the_library_next_to_the_module_comes_first(self) -> None:
-        with tempfile.TemporaryDirectory() as folder, mock.patch.object(_abi, "__file__", str(Path(folder, "is_ice", "_abi.py"))):
+        with tempfile.TemporaryDirectory() as folder, mock.patch.object(_library, "__file__", str(Path(folder, "is_ice", "_library.py"))):
             with mock.patch.dict(os.environ):
                 os.environ.pop("IS_ICE_LIB", None)
-                self.assertEqual(_abi.library_path(), Path(folder).resolve() / "out" / _abi.NAME)
+                self.assertEqual(_library.library_path(), Path(folder).resolve() / "out" / _library.NAME)
                 os.environ["IS_ICE_LIB"] = "/elsewhere/libis_c.a"
-                self.assertEqual(_abi.library_path(), Path(folder).resolve() / "out" / _abi.NAME)
+                self.assertEqual(_library.library_path(), Path(folder).resolve() / "out" / _library.NAME)
                 os.environ["IS_ICE_LIB"] = "/elsewhere/lib.so"
-                self.assertEqual(_abi.library_path(), Path("/elsewhere/lib.so"))
-                installed = Path(folder).resolve() / "is_ice" / _abi.NAME
+                self.assertEqual(_library.library_path(), Path("/elsewhere/lib.so"))
+                installed = Path(folder).resolve() / "is_ice" / _library.NAME
                 installed.parent.mkdir()
                 installed.touch()
-                self.assertEqual(_abi.library_path(), installed)
+                self.assertEqual(_library.library_path(), installed)
 
     def test_each_public_name_has_a_docstring(self) -> None:
         for name in is_ice.__all__:

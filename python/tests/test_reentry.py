@@ -11,7 +11,7 @@ from typing import Any
 
 from is_ice import Candidate, IceAgent, IceCreds, Protocol, SocketAddress, Unparsed
 from is_ice._loop_calls import LoopCalls
-from is_ice.errors import NOTHING, OK
+from is_ice._abi import NOTHING, OK
 
 HERE, THERE = SocketAddress("10.0.0.1", 1000), SocketAddress("10.0.0.2", 2000)
 

@@ -167,12 +167,14 @@ impl IceAgent {
     ///
     /// [`CallError::OutOfMemory`].
     pub fn try_remote_candidates(&self) -> Result<Vec<Candidate>, CallError> {
-        let read = |index| ffi::candidate(|buffer, length, fields| self.ask(|agent| agent.remote_fields(index, buffer, length, fields)));
+        let read = |index| {
+            ffi::candidate(|buffer, length, fields| self.ask(|agent| ffi::is_ice_remote_fields(agent, index, buffer, length, fields)))
+        };
         listed(|index| read(index).map(Candidate::listed_remote))
     }
 
     fn local_candidate(&self, index: usize) -> Result<Candidate, i32> {
-        ffi::candidate(|buffer, length, fields| self.ask(|agent| agent.local_fields(index, buffer, length, fields)))
+        ffi::candidate(|buffer, length, fields| self.ask(|agent| ffi::is_ice_local_fields(agent, index, buffer, length, fields)))
             .map(Candidate::listed_local)
     }
 
@@ -236,7 +238,7 @@ impl IceAgent {
     ///
     /// [`CallError::OutOfMemory`], [`CallError::PairIdsExhausted`], [`CallError::BadCandidate`], [`CallError::TooManyCandidates`].
     pub fn try_add_remote_candidate(&mut self, c: Candidate) -> Result<bool, CallError> {
-        self.tell(|agent| agent.add_remote(c.text(), &mut 0))
+        self.tell(|agent| ffi::is_ice_add_remote(agent, c.text().as_bytes(), &mut 0))
     }
 
     /// Removes a candidate and its pairs: a local one, else a remote one. Returns whether there was one.
@@ -260,7 +262,7 @@ impl IceAgent {
     pub fn try_invalidate_candidate(&mut self, c: &Candidate) -> Result<bool, CallError> {
         match c.given() {
             Some(given) => self.tell(|agent| known(ffi::is_ice_invalidate_local(agent, &given))),
-            None => self.tell(|agent| agent.invalidate(c.text())),
+            None => self.tell(|agent| ffi::is_ice_invalidate(agent, c.text().as_bytes())),
         }
     }
 
@@ -281,7 +283,7 @@ impl IceAgent {
     /// [`CallError::OutOfMemory`], [`CallError::BadCandidate`].
     pub fn try_find_pair_for_equivalent_remote_candidate(&self, c: &Candidate) -> Result<Option<CandidatePair>, CallError> {
         let mut pair = ffi::Pair::default();
-        let is_some = found(self.ask(|agent| agent.find_pair(c.text(), &mut pair)))?;
+        let is_some = found(self.ask(|agent| ffi::is_ice_find_pair(agent, c.text().as_bytes(), &mut pair)))?;
         Ok(is_some.then(|| CandidatePair::of(&pair, |at| self.instant(at))))
     }
 
@@ -334,7 +336,8 @@ impl IceAgent {
     ///
     /// [`CallError::CredentialsTooLong`], [`CallError::OutOfMemory`].
     pub fn try_ice_restart(&mut self, local_credentials: IceCreds, keep_local_candidates: bool) -> Result<(), CallError> {
-        self.tell(|agent| agent.restart(&local_credentials.ufrag, &local_credentials.pass, keep_local_candidates))?;
+        let IceCreds { ufrag, pass } = local_credentials;
+        self.tell(|agent| ffi::is_ice_restart(agent, ufrag.as_bytes(), pass.as_bytes(), keep_local_candidates))?;
         self.local = OnceLock::new();
         self.remote = OnceLock::new();
         Ok(())
@@ -361,13 +364,13 @@ impl IceAgent {
 
     /// Whether the message is for this agent, from any source.
     pub fn accepts_message(&self, message: &StunMessage<'_>) -> bool {
-        self.ask(|agent| agent.accepts_message(message.bytes())) == ffi::OK
+        self.ask(|agent| ffi::is_ice_accepts_message(agent, message.bytes())) == ffi::OK
     }
 
     /// Whether `handle_packet` would accept the packet: it is for this agent, and a response came back on the path of its check.
     pub fn accepts_packet(&self, packet: &StunPacket<'_>) -> bool {
         let (source, destination) = (address_of(packet.source), address_of(packet.destination));
-        self.ask(|agent| agent.accepts_packet(packet.proto.number(), &source, &destination, packet.message.bytes())) == ffi::OK
+        self.ask(|agent| ffi::is_ice_accepts_packet(agent, packet.proto.number(), &source, &destination, packet.message.bytes())) == ffi::OK
     }
 
     /// Passes a received packet to the agent. Returns whether it is for this agent; if not, the agent is unchanged. A message that was
@@ -404,7 +407,7 @@ impl IceAgent {
         self.forget_added();
         let now = self.time(now);
         let (source, destination) = (address_of(source), address_of(destination));
-        self.tell(|agent| match agent.handle_packet(now, proto.number(), &source, &destination, bytes) {
+        self.tell(|agent| match ffi::is_ice_handle_packet(agent, now, proto.number(), &source, &destination, bytes) {
             ffi::UNPARSED => ffi::NOTHING,
             code => code,
         })
@@ -429,7 +432,7 @@ impl IceAgent {
         let id = self.ids.next().ok_or(CallError::NoRandomBytes)?;
         self.forget_added();
         let now = self.time(now);
-        self.tell(|agent| agent.handle_timeout(now, &id)).map(drop)
+        self.tell(|agent| ffi::is_ice_handle_timeout(agent, now, &id)).map(drop)
     }
 
     /// The next packet to send.
@@ -494,8 +497,8 @@ impl IceAgent {
 // ---- queries
 
 impl IceAgent {
-    pub(crate) fn status(&self) -> ffi::Status {
-        let mut status = ffi::Status::default();
+    pub(crate) fn status(&self) -> ffi::AgentStatus {
+        let mut status = ffi::AgentStatus::default();
         self.ask(|agent| ffi::is_ice_status(agent, &mut status));
         status
     }
@@ -507,7 +510,7 @@ impl IceAgent {
 
     /// Counters since the last restart.
     pub fn stats(&self) -> IceAgentStats {
-        let mut stats = ffi::Stats::default();
+        let mut stats = ffi::AgentStats::default();
         self.ask(|agent| ffi::is_ice_stats(agent, &mut stats));
         IceAgentStats::of(stats)
     }
@@ -531,8 +534,8 @@ impl IceAgent {
         })
     }
 
-    fn nominated(&self) -> Option<ffi::Nominated> {
-        let mut nominated = ffi::Nominated::default();
+    fn nominated(&self) -> Option<ffi::NominatedPair> {
+        let mut nominated = ffi::NominatedPair::default();
         (self.ask(|agent| ffi::is_ice_nominated(agent, &mut nominated)) == ffi::OK).then_some(nominated)
     }
 

@@ -7,9 +7,6 @@ use std::fmt;
 use std::hash::{Hash, Hasher};
 use std::net::{IpAddr, SocketAddr};
 
-/// Where the foundation begins in the text of a candidate: after "candidate:".
-const FOUNDATION_START: usize = 10;
-
 /// The kind of a candidate (RFC 8445, section 4).
 #[derive(Clone, Copy, Debug, PartialEq, Eq, PartialOrd, Ord, Hash)]
 pub enum CandidateKind {
@@ -26,18 +23,18 @@ pub enum CandidateKind {
 impl CandidateKind {
     fn number(self) -> u8 {
         match self {
-            CandidateKind::Host => 0,
-            CandidateKind::ServerReflexive => 1,
-            CandidateKind::Relayed => 2,
-            CandidateKind::PeerReflexive => 3,
+            CandidateKind::Host => ffi::HOST,
+            CandidateKind::ServerReflexive => ffi::SERVER_REFLEXIVE,
+            CandidateKind::Relayed => ffi::RELAYED,
+            CandidateKind::PeerReflexive => ffi::PEER_REFLEXIVE,
         }
     }
 
     fn of(number: u8) -> CandidateKind {
         match number {
-            0 => CandidateKind::Host,
-            1 => CandidateKind::ServerReflexive,
-            2 => CandidateKind::Relayed,
+            ffi::HOST => CandidateKind::Host,
+            ffi::SERVER_REFLEXIVE => CandidateKind::ServerReflexive,
+            ffi::RELAYED => CandidateKind::Relayed,
             _ => CandidateKind::PeerReflexive,
         }
     }
@@ -104,16 +101,16 @@ impl Candidate {
         proto: Protocol,
         tcptype: Option<TcpType>,
     ) -> Result<Candidate, IceError> {
-        let given = ffi::Gathered {
+        let given = ffi::Candidate {
             address: address_of(addr),
             base: address_of(base),
             kind,
             protocol: proto.number(),
-            tcptype: tcptype.map_or(0, TcpType::number),
+            tcptype: tcptype.map_or(ffi::TCP_UNSTATED, TcpType::number),
         };
-        ffi::candidate(|buffer, length, fields| ffi::candidate_fields(&given, buffer, length, fields))
+        ffi::candidate(|buffer, length, fields| ffi::is_ice_candidate_fields(&given, buffer, length, fields))
             .map(Candidate::listed_local)
-            .map_err(|code| IceError::of(code, |buffer, length| ffi::candidate_refusal(&given, buffer, length)))
+            .map_err(|code| IceError::of(code, |buffer, length| ffi::is_ice_candidate_refusal(&given, buffer, length)))
     }
 
     /// Reads a candidate attribute (RFC 8839) without `a=`, as `candidate:1 1 udp 2130706175 10.0.0.2 2000 typ host`.
@@ -140,9 +137,9 @@ impl Candidate {
     ///
     /// `BadCandidate` says why it is not a candidate.
     pub fn from_sdp_string(line: &str) -> Result<Candidate, IceError> {
-        ffi::candidate(|buffer, length, fields| ffi::line_fields(line, buffer, length, fields))
+        ffi::candidate(|buffer, length, fields| ffi::is_ice_line_fields(line.as_bytes(), buffer, length, fields))
             .map(Candidate::listed_remote)
-            .map_err(|code| IceError::of(code, |buffer, length| ffi::line_refusal(line, buffer, length)))
+            .map_err(|code| IceError::of(code, |buffer, length| ffi::is_ice_line_refusal(line.as_bytes(), buffer, length)))
     }
 
     /// Creates the candidate that [`Candidate::from_sdp_string`] reads of these fields.
@@ -199,10 +196,10 @@ impl Candidate {
             component: component_id,
             kind: kind.number(),
             protocol: proto.number(),
-            tcptype: tcptype.map_or(0, TcpType::number),
+            tcptype: tcptype.map_or(ffi::TCP_UNSTATED, TcpType::number),
             ..Default::default()
         };
-        let made = ffi::candidate(|buffer, length, fields| ffi::fields_line(&given, &foundation, buffer, length, fields));
+        let made = ffi::candidate(|buffer, length, fields| ffi::is_ice_fields_line(&given, foundation.as_bytes(), buffer, length, fields));
         let mut candidate = made.map(Candidate::listed_remote).map_err(|code| match code {
             ffi::BAD_CANDIDATE => IceError::BadCandidate("bad foundation".to_owned()),
             code => IceError::BadCandidate(ffi::text_of(code).to_owned()),
@@ -224,7 +221,7 @@ impl Candidate {
     /// assert_eq!(candidate.addr(), "192.0.2.7:2000".parse().unwrap());
     /// ```
     pub fn mdns_name(line: &str) -> Option<String> {
-        ffi::text(|buffer, length| ffi::line_name(line, buffer, length)).ok()
+        ffi::text(|buffer, length| ffi::is_ice_line_name(line.as_bytes(), buffer, length)).ok()
     }
 
     /// Reads a candidate attribute, with this IP address in place of the one or the name that it has.
@@ -234,9 +231,9 @@ impl Candidate {
     /// `BadCandidate` if it is not a candidate with this address.
     pub fn from_mdns(line: &str, ip: IpAddr) -> Result<Candidate, IceError> {
         let address = address_of(SocketAddr::new(ip, 0));
-        ffi::candidate(|buffer, length, fields| ffi::line_with_address_fields(line, &address, buffer, length, fields))
+        ffi::candidate(|buffer, length, fields| ffi::is_ice_line_with_address_fields(line.as_bytes(), &address, buffer, length, fields))
             .map(Candidate::listed_remote)
-            .map_err(|code| IceError::of(code, |buffer, length| ffi::line_refusal(line, buffer, length)))
+            .map_err(|code| IceError::of(code, |buffer, length| ffi::is_ice_line_refusal(line.as_bytes(), buffer, length)))
     }
 
     /// Reads the JSON in which browsers signal a candidate, the `RTCIceCandidateInit` of W3C WebRTC. A `usernameFragment` that is a
@@ -253,9 +250,9 @@ impl Candidate {
     /// `BadCandidate` says why it is not a candidate. The end of candidates, which has an empty `candidate`, is not one, and neither is
     /// one whose username fragment is empty or has white space.
     pub fn from_json(json: &str) -> Result<Candidate, IceError> {
-        ffi::candidate(|buffer, length, fields| ffi::json_fields(json, buffer, length, fields))
+        ffi::candidate(|buffer, length, fields| ffi::is_ice_json_fields(json.as_bytes(), buffer, length, fields))
             .map(Candidate::listed_remote)
-            .map_err(|code| IceError::of(code, |buffer, length| ffi::json_refusal(json, buffer, length)))
+            .map_err(|code| IceError::of(code, |buffer, length| ffi::is_ice_json_refusal(json.as_bytes(), buffer, length)))
     }
 
     /// The candidate that an agent lists as a local one, or that was gathered.
@@ -273,14 +270,14 @@ impl Candidate {
 
 impl Candidate {
     /// As the library takes a candidate that was gathered; none if it was read, or is listed as a remote one.
-    pub(crate) fn given(&self) -> Option<ffi::Gathered> {
+    pub(crate) fn given(&self) -> Option<ffi::Candidate> {
         self.is_local.then(|| self.as_gathered())
     }
 
     /// As the library takes a candidate to add it as a local one. A text has no base, so one that was read has its address as base.
-    pub(crate) fn as_gathered(&self) -> ffi::Gathered {
+    pub(crate) fn as_gathered(&self) -> ffi::Candidate {
         let ffi::Fields { address, local, kind, protocol, tcptype, .. } = self.fields;
-        ffi::Gathered { address, base: if self.is_local { local } else { address }, kind, protocol, tcptype }
+        ffi::Candidate { address, base: if self.is_local { local } else { address }, kind, protocol, tcptype }
     }
 
     /// As the library takes any other candidate.
@@ -313,8 +310,8 @@ impl Candidate {
     ///
     /// `BadCandidate`: out of memory, or its text cannot be read, since its agent has a username fragment that is no word.
     pub fn try_to_json(&self) -> Result<String, IceError> {
-        ffi::text(|buffer, length| ffi::line_to_json(&self.text, buffer, length))
-            .map_err(|code| IceError::of(code, |buffer, length| ffi::line_refusal(&self.text, buffer, length)))
+        ffi::text(|buffer, length| ffi::is_ice_line_to_json(self.text.as_bytes(), buffer, length))
+            .map_err(|code| IceError::of(code, |buffer, length| ffi::is_ice_line_refusal(self.text.as_bytes(), buffer, length)))
     }
 
     /// Sets the username fragment of the session that it belongs to: of `ice-char` (RFC 8839, section 5.4). An agent gives its own
@@ -335,7 +332,9 @@ impl Candidate {
     /// `BadCandidate` if the username fragment is empty or has white space, or that of its agent before is no word, or if out of memory.
     /// The candidate is unchanged then.
     pub fn try_set_ufrag(&mut self, ufrag: &str) -> Result<(), IceError> {
-        let named = ffi::candidate(|buffer, length, fields| ffi::line_with_ufrag_fields(&self.text, ufrag, buffer, length, fields));
+        let named = ffi::candidate(|buffer, length, fields| {
+            ffi::is_ice_line_with_ufrag_fields(self.text.as_bytes(), ufrag.as_bytes(), buffer, length, fields)
+        });
         let (text, fields) = named.map_err(|code| match code {
             ffi::BAD_CANDIDATE => IceError::BadCandidate("bad username fragment".to_owned()),
             code => IceError::BadCandidate(ffi::text_of(code).to_owned()),
@@ -349,15 +348,15 @@ impl Candidate {
 
     /// Its foundation: equal for candidates of one kind, base and server (RFC 8445, section 5.1.1.3).
     pub fn foundation(&self) -> &str {
-        self.text.get(FOUNDATION_START..FOUNDATION_START + self.fields.foundation_length).unwrap_or_default()
+        self.text.get(ffi::FOUNDATION_START..ffi::FOUNDATION_START + self.fields.foundation_length).unwrap_or_default()
     }
 
     /// Whether its foundation and its username fragment, if it has one, are in the grammar of signaling (RFC 8839, sections 5.1 and 5.4):
     /// 1 to 32 and 4 to 256 characters of [`IceCreds::is_in_grammar`](crate::IceCreds::is_in_grammar). Any word is read, since candidates
     /// of other makers have further characters.
     pub fn is_in_grammar(&self) -> bool {
-        let is_named = self.ufrag().is_none_or(|ufrag| ffi::check_text(ffi::TEXT_UFRAG, ufrag) == ffi::OK);
-        is_named && ffi::check_text(ffi::TEXT_FOUNDATION, self.foundation()) == ffi::OK
+        let is_named = self.ufrag().is_none_or(|ufrag| ffi::is_ice_check_text(ffi::TEXT_UFRAG, ufrag.as_bytes()) == ffi::OK);
+        is_named && ffi::is_ice_check_text(ffi::TEXT_FOUNDATION, self.foundation().as_bytes()) == ffi::OK
     }
 
     /// Its transport address.

@@ -39,9 +39,9 @@ impl IceCreds {
     ///
     /// [`CallError::NoRandomBytes`], [`CallError::OutOfMemory`].
     pub fn try_new() -> Result<IceCreds, CallError> {
-        let random = ffi::random().ok_or(CallError::NoRandomBytes)?;
-        let (mut ufrag, mut pass) = ([0; 16], [0; 22]);
-        found(ffi::make_credentials(&random, &mut ufrag, &mut pass))?;
+        let random: [u8; ffi::CREDENTIALS_RANDOM] = ffi::random().ok_or(CallError::NoRandomBytes)?;
+        let (mut ufrag, mut pass) = ([0; ffi::UFRAG_LENGTH], [0; ffi::PASS_LENGTH]);
+        found(ffi::is_ice_make_credentials(&random, &mut ufrag, &mut pass))?;
         let text = |bytes: &[u8]| String::from_utf8_lossy(bytes).into_owned();
         Ok(IceCreds { ufrag: text(&ufrag), pass: text(&pass) })
     }
@@ -58,7 +58,8 @@ impl IceCreds {
     /// assert!(!creds("8hh").is_in_grammar() && !creds("8h Y").is_in_grammar());
     /// ```
     pub fn is_in_grammar(&self) -> bool {
-        ffi::check_text(ffi::TEXT_UFRAG, &self.ufrag) == ffi::OK && ffi::check_text(ffi::TEXT_PASS, &self.pass) == ffi::OK
+        ffi::is_ice_check_text(ffi::TEXT_UFRAG, self.ufrag.as_bytes()) == ffi::OK
+            && ffi::is_ice_check_text(ffi::TEXT_PASS, self.pass.as_bytes()) == ffi::OK
     }
 }
 

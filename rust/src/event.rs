@@ -23,10 +23,10 @@ pub enum IceConnectionState {
 impl IceConnectionState {
     pub(crate) fn of(number: i32) -> IceConnectionState {
         match number {
-            0 => IceConnectionState::New,
-            1 => IceConnectionState::Checking,
-            2 => IceConnectionState::Connected,
-            3 => IceConnectionState::Completed,
+            ffi::NEW => IceConnectionState::New,
+            ffi::CHECKING => IceConnectionState::Checking,
+            ffi::CONNECTED => IceConnectionState::Connected,
+            ffi::COMPLETED => IceConnectionState::Completed,
             _ => IceConnectionState::Disconnected,
         }
     }
@@ -58,7 +58,7 @@ pub struct IceAgentStats {
 }
 
 impl IceAgentStats {
-    pub(crate) fn of(stats: ffi::Stats) -> IceAgentStats {
+    pub(crate) fn of(stats: ffi::AgentStats) -> IceAgentStats {
         IceAgentStats {
             bind_request_sent: stats.bind_request_sent,
             bind_success_recv: stats.bind_success_recv,
@@ -100,9 +100,9 @@ impl IceAgentEvent {
         let proto = Protocol::of(event.protocol);
         let source = socket_of(&event.source);
         match event.kind {
-            1 => IceAgentEvent::IceRestart(creds()),
-            2 => IceAgentEvent::IceConnectionStateChange(IceConnectionState::of(event.state)),
-            3 => IceAgentEvent::DiscoveredRecv { proto, source },
+            ffi::RESTARTED => IceAgentEvent::IceRestart(creds()),
+            ffi::STATE_CHANGED => IceAgentEvent::IceConnectionStateChange(IceConnectionState::of(event.state)),
+            ffi::DISCOVERED_RECV => IceAgentEvent::DiscoveredRecv { proto, source },
             _ => IceAgentEvent::NominatedSend { proto, source, destination: socket_of(&event.destination) },
         }
     }

@@ -25,8 +25,8 @@ pub struct DefaultSha1HmacProvider;
 
 impl Sha1HmacProvider for DefaultSha1HmacProvider {
     fn sha1_hmac(&self, key: &[u8], payloads: &[&[u8]]) -> [u8; 20] {
-        let mut mac = [0; 20];
-        let code = ffi::hmac_sha1(key, &payloads.concat(), &mut mac);
+        let (mut mac, mut length) = ([0; ffi::HMAC_LENGTH], 0);
+        let code = ffi::is_ice_hmac_sha1(key, &payloads.concat(), &mut mac, &mut length);
         debug_assert_eq!(code, ffi::OK);
         mac
     }

@@ -3,7 +3,7 @@
 use crate::ffi;
 
 /// The bytes of an ID (RFC 8489, section 5).
-const LENGTH: usize = 12;
+const LENGTH: usize = ffi::TIMEOUT_RANDOM;
 
 /// How many IDs the system draws at once. Ten take it twice as long as one.
 const DRAWN: usize = 10;

@@ -19,8 +19,8 @@ pub enum CheckState {
 impl CheckState {
     pub(crate) fn of(number: i32) -> CheckState {
         match number {
-            0 => CheckState::Waiting,
-            1 => CheckState::InProgress,
+            ffi::PAIR_WAITING => CheckState::Waiting,
+            ffi::PAIR_IN_PROGRESS => CheckState::InProgress,
             _ => CheckState::Succeeded,
         }
     }

@@ -21,18 +21,18 @@ pub enum Protocol {
 impl Protocol {
     pub(crate) fn number(self) -> u8 {
         match self {
-            Protocol::Udp => 0,
-            Protocol::Tcp => 1,
-            Protocol::SslTcp => 2,
-            Protocol::Tls => 3,
+            Protocol::Udp => ffi::UDP,
+            Protocol::Tcp => ffi::TCP,
+            Protocol::SslTcp => ffi::SSL_TCP,
+            Protocol::Tls => ffi::TLS,
         }
     }
 
     pub(crate) fn of(number: u8) -> Protocol {
         match number {
-            0 => Protocol::Udp,
-            1 => Protocol::Tcp,
-            2 => Protocol::SslTcp,
+            ffi::UDP => Protocol::Udp,
+            ffi::TCP => Protocol::Tcp,
+            ffi::SSL_TCP => Protocol::SslTcp,
             _ => Protocol::Tls,
         }
     }
@@ -84,17 +84,17 @@ pub enum TcpType {
 impl TcpType {
     pub(crate) fn number(self) -> u8 {
         match self {
-            TcpType::Active => 1,
-            TcpType::Passive => 2,
-            TcpType::So => 3,
+            TcpType::Active => ffi::TCP_ACTIVE,
+            TcpType::Passive => ffi::TCP_PASSIVE,
+            TcpType::So => ffi::TCP_SO,
         }
     }
 
     pub(crate) fn of(number: u8) -> Option<TcpType> {
         match number {
-            1 => Some(TcpType::Active),
-            2 => Some(TcpType::Passive),
-            3 => Some(TcpType::So),
+            ffi::TCP_ACTIVE => Some(TcpType::Active),
+            ffi::TCP_PASSIVE => Some(TcpType::Passive),
+            ffi::TCP_SO => Some(TcpType::So),
             _ => None,
         }
     }

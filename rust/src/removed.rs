@@ -26,11 +26,11 @@ pub enum Removal {
 impl Removal {
     fn of(number: i32) -> Removal {
         match number {
-            1 => Removal::NoResponse,
-            2 => Removal::ConsentLost,
-            3 => Removal::PeerSilent,
-            4 => Removal::Evicted,
-            5 => Removal::Replaced,
+            ffi::REMOVED_NO_RESPONSE => Removal::NoResponse,
+            ffi::REMOVED_CONSENT_LOST => Removal::ConsentLost,
+            ffi::REMOVED_PEER_SILENT => Removal::PeerSilent,
+            ffi::REMOVED_EVICTED => Removal::Evicted,
+            ffi::REMOVED_REPLACED => Removal::Replaced,
             _ => Removal::Invalidated,
         }
     }

@@ -220,7 +220,7 @@ impl IceAgent {
     ///
     /// [`CallError::CredentialsTooLong`], [`CallError::OutOfMemory`].
     pub fn try_set_local_credentials(&mut self, r: IceCreds) -> Result<(), CallError> {
-        self.tell(|agent| agent.set_local_credentials(&r.ufrag, &r.pass))?;
+        self.tell(|agent| ffi::is_ice_set_local_credentials(agent, r.ufrag.as_bytes(), r.pass.as_bytes()))?;
         self.local = OnceLock::new();
         Ok(())
     }
@@ -251,7 +251,7 @@ impl IceAgent {
     ///
     /// [`CallError::CredentialsTooLong`], [`CallError::OutOfMemory`].
     pub fn try_set_remote_credentials(&mut self, r: IceCreds) -> Result<(), CallError> {
-        self.tell(|agent| agent.set_remote_credentials(&r.ufrag, &r.pass))?;
+        self.tell(|agent| ffi::is_ice_set_remote_credentials(agent, r.ufrag.as_bytes(), r.pass.as_bytes()))?;
         self.remote = OnceLock::new();
         Ok(())
     }

@@ -11,16 +11,8 @@ pub use crate::error::StunError;
 pub use crate::stun_builder::Builder as StunMessageBuilder;
 pub use crate::stun_timing::{DEFAULT_MAX_RETRANSMITS, StunTiming};
 
-// The types of the attributes that contain a text or data (RFC 8489, section 18.3; RFC 8656, section 18).
-const USERNAME: u16 = 0x0006;
-const ERROR_CODE: u16 = 0x0009;
-const DATA: u16 = 0x0013;
-const REALM: u16 = 0x0014;
-const NONCE: u16 = 0x0015;
-const SOFTWARE: u16 = 0x0022;
-
 /// The length of a Binding request without credentials: header and FINGERPRINT.
-pub const QUERY_LENGTH: usize = 28;
+pub const QUERY_LENGTH: usize = ffi::STUN_REQUEST_LENGTH;
 
 /// No USERNAME that can be read is longer.
 const LONGEST_USERNAME: usize = 513;
@@ -92,19 +84,24 @@ pub enum Method {
 }
 
 const METHODS: [(u16, Method); 7] = [
-    (1, Method::Binding),
-    (3, Method::Allocate),
-    (4, Method::Refresh),
-    (6, Method::Send),
-    (7, Method::Data),
-    (8, Method::CreatePermission),
-    (9, Method::ChannelBind),
+    (ffi::STUN_BINDING, Method::Binding),
+    (ffi::STUN_ALLOCATE, Method::Allocate),
+    (ffi::STUN_REFRESH, Method::Refresh),
+    (ffi::STUN_SEND, Method::Send),
+    (ffi::STUN_DATA_INDICATION, Method::Data),
+    (ffi::STUN_CREATE_PERMISSION, Method::CreatePermission),
+    (ffi::STUN_CHANNEL_BIND, Method::ChannelBind),
 ];
 
-const CLASSES: [(u8, Class); 4] = [(0, Class::Request), (1, Class::Indication), (2, Class::Success), (3, Class::Failure)];
+const CLASSES: [(u8, Class); 4] = [
+    (ffi::STUN_REQUEST, Class::Request),
+    (ffi::STUN_INDICATION, Class::Indication),
+    (ffi::STUN_SUCCESS, Class::Success),
+    (ffi::STUN_FAILURE, Class::Failure),
+];
 
 pub(crate) fn method_number(method: Method) -> u16 {
-    METHODS.iter().find(|known| known.1 == method).map_or(0, |known| known.0)
+    METHODS.iter().find(|known| known.1 == method).map_or(ffi::STUN_OTHER, |known| known.0)
 }
 
 pub(crate) fn class_number(class: Class) -> u8 {
@@ -125,13 +122,13 @@ impl BindingResponse {
     /// XOR-MAPPED-ADDRESS nor ERROR-CODE. Nothing is verified: whoever sees the request can forge the response.
     pub fn parse(id: TransId, bytes: &[u8]) -> Option<BindingResponse> {
         let mut result = ffi::StunResult::default();
-        if ffi::stun_response(&id.raw(), bytes, &mut result) != ffi::OK {
+        if ffi::is_ice_stun_response(&id.raw(), bytes, &mut result) != ffi::OK {
             return None;
         }
         if result.error_code == 0 {
             return Some(BindingResponse::Mapped(socket_of(&result.mapped)));
         }
-        let reason = ffi::text(|buffer, length| ffi::stun_text(ERROR_CODE, bytes, buffer, length));
+        let reason = ffi::text(|buffer, length| ffi::is_ice_stun_text(ffi::STUN_ERROR_CODE, bytes, buffer, length));
         Some(BindingResponse::Failed(result.error_code, reason.ok()?))
     }
 }
@@ -155,13 +152,13 @@ impl<'a> StunMessage<'a> {
     /// response of a STUN server, which has no MESSAGE-INTEGRITY.
     #[inline]
     pub fn parse(bytes: &'a [u8]) -> Result<StunMessage<'a>, StunError> {
-        StunMessage::parsed(bytes, ffi::stun_read_strict)
+        StunMessage::parsed(bytes, ffi::is_ice_stun_read_strict)
     }
 
     /// Parses a message that need not have the attributes that ICE requires, as the response of a STUN server. Nothing is verified.
     #[inline]
     pub fn parse_any(bytes: &'a [u8]) -> Result<StunMessage<'a>, StunError> {
-        StunMessage::parsed(bytes, ffi::stun_read)
+        StunMessage::parsed(bytes, ffi::is_ice_stun_read)
     }
 
     /// Programs get this inline, so that they do not copy the message once more.
@@ -210,7 +207,7 @@ impl<'a> StunMessage<'a> {
     /// Returns a Binding request without credentials, which a client sends to a STUN server. `BindingResponse::parse` reads the response.
     pub fn binding_query(id: TransId) -> [u8; QUERY_LENGTH] {
         let (mut bytes, mut length) = ([0; QUERY_LENGTH], 0);
-        let code = ffi::stun_request(&id.raw(), &mut bytes, &mut length);
+        let code = ffi::is_ice_stun_request(&id.raw(), &mut bytes, &mut length);
         debug_assert_eq!((code, length), (ffi::OK, QUERY_LENGTH));
         bytes
     }
@@ -280,7 +277,7 @@ impl<'a> StunMessage<'a> {
 
     /// USERNAME (RFC 8489, section 14.3).
     pub fn username(&self) -> Option<&'a str> {
-        self.text(USERNAME)
+        self.text(ffi::STUN_USERNAME)
     }
 
     /// The parts of USERNAME before and after its colon: in a Binding request the receiver's username fragment, and the sender's
@@ -366,11 +363,11 @@ impl<'a> StunMessage<'a> {
     pub fn split_username(&self) -> Option<(&'a str, &'a str)> {
         if self.bytes.is_empty() {
             let (username, mut receiver) = (self.texts.username?, 0);
-            let is_split = ffi::username_parts(username, &mut receiver) == ffi::OK;
+            let is_split = ffi::is_ice_username_parts(username.as_bytes(), &mut receiver) == ffi::OK;
             return if is_split { parts(username, receiver) } else { None };
         }
         let (mut buffer, mut length, mut receiver) = ([0; LONGEST_USERNAME], 0, 0);
-        if ffi::stun_username(self.bytes, &mut buffer, &mut length, &mut receiver) != ffi::OK {
+        if ffi::is_ice_stun_username(self.bytes, &mut buffer, &mut length, &mut receiver) != ffi::OK {
             return None;
         }
         parts(str_of(self.borrowed(&buffer[..length])?)?, receiver)
@@ -393,7 +390,7 @@ impl<'a> StunMessage<'a> {
 
     /// ERROR-CODE (RFC 8489, section 14.8): the code, 300 to 699, and the reason phrase.
     pub fn error_code(&self) -> Option<(u16, &'a str)> {
-        Some((number(self.flat.error_code)?, self.text(ERROR_CODE)?))
+        Some((number(self.flat.error_code)?, self.text(ffi::STUN_ERROR_CODE)?))
     }
 
     /// CHANNEL-NUMBER (RFC 8656, section 18.1).
@@ -413,17 +410,17 @@ impl<'a> StunMessage<'a> {
 
     /// DATA (RFC 8656, section 18.4).
     pub fn data(&self) -> Option<&'a [u8]> {
-        self.value(DATA)
+        self.value(ffi::STUN_DATA)
     }
 
     /// REALM (RFC 8489, section 14.9).
     pub fn realm(&self) -> Option<&'a str> {
-        self.text(REALM)
+        self.text(ffi::STUN_REALM)
     }
 
     /// NONCE (RFC 8489, section 14.10).
     pub fn nonce(&self) -> Option<&'a str> {
-        self.text(NONCE)
+        self.text(ffi::STUN_NONCE)
     }
 
     /// XOR-RELAYED-ADDRESS (RFC 8656, section 18.5).
@@ -431,9 +428,9 @@ impl<'a> StunMessage<'a> {
         address(&self.flat.relayed)
     }
 
-    /// SOFTWARE, as attribute type 0x0022.
+    /// ffi::STUN_SOFTWARE, as attribute type 0x0022.
     pub fn software(&self) -> Option<&'a str> {
-        self.text(SOFTWARE)
+        self.text(ffi::STUN_SOFTWARE)
     }
 
     /// The tie-breaker of ICE-CONTROLLED (RFC 8445, section 16.1).
@@ -476,7 +473,7 @@ impl<'a> StunMessage<'a> {
     /// As `verify`, without the function.
     #[must_use]
     pub fn is_signed_by(&self, password: &[u8]) -> bool {
-        ffi::stun_verify(self.bytes, password) == ffi::OK
+        ffi::is_ice_stun_verify(self.bytes, password) == ffi::OK
     }
 
     /// Writes the message to the front of the buffer and returns its length: its attributes, then MESSAGE-INTEGRITY if there is a
@@ -500,12 +497,12 @@ impl<'a> StunMessage<'a> {
         let mut bytes = Vec::new();
         let mut span = |attribute| self.append(attribute, &mut bytes);
         let spans = ffi::StunTexts {
-            username: span(USERNAME),
-            reason: span(ERROR_CODE),
-            data: span(DATA),
-            realm: span(REALM),
-            nonce: span(NONCE),
-            software: span(SOFTWARE),
+            username: span(ffi::STUN_USERNAME),
+            reason: span(ffi::STUN_ERROR_CODE),
+            data: span(ffi::STUN_DATA),
+            realm: span(ffi::STUN_REALM),
+            nonce: span(ffi::STUN_NONCE),
+            software: span(ffi::STUN_SOFTWARE),
         };
         write(&self.flat, &spans, &bytes, password, buf)
     }
@@ -518,7 +515,7 @@ impl<'a> StunMessage<'a> {
             parsed => {
                 let mut length = 0;
                 bytes.resize(start + parsed.len(), 0);
-                let code = ffi::stun_text(attribute, parsed, &mut bytes[start..], &mut length);
+                let code = ffi::is_ice_stun_text(attribute, parsed, &mut bytes[start..], &mut length);
                 bytes.truncate(start + length);
                 code == ffi::OK
             }
@@ -535,18 +532,18 @@ impl<'a> StunMessage<'a> {
         if self.bytes.is_empty() {
             return self.built_value(attribute);
         }
-        let copy = ffi::bytes(|buffer, length| ffi::stun_text(attribute, self.bytes, buffer, length)).ok()?;
+        let copy = ffi::bytes(|buffer, length| ffi::is_ice_stun_text(attribute, self.bytes, buffer, length)).ok()?;
         self.borrowed(&copy)
     }
 
     fn built_value(&self, attribute: u16) -> Option<&'a [u8]> {
         match attribute {
-            USERNAME => self.texts.username.map(str::as_bytes),
-            ERROR_CODE => self.texts.reason.map(str::as_bytes),
-            DATA => self.texts.data,
-            REALM => self.texts.realm.map(str::as_bytes),
-            NONCE => self.texts.nonce.map(str::as_bytes),
-            SOFTWARE => self.texts.software.map(str::as_bytes),
+            ffi::STUN_USERNAME => self.texts.username.map(str::as_bytes),
+            ffi::STUN_ERROR_CODE => self.texts.reason.map(str::as_bytes),
+            ffi::STUN_DATA => self.texts.data,
+            ffi::STUN_REALM => self.texts.realm.map(str::as_bytes),
+            ffi::STUN_NONCE => self.texts.nonce.map(str::as_bytes),
+            ffi::STUN_SOFTWARE => self.texts.software.map(str::as_bytes),
             _ => None,
         }
     }

@@ -25,7 +25,7 @@ pub(crate) fn write(
 ) -> Result<usize, StunError> {
     let flat = ffi::StunMessage { has_integrity: password.is_some(), ..*flat };
     let mut length = 0;
-    match ffi::stun_write(&flat, spans, bytes, password.unwrap_or_default(), buffer, &mut length) {
+    match ffi::is_ice_stun_write(&flat, spans, bytes, password.unwrap_or_default(), buffer, &mut length) {
         ffi::OK => Ok(length),
         ffi::BUFFER_TOO_SHORT => Err(io::Error::new(io::ErrorKind::WriteZero, ffi::text_of(ffi::BUFFER_TOO_SHORT)).into()),
         code => Err(io::Error::new(io::ErrorKind::InvalidInput, ffi::text_of(code)).into()),

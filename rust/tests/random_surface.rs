@@ -74,8 +74,9 @@ fn no_function_is_left_out() {
     let driver: String =
         ["random_calls.rs", "random/looks.rs"].map(|name| read_to_string(folder.join("tests").join(name)).unwrap()).concat();
     let (mut count, mut missing) = (0, Vec::new());
-    for file in read_dir(folder.join("src")).unwrap() {
-        let source = read_to_string(file.unwrap().path()).unwrap();
+    let files = read_dir(folder.join("src")).unwrap().map(|file| file.unwrap().path());
+    for path in files.filter(|path| path.is_file()) {
+        let source = read_to_string(path).unwrap();
         let all = functions(&source);
         count += all.len();
         missing.extend(all.iter().filter(|(of, name)| !is_called(&driver, *of, name)).map(|(of, name)| format!("{of:?} {name}")));
