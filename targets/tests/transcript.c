@@ -120,7 +120,8 @@ static void print_number(bool is_there, uint64_t number)
 static void print_timeout(is_ice_agent *agent, bool soon)
 {
     uint64_t at = 0;
-    print_number((soon ? is_ice_poll_timeout_soon(agent, &at) : is_ice_poll_timeout(agent, &at)) == IS_ICE_OK, at);
+    int32_t code = soon ? is_ice_poll_timeout_soon(agent, &at) : is_ice_poll_timeout(agent, &at);
+    print_number(code == IS_ICE_OK, at);
     putchar('\n');
 }
 
