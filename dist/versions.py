@@ -10,6 +10,7 @@ COPIES = (
     ("python/is_ice/__init__.py", r'(?m)(^__version__ = ")([^"\n]*)(")'),
     ("rust/Cargo.toml", r'(?m)(\A\[package\]\nname = "is"\nversion = ")([^"\n]*)(")'),
     ("README.md", r"(?m)(^Version )(\d+\.\d+\.\d+)(\. )"),
+    ("js/package.json", r'(?m)(^  "version": ")([^"\n]*)(")'),
     ("rust/Cargo.lock", r'(?m)(^name = "is"\nversion = ")([^"\n]*)(")'),
 )
 

@@ -1,0 +1,48 @@
+/** The agent over UDP sockets of Node. */
+import type { EventEmitter } from "node:events";
+import type { IceAgent, IceAgentEvent, IceError, SocketAddress } from "./index.js";
+
+/** Returns the IP addresses of this machine's interfaces that host candidates should have. */
+export function hostAddresses(): string[];
+
+type EventOf<Type> = Extract<IceAgentEvent, { type: Type }>;
+/** The events of a loop, with the arguments of their handlers. */
+export interface IceLoopEvents {
+  iceRestart: [event: EventOf<"iceRestart">];
+  iceConnectionStateChange: [event: EventOf<"iceConnectionStateChange">];
+  discoveredRecv: [event: EventOf<"discoveredRecv">];
+  nominatedSend: [event: EventOf<"nominatedSend">];
+  /** A datagram that is not a STUN message. Anybody may have sent it: authenticate it, as DTLS does. */
+  media: [data: Uint8Array, source: SocketAddress, local: SocketAddress];
+  /** A STUN message that is not for the agent, as the response of a STUN server. */
+  stun: [data: Uint8Array, source: SocketAddress, local: SocketAddress];
+  /** The module stopped: the loop is closed, and the agent lost. */
+  error: [error: IceError];
+}
+
+/** An agent, its UDP sockets and its timer. It emits the agent's events, as an EventEmitter does. */
+export class IceLoop extends EventEmitter {
+  constructor(agent: IceAgent);
+  readonly agent: IceAgent;
+  /** Returns the current time for the agent. */
+  now(): number;
+  /** Binds a socket at a local address and returns that address, with the port. No candidate is added. */
+  open(address: string, port?: number): Promise<SocketAddress>;
+  /** Binds a socket, adds its address as a host candidate, and returns that for signaling, or null if it is redundant. */
+  bind(address: string, port?: number): Promise<string | null>;
+  /** Starts the session: calls `handleTimeout` now, and whenever the agent says. */
+  begin(): void;
+  /** Sends packets, emits events and sets the timer. Call it after each call of yours that changes the agent. */
+  wake(): void;
+  /** Sends media to the peer. Returns false if there is no path yet. */
+  send(data: Uint8Array | string): boolean;
+  /** Sends a datagram from the socket at a local address. Returns false if there is no such socket. */
+  sendFrom(source: SocketAddress, destination: SocketAddress, data: Uint8Array | string): boolean;
+  /** Takes a datagram that arrived at a local address. The loop's own sockets call it themselves. */
+  receive(source: SocketAddress, local: SocketAddress, data: Uint8Array): void;
+  /** Closes the sockets and stops the timer. The agent stays. */
+  close(): void;
+  on<Name extends keyof IceLoopEvents>(name: Name, handler: (...args: IceLoopEvents[Name]) => void): this;
+  once<Name extends keyof IceLoopEvents>(name: Name, handler: (...args: IceLoopEvents[Name]) => void): this;
+  off<Name extends keyof IceLoopEvents>(name: Name, handler: (...args: IceLoopEvents[Name]) => void): this;
+}

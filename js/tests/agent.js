@@ -1,0 +1,217 @@
+// One agent, and two: calls, events, errors.
+import assert from "node:assert/strict";
+import { test } from "node:test";
+import { firstRole, IceAgent, IceError, modernRules, newCreds, originalRules } from "is-ice";
+import { closed, host, meet, pair, run } from "./support.js";
+
+const at = (port) => ({ address: "10.0.0.9", port });
+const fails = (code) => (error) => error instanceof IceError && error.code === code;
+
+test("two agents find a path, and say so", () => {
+  const agents = pair(), [events] = run(agents, 0, 1000);
+  assert.deepEqual(events.map((it) => it.type),
+    ["iceRestart", "iceConnectionStateChange", "nominatedSend", "iceConnectionStateChange", "discoveredRecv"]);
+  assert.deepEqual(events[0].creds, agents[0].localCredentials);
+  const path = { protocol: "udp", source: { address: "10.0.0.1", port: 5000 }, destination: { address: "10.0.0.2", port: 5001 } };
+  assert.deepEqual(events[2], { type: "nominatedSend", ...path });
+  assert.deepEqual(events[4], { type: "discoveredRecv", protocol: "udp", source: path.destination });
+  assert.equal(agents[0].state, "completed");
+  assert.deepEqual([agents[0].mediaPath, agents[0].validPath], [path, path]);
+  const { totalRtt, responses, rtt, ...selected } = agents[0].nominatedPair;
+  assert.deepEqual(selected, path);
+  assert.ok(responses > 0 && rtt >= 0 && totalRtt >= rtt);
+  const [only] = agents[0].pairs;
+  assert.deepEqual([only.local, only.remote, only.state, only.nominated, only.selected], [0, 0, "succeeded", true, true]);
+  assert.ok(only.due > 1000 && only.lastRequest !== null && typeof only.priority === "bigint");
+  assert.ok(agents[0].hasViableRemoteCandidate(path.destination) && !agents[0].hasViableRemoteCandidate(at(1)));
+  assert.deepEqual(agents[0].findPairForEquivalentRemoteCandidate(agents[1].localCandidates()[0]), only);
+  assert.equal(agents[0].findPairForEquivalentRemoteCandidate("candidate:1 1 udp 1 10.9.9.9 1 typ host"), null);
+  const { stats } = agents[0];
+  assert.ok(stats.bindRequestSent >= stats.bindSuccessRecv && stats.bindSuccessRecv > 0 && stats.nominationSendCount === 1);
+  closed(agents);
+});
+
+test("a path that no packet takes is left, with the reason", () => {
+  const agents = pair();
+  run(agents, 0, 1000);
+  run(agents, 1000, 40000, () => false);
+  const [agent] = agents, removed = agent.removedPairs().at(-1);
+  assert.equal(agent.nominatedPair, null);
+  assert.equal(agent.mediaPath, null);
+  assert.equal(agent.state, "disconnected");
+  assert.equal(removed.reason, "consent-lost");
+  assert.match(String(removed), /^10\.0\.0\.1:5000 -> 10\.0\.0\.2:5001 succeeded, \d+ checks sent, \d+ answered: consent lost$/);
+  assert.deepEqual(agent.removedPairs(agent.removedPairs().length), []);
+  closed(agents);
+});
+
+test("an ICE restart", () => {
+  const agents = pair();
+  run(agents, 0, 1000);
+  for (const agent of agents) agent.iceRestart(newCreds(), true);
+  assert.equal(agents[0].remoteCredentials, null);
+  meet(agents);
+  agents.forEach((agent, i) => agents[1 - i].localCandidates().forEach((line) => agent.addRemoteCandidate(line)));
+  const events = run(agents, 1000, 2000);
+  assert.ok(events[1].some((it) => it.type === "nominatedSend"));
+  agents[0].iceRestart(undefined, false);
+  assert.deepEqual(agents[0].localCandidates(), []);
+  closed(agents);
+});
+
+test("errors have the names of the codes, and say why", () => {
+  const agent = new IceAgent(), long = "x".repeat(60000);
+  assert.throws(() => agent.addRemoteCandidate("candidate:1 1 udp 1 nonsense 1 typ host"), (error) => fails("BadCandidate")(error) && /nonsense/.test(error.message));
+  assert.throws(() => agent.addLocalCandidate(host("0.0.0.0")), (error) => fails("BadCandidate")(error) && error.message.length > "bad candidate: ".length);
+  assert.throws(() => agent.handlePacket(0, at(1), at(2), new Uint8Array(9)), fails("Unparsed"));
+  assert.throws(() => agent.acceptsMessage(new Uint8Array(200000)), fails("Unparsed"));
+  assert.throws(() => agent.handleTimeout(0, new Uint8Array(3)), fails("TooFewRandomBytes"));
+  assert.throws(() => agent.setRemoteCredentials({ ufrag: long, pass: long }), fails("CredentialsTooLong"));
+  assert.throws(() => agent.setRemoteCredentials({ ufrag: "\ud800", pass: "p" }), fails("NotUtf8"));
+  assert.throws(() => agent.setMtu(500, 500), fails("MtuTooSmall"));
+  assert.throws(() => agent.setMaxStunRetransmits(0), fails("BadLimit"));
+  agent.setMaxCandidates(0);
+  assert.throws(() => agent.addLocalCandidate(host("10.0.0.1")), fails("TooManyCandidates"));
+  agent.close();
+  agent.close();
+  assert.ok(agent.closed);
+  for (const call of [() => agent.state, () => agent.pollEvent(), () => agent.localCandidates()]) assert.throws(call, fails("NoAgent"));
+});
+
+test("numbers and words that no call takes", () => {
+  const agent = new IceAgent();
+  for (const now of [-1, NaN, Infinity, "1", 1n, 2 ** 60]) assert.throws(() => agent.handleTimeout(now), RangeError, String(now));
+  for (const count of [-1, 1.5, NaN, "3", null]) assert.throws(() => agent.setMaxDiscovered(count), RangeError, String(count));
+  for (const port of [-1, 65536, 1.5, "80", undefined]) assert.throws(() => agent.addLocalCandidate(host("10.0.0.1", port ?? NaN)), RangeError);
+  assert.throws(() => agent.setLocalPreference(65536), RangeError);
+  assert.throws(() => agent.setRules({ consent: 5 }), TypeError);
+  assert.throws(() => agent.handlePacket(0, at(1), at(2), "text"), TypeError);
+  assert.throws(() => agent.handlePacket(0, at(1), at(2), new Uint8Array(20), "sctp"), TypeError);
+  assert.throws(() => agent.addRemoteCandidate(undefined), TypeError);
+  assert.throws(() => new IceAgent({ ufrag: "a b", pass: "x".repeat(22) }), RangeError);
+  assert.throws(() => new IceAgent(newCreds(), 1n << 64n), RangeError);
+  assert.throws(() => agent.iceRestart({ ufrag: "abcd", pass: "short" }), RangeError);
+  agent.close();
+});
+
+test("settings", () => {
+  const agent = new IceAgent(newCreds(), 7n);
+  assert.deepEqual([agent.mtu, agent.mtuWarn, agent.maxCandidates, agent.controlling, agent.iceLite], [1150, 1280, 100, false, false]);
+  agent.setMtu(600, 700);
+  agent.setMaxCandidates(Infinity);
+  agent.setMaxDiscovered(Infinity);
+  agent.setMaxCandidatePairs(10);
+  agent.setControlTieBreaker((1n << 64n) - 1n);
+  agent.setTimingAdvance(20);
+  agent.setInitialStunRto(100);
+  agent.setMaxStunRto(1000);
+  agent.setMaxStunRetransmits(3);
+  agent.setLiteTimeout(30000);
+  agent.setRenomination(true);
+  agent.setLocalPreference(1);
+  agent.setLocalPreference(null);
+  agent.setIceLite(true);
+  assert.throws(() => agent.setControlling(true), fails("LiteStaysControlled"));
+  assert.deepEqual([agent.mtu, agent.mtuWarn, agent.maxCandidates, agent.iceLite], [600, 700, Infinity, true]);
+  assert.ok(agent.iceTimeout > 0);
+  const creds = newCreds();
+  agent.setLocalCredentials(creds);
+  assert.deepEqual(agent.localCredentials, creds);
+  agent.close();
+});
+
+test("rules are those of the header, and one is changed by its name", () => {
+  const agent = new IceAgent(), modern = modernRules(), original = originalRules();
+  assert.deepEqual(agent.rules, modern);
+  assert.deepEqual([modern.consentTimeout, modern.earlyInterval, modern.triggeredChecks, modern.kindsInTurn], [29600, 100, 1, true]);
+  assert.ok(Object.values(original).every((value) => value === 0 || value === false));
+  agent.setRules({ consentTimeout: 5000.5, strictConsent: true });
+  assert.deepEqual(agent.rules, { ...modern, consentTimeout: 5000.5, strictConsent: true });
+  agent.setRules(original);
+  assert.deepEqual(agent.rules, original);
+  agent.close();
+});
+
+test("preferences by a table", () => {
+  const agent = new IceAgent(), kinds = { host: 10, peerReflexive: 20, serverReflexive: 30, relayed: 40 };
+  agent.setPreferenceTable(kinds, { ...kinds, host: 50 });
+  agent.addLocalCandidate(host("10.0.0.1"));
+  agent.addLocalCandidate(host("2001:db8::1"));
+  // RFC 8445, section 5.1.2.1: 2^24 x 126 + 2^8 x preference + 255
+  assert.deepEqual(agent.localFields().map(({ priority }) => (priority >> 8) & 0xffff), [10, 50]);
+  assert.throws(() => agent.setPreferenceTable({ ...kinds, host: 65536 }, kinds), RangeError);
+  agent.close();
+});
+
+test("early requests wait for the peer's credentials", () => {
+  const agents = pair();
+  agents[1].iceRestart(agents[1].localCredentials, true);
+  run(agents, 0, 200);
+  assert.ok(agents[1].earlyRequests > 0);
+  meet(agents);
+  run(agents, 200, 1000);
+  assert.equal(agents[1].earlyRequests, 0);
+  closed(agents);
+});
+
+test("what an agent would accept, and times", () => {
+  const agents = pair(), [alice, bob] = agents;
+  assert.equal(alice.pollTimeout(), null);
+  assert.equal(alice.pollTimeoutSoon(), null);
+  alice.handleTimeout(1000.25);
+  bob.handleTimeout(1000.25);
+  const time = alice.pollTimeout(), { source, destination, contents } = alice.pollTransmit();
+  assert.ok(time > 1000.25 && alice.pollTimeoutSoon() >= 1005.25);
+  assert.ok(bob.acceptsMessage(contents) && bob.acceptsPacket(source, destination, contents) && !alice.acceptsMessage(contents));
+  const view = new DataView(contents.buffer.slice(0));
+  assert.ok(bob.acceptsMessage(view) && bob.acceptsMessage(view.buffer));
+  contents[contents.length - 1 - 8] ^= 1; // of the MAC
+  assert.equal(bob.handlePacket(1001, source, destination, contents), false);
+  closed(agents);
+});
+
+test("a time that was polled is not before itself", () => {
+  for (const origin of [0, 3e9, 1.7e12]) { // a page's start, 35 days, Date.now()
+    const agents = pair();
+    for (let now = origin + 0.1, i = 0; i < 40; i++) {
+      agents[0].handleTimeout(now);
+      const next = agents[0].pollTimeout();
+      assert.ok(next > now);
+      while (agents[0].pollTransmit());
+      now = next;
+    }
+    closed(agents);
+  }
+});
+
+test("candidates that go, and pairs that are formed again", () => {
+  const agents = pair(), [agent] = agents, [line] = agent.localCandidates();
+  agent.recreateCandidatePairs();
+  assert.equal(agent.pairs.length, 1);
+  assert.equal(agent.addLocalCandidate(host("10.0.0.1")), null);
+  assert.equal(agent.addRemoteCandidate(agents[1].localCandidates()[0]), "known");
+  assert.equal(agent.addRemoteCandidate(line.replace(" 1 udp", " 2 udp")), "other-component");
+  assert.equal(agent.addRemoteCandidate(line.replace(/ufrag .*/, "ufrag other")), "other-ufrag");
+  assert.equal(agent.alikeLocal(host("10.0.0.7")), 1);
+  assert.equal(agent.invalidateCandidate(host("10.0.0.1")), true);
+  assert.equal(agent.invalidateCandidate(host("10.0.0.1")), false);
+  assert.equal(agent.alikeLocal(host("10.0.0.7")), 1);
+  assert.equal(agent.removedPairs().at(-1).reason, "invalidated");
+  assert.equal(agent.remoteFields()[0].kind, "host");
+  assert.equal(agent.invalidateCandidate(agent.remoteCandidates()[0]), true);
+  closed(agents);
+});
+
+test("pair numbers end", () => {
+  const agent = new IceAgent();
+  agent.skipPairIds((1n << 64n) - 1n);
+  agent.setRemoteCredentials(newCreds());
+  agent.addLocalCandidate(host("10.0.0.1"));
+  assert.throws(() => agent.addRemoteCandidate("candidate:1 1 udp 1 10.0.0.2 1 typ host"), fails("PairIdsExhausted"));
+  agent.close();
+});
+
+test("roles at first (RFC 8445, section 6.1.1)", () => {
+  assert.deepEqual([[true, false, false], [false, false, false], [false, false, true], [true, true, false]].map((it) => firstRole(...it)),
+    [true, false, true, false]);
+});

@@ -1,0 +1,91 @@
+// The module's memory: every byte comes back; a trap; the module is loaded once.
+import assert from "node:assert/strict";
+import { readFileSync } from "node:fs";
+import { test } from "node:test";
+import { heapUsed, IceAgent, init, isStun } from "is-ice";
+import { library } from "../src/module.js";
+import { closed, pair, run } from "./support.js";
+
+const AGENTS = 10000;
+
+async function collected() {
+  for (let i = 0; i < 5; i++) {
+    globalThis.gc();
+    await new Promise((done) => setTimeout(done, 20));
+  }
+}
+
+/** Sessions of two agents each, in one of which a path is found and one agent makes an ICE restart. */
+function sessions(count, end) {
+  for (let i = 0; i < count / 2; i++) {
+    const agents = pair();
+    run(agents, 0, 250);
+    if (i % 2) agents[0].iceRestart();
+    end(agents);
+  }
+}
+
+test(`close() gives back every byte of ${AGENTS} agents`, () => {
+  sessions(2, closed);
+  const before = heapUsed();
+  sessions(AGENTS, closed);
+  assert.equal(heapUsed(), before);
+});
+
+test(`so does the garbage collector, of ${AGENTS} agents that nobody closed`, { skip: !globalThis.gc && "needs --expose-gc" }, async () => {
+  await collected();
+  const before = heapUsed();
+  sessions(AGENTS, () => {});
+  assert.ok(heapUsed() > before);
+  await collected();
+  assert.equal(heapUsed(), before);
+});
+
+test("an agent that is not created leaves nothing", () => {
+  const before = heapUsed();
+  for (let i = 0; i < 100; i++) assert.throws(() => new IceAgent({ ufrag: "x".repeat(256), pass: "no" }), RangeError);
+  assert.equal(heapUsed(), before);
+});
+
+test("Symbol.dispose closes", { skip: !Symbol.dispose && "needs Symbol.dispose" }, () => {
+  const agent = new IceAgent();
+  agent[Symbol.dispose]();
+  assert.ok(agent.closed);
+});
+
+test("a memory that is full is an error, and the agent is as it was", () => {
+  const agents = pair(), memory = library(), { malloc } = memory.exports;
+  memory.exports = { ...memory.exports, malloc: () => 0n };
+  assert.throws(() => new IceAgent(), { code: "OutOfMemory" });
+  assert.throws(() => agents[0].acceptsMessage(new Uint8Array(1 << 20)), { code: "OutOfMemory" });
+  memory.exports = { ...memory.exports, malloc };
+  assert.ok(run(agents, 0, 500)[0].some((it) => it.type === "nominatedSend"));
+  closed(agents);
+});
+
+test("after a trap the old agents are lost, and new ones are not", () => {
+  const agents = pair(), memory = library();
+  assert.throws(() => memory.call("is_ice_is_stun", 0xfffffff0n, 100n), { code: "Trapped" }); // beyond the memory
+  for (const call of [() => agents[0].state, () => agents[0].handleTimeout(0), () => agents[1].localCandidates()]) {
+    assert.throws(call, (error) => error.code === "Trapped" && error.cause instanceof WebAssembly.RuntimeError);
+  }
+  closed(agents);
+  assert.equal(isStun(new Uint8Array(20)), false);
+  assert.notEqual(library(), memory);
+  const others = pair();
+  assert.ok(run(others, 0, 500)[0].some((it) => it.type === "nominatedSend"));
+  closed(others);
+});
+
+test("the module is loaded once, and by each kind of source", async () => {
+  const before = library();
+  await Promise.all([init(), init(new URL("http://127.0.0.1:1/none.wasm"))]);
+  assert.equal(library(), before);
+  const url = new URL("../src/is_ice.wasm", import.meta.url), bytes = readFileSync(url);
+  const response = new Response(bytes, { headers: { "content-type": "application/wasm" } });
+  for (const source of [url, url.href, bytes, bytes.buffer.slice(0), response, Promise.resolve(bytes), new WebAssembly.Module(bytes)]) {
+    const { init: again, IceAgent: Agent } = await import(`../src/index.js?copy`);
+    await again(source);
+    new Agent().close();
+  }
+});

@@ -1,0 +1,54 @@
+// Each call of is_ice.h is made by a method or function, with arguments of the header's kinds; and the types name what is there.
+import assert from "node:assert/strict";
+import { readdirSync, readFileSync } from "node:fs";
+import { test } from "node:test";
+import * as ice from "is-ice";
+import { CALLS } from "../src/abi.js";
+import { Memory } from "../src/memory.js";
+
+const folder = new URL("../src/", import.meta.url);
+const sources = (ending) => readdirSync(folder).filter((name) => name.endsWith(ending)).map((name) => [name, readFileSync(new URL(name, folder), "utf8")]);
+const made = new Set(["is_ice_version"]); // by init, before a memory is there
+const OTHERS = ["malloc", "free", "is_ice_heap_used"];
+
+const isKind = (kind, value) => (["bool", "u8", "u16", "u32"].includes(kind) ? Number.isInteger(value) : typeof value === "bigint");
+
+/** From now on each call is checked, and noted. */
+export function recorded() {
+  const { call } = Memory.prototype;
+  Memory.prototype.call = function (name, ...values) {
+    if (!OTHERS.includes(name)) {
+      const kinds = CALLS[name];
+      assert.ok(kinds, `no call ${name}`);
+      assert.equal(values.length, kinds.length, name);
+      kinds.forEach((kind, i) => assert.ok(isKind(kind, values[i]), `${name}: argument ${i} is ${kind}`));
+      made.add(name);
+    }
+    return call.call(this, name, ...values);
+  };
+}
+
+/** Once all tests have run. */
+export function allMade() {
+  test("each call of the header is made, and with the header's arguments", () => {
+    assert.deepEqual(Object.keys(CALLS).filter((name) => !made.has(name)), []);
+  });
+}
+
+test("each call of the header is in the sources", () => {
+  const text = sources(".js").filter(([name]) => name !== "abi.js").map(([, text]) => text).join();
+  assert.deepEqual(Object.keys(CALLS).filter((name) => !text.includes(`"${name}"`) && !text.includes(`.${name}(`)), []);
+});
+
+test("the types name each export, and nothing else", () => {
+  const values = sources(".d.ts").filter(([name]) => name !== "node.d.ts").flatMap(([, text]) =>
+    [...text.matchAll(/^export (?:function|const|class) (\w+)/gm)].map((it) => it[1]));
+  assert.deepEqual(values.filter((name) => name !== "Settings").sort(), Object.keys(ice).sort());
+});
+
+test("the types name each method and property of an agent", () => {
+  const text = Object.fromEntries(sources(".d.ts")), typed = ["agent.d.ts", "settings.d.ts"].map((name) => text[name].slice(text[name].indexOf("\nexport class "))).join("");
+  const names = [...typed.matchAll(/^ {2}(?:readonly )?(\w+)[(:]/gm)].map((it) => it[1]);
+  const { prototype } = ice.IceAgent, chain = [prototype, Object.getPrototypeOf(prototype), Object.getPrototypeOf(Object.getPrototypeOf(prototype))];
+  assert.deepEqual([...new Set(names)].sort(), [...new Set(chain.flatMap(Object.getOwnPropertyNames))].sort());
+});
