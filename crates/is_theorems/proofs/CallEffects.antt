@@ -13,3 +13,5 @@ pub mod PathEffects
 pub mod ReceivedAndOwed
 pub mod PathAndTradeEffects
 pub mod ExternalViews
+pub mod QueuedSelections
+pub mod KeptSettings

@@ -1,4 +1,5 @@
 -- Executions, their logs, segments and points.
+pub mod SharedLogTheorems
 pub mod LogTheorems
 pub mod LogSegments
 pub mod SegmentsAsExecutions
@@ -7,3 +8,4 @@ pub mod UnacceptedBytes
 pub mod PollingOrder
 pub mod SharedRandomSource
 pub mod PerAgentExecutions
+pub mod PolledSelections

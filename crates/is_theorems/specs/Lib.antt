@@ -34,6 +34,8 @@ pub mod FirstChecks
 pub mod OpenRounds
 pub mod DueRounds
 pub mod Shared
+pub mod Settings
+pub mod Polled
 pub mod Waiting
 pub mod Limited
 pub mod Renominating

@@ -1,10 +1,12 @@
 -- How a call changes the event queue.
-use Rattle.std.specs.Prelude.{◌≡◌, ℕ, List, [], ◌∷◌, ◌++◌, Option, ◌⊎◌}
+use Rattle.std.specs.Prelude.{◌≡◌, ℕ, List, [], ◌∷◌, ◌++◌, Option, Some, ◌⊎◌}
 use Rattle.rand_core.specs.Stream.{Stream}
+use Rattle.is_proto.specs.Lists.{Has}
 use Rattle.is_candidate.specs.Candidates.{CandidateRecord}
 use Rattle.is_rules.specs.declared.credentials.IceCreds.{IceCreds}
+use Rattle.is_rules.specs.declared.emitted.Path.{Path}
 use Rattle.is_rules.specs.declared.event.IceAgentEvent.{IceAgentEvent}
-use Rattle.is_rules.specs.declared.event.IceAgentEvent.TheVariants.{IceRestart, IceConnectionStateChange}
+use Rattle.is_rules.specs.declared.event.IceAgentEvent.TheVariants.{IceRestart, IceConnectionStateChange, NominatedSend}
 use Rattle.is_rules.specs.declared.event.IceConnectionState.TheVariants.{Checking}
 use Rattle.is_rules.specs.Agent.{AgentRecord}
 use Rattle.is_rules.specs.Polls.{IsPolled}
@@ -26,9 +28,20 @@ Reports PollEvent e old new = (given : Option IceAgentEvent) × (e ≡ quiet (Ha
 Reports (RestartIce creds keep) e old new = Begins e.answer creds old new
 Reports _ e old new = Extends old new
 
+-- the event that reports a selected path
+abbrev pub selecting : Path → IceAgentEvent
+selecting path = NominatedSend path.proto path.source path.destination
+
 module _ {H P : Type 0} (mac : H → List ℕ → List ℕ → List ℕ) (answers : P → CandidateRecord → ℕ → ℕ → Type 0) where
   -- The theorem: packets and events are polled in the order in which they were issued, in any state of the agent.
   abbrev pub QueuesTheorem : Type 0
   QueuesTheorem =
       (old new : AgentRecord H P) (s t : Stream) (call : Call P) (e : Entry)
       → Step mac answers old s call e new t → QueuesPackets call e old.packets new.packets × Reports call e old.events new.events
+
+  -- The theorem: a `NominatedSend` that waits after a call waited before it, or reports a path that the call selects. So no other path is
+  -- reported.
+  abbrev pub EventsAreSelected : Type 0
+  EventsAreSelected =
+      (old new : AgentRecord H P) (s t : Stream) (call : Call P) (e : Entry) → Step mac answers old s call e new t
+      → (path : Path) → Has new.events (selecting path) → Has old.events (selecting path) ⊎ Has e.emitted.selected_paths (Some path)

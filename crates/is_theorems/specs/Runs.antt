@@ -1,5 +1,5 @@
 -- Executions of one agent from an abstract state, and what holds at each entry of their logs.
-use Rattle.std.specs.Prelude.{◌≡◌, ℕ, ◌⊎◌, true, false, List, [], ◌∷◌, ◌++◌, length, Some}
+use Rattle.std.specs.Prelude.{◌≡◌, ℕ, true, false, List, [], ◌∷◌, ◌++◌, length, Some}
 use Rattle.rand_core.specs.Stream.{Stream}
 use Rattle.is_proto.specs.Lists.{Has}
 use Rattle.is_candidate.specs.Candidates.{CandidateRecord}
@@ -19,7 +19,8 @@ use Rattle.is_rules.specs.Brought.{Brings, IsNominatedOn}
 use Rattle.is_rules.specs.Owed.{AreAmong}
 use Rattle.is_rules.specs.Points.{HasSelected, IsNominationPoint}
 use Rattle.is_rules.specs.Effects.{IsNotAccepted}
-use Rattle.is_theorems.specs.Logs.{Logged, clears_at, NeverLite, last_selected, requests, replies, IsAnsweredBy, NominatedByPeer}
+use Rattle.is_theorems.specs.Logs.{Logged, NeverLite, last_selected, requests, replies, IsAnsweredBy, NominatedByPeer}
+use Rattle.is_theorems.specs.Shared.{IsControlledSince, SharedRun}
 
 -- The agent is newly created.
 abbrev pub IsFresh : {H P : Type 0} → AgentRecord H P → Type 0
@@ -32,6 +33,12 @@ module _ {H P : Type 0} (mac : H → List ℕ → List ℕ → List ℕ) (answer
   Run first s (x ∷ before) last t =
       (mid : AgentRecord H P) × (u : Stream) × Run first s before mid u
       × (x.number ≡ length before) × GivesBased x.call × Step mac answers mid u x.call x.entry last t
+
+  -- It is an execution with shared random words, which come from one stream.
+  abbrev pub shared_run : (first : AgentRecord H P) (s : Stream) (log : List (Logged P)) (last : AgentRecord H P) (t : Stream)
+      → Run first s log last t → SharedRun mac answers first log last
+  shared_run first s [] last t run = run.0
+  shared_run first s (x ∷ before) last t run = (run.0, run.1, t, shared_run first s before run.0 run.1 run.2, run.4, run.5)
 
   -- ---- log entries
 
@@ -66,18 +73,12 @@ module _ {H P : Type 0} (mac : H → List ℕ → List ℕ → List ℕ) (answer
       AtEach first s log (λ before mid x after. (path : Path) → Has x.entry.emitted.selected_paths (Some path)
       → IsAnsweredBy mac first.provider x before path)
 
-  -- The agent is controlled in each state since the last clear, or since the start if there was none.
-  abbrev pub IsControlledSince : (first : AgentRecord H P) (s : Stream) (log : List (Logged P)) (last : AgentRecord H P) (t : Stream)
-      → Run first s log last t → Type 0
-  IsControlledSince first s [] last t run = last.controlling ≡ false
-  IsControlledSince first s (x ∷ before) last t run =
-      (last.controlling ≡ false) × ((clears_at x ≡ true) ⊎ IsControlledSince first s before run.0 run.1 run.2)
-
   -- Each path that is selected while the agent was controlled since the last clear was nominated by the peer.
   abbrev pub PathsAreNominatedByPeer : AgentRecord H P → Stream → List (Logged P) → Type 0
   PathsAreNominatedByPeer first s log =
       (before : List (Logged P)) (mid after : AgentRecord H P) (x : Logged P) (point : Point first s log before mid x after)
-      → IsControlledSince first s (x ∷ before) after point.following (run_to first s log before mid x after point)
+      → IsControlledSince mac answers first (x ∷ before) after
+      (shared_run first s (x ∷ before) after point.following (run_to first s log before mid x after point))
       → (path : Path) → Has x.entry.emitted.selected_paths (Some path) → NominatedByPeer (x ∷ before) path
 
   -- The path that was selected last is that of an eligible pair with the greatest stored priority. If the agent follows its peer,

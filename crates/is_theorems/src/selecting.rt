@@ -4,20 +4,55 @@ ghost use Rattle.is_theorems.specs.Asked.{AskedAreSelected};
 ghost use Rattle.is_theorems.specs.AskedCourses.{SuccessesSelect, AcceptedNominationsAreSelected};
 ghost use Rattle.is_theorems.specs.AtOnce.{RequestsSelect, NominationsSelectAtOnce};
 ghost use Rattle.is_theorems.specs.AtOnceCourses.{CompletedNominationsAreSelected};
+ghost use Rattle.is_theorems.specs.Polled.{WaitingAreSelected, WaitingAreAnswered, WaitingAreNominatedByPeer};
 ghost use Rattle.is_theorems.specs.Progress.{AnswersSelect, TimeoutsSelect};
 ghost use Rattle.is_theorems.specs.Runs.{SelectedAreAnswered, SelectedAreNominatedByPeer, PointsAreTop, TakersAreValid, AskedAreNominated};
+ghost use Rattle.is_theorems.specs.Shared.{SelectionsAreAnswered, SelectionsAreNominatedByPeer, SelectionsAreTop};
 
 use is_candidate::LocalPreference;
 use is_proto::Sha1HmacProvider;
 
-/// From a newly created agent that is never lite: each selected path got an authentic success response to a check that was sent
-/// since the last clear.
+/// From a newly created agent that was never lite, whatever random words it got: each path that a call selects got an authentic success
+/// response to a check that was sent since the last clear.
+pub fn selections_are_answered<H: Sha1HmacProvider, P: LocalPreference>()
+    ensures { SelectionsAreAnswered H.mac P.answers }
+{}
+
+/// Each path that a call selects while the agent was controlled since the last clear was nominated by an accepted request: by
+/// USE-CANDIDATE, or by NOMINATION if nominations have numbers.
+pub fn selections_are_nominated_by_peer<H: Sha1HmacProvider, P: LocalPreference>()
+    ensures { SelectionsAreNominatedByPeer H.mac P.answers }
+{}
+
+/// After each nomination point at which a pair is eligible, the path that was selected last is that of a first choice, as in
+/// `points_are_top`.
+pub fn selections_are_top<H: Sha1HmacProvider, P: LocalPreference>()
+    ensures { SelectionsAreTop H.mac P.answers }
+{}
+
+/// From a newly created agent: each `NominatedSend` that waits reports a path that a call selected since the last ICE restart.
+pub fn waiting_are_selected<H: Sha1HmacProvider, P: LocalPreference>()
+    ensures { WaitingAreSelected H.mac P.answers }
+{}
+
+/// If the agent was never lite, the path was answered when it was selected.
+pub fn waiting_are_answered<H: Sha1HmacProvider, P: LocalPreference>()
+    ensures { WaitingAreAnswered H.mac P.answers }
+{}
+
+/// If it is also controlled since the last ICE restart, the peer nominated the path.
+pub fn waiting_are_nominated_by_peer<H: Sha1HmacProvider, P: LocalPreference>()
+    ensures { WaitingAreNominatedByPeer H.mac P.answers }
+{}
+
+/// From a newly created agent that is never lite, with one random source: each selected path got an authentic success response to a check
+/// that was sent since the last clear.
 pub fn selected_are_answered<H: Sha1HmacProvider, P: LocalPreference>()
     ensures { SelectedAreAnswered H.mac P.answers }
 {}
 
-/// Each path that was selected while the agent was controlled since the last clear was nominated by an accepted request with
-/// USE-CANDIDATE.
+/// Each path that was selected while the agent was controlled since the last clear was nominated by an accepted request: by USE-CANDIDATE,
+/// or by NOMINATION if nominations have numbers.
 pub fn selected_are_nominated_by_peer<H: Sha1HmacProvider, P: LocalPreference>()
     ensures { SelectedAreNominatedByPeer H.mac P.answers }
 {}

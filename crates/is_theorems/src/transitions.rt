@@ -1,6 +1,8 @@
 //! What one transition of an agent does.
 
+ghost use Rattle.is_theorems.specs.Reporting.{EventsAreSelected};
 ghost use Rattle.is_theorems.specs.RoleView.{RoleTheorem};
+ghost use Rattle.is_theorems.specs.Settings.{SettingsAreSet};
 ghost use Rattle.is_rules.specs.Effects.{RejectionKeeps, PathTheorem, TradeTheorem};
 ghost use Rattle.is_rules.specs.Sound.{FreshIsSound};
 
@@ -32,4 +34,14 @@ pub fn trade_effect<H: Sha1HmacProvider, P: LocalPreference>()
 /// packets and checks.
 pub fn role_effect<H: Sha1HmacProvider, P: LocalPreference>()
     ensures { RoleTheorem H.mac P.answers }
+{}
+
+/// A `NominatedSend` that waits after a call waited before it, or reports a path that the call selects.
+pub fn events_are_selected<H: Sha1HmacProvider, P: LocalPreference>()
+    ensures { EventsAreSelected H.mac P.answers }
+{}
+
+/// A call changes the settings only as its setter says, whatever the agent receives.
+pub fn settings_are_set<H: Sha1HmacProvider, P: LocalPreference>()
+    ensures { SettingsAreSet H.mac P.answers }
 {}

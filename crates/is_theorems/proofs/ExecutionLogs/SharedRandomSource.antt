@@ -16,7 +16,7 @@ use Rattle.is_theorems.proofs.StorageBounds.PairsByCellInExecutions.{Stays, step
 use Rattle.is_theorems.proofs.StorageBounds.PairsByCellAfterRules.{own_at, surplus}
 use Rattle.is_theorems.proofs.StorageBounds.PairsByCell.{cell_of, cells, extras-length, owned, pairs-in-grid}
 use Rattle.is_theorems.proofs.CallEffects.PathAndTradeEffects.{path_theorem}
-use Rattle.is_theorems.proofs.CallEffects.FailedCallsAndNewAgents.{fresh_sound}
+use Rattle.is_theorems.proofs.ExecutionLogs.SharedLogTheorems.{new_sound}
 use Rattle.is_theorems.specs.Limited.{ListsStayBounded, PairsStayFew, IsLimitedAt, FormsFewAt}
 use Rattle.is_theorems.specs.Shared.{IsNewlyCreated, SharedRun, BeforeEach}
 
@@ -28,21 +28,6 @@ owned-most own (suc n) = by (own n) (owned-most own n) where
   by false le = omega (arith, le)
 
 module _ {H P : Type 0} (mac : H → List ℕ → List ℕ → List ℕ) (answers : P → CandidateRecord → ℕ → ℕ → Type 0) where
-  new_sound : (a : AgentRecord H P) → IsNewlyCreated a → IsSound a
-  new_sound a (creds, tie, role, is) =
-      let s = fresh_sound H P a.provider creds tie in
-      subst (λ (x : AgentRecord H P). IsSound x) (sym is) (record {
-        placed = s.placed;
-        rising = s.rising;
-        below = s.below;
-        selected_paths = s.selected_paths;
-        started = s.started;
-        consented = s.consented;
-        checks = s.checks;
-        queued = s.queued;
-        based = s.based;
-      })
-
   pub sound_run : (first last : AgentRecord H P) (log : List (Logged P)) → IsNewlyCreated first → SharedRun mac answers first log last → IsSound last
   sound_run first last [] new run = subst (λ (a : AgentRecord H P). IsSound a) (sym run) (new_sound first new)
   sound_run first last (x ∷ before) new (mid, s, t, run, based, step) =
