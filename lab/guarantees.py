@@ -75,7 +75,7 @@ class SideGuarantees:
         self.was_controlling |= controlling
 
     def told(self, event: IceAgentEvent) -> None:
-        """Tests a selected pair."""
+        """Tests the path of an event, as clauses `polled_answered` and `polled_nominated` of `run` say of it."""
         if not isinstance(event, NominatedSend) or self.lite:
             return
         path = (event.source, event.destination)

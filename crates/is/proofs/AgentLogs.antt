@@ -3,3 +3,4 @@ pub mod GrowingLog
 pub mod UnacceptedBytes
 pub mod PollingOrder
 pub mod StoredAndQueued
+pub mod ReportedPaths

@@ -18,6 +18,7 @@ pub mod Mirrors
 pub mod Sides
 pub mod AcceptedNominations
 pub mod Floods
+pub mod Reported
 pub mod Renominations
 pub mod Punctual
 pub mod PunctualSelections

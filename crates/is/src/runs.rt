@@ -16,6 +16,7 @@ ghost use Rattle.is.specs.Log.{IsRunLog, log_of, EntriesPersist};
 ghost use Rattle.is.specs.Accepted.{PacketsAreSettled};
 ghost use Rattle.is.specs.Queues.{OthersIssueNone, QueuesAreKept};
 ghost use Rattle.is.specs.Floods.{QueuesStayShort, DiscoveriesAreFew};
+ghost use Rattle.is.specs.Reported.{QueuedAreSelected, PolledAreSelected, PolledAreAnswered, PolledAreNominatedByPeer, SettingsAreThoseSet};
 
 use crate::calls::{AgentCall, Entry};
 use crate::steps::step;
@@ -28,10 +29,12 @@ use is_theorems::logs::{entries_are_points, parts_are_runs, queues_are_kept, rep
 use is_theorems::rounds_to_select::{due_rounds_select, open_rounds_select};
 use is_theorems::selecting::{
     answers_select, asked_are_nominated, points_are_top, selected_are_answered,
-    selected_are_nominated_by_peer, takers_are_valid, timeouts_select,
+    selected_are_nominated_by_peer, takers_are_valid, timeouts_select, waiting_are_answered,
+    waiting_are_nominated_by_peer, waiting_are_selected,
 };
 use is_theorems::starving::turns_are_of_use;
 use is_theorems::timing::{none_is_starved_in_time, reached_in_time, selected_in_time};
+use is_theorems::transitions::{events_are_selected, settings_are_set};
 use rand_core::Rng;
 
 /// The results of the calls of an execution.
@@ -93,7 +96,7 @@ pub fn run<H: Sha1HmacProvider + Drop, P: LocalPreference, R: Rng>(
         → PathsAreAnswered H.mac P.answers (record_of agent.old) (R.stream rng.old) (log_of calls.items result) }
 
     // Never lite: each path that was selected while the agent was controlled since the last clear was nominated by an accepted
-    // request with USE-CANDIDATE.
+    // request: by USE-CANDIDATE, or by a NOMINATION above 0 if nominations have numbers.
     ensures peer_nominated { IsFresh (record_of agent.old) → NeverLite (log_of calls.items result)
         → PathsAreNominatedByPeer H.mac P.answers (record_of agent.old) (R.stream rng.old) (log_of calls.items result) }
 
@@ -102,6 +105,19 @@ pub fn run<H: Sha1HmacProvider + Drop, P: LocalPreference, R: Rng>(
     // greatest stored priority. A controlled agent with renomination selects the pair that it follows instead (`IsChosen`).
     ensures nomination { IsFresh (record_of agent.old)
         → LastPathsAreTop H.mac P.answers (record_of agent.old) (R.stream rng.old) (log_of calls.items result) }
+
+    // What the caller sees of this: each path in a `NominatedSend` that `poll_event` returned was selected by a call since the last ICE
+    // restart, and so all that the clauses above say of selected paths holds of it. No event reports another path.
+    ensures polled { IsFresh (record_of agent.old)
+        → PolledAreSelected H.mac P.answers (record_of agent.old) (R.stream rng.old) (log_of calls.items result) }
+
+    // Never lite: when it was selected, it had got an authentic success response, as in `answered`.
+    ensures polled_answered { IsFresh (record_of agent.old) → NeverLite (log_of calls.items result)
+        → PolledAreAnswered H.mac P.answers (record_of agent.old) (R.stream rng.old) (log_of calls.items result) }
+
+    // Never lite: if the agent was controlled since the last ICE restart, the path was nominated by the peer, as in `peer_nominated`.
+    ensures polled_nominated { IsFresh (record_of agent.old) → NeverLite (log_of calls.items result)
+        → PolledAreNominatedByPeer H.mac P.answers (record_of agent.old) (R.stream rng.old) (log_of calls.items result) }
 
     // So a controlling agent has selected a path after each accepted success response, and an agent with a valid and nominated
     // pair after each `handle_timeout` call that served no early request.
@@ -215,6 +231,12 @@ pub fn run<H: Sha1HmacProvider + Drop, P: LocalPreference, R: Rng>(
     // Packets and events are polled in the order in which they were issued, and an ICE restart empties both queues before its own
     // events.
     ensures order { QueuesAreKept H.mac P.answers (record_of agent.old) (R.stream rng.old) (log_of calls.items result) }
+
+    // A `NominatedSend` that waits after a call waited before it, or reports a path that the call selects.
+    ensures events { QueuedAreSelected H.mac P.answers (record_of agent.old) (R.stream rng.old) (log_of calls.items result) }
+
+    // The settings, rules among them, are those that the calls set last, whatever was received.
+    ensures settings { SettingsAreThoseSet H.mac P.answers (record_of agent.old) (R.stream rng.old) (log_of calls.items result) }
 {
     // the lemmas on which the clauses after the first one rest
     entries_are_points::<H, P>();
@@ -240,5 +262,10 @@ pub fn run<H: Sha1HmacProvider + Drop, P: LocalPreference, R: Rng>(
     asked_are_nominated::<H, P>();
     replies_are_among::<H, P>();
     queues_are_kept::<H, P>();
+    waiting_are_selected::<H, P>();
+    waiting_are_answered::<H, P>();
+    waiting_are_nominated_by_peer::<H, P>();
+    events_are_selected::<H, P>();
+    settings_are_set::<H, P>();
     run_calls(agent, calls, rng)
 }

@@ -15,6 +15,7 @@ ghost use Rattle.is.specs.Meetings.{RolesMeet};
 ghost use Rattle.is.specs.Mirrors.{LonePathsMirror};
 ghost use Rattle.is.specs.Renominations.{LeadingPathIsSelected, OnePathIsSelected};
 ghost use Rattle.is.specs.Floods.{BothAreBounded, BothHaveFewPairs, BothAreShort, BothDiscoverFew};
+ghost use Rattle.is.specs.Reported.{BothReportSelected, BothReportAnswered, BothKeepSettings};
 
 use crate::world_events::{InFlight, TwoAgentsEvent, WorldLog};
 use crate::world_theorems::{
@@ -29,6 +30,8 @@ use is_proto::{IceError, Sha1HmacProvider};
 use is_theorems::flooding::{
     discoveries_stay_few, lists_stay_bounded, pairs_stay_few, queues_are_short,
 };
+use is_theorems::selecting::{waiting_are_answered, waiting_are_selected};
+use is_theorems::transitions::settings_are_set;
 use rand_core::Rng;
 use std::alloc::Global;
 
@@ -143,6 +146,11 @@ impl<H: Sha1HmacProvider + Drop, P: LocalPreference> TwoAgents<H, P> {
         // its reverse path.
         ensures traced { SelectedAreTraced (world_of self.old) (logged events.items result.entries.items) result.entries.items }
 
+        // What the callers see of this: after each event, each `NominatedSend` that waits in a side reports a path that a call of the side
+        // selected since its last ICE restart. If the side was never lite, the path had got an authentic success response by then.
+        ensures events { BothReportSelected H.mac P.answers (world_of self.old) (sources (R.stream rng_a.old) (S.stream rng_b.old)) (logged events.items result.entries.items) }
+        ensures events_answered { BothReportAnswered H.mac P.answers (world_of self.old) (sources (R.stream rng_a.old) (S.stream rng_b.old)) (logged events.items result.entries.items) }
+
         // Progress of the controlling agent: n of its pairs are due by an earlier time at a `handle_timeout` call. If it sends a
         // check on the path of one of these pairs in the n rounds from this call on, the network delivers such a check, and its
         // success response at any time while the check is pending, also through NATs. Both agents know each other, their roles
@@ -215,6 +223,9 @@ impl<H: Sha1HmacProvider + Drop, P: LocalPreference> TwoAgents<H, P> {
         // Packets, events and early requests wait in it as in `run`, and with the limit at most as many `DiscoveredRecv` events.
         ensures waiting { BothAreShort H.mac P.answers (world_of self.old) (sources (R.stream rng_a.old) (S.stream rng_b.old)) (logged events.items result.entries.items) }
         ensures discovered { BothDiscoverFew H.mac P.answers (world_of self.old) (sources (R.stream rng_a.old) (S.stream rng_b.old)) (logged events.items result.entries.items) }
+
+        // The settings of each agent are those that its calls set last.
+        ensures settings { BothKeepSettings H.mac P.answers (world_of self.old) (sources (R.stream rng_a.old) (S.stream rng_b.old)) (logged events.items result.entries.items) }
     {
         greater_keeps::<H, P>();
         lesser_switches_once::<H, P>();
@@ -234,6 +245,9 @@ impl<H: Sha1HmacProvider + Drop, P: LocalPreference> TwoAgents<H, P> {
         pairs_stay_few::<H, P>();
         queues_are_short::<H, P>();
         discoveries_stay_few::<H, P>();
+        waiting_are_selected::<H, P>();
+        waiting_are_answered::<H, P>();
+        settings_are_set::<H, P>();
         self.run_events(events, rng_a, rng_b)
     }
 }

@@ -1,11 +1,10 @@
 //! Received packets, `handle_timeout` calls, and packets to send.
 
 ghost use Rattle.std.specs.Prelude.{◌≡◌, None, option_map};
-ghost use Rattle.is_rules.specs.Polls.{IsPolled};
 ghost use Rattle.is_proto.specs.Packets.{packet_of};
 ghost use Rattle.is_c.specs.Held.{home_of, held_by, At};
 ghost use Rattle.is_c.specs.Packets.{packet_path, TakesBytes, HandlesDatagram, IsSettled, TimesOutBy, WritesTime, ReturnsTimeout};
-ghost use Rattle.is_c.specs.Packets.{ReturnsTimeoutSoon, queue_of, IsReported, GivesFirst, Gives};
+ghost use Rattle.is_c.specs.Packets.{ReturnsTimeoutSoon, TakesNext, IsReported, GivesFirst, Gives};
 
 use crate::address::{Address, address_of, number_of, protocol_of, socket_of};
 use crate::clock::{agent_time, caller_time};
@@ -167,8 +166,7 @@ pub extern "C" fn is_ice_poll_timeout_soon(alloc: Global, slot: &mut Slot, at: &
 
 /// The first packet to send: the one that waits for a longer buffer, or the agent's first.
 fn next_packet(home: &mut Home) -> Option<Transmit>
-    ensures first { IsPolled (queue_of (home_of home.old)) (option_map packet_of result) (queue_of (home_of home.new)) }
-    ensures agent { (home_of home.new).agent ≡ record (home_of home.old).agent { packets = (home_of home.new).agent.packets } }
+    ensures first { TakesNext (home_of home.old).waiting (home_of home.old).agent (option_map packet_of result) (home_of home.new).agent }
     ensures nothing_waits { home.new.waiting ≡ None }
     ensures limit { (home_of home.new).max_candidates ≡ (home_of home.old).max_candidates }
 {
@@ -192,7 +190,7 @@ fn reported(next: &Transmit) -> Packet
 /// The packet is written to the front of the buffer. If the buffer is too short, the packet waits.
 fn hand_over(home: &mut Home, next: Transmit, buffer: &mut [u8]) -> i32
     requires { home.old.waiting ≡ None }
-    ensures given { GivesFirst buffer.old buffer.new (packet_of next) (queue_of (home_of home.old)) result (queue_of (home_of home.new)) }
+    ensures given { GivesFirst buffer.old buffer.new (packet_of next) result (home_of home.new).waiting }
     ensures agent { (home_of home.new).agent ≡ (home_of home.old).agent }
     ensures limit { (home_of home.new).max_candidates ≡ (home_of home.old).max_candidates }
 {

@@ -8,10 +8,10 @@ use Rattle.is_rules.specs.Agent.{AgentRecord}
 use Rattle.is_theorems.specs.Bounds.{IsLimited}
 use Rattle.is_theorems.specs.Logs as agent
 use Rattle.is_theorems.specs.Runs as runs
-use Rattle.is_theorems.specs.Runs.{IsFresh, run_to}
+use Rattle.is_theorems.specs.Runs.{IsFresh, run_to, shared_run}
 use Rattle.is_theorems.proofs.ExecutionLogs.PointsOfSegments.{deeper, later_point}
 use Rattle.is_theorems.specs.Limited.{DiscoveriesStayFew, FormsFewAt, IsLimitedAt, ListsStayBounded, PairsStayFew}
-use Rattle.is_theorems.specs.Shared.{IsNewlyCreated, SharedRun, BeforeEach}
+use Rattle.is_theorems.specs.Shared.{IsNewlyCreated, BeforeEach}
 use Rattle.is_theorems.specs.Waiting.{IsShort, QueuesAreShort}
 use Rattle.is.specs.declared.world_events.Side.{Side}
 use Rattle.is.specs.Floods.{QueuesStayShort, DiscoveriesAreFew, BothAreBounded, BothHaveFewPairs, BothAreShort, BothDiscoverFew}
@@ -24,23 +24,18 @@ use Rattle.is.proofs.TwoAgentEvents.OwnLogs.{Led, along, ends}
 module _ {H P : Type 0} (mac : H → List ℕ → List ℕ → List ℕ) (answers : P → CandidateRecord → ℕ → ℕ → Type 0) where
   -- ---- one agent
 
-  new_first : (a : AgentRecord H P) → IsFresh a → IsNewlyCreated a
+  pub new_first : (a : AgentRecord H P) → IsFresh a → IsNewlyCreated a
   new_first a (creds, tie, is) = (creds, tie, false, is)
-
-  shared : (first last : AgentRecord H P) (s t : Stream) (log : List (agent.Logged P)) → runs.Run mac answers first s log last t → SharedRun mac answers first log last
-  shared first last s t [] run = run.0
-  shared first last s t (x ∷ before) (mid, u, run, number, based, step) = (mid, u, t, shared first mid s u before run, based, step)
 
   pub queues_stay_short : QueuesAreShort {H = H} mac answers → (first : AgentRecord H P) (s : Stream) (log : List (agent.Logged P)) → IsFresh first → QueuesStayShort mac answers first s log
   queues_stay_short law first s log fresh before mid after x point =
       let short : IsShort (x ∷ before) after =
-      law first after (x ∷ before) (new_first first fresh) (shared first after s point.following (x ∷ before) (run_to mac answers first s log before mid x after point)) in
+      law first after (x ∷ before) (new_first first fresh) (shared_run mac answers first s (x ∷ before) after point.following (run_to mac answers first s log before mid x after point)) in
       search short
 
   -- what holds of each entry of a log holds along the execution
   before_each : (most : ℕ) (first last : AgentRecord H P) (s t : Stream) (log : List (agent.Logged P)) → (run : runs.Run mac answers first s log last t) → IsLimited mac answers most first s log
-      → BeforeEach mac answers (IsLimitedAt most) first log last (shared first last s t log run)
-  unfolding shared
+      → BeforeEach mac answers (IsLimitedAt most) first log last (shared_run mac answers first s log last t run)
   before_each most first last s t [] run limited = tt
   before_each most first last s t (x ∷ before) (mid, u, run, number, based, step) limited = (
     limited before mid last x (record { rest = []; split = refl; at = u; led = run; number = number; given = based; following = t; step = step }),
@@ -51,13 +46,13 @@ module _ {H P : Type 0} (mac : H → List ℕ → List ℕ → List ℕ) (answer
       → DiscoveriesAreFew mac answers first s log
   discoveries_are_few law first s log fresh most limited before mid after x point =
       let run = run_to mac answers first s log before mid x after point in
-      law most first after (x ∷ before) (new_first first fresh) (shared first after s point.following (x ∷ before) run)
+      law most first after (x ∷ before) (new_first first fresh) (shared_run mac answers first s (x ∷ before) after point.following run)
       (before_each most first after s point.following (x ∷ before) run (λ b m a y p. limited b m a y (deeper mac answers first s log (x ∷ before) point.rest b m y a point.split p)))
 
   -- ---- two agents
 
   -- the side's own execution up to an entry
-  own_run : (Fits : AgentRecord H P → agent.Logged P → Type 0) (first : WorldRecord H P) (s : Streams) (log : List (LoggedEvent P)) (last : WorldRecord H P) (t : Streams)
+  pub own_run : (Fits : AgentRecord H P → agent.Logged P → Type 0) (first : WorldRecord H P) (s : Streams) (log : List (LoggedEvent P)) (last : WorldRecord H P) (t : Streams)
       (run : WorldRun mac answers first s 0 log last t) (before rest : List (Occurrence H P)) (x : Occurrence H P) (side : Side)
       → occurrences_in mac answers first s 0 log last t run ≡ (before ++ x ∷ []) ++ rest
       → ((z : Occurrence H P) → Has (before ++ x ∷ []) z → (y : agent.Logged P) → Has (own_at side z) y → Fits (at side z.before) y)

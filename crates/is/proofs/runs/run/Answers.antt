@@ -2,6 +2,7 @@ use Rattle.is.proofs.AgentLogs.GrowingLog.{run_of, entries_persist}
 use Rattle.is.proofs.AgentLogs.UnacceptedBytes.{packets_are_settled}
 use Rattle.is.proofs.AgentLogs.PollingOrder.{others_issue_none, queues_are_kept}
 use Rattle.is.proofs.AgentLogs.StoredAndQueued.{queues_stay_short, discoveries_are_few}
+use Rattle.is.proofs.AgentLogs.ReportedPaths.{queued_are_selected, polled_are_selected, polled_are_answered, polled_are_nominated_by_peer, settings_are_those_set}
 use Rattle.is.proofs.runs.run.Goals as goal
 
 pub returns-clause-entries : goal.returns-clause-entries
@@ -81,3 +82,18 @@ returns-clause-discovered g c = discoveries_are_few _ _ c.discoveries_stay_few.e
 
 pub returns-clause-order : goal.returns-clause-order
 returns-clause-order g c = queues_are_kept _ _ c.queues_are_kept.ensures _ _ _
+
+pub returns-clause-polled : goal.returns-clause-polled
+returns-clause-polled g c = polled_are_selected _ _ c.waiting_are_selected.ensures _ _ _
+
+pub returns-clause-polled_answered : goal.returns-clause-polled_answered
+returns-clause-polled_answered g c = polled_are_answered _ _ c.waiting_are_answered.ensures _ _ _
+
+pub returns-clause-polled_nominated : goal.returns-clause-polled_nominated
+returns-clause-polled_nominated g c = polled_are_nominated_by_peer _ _ c.waiting_are_nominated_by_peer.ensures _ _ _
+
+pub returns-clause-events : goal.returns-clause-events
+returns-clause-events g c = queued_are_selected _ _ c.events_are_selected.ensures _ _ _
+
+pub returns-clause-settings : goal.returns-clause-settings
+returns-clause-settings g c = settings_are_those_set _ _ c.settings_are_set.ensures _ _ _

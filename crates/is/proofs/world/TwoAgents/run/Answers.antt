@@ -1,4 +1,5 @@
 use Rattle.is.proofs.AgentLogs.StoredAndQueued.{both_are_bounded, both_have_few_pairs, both_are_short, both_discover_few}
+use Rattle.is.proofs.AgentLogs.ReportedPaths.{both_report_selected, both_report_answered, both_keep_settings}
 use Rattle.is.proofs.world.TwoAgents.run.Goals as goal
 
 pub returns-clause-keeps : goal.returns-clause-keeps
@@ -54,3 +55,12 @@ returns-clause-waiting g c = both_are_short _ _ c.queues_are_short.ensures _ _ _
 
 pub returns-clause-discovered : goal.returns-clause-discovered
 returns-clause-discovered g c = both_discover_few _ _ c.discoveries_stay_few.ensures _ _ _
+
+pub returns-clause-events : goal.returns-clause-events
+returns-clause-events g c = both_report_selected _ _ c.waiting_are_selected.ensures _ _ _
+
+pub returns-clause-events_answered : goal.returns-clause-events_answered
+returns-clause-events_answered g c = both_report_answered _ _ c.waiting_are_answered.ensures _ _ _
+
+pub returns-clause-settings : goal.returns-clause-settings
+returns-clause-settings g c = both_keep_settings _ _ c.settings_are_set.ensures _ _ _
