@@ -2,6 +2,7 @@
 import assert from "node:assert/strict";
 import { test } from "node:test";
 import { firstRole, IceAgent, IceError, modernRules, newCreds, originalRules } from "is-ice";
+import { timeToMs, toMs, toNs } from "../src/numbers.js";
 import { closed, host, meet, pair, run } from "./support.js";
 
 const at = (port) => ({ address: "10.0.0.9", port });
@@ -181,6 +182,16 @@ test("a time that was polled is not before itself", () => {
       now = next;
     }
     closed(agents);
+  }
+});
+
+test("nanoseconds are kept for 26 days, and later times are rounded up", () => {
+  for (let bits = 1; bits < 64; bits++) {
+    for (let i = 0; i < 200; i++) {
+      const ns = (1n << BigInt(bits)) | BigInt(Math.floor(Math.random() * 2 ** Math.min(bits, 52)));
+      if (ns < 1n << 51n) assert.equal(toNs(toMs(ns)), ns);
+      assert.ok(toNs(timeToMs(ns)) >= ns && timeToMs(ns) <= toMs(ns) * (1 + 3 * Number.EPSILON), String(ns));
+    }
   }
 });
 

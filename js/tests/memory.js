@@ -3,6 +3,7 @@ import assert from "node:assert/strict";
 import { readFileSync } from "node:fs";
 import { test } from "node:test";
 import { heapUsed, IceAgent, init, isStun } from "is-ice";
+import { IceLoop } from "is-ice/node";
 import { library } from "../src/module.js";
 import { closed, pair, run } from "./support.js";
 
@@ -69,6 +70,11 @@ test("after a trap the old agents are lost, and new ones are not", () => {
   for (const call of [() => agents[0].state, () => agents[0].handleTimeout(0), () => agents[1].localCandidates()]) {
     assert.throws(call, (error) => error.code === "Trapped" && error.cause instanceof WebAssembly.RuntimeError);
   }
+  const loop = new IceLoop(agents[0]), errors = [];
+  loop.on("error", (error) => errors.push(error.code));
+  loop.begin();
+  loop.wake();
+  assert.deepEqual(errors, ["Trapped"]);
   closed(agents);
   assert.equal(isStun(new Uint8Array(20)), false);
   assert.notEqual(library(), memory);
