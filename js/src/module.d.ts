@@ -1,7 +1,7 @@
 /** The module of WebAssembly. */
 /**
- * Loads the module, once: call it before all else. `source` is its URL, bytes, Response or `WebAssembly.Module`. By default it is the file
- * `is_ice.wasm` of the package: Node reads it, a browser fetches it.
+ * Loads the module, once: call it before all else. `source` is its URL, bytes, Response or `WebAssembly.Module`. By default it is the
+ * file `is_ice.wasm` of the package: Node reads it, a browser fetches it.
  */
 export function init(source?: ModuleSource | Promise<ModuleSource>): Promise<void>;
 export type ModuleSource = URL | string | BufferSource | Response | WebAssembly.Module;

@@ -1,5 +1,5 @@
-// Loads the module in a browser without a screen: in a page, where the quick start runs, and in a worker, by itself and with the page's module.
-// The page says what it found to a server of this script.
+// Loads the module in a browser without a screen: in a page, where the quick start runs, and in a worker, by itself and with the page's
+// module. The page says what it found to a server of this script.
 //
 // usage: node js/tests/browser.js chromium|firefox
 import { spawn } from "node:child_process";
