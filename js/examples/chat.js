@@ -31,7 +31,8 @@ function restart() {
 /** Takes the peer's signal, /restart or chat. */
 function take(line) {
   if (line.startsWith("signal ")) {
-    const [, ufrag, pass, lines] = /^signal (\S+) (\S+) (.*)$/.exec(line) ?? [];
+    const [, ufrag, pass, lines] = /^signal (\S+) (\S+) (\S.*)$/.exec(line) ?? [];
+    if (!lines) throw new Error("a part of that line is missing");
     const known = agent.remoteCredentials;
     if (known && known.ufrag !== ufrag) restart(); // the peer did
     agent.setRemoteCredentials({ ufrag, pass });
@@ -66,7 +67,7 @@ async function watch() {
 }
 
 await watch();
-const watching = setInterval(watch, 2000);
+const watching = setInterval(() => watch().catch((why) => console.log("error", why.message)), 2000);
 for await (const line of readline.createInterface({ input: process.stdin })) {
   if (line === "/quit") break;
   try {

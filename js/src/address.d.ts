@@ -1,7 +1,10 @@
 export type Protocol = "udp" | "tcp" | "ssltcp" | "tls";
 export type Bytes = ArrayBuffer | ArrayBufferView;
 
-/** An IP address, as text, and a port. So `rinfo` of `node:dgram` is one. A zone, as in `fe80::1%eth0`, is left out: `scope` is its number. */
+/**
+ * An IP address, as text, and a port. So `rinfo` of `node:dgram` is one. A zone, as in `fe80::1%eth0`, is left out: `scope` is its
+ * number.
+ */
 export interface SocketAddress {
   address: string;
   port: number;

@@ -1,7 +1,9 @@
 import type { Bytes, Protocol, SocketAddress } from "./address.js";
 import type { Candidate, CandidateFields } from "./candidate.js";
 import type { IceCreds } from "./credentials.js";
-import type { AddResult, CandidatePair, IceAgentEvent, IceAgentStats, IceConnectionState, MediaPath, NominatedPair, RemovedPair, Transmit } from "./events.js";
+import type {
+  AddResult, CandidatePair, IceAgentEvent, IceAgentStats, IceConnectionState, MediaPath, NominatedPair, RemovedPair, Transmit,
+} from "./events.js";
 import { Settings } from "./settings.js";
 
 declare global {
@@ -14,8 +16,8 @@ declare global {
 /** One side of a session. It is freed by `close()`, at the end of its `using` block, or some time after nothing refers to it. */
 export class IceAgent extends Settings {
   /**
-   * Creates a controlled agent. By default credentials and tie-breaker come from the system's random source. RangeError for credentials that
-   * RFC 8839 does not allow: see `setLocalCredentials`.
+   * Creates a controlled agent. By default credentials and tie-breaker come from the system's random source. RangeError for credentials
+   * that RFC 8839 does not allow: see `setLocalCredentials`.
    */
   constructor(creds?: IceCreds, tieBreaker?: bigint | number);
   /** Frees the agent. Every later call throws `NoAgent`, except for another `close()`. */
@@ -24,11 +26,13 @@ export class IceAgent extends Settings {
   /** Whether `close()` was called. */
   readonly closed: boolean;
 
-/** Adds a candidate that was gathered, and returns its text for signaling, or null if it is redundant. */
+  // ---- candidates
+
+  /** Adds a candidate that was gathered, and returns its text for signaling, or null if it is redundant. */
   addLocalCandidate(candidate: Candidate): string | null;
   /**
-   * Adds a candidate of the peer, by its text ("candidate:.."), and returns what became of it. `BadCandidate` says what is wrong with it. One with
-   * an mDNS name is a `BadCandidate` too: see `lineName`.
+   * Adds a candidate of the peer, by its text ("candidate:.."), and returns what became of it. `BadCandidate` says what is wrong with
+   * it. One with an mDNS name is a `BadCandidate` too: see `lineName`.
    */
   addRemoteCandidate(line: string): AddResult;
   /** Removes a candidate and its pairs, as when an interface is gone. Returns false if there is no such candidate. */
@@ -43,21 +47,24 @@ export class IceAgent extends Settings {
   alikeLocal(candidate: Candidate): number;
 
   /**
-   * Passes a datagram to the agent that arrived at the local address `destination`. Returns false if it is not for this agent, which is then
-   * unchanged. `Unparsed`: it is not a STUN message, as media, or one without MESSAGE-INTEGRITY, as a STUN server's response.
+   * Passes a datagram to the agent that arrived at the local address `destination`. Returns false if it is not for this agent, which is
+   * then unchanged. `Unparsed`: it is not a STUN message, as media, or one without MESSAGE-INTEGRITY, as a STUN server's response.
    */
   handlePacket(now: number, source: SocketAddress, destination: SocketAddress, contents: Bytes, protocol?: Protocol): boolean;
   /** Returns whether `handlePacket` would accept it, and changes nothing. */
   acceptsPacket(source: SocketAddress, destination: SocketAddress, contents: Bytes, protocol?: Protocol): boolean;
   /** Returns whether it is a message for this agent, from any source, and changes nothing. */
   acceptsMessage(contents: Bytes): boolean;
-  /** Passes the current time to the agent; the first call starts the session. `seed`: 12 new bytes, by default of the system's random source. */
+  /**
+   * Passes the current time to the agent; the first call starts the session. `seed`: 12 new bytes, by default of the system's random
+   * source.
+   */
   handleTimeout(now: number, seed?: Bytes): void;
   /** Returns the time at which to call `handleTimeout` next, or null before the session. Call it before packets are polled. */
   pollTimeout(): number | null;
   /**
-   * Returns that time for an agent that changed since the last `handleTimeout`: it took a packet, or the peer's credentials or a candidate
-   * came. Do not call it after `handleTimeout`, except after one that served an early request.
+   * Returns that time for an agent that changed since the last `handleTimeout`: it took a packet, or the peer's credentials or a
+   * candidate came. Do not call it after `handleTimeout`, except after one that served an early request.
    */
   pollTimeoutSoon(): number | null;
   /** Returns the next packet to send and removes it from the agent, or null if there is none. */

@@ -1,6 +1,7 @@
 /**
- * A call failed. Except for `Trapped`, the agent is as it was, and the call can be repeated. `Trapped`: the module stopped, which no known call
- * does. The agents that were there are lost, and each of their calls throws this. New agents get a new instance of the module.
+ * A call failed. Except for `Trapped`, the agent is as it was, and the call can be repeated. `Trapped`: the module stopped, which no
+ * known call does. The agents that were there are lost, and each of their calls throws this. New agents get a new instance of the
+ * module.
  */
 export class IceError extends Error {
   readonly name: "IceError";

@@ -3,8 +3,8 @@ import type { Protocol, SocketAddress } from "./address.js";
 import type { IceCreds } from "./credentials.js";
 
 /**
- * States of the connection. None is final. `connected`: a pair is selected, and another one may yet be found. `completed`: and no other one
- * may. `disconnected`: none is selected, and none may be; new candidates or checks of the peer may change that.
+ * States of the connection. None is final. `connected`: a pair is selected, and another one may yet be found. `completed`: and no other
+ * one may. `disconnected`: none is selected, and none may be; new candidates or checks of the peer may change that.
  */
 export type IceConnectionState = "new" | "checking" | "connected" | "completed" | "disconnected";
 /** What became of a remote candidate: `other-component` and `other-ufrag` say why it was ignored. */
@@ -57,7 +57,10 @@ export interface CandidatePair {
   /** When its next check is due. */
   due: number | null;
 }
-/** A pair that was removed, as it was then. As a text: `10.0.0.1:1000 -> 10.0.0.2:2000 in progress, 15 checks sent, 0 answered: no response`. */
+/**
+ * A pair that was removed, as it was then. As a text: `10.0.0.1:1000 -> 10.0.0.2:2000 in progress, 15 checks sent, 0 answered: no
+ * response`.
+ */
 export interface RemovedPair {
   /** null if the agent no longer lists its candidates. */
   path: MediaPath | null;

@@ -1,6 +1,6 @@
 // An agent in the module's memory: made, called, and freed once.
-import { checkedCreds, newCreds, random } from "./credentials.js";
 import { STRUCTS } from "./abi.js";
+import { checkedCreds, newCreds, random } from "./credentials.js";
 import { done, IceError } from "./errors.js";
 import { library } from "./module.js";
 import { whole } from "./numbers.js";
@@ -16,7 +16,13 @@ function release({ memory, slot }) {
   memory.free(slot);
 }
 
-const registry = new FinalizationRegistry(release);
+const registry = new FinalizationRegistry((held) => {
+  try {
+    release(held);
+  } catch {
+    // a trap: the memory keeps it, and each later call throws it
+  }
+});
 
 export class Handle {
   #held = null; // the memory, and where the is_ice_agent is in it
@@ -37,10 +43,11 @@ export class Handle {
 
   /** Frees the agent. Every later call throws "NoAgent", except for another close(). */
   close() {
-    if (!this.#held) return;
-    registry.unregister(this);
-    release(this.#held);
+    const held = this.#held;
+    if (!held) return;
     this.#held = null;
+    registry.unregister(this);
+    release(held);
   }
 
   /** Whether close() was called. */

@@ -11,7 +11,10 @@ export function fieldsLine(fields: {
   foundation: string; priority: number; address: SocketAddress; kind: CandidateKind; component?: number; protocol?: Protocol;
   related?: SocketAddress | null; tcptype?: TcpType | null;
 }): CandidateFields;
-/** Returns the text of a gathered candidate that no agent has: with the priority of the first one of its kind, without a username fragment. */
+/**
+ * Returns the text of a gathered candidate that no agent has: with the priority of the first one of its kind, without a username
+ * fragment.
+ */
 export function candidateLine(candidate: Candidate): string;
 /** Returns the fields of that candidate. */
 export function candidateFields(candidate: Candidate): CandidateFields;
@@ -20,8 +23,8 @@ export function candidateRefusal(candidate: Candidate): string | null;
 /**
  * Returns the mDNS name that a candidate has in place of an address, as `3f2b8c1e.local`, to hide it, or null if it has none.
  *
- * `addRemoteCandidate` throws `BadCandidate` for it. Resolve the name by mDNS and put the address in its place by `lineWithAddress`, or leave
- * the candidate out: the agent discovers it as a peer-reflexive candidate, from the peer's checks.
+ * `addRemoteCandidate` throws `BadCandidate` for it. Resolve the name by mDNS and put the address in its place by `lineWithAddress`, or
+ * leave the candidate out: the agent discovers it as a peer-reflexive candidate, from the peer's checks.
  */
 export function lineName(line: string): string | null;
 /** Returns the text of a candidate with this IP address in place of its own, or of its mDNS name. Unknown extensions are left out. */
@@ -43,5 +46,8 @@ export function lineFromJson(json: string): string;
 export function jsonFields(json: string): CandidateFields;
 /** Returns why JSON is not a candidate, or null if it is one. */
 export function jsonRefusal(json: string): string | null;
-/** Returns the default local preference of a candidate, gathered or a text, that comes after `sameKind` local ones of its kind and IP version. */
+/**
+ * Returns the default local preference of a candidate, gathered or a text, that comes after `sameKind` local ones of its kind and IP
+ * version.
+ */
 export function defaultLocalPreference(candidate: Candidate | string, sameKind: number): number;

@@ -26,13 +26,15 @@ export function fieldsLine(fields) {
 /** Returns the text of a gathered candidate: with the priority of the first one of its kind, without a username fragment. */
 export function candidateLine(candidate) {
   const memory = library();
-  return explained(() => memory.textFrom("is_ice_candidate_line", [putCandidate(memory, candidate)]), () => candidateRefusal(candidate));
+  const read = () => memory.textFrom("is_ice_candidate_line", [putCandidate(memory, candidate)]);
+  return explained(read, () => candidateRefusal(candidate));
 }
 
 /** Returns the fields of that candidate. */
 export function candidateFields(candidate) {
   const memory = library();
-  return explained(() => fieldsFrom(memory, "is_ice_candidate_fields", [putCandidate(memory, candidate)]), () => candidateRefusal(candidate));
+  const read = () => fieldsFrom(memory, "is_ice_candidate_fields", [putCandidate(memory, candidate)]);
+  return explained(read, () => candidateRefusal(candidate));
 }
 
 /** Returns why `addLocalCandidate` fails with "BadCandidate" for a gathered candidate, or null if it does not. */
@@ -47,7 +49,8 @@ function withAddress(line, address, read) {
   const memory = library(), { second } = memory;
   putAddress(memory, second.at, { address, port: 0 });
   const refusal = () => (lineName(line) === null ? lineRefusal(line) : null); // of a name it would be that it is no address
-  return explained(() => read(memory, [...memory.putText(line), second.arg]), () => refusal() ?? `${line}: not a candidate with an address either`);
+  const detail = () => refusal() ?? `${line}: not a candidate with an address either`;
+  return explained(() => read(memory, [...memory.putText(line), second.arg]), detail);
 }
 
 /** Returns the text of a candidate with this IP address in place of its own, or of its mDNS name. Unknown extensions are left out. */

@@ -86,15 +86,17 @@ export class Memory {
 
   /** Copies bytes into the memory, one after another, and returns the arguments for them: where each begins, and its length. */
   put(...parts) {
-    const length = parts.reduce((sum, part) => sum + part.length, 0);
+    let length = 0;
+    for (const part of parts) length += part.length;
     if (length > this.#given.size) this.#grow(this.#given, length * 2);
     let { at } = this.#given;
-    return parts.flatMap((part) => {
-      const from = at;
-      this.bytes.set(part, from);
+    const values = [];
+    for (const part of parts) {
+      this.bytes.set(part, at);
+      values.push(BigInt(at), BigInt(part.length));
       at += part.length;
-      return [BigInt(from), BigInt(part.length)];
-    });
+    }
+    return values;
   }
 
   putText(...texts) {

@@ -39,7 +39,8 @@ function body(response) {
 }
 
 function checked({ exports }) {
-  if (exports.is_ice_version() !== VERSION) throw new Error(`is_ice.wasm has the interface ${exports.is_ice_version()}, and not ${VERSION}`);
+  const version = exports.is_ice_version();
+  if (version !== VERSION) throw new Error(`is_ice.wasm has the interface ${version}, and not ${VERSION}`);
   return new Memory(exports);
 }
 

@@ -143,12 +143,11 @@ export class IceLoop extends EventEmitter {
 
   /** `soon`: the agent has changed since handleTimeout, so the next call need not wait for its pacing interval. */
   #turn(soon) {
-    const agent = this.#agent;
-    if (this.#closed || agent.closed) return;
-    const due = soon ? agent.pollTimeoutSoon() : agent.pollTimeout(); // before packets are polled
-    if (this.#began && due !== null) this.#setTimer(due);
-    for (let it; (it = agent.pollTransmit()); ) this.sendFrom(it.source, it.destination, it.contents);
-    for (let it; this.#began && !agent.closed && (it = agent.pollEvent()); ) this.emit(it.type, it); // a handler may close both
+    const agent = this.#agent, polled = (call) => !this.#closed && this.#made(call); // a handler may close the loop, and the agent
+    const due = polled(() => (soon ? agent.pollTimeoutSoon() : agent.pollTimeout())); // before packets are polled
+    if (this.#began && typeof due === "number") this.#setTimer(due);
+    for (let it; (it = polled(() => agent.pollTransmit())); ) this.sendFrom(it.source, it.destination, it.contents);
+    for (let it; this.#began && (it = polled(() => agent.pollEvent())); ) this.emit(it.type, it);
   }
 
   /** Sets the timer, unless it is set to an earlier time. */

@@ -14,8 +14,8 @@ export class Settings {
   /** Makes the agent controlling, as on the side that made the offer, or controlled. `LiteStaysControlled`: it is lite. */
   setControlling(controlling: boolean): void;
   /**
-   * Makes the agent a lite agent, which has only host candidates and sends no checks, or a full one (RFC 8445, section 2.5). It has to be
-   * controlled, and its peer a full agent: make it lite while it is controlled.
+   * Makes the agent a lite agent, which has only host candidates and sends no checks, or a full one (RFC 8445, section 2.5). It has to
+   * be controlled, and its peer a full agent: make it lite while it is controlled.
    */
   setIceLite(enabled: boolean): void;
   /** Lets each nomination replace the ones before, so that both agents select the same path. Set it at both agents or at none. */
@@ -47,8 +47,8 @@ export class Settings {
   /** Sets the local preference of candidates that are added after this call, by kind and IP version, less one for each earlier one. */
   setPreferenceTable(v4: KindPreferences, v6: KindPreferences): void;
   /**
-   * Sets the local credentials without an ICE restart: for use before they are signaled. A username fragment has 4 to 256 letters, digits,
-   * `+` and `/`, and a password 22 to 256 of them (RFC 8839, section 5.4). RangeError for others.
+   * Sets the local credentials without an ICE restart: for use before they are signaled. A username fragment has 4 to 256 letters,
+   * digits, `+` and `/`, and a password 22 to 256 of them (RFC 8839, section 5.4). RangeError for others.
    */
   setLocalCredentials(creds: IceCreds): void;
   /** Sets the peer's credentials, from signaling. Before this call no check is sent. */

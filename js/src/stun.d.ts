@@ -58,23 +58,26 @@ export interface StunMessage extends Required<StunAttributes> {
   hasFingerprint: boolean;
 }
 /**
- * Reads a message of any method and class. `Unparsed`: it is not a STUN message, or has a malformed attribute. `strict`: as `handlePacket` reads
- * it; `Unparsed` also for a Binding request or success response without an attribute that ICE requires. Nothing is verified.
+ * Reads a message of any method and class. `Unparsed`: it is not a STUN message, or has a malformed attribute. `strict`: as
+ * `handlePacket` reads it; `Unparsed` also for a Binding request or success response without an attribute that ICE requires. Nothing is
+ * verified.
  */
 export function readMessage(datagram: Bytes, options?: { strict?: boolean }): StunMessage;
 /**
- * Writes a message: the attributes that are neither undefined nor null, MESSAGE-INTEGRITY if there is a key, and FINGERPRINT. In ICE the key is
- * the password of the request's receiver. Throws `BadMessage` or `MessageTooLong`, and RangeError for a number that does not fit its attribute.
+ * Writes a message: the attributes that are neither undefined nor null, MESSAGE-INTEGRITY if there is a key, and FINGERPRINT. In ICE the
+ * key is the password of the request's receiver. Throws `BadMessage` or `MessageTooLong`, and RangeError for a number that does not fit
+ * its attribute.
  */
 export function writeMessage(
-  message: { method: StunMethod | "other"; class: StunClass; transaction: Bytes } & StunAttributes, key?: string | Bytes | null): Uint8Array;
+  message: { method: StunMethod | "other"; class: StunClass; transaction: Bytes } & StunAttributes, key?: string | Bytes | null,
+): Uint8Array;
 /** Returns whether a message has the MESSAGE-INTEGRITY of this key (RFC 8489, section 14.5). */
 export function verifyMessage(datagram: Bytes, key: string | Bytes): boolean;
 /** Returns the HMAC-SHA1 of bytes under a key (RFC 2104). */
 export function hmacSha1(key: string | Bytes, bytes: Bytes): Uint8Array;
 /**
- * Returns the username fragments in a message's USERNAME, or null if it has none with a colon. `Unparsed` if it is not a STUN message. So a socket
- * finds its agent in a `Map` by `receiver`, without asking each agent.
+ * Returns the username fragments in a message's USERNAME, or null if it has none with a colon. `Unparsed` if it is not a STUN message.
+ * So a socket finds its agent in a `Map` by `receiver`, without asking each agent.
  */
 export function stunUsername(datagram: Bytes): { receiver: string; sender: string } | null;
 /** Returns the username fragments in a USERNAME that is in no message, or null. */

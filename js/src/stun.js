@@ -144,17 +144,21 @@ export const hmacSha1 = (key, bytes) => library().bytesFrom("is_ice_hmac_sha1", 
 
 // ---- whose request it is
 
-const partsOf = (username, receiver) => ({ receiver: textOf(username.subarray(0, receiver)), sender: textOf(username.subarray(receiver + 1)) });
+/** What is before and after the colon, whose place a call has written. */
+function partsOf(memory, username) {
+  const colon = Number(memory.word(memory.result.at));
+  return { receiver: textOf(username.subarray(0, colon)), sender: textOf(username.subarray(colon + 1)) };
+}
 
 /** Returns the username fragments in a message's USERNAME, or null if it has none: so one socket finds its agent among many. */
 export function stunUsername(datagram) {
   const memory = library(), { result } = memory;
   const username = memory.bytesFrom("is_ice_stun_username", memory.put(bytesOf(datagram)), [result.arg]);
-  return username && partsOf(username, Number(memory.word(result.at)));
+  return username && partsOf(memory, username);
 }
 
 /** Returns the username fragments in a USERNAME that is in no message, or null. */
 export function usernameParts(text) {
   const memory = library(), { result } = memory, username = utf8(text);
-  return done(memory.call("is_ice_username_parts", ...memory.put(username), result.arg)) ? partsOf(username, Number(memory.word(result.at))) : null;
+  return done(memory.call("is_ice_username_parts", ...memory.put(username), result.arg)) ? partsOf(memory, username) : null;
 }

@@ -38,7 +38,8 @@ test("candidates that a program gathered", () => {
   assert.throws(() => ice.candidateLine({ ...host("10.0.0.1"), kind: "prflx" }), { code: "BadAddress" });
   assert.throws(() => ice.candidateLine({ ...host("10.0.0.1"), kind: "local" }), TypeError);
   const agent = new IceAgent();
-  for (const candidate of [host("10.0.0.1"), Candidate.serverReflexive(mapped, base), Candidate.relayed({ address: "192.0.2.9", port: 7 }, base)]) {
+  const relayed = Candidate.relayed({ address: "192.0.2.9", port: 7 }, base);
+  for (const candidate of [host("10.0.0.1"), Candidate.serverReflexive(mapped, base), relayed]) {
     assert.ok(agent.addLocalCandidate(candidate));
   }
   assert.deepEqual(agent.localFields().map((it) => it.kind), ["host", "srflx", "relay"]);
@@ -75,11 +76,13 @@ test("JSON of browsers", () => {
 test("addresses are read and written, as in RFC 5952", () => {
   const agent = new IceAgent();
   for (const [given, written] of [["10.0.0.1", "10.0.0.1"], ["2001:db8::1", "2001:db8::1"], ["2001:0DB8:0:0:1:0:0:1", "2001:db8::1:0:0:1"],
-    ["2001:db8:0:1:1:1:1:1", "2001:db8:0:1:1:1:1:1"], ["64:ff9b::192.0.2.33", "64:ff9b::c000:221"], ["fd00:1:2:3:4:5:6::", "fd00:1:2:3:4:5:6:0"]]) {
+    ["2001:db8:0:1:1:1:1:1", "2001:db8:0:1:1:1:1:1"], ["64:ff9b::192.0.2.33", "64:ff9b::c000:221"],
+    ["fd00:1:2:3:4:5:6::", "fd00:1:2:3:4:5:6:0"]]) {
     assert.ok(agent.addLocalCandidate(host(given)), given);
     assert.equal(agent.localFields().at(-1).address.address, written);
   }
-  for (const wrong of ["1::2::3", "12345::", "::1:2:3:4:5:6:7:8", "fe80", "1.2.3", "01.2.3.4", "10.0.0.256", "10.0.0.1 1", "", "localhost", undefined, 7]) {
+  for (const wrong of ["1::2::3", "12345::", "::1:2:3:4:5:6:7:8", "fe80", "1.2.3", "01.2.3.4", "10.0.0.256", "10.0.0.1 1", "", "localhost",
+    undefined, 7]) {
     assert.throws(() => agent.addLocalCandidate(host(wrong)), TypeError, String(wrong));
   }
   assert.equal(ice.addressText({ address: "2001:db8::1", port: 80 }), "[2001:db8::1]:80");
@@ -90,12 +93,14 @@ test("a scope and flow information are kept", () => {
   const agent = new IceAgent(), address = { address: "fe80::1", port: 5000, flow: 9, scope: 3 };
   agent.addLocalCandidate(Candidate.host(address));
   assert.deepEqual(agent.localFields()[0].local, address);
-  assert.deepEqual(ice.candidateFields(Candidate.host({ address: "fe80::1%eth0", port: 5000 })).address, { address: "fe80::1", port: 5000 });
+  const zoned = Candidate.host({ address: "fe80::1%eth0", port: 5000 });
+  assert.deepEqual(ice.candidateFields(zoned).address, { address: "fe80::1", port: 5000 });
   agent.close();
 });
 
 test("texts of signaling, host addresses, times and preferences without an agent", () => {
-  assert.ok(ice.isInGrammar("ufrag", "abcd") && !ice.isInGrammar("ufrag", "a b") && !ice.isInGrammar("pass", "short") && ice.isInGrammar("foundation", "1"));
+  assert.ok(ice.isInGrammar("ufrag", "abcd") && !ice.isInGrammar("ufrag", "a b"));
+  assert.ok(ice.isInGrammar("foundation", "1") && !ice.isInGrammar("pass", "short"));
   assert.throws(() => ice.isInGrammar("word", "a"), TypeError);
   assert.ok(ice.isHostAddress("10.0.0.1") && !ice.isHostAddress("127.0.0.1") && !ice.isHostAddress("fe80::1"));
   const timing = { initialRto: 250, maxRto: 2900, maxRetransmits: 11 }, agent = new IceAgent();

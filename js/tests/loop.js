@@ -1,6 +1,6 @@
 // The agent over UDP sockets: two loops over loopback.
 import assert from "node:assert/strict";
-import { once } from "node:events";
+import { on, once } from "node:events";
 import { test } from "node:test";
 import { IceAgent, bindingRequest, newTransaction } from "is-ice";
 import { hostAddresses, IceLoop } from "is-ice/node";
@@ -36,6 +36,18 @@ test("two loops find a path, and send media", async () => {
   assert.ok(both[0].send("hello"));
   const [data, from, local] = await heard;
   assert.deepEqual([String(data), from, local], ["hello", source, destination]);
+  close(both);
+});
+
+test("its events are an async iterator", async () => {
+  const both = await loops(), heard = on(both[1], "media", soon), texts = [];
+  both[0].once("nominatedSend", () => ["one", "two", "three"].forEach((text) => both[0].send(text)));
+  both.forEach((loop) => loop.begin());
+  for await (const [data] of heard) {
+    texts.push(String(data));
+    if (texts.length === 3) break;
+  }
+  assert.deepEqual(texts.sort(), ["one", "three", "two"]);
   close(both);
 });
 

@@ -1,8 +1,8 @@
-// The module's memory: every byte comes back; a trap; the module is loaded once.
+// The module's memory: every byte comes back, also what is left of errors; a full memory; a trap.
 import assert from "node:assert/strict";
-import { readFileSync } from "node:fs";
 import { test } from "node:test";
-import { heapUsed, IceAgent, init, isStun } from "is-ice";
+import { heapUsed, IceAgent, isStun } from "is-ice";
+import { IceLoop } from "is-ice/node";
 import { library } from "../src/module.js";
 import { closed, pair, run } from "./support.js";
 
@@ -69,23 +69,15 @@ test("after a trap the old agents are lost, and new ones are not", () => {
   for (const call of [() => agents[0].state, () => agents[0].handleTimeout(0), () => agents[1].localCandidates()]) {
     assert.throws(call, (error) => error.code === "Trapped" && error.cause instanceof WebAssembly.RuntimeError);
   }
+  const loop = new IceLoop(agents[0]), errors = [];
+  loop.on("error", (error) => errors.push(error.code));
+  loop.begin();
+  loop.wake();
+  assert.deepEqual(errors, ["Trapped"]);
   closed(agents);
   assert.equal(isStun(new Uint8Array(20)), false);
   assert.notEqual(library(), memory);
   const others = pair();
   assert.ok(run(others, 0, 500)[0].some((it) => it.type === "nominatedSend"));
   closed(others);
-});
-
-test("the module is loaded once, and by each kind of source", async () => {
-  const before = library();
-  await Promise.all([init(), init(new URL("http://127.0.0.1:1/none.wasm"))]);
-  assert.equal(library(), before);
-  const url = new URL("../src/is_ice.wasm", import.meta.url), bytes = readFileSync(url);
-  const response = new Response(bytes, { headers: { "content-type": "application/wasm" } });
-  for (const source of [url, url.href, bytes, bytes.buffer.slice(0), response, Promise.resolve(bytes), new WebAssembly.Module(bytes)]) {
-    const { init: again, IceAgent: Agent } = await import(`../src/index.js?copy`);
-    await again(source);
-    new Agent().close();
-  }
 });

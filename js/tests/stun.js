@@ -8,8 +8,8 @@ import { hex, pair } from "./support.js";
 // RFC 5769, sections 2.1 to 2.3. Their SOFTWARE has type 0x8022, which is skipped.
 const PASSWORD = "VOkJxbRl1RmTxUk/WvJxBt";
 const ID = hex("b7e7a701bc34d686fa87dfae");
-const REQUEST = hex("000100582112a442b7e7a701bc34d686fa87dfae802200105354554e207465737420636c69656e74002400046e0001ff80290008932ff9b151263b36"
-  + "000600096576746a3a68367659202020000800149aeaa70cbfd8cb56781ef2b5b2d3f249c1b571a280280004e57a3bcf");
+const REQUEST = hex("000100582112a442b7e7a701bc34d686fa87dfae802200105354554e207465737420636c69656e74002400046e0001ff80290008932ff9b1"
+  + "51263b36000600096576746a3a68367659202020000800149aeaa70cbfd8cb56781ef2b5b2d3f249c1b571a280280004e57a3bcf");
 const V4 = hex("0101003c2112a442b7e7a701bc34d686fa87dfae8022000b7465737420766563746f7220002000080001a147e112a643"
   + "000800142b91f599fd9e90c38c7489f92af9ba53f06be7d780280004c07d4c96");
 const V6 = hex("010100482112a442b7e7a701bc34d686fa87dfae8022000b7465737420766563746f7220002000140002a1470113a9faa5d3f179bc25f4b5bed2b9d9"
@@ -41,7 +41,8 @@ test("whose request it is", () => {
   assert.equal(ice.usernameParts("a:"), null);
   const [alice, bob] = pair();
   alice.handleTimeout(0);
-  assert.deepEqual(ice.stunUsername(alice.pollTransmit().contents), { receiver: bob.localCredentials.ufrag, sender: alice.localCredentials.ufrag });
+  const fragments = { receiver: bob.localCredentials.ufrag, sender: alice.localCredentials.ufrag };
+  assert.deepEqual(ice.stunUsername(alice.pollTransmit().contents), fragments);
   alice.close();
   bob.close();
 });
@@ -63,9 +64,9 @@ test("each attribute is written and read", () => {
   const v6 = { address: "2001:db8::5", port: 9 };
   const message = {
     method: "allocate", class: "failure", transaction: ID, priority: 0xffffffff, useCandidate: true, iceControlled: (1n << 64n) - 1n,
-    iceControlling: 5n, mappedAddress: MAPPED, peerAddress: v6, relayedAddress: MAPPED, error: { code: 438, reason: "Stale Nonce" }, lifetime: 600,
-    channelNumber: 0x4000, networkCost: { id: 7, cost: 10 }, nomination: 3, username: "a:b", realm: "example.org", nonce: "nönce", software: "test",
-    data: Uint8Array.of(0, 255, 128),
+    iceControlling: 5n, mappedAddress: MAPPED, peerAddress: v6, relayedAddress: MAPPED, error: { code: 438, reason: "Stale Nonce" },
+    lifetime: 600, channelNumber: 0x4000, networkCost: { id: 7, cost: 10 }, nomination: 3, username: "a:b", realm: "example.org",
+    nonce: "nönce", software: "test", data: Uint8Array.of(0, 255, 128),
   };
   const written = ice.writeMessage(message, PASSWORD), read = ice.readMessage(written);
   assert.deepEqual(read, { ...message, hasIntegrity: true, hasFingerprint: true });
@@ -85,7 +86,9 @@ test("messages that cannot be written", () => {
   assert.throws(() => ice.writeMessage({ ...message, realm: "\udc00" }), { code: "NotUtf8" });
   assert.throws(() => ice.writeMessage({ ...message, priority: 2 ** 32 }), RangeError);
   assert.throws(() => ice.writeMessage({ ...message, channelNumber: 65536 }), RangeError);
-  for (const changed of [{ method: null }, { method: "bind" }, { class: "answer" }]) assert.throws(() => ice.writeMessage({ ...message, ...changed }), TypeError);
+  for (const changed of [{ method: null }, { method: "bind" }, { class: "answer" }]) {
+    assert.throws(() => ice.writeMessage({ ...message, ...changed }), TypeError);
+  }
 });
 
 test("HMAC-SHA1 (RFC 2202, section 3, and node:crypto)", () => {

@@ -7,7 +7,8 @@ import { CALLS } from "../src/abi.js";
 import { Memory } from "../src/memory.js";
 
 const folder = new URL("../src/", import.meta.url);
-const sources = (ending) => readdirSync(folder).filter((name) => name.endsWith(ending)).map((name) => [name, readFileSync(new URL(name, folder), "utf8")]);
+const textOf = (name) => readFileSync(new URL(name, folder), "utf8");
+const sources = (ending) => readdirSync(folder).filter((name) => name.endsWith(ending)).map((name) => [name, textOf(name)]);
 const made = new Set(["is_ice_version"]); // by init, before a memory is there
 const OTHERS = ["malloc", "free", "is_ice_heap_used"];
 
@@ -47,8 +48,24 @@ test("the types name each export, and nothing else", () => {
 });
 
 test("the types name each method and property of an agent", () => {
-  const text = Object.fromEntries(sources(".d.ts")), typed = ["agent.d.ts", "settings.d.ts"].map((name) => text[name].slice(text[name].indexOf("\nexport class "))).join("");
+  const classes = ["agent.d.ts", "settings.d.ts"].map(textOf);
+  const typed = classes.map((text) => text.slice(text.indexOf("\nexport class "))).join("");
   const names = [...typed.matchAll(/^ {2}(?:readonly )?(\w+)[(:]/gm)].map((it) => it[1]);
-  const { prototype } = ice.IceAgent, chain = [prototype, Object.getPrototypeOf(prototype), Object.getPrototypeOf(Object.getPrototypeOf(prototype))];
-  assert.deepEqual([...new Set(names)].sort(), [...new Set(chain.flatMap(Object.getOwnPropertyNames))].sort());
+  const found = new Set();
+  for (let it = ice.IceAgent.prototype; it !== Object.prototype; it = Object.getPrototypeOf(it)) {
+    Object.getOwnPropertyNames(it).forEach((name) => found.add(name));
+  }
+  assert.deepEqual([...new Set(names)].sort(), [...found].sort());
+});
+
+test("the blocks of README.md are JavaScript", () => {
+  const Async = (async () => {}).constructor, blocks = [...textOf("../README.md").matchAll(/^```js\n(.*?)^```$/gms)];
+  assert.ok(blocks.length >= 2);
+  for (const [, block] of blocks) new Async(block.replace(/^import .*$/gm, "")); // it parses
+});
+
+test("lines have at most 140 characters", () => {
+  for (const [name, text] of [...sources(".js"), ...sources(".d.ts")]) {
+    text.split("\n").forEach((line, i) => assert.ok(line.length <= 140, `${name}:${i + 1}`));
+  }
 });

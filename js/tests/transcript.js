@@ -82,12 +82,13 @@ function end(agent, say) {
   say([STATES.indexOf(state), ...Object.values(stats), earlyRequests].join(" "));
   for (const line of [...agent.localCandidates(), ...agent.remoteCandidates()]) say(line);
   for (const it of pairs) {
-    say([it.local, it.remote, CHECK_STATES.indexOf(it.state), flag(it.nominated), flag(it.selected), it.priority, it.checksSent, it.requestsReceived,
-      it.responses, ns(it.totalRtt), ns(it.rtt), ns(it.lastRequest), ns(it.due)].join(" "));
+    say([it.local, it.remote, CHECK_STATES.indexOf(it.state), flag(it.nominated), flag(it.selected), it.priority, it.checksSent,
+      it.requestsReceived, it.responses, ns(it.totalRtt), ns(it.rtt), ns(it.lastRequest), ns(it.due)].join(" "));
   }
   for (const it of agent.removedPairs()) {
     const known = it.path ? [path(it.path)] : [];
-    say([...known, CHECK_STATES.indexOf(it.state), REMOVALS.indexOf(it.reason), it.error ?? 0, it.priority, it.checksSent, it.responses].join(" "));
+    const words = [CHECK_STATES.indexOf(it.state), REMOVALS.indexOf(it.reason), it.error ?? 0];
+    say([...known, ...words, it.priority, it.checksSent, it.responses].join(" "));
   }
   if (selected) say([path(selected), selected.responses, ns(selected.totalRtt), ns(selected.rtt)].join(" "));
   agent.close();

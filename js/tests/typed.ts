@@ -1,6 +1,7 @@
 // Compiles under `tsc --strict`: the types fit a caller's program.
 import {
-  addressText, bindingRequest, bindingResponse, Candidate, IceAgent, IceError, init, lineFields, modernRules, newTransaction, readMessage, writeMessage,
+  addressText, bindingRequest, bindingResponse, Candidate, IceAgent, IceError, init, lineFields, modernRules, newTransaction, readMessage,
+  writeMessage,
   type CandidatePair, type IceAgentEvent, type IceConnectionState, type Rules, type SocketAddress, type Transmit,
 } from "is-ice";
 import { IceLoop } from "is-ice/node";
