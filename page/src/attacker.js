@@ -19,8 +19,9 @@ export class Attacker {
   }
 
   #send(contents, old, source, isHostile) {
+    const copyOf = contents === old.contents ? old : undefined;
     const { clock, internet, wire, tracks } = this.#session;
-    const track = wire.track(old.side, contents, { at: clock.now, x: 0.5, goal: old.goal, isHostile, ...old.wire, source });
+    const track = wire.track(old.side, contents, { at: clock.now, x: 0.5, goal: old.goal, isHostile, copyOf, ...old.wire, source });
     track.stops[0].lane = null;
     track.number = tracks.push(track) - 1;
     internet.route({ source, destination: old.wire.destination, payload: { type: "datagram", contents }, track });
@@ -52,9 +53,9 @@ export class Attacker {
   #one(n, old) {
     const elsewhere = { address: `192.0.2.${1 + this.#random.below(250)}`, port: 1024 + this.#random.below(60000) };
     if (n % 3 === 0) return this.#send(old.contents, old, elsewhere, "replay");
-    if (n % 3 === 1) return this.#send(this.#random.bytes(100), old, old.wire.source, "rubbish");
+    if (n % 3 === 1) return this.#send(Uint8Array.of(0, 1, ...this.#random.bytes(98)), old, old.wire.source, "rubbish");
     const contents = old.contents.slice();
-    contents[20 + this.#random.below(contents.length - 20)] ^= 1 << this.#random.below(8);
+    contents[20 + this.#random.below(contents.length - 28)] ^= 1 << this.#random.below(8);
     return this.#send(contents, old, old.wire.source, "forged");
   }
 

@@ -3,7 +3,7 @@ export class Clock {
   now = 0;
   #queue = [];
 
-  /** Schedules a call for this time, or for now if that is past. */
+  /** Schedules a call for this time, or for now if that is past. Returns what `cancel` takes. */
   at(time, act) {
     const due = Math.max(time, this.now);
     let low = 0, high = this.#queue.length;
@@ -12,7 +12,15 @@ export class Clock {
       if (this.#queue[middle].due <= due) low = middle + 1;
       else high = middle;
     }
-    this.#queue.splice(low, 0, { due, act });
+    const made = { due, act };
+    this.#queue.splice(low, 0, made);
+    return made;
+  }
+
+  /** Takes back a call, if it was not made yet. */
+  cancel(scheduled) {
+    const place = this.#queue.indexOf(scheduled);
+    if (place >= 0) this.#queue.splice(place, 1);
   }
 
   /** The time of the next call, or Infinity. */

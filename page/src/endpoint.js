@@ -12,7 +12,7 @@ export class Endpoint {
   relays = new Map(); // by relayed address: { socket, server }
   generation = 0;
   path = null;
-  #pending = new Set();
+  #pending = new Map(); // requests to servers without a response: when they are sent again
   #unsignaled = [];
   #peers = new Set();
   #timeout = null;
@@ -77,6 +77,7 @@ export class Endpoint {
     for (const [key, socket] of [...this.sockets]) {
       if (socket.interface !== it) continue;
       for (const candidate of socket.candidates) this.agent.invalidateCandidate(candidate);
+      this.world.watch.call(this.side, "invalidate");
       this.sockets.delete(key);
     }
     this.turn();
@@ -96,11 +97,11 @@ export class Endpoint {
 
   #request(socket, type, left) {
     const key = `${keyOf(socket.address)} ${type}`, { clock } = this.world;
-    if (left < REQUESTS && !this.#pending.has(key)) return; // there was a response
-    this.#pending.add(key);
-    if (left === 0 || this.sockets.get(keyOf(socket.address)) !== socket) return void this.#pending.delete(key);
+    this.#pending.delete(key);
+    if (left === 0 || this.sockets.get(keyOf(socket.address)) !== socket) return;
     this.#toServer(socket, { type });
-    clock.at(clock.now + FIRST_RTO * 2 ** (REQUESTS - left), () => this.#request(socket, type, left - 1));
+    const again = () => this.#request(socket, type, left - 1);
+    this.#pending.set(key, clock.at(clock.now + FIRST_RTO * 2 ** (REQUESTS - left), again));
   }
 
   #toServer(socket, payload) {
@@ -111,8 +112,10 @@ export class Endpoint {
   }
 
   #takeAnswer(socket, { address, isRelay }) {
-    if (!this.#pending.delete(`${keyOf(socket.address)} ${isRelay ? "allocate" : "binding"}`)) return;
-    const { Candidate } = this.world.ice;
+    const key = `${keyOf(socket.address)} ${isRelay ? "allocate" : "binding"}`, { Candidate } = this.world.ice;
+    if (!this.#pending.has(key)) return;
+    this.world.clock.cancel(this.#pending.get(key));
+    this.#pending.delete(key);
     if (isRelay) {
       this.relays.set(keyOf(address), { socket, relay: address });
       this.#add(socket, Candidate.relayed(address, socket.address));
@@ -176,15 +179,14 @@ export class Endpoint {
   turn() {
     if (!this.#began) return;
     const next = this.agent.pollTimeout();
+    this.world.watch.call(this.side, "poll");
     for (let it; (it = this.agent.pollTransmit()); ) this.#send(it);
     for (let it; (it = this.agent.pollEvent()); ) this.#told(it);
     if (next === null) return;
-    const due = Math.max(Math.ceil(next), this.world.clock.now); // whole milliseconds, and never early
-    if (this.#timeout !== null && this.#timeout <= due) return; // the earliest time since the last timeout counts
-    this.#timeout = due;
-    this.world.clock.at(due, () => {
-      if (due === this.#timeout) this.#handleTimeout();
-    });
+    const { clock } = this.world, due = Math.max(Math.ceil(next), clock.now); // whole milliseconds, and never early
+    if (this.#timeout && this.#timeout.due <= due) return; // the earliest time since the last timeout counts
+    clock.cancel(this.#timeout);
+    this.#timeout = clock.at(due, () => this.#handleTimeout());
   }
 
   #handleTimeout() {
@@ -195,7 +197,10 @@ export class Endpoint {
   }
 
   #told(event) {
-    if (event.type === "nominatedSend") this.path = event;
+    if (event.type === "nominatedSend") {
+      this.path = event;
+      this.world.watch.selected(event);
+    }
     this.#note(event.type, { event });
   }
 
@@ -229,16 +234,19 @@ export class Endpoint {
 
   #takeDatagram(contents, source, local, track) {
     const { ice, clock, watch } = this.world;
-    if (track.kind === "media") {
-      track.taken = { at: clock.now, source, local, accepted: true };
-      return this.#note("media", { text: new TextDecoder().decode(contents), source });
-    }
+    if (!ice.isStun(contents)) return this.#takeMedia(contents, source, local, track);
     const before = track.isHostile ? watch.snapshot(this.agent) : null;
     const accepted = this.#passed(source, local, contents, ice);
     track.taken = { at: clock.now, source, local, accepted };
     watch.took(this.side, track);
     if (!accepted) this.#note("refused", { track, source, unchanged: before === null ? null : watch.snapshot(this.agent) === before });
     this.turn();
+  }
+
+  #takeMedia(contents, source, local, track) {
+    track.taken = { at: this.world.clock.now, source, local, accepted: !track.isHostile };
+    if (track.isHostile) this.#note("rubbish", { source, length: contents.length });
+    else this.#note("media", { text: new TextDecoder().decode(contents), source });
   }
 
   #passed(source, local, contents) {

@@ -7,17 +7,17 @@ const KEYS = {
 
 /** The NATs that a viewer chooses from. */
 export const NATS = {
-  none: { label: "No NAT", short: "no NAT" },
-  cone: { label: "Full cone", short: "full cone", mapping: "endpoint-independent", filtering: "endpoint-independent", preservesPorts: true },
+  none: { label: "none: public", short: "no NAT" },
+  cone: { label: "full cone", short: "full cone", mapping: "endpoint-independent", filtering: "endpoint-independent", preservesPorts: true },
   restricted: {
-    label: "Restricted: by address", short: "restricted", mapping: "endpoint-independent", filtering: "address-dependent", preservesPorts: true,
+    label: "address-restricted", short: "address-restricted", mapping: "endpoint-independent", filtering: "address-dependent", preservesPorts: true,
   },
   port: {
-    label: "Restricted: by address and port", short: "port-restricted", mapping: "endpoint-independent",
+    label: "port-restricted", short: "port-restricted", mapping: "endpoint-independent",
     filtering: "address-and-port-dependent", preservesPorts: true,
   },
   symmetric: {
-    label: "Symmetric", short: "symmetric", mapping: "address-and-port-dependent", filtering: "address-and-port-dependent",
+    label: "symmetric", short: "symmetric", mapping: "address-and-port-dependent", filtering: "address-and-port-dependent",
     preservesPorts: false,
   },
 };

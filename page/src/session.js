@@ -15,7 +15,7 @@ const HOMES = {
 const MOBILE = { ip: "10.64.0.10", outside: "203.0.113.3", edge: 0.32, delay: 25 };
 /** The lanes of the routers. */
 export const LANES = { A: "router A", B: "router B", mobile: "mobile carrier" };
-const NOTHING = { call() {}, sent() {}, took() {} };
+const NOTHING = { call() {}, sent() {}, took() {}, selected() {} };
 
 /** What stays the same if a packet changes nothing: all that the agent's getters tell, but for counters of time. */
 export function snapshot(agent) {
@@ -216,5 +216,5 @@ export class Session {
 }
 
 function bound(watch) {
-  return Object.fromEntries(["call", "sent", "took"].filter((name) => watch[name]).map((name) => [name, watch[name].bind(watch)]));
+  return Object.fromEntries(["call", "sent", "took", "selected"].filter((name) => watch[name]).map((name) => [name, watch[name].bind(watch)]));
 }
