@@ -1,4 +1,4 @@
-const FLOOD_PACKETS = 100, APART = 10; // ms
+const FLOOD_PACKETS = 120, APART = 8; // ms
 
 /** An attacker on the path: it sees each datagram, and can send any bytes from any address to where a check went. It knows no password. */
 export class Attacker {
@@ -52,8 +52,8 @@ export class Attacker {
 
   #one(n, old) {
     const elsewhere = { address: `192.0.2.${1 + this.#random.below(250)}`, port: 1024 + this.#random.below(60000) };
-    if (n % 3 === 0) return this.#send(old.contents, old, elsewhere, "replay");
-    if (n % 3 === 1) return this.#send(Uint8Array.of(0, 1, ...this.#random.bytes(98)), old, old.wire.source, "rubbish");
+    if (n % 2 === 0) return this.#send(old.contents, old, elsewhere, "replay");
+    if (n % 4 === 1) return this.#send(Uint8Array.of(0, 1, ...this.#random.bytes(98)), old, old.wire.source, "rubbish");
     const contents = old.contents.slice();
     contents[20 + this.#random.below(contents.length - 28)] ^= 1 << this.#random.below(8);
     return this.#send(contents, old, old.wire.source, "forged");

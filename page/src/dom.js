@@ -22,7 +22,7 @@ export function html(name, properties = {}, ...children) {
   return made;
 }
 
-export const timeText = (ms) => (ms < 10_000 ? `${Math.round(ms)} ms` : `${(ms / 1000).toFixed(2)} s`);
+export const timeText = (ms) => (ms < 1000 ? `${Math.round(ms)} ms` : `${(ms / 1000).toFixed(2)} s`);
 
 /** Saves a file from the page. */
 export function save(name, type, contents) {

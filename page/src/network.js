@@ -2,7 +2,8 @@ import { Nat } from "./nat.js";
 
 /**
  * What a viewer sees of a packet: where it was when. `stops` has points { at, x, lane }, of which the last may be in the future: `x` is from 0,
- * agent A, to 1, agent B. `end` says when, where and why it went no further; `taken` when an agent got it, and whether it accepted it.
+ * agent A, to 1, agent B. `end` says when, where and why it went no further; `taken` when an agent got it, and whether it accepted it. `wire` is
+ * from where to where it goes on its last part, as an attacker sees it.
  */
 export class Track {
   stops = [];
@@ -86,7 +87,7 @@ export class Gateway {
     const { now } = this.inner.clock;
     packet.track.stops.at(-1).lane = this.lane;
     packet.source = this.nat.outgoing(now, packet.source, packet.destination);
-    packet.track.wire ??= { source: packet.source, destination: packet.destination };
+    if (packet.payload?.type === "datagram") packet.track.wire = { source: packet.source, destination: packet.destination };
     if (packet.destination.address === this.nat.settings.outside) this.arrive(packet); // hairpinning
     else this.outer.route(packet);
   }
@@ -112,6 +113,7 @@ export class Interface {
 
   send(packet) {
     const { now } = this.network.clock;
+    if (packet.payload?.type === "datagram") packet.track.wire = { source: packet.source, destination: packet.destination };
     if (!this.isOn) return packet.track.lose(now, this.home, `${this.name} is off`);
     this.#carry(this.up, packet, this.home, this.edge, null, () => this.network.route(packet));
   }

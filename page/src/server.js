@@ -26,10 +26,10 @@ export class Server {
     if (packet.destination.port !== this.address.port) return this.#toClient(packet);
     if (payload.type === "binding") return this.#answer(packet, { address: source, isRelay: false });
     if (payload.type === "allocate") return this.#answer(packet, { address: this.#lend(source), isRelay: true });
-    const client = this.#clients.get(payload.relay.port);
+    const client = payload.relay && this.#clients.get(payload.relay.port);
     if (!client || keyOf(client) !== keyOf(source)) return packet.track.lose(this.#network.clock.now, this.edge, "no such relay");
     this.#permitted.add(`${payload.relay.port} ${payload.peer.address}`);
-    if (payload.type === "relayed") this.#network.route({ source: payload.relay, destination: payload.peer, payload: payload.datagram, track: packet.track });
+    if (payload.type === "relayed") this.#toPeer(payload, packet.track);
   }
 
   #lend(client) {
@@ -45,6 +45,11 @@ export class Server {
     back.stops[0].lane = this.lane;
     this.#record(back);
     this.#network.route({ source: this.address, destination: source, payload: { type: "answer", server: this.address, ...told }, track: back });
+  }
+
+  #toPeer({ relay, peer, datagram }, track) {
+    track.wire = { source: relay, destination: peer };
+    this.#network.route({ source: relay, destination: peer, payload: datagram, track });
   }
 
   #toClient({ source, destination, payload, track }) {

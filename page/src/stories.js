@@ -40,7 +40,7 @@ export const STORIES = [
   },
   {
     id: "flood", title: "A flood", until: 1900, speed: -2,
-    says: "An attacker sends a hundred packets in a second: forged, replayed, and rubbish. What is forged changes nothing, what replays bring is bounded, and the path stays.",
+    says: "An attacker sends 120 packets in a second: forged, replayed, and rubbish. What is forged changes nothing, what replays bring is bounded, and the path stays.",
     settings: { natB: "cone" }, actions: [{ at: 600, do: "flood" }],
   },
 ];
