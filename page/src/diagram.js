@@ -69,6 +69,13 @@ export class Diagram {
     this.y = Math.max(this.y, this.scale.y(session.now));
   }
 
+  /** Lets the session run to a time. */
+  runTo(time) {
+    while (this.session.next <= time) this.step();
+    this.session.runTo(time);
+    this.y = Math.max(this.y, this.scale.y(time));
+  }
+
   #cutWait() {
     const { session, scale } = this;
     let busy = session.now;

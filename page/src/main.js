@@ -114,8 +114,7 @@ class Page {
 
   /** Lets the session run to a time at once. */
   runTo(time) {
-    while (this.session.next <= time) this.#diagram.step();
-    this.#diagram.advance(Math.max(0, this.#diagram.scale.y(time) - this.#diagram.y));
+    this.#diagram.runTo(time);
     this.#diagram.draw();
     this.#show();
   }

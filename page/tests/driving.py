@@ -22,7 +22,7 @@ for (const name of ['error', 'warn']) {
   const old = console[name];
   console[name] = (...words) => { wrong.push(words.join(' ')); old.apply(console, words); };
 }"""
-KEYS = {"Tab": "\ue004", "Enter": "\ue007", " ": " ", "Escape": "\ue00c", "ArrowDown": "\ue015", "ArrowUp": "\ue013"}
+KEYS = {"Tab": "\ue004", "Enter": "\ue006", " ": " ", "Escape": "\ue00c", "ArrowDown": "\ue015", "ArrowUp": "\ue013"}
 
 
 class ChromiumViewer(Chromium):
