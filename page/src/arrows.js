@@ -98,6 +98,7 @@ export class Arrow {
     this.#head.remove();
     const s = 4, cx = isRefused ? x + (isRightward ? 9 : -9) : x;
     this.element.append(svg("path", { class: "cross", d: `M${cx - s} ${y - s}l${2 * s} ${2 * s}M${cx - s} ${y + s}l${2 * s} ${-2 * s}` }));
+    if (isRefused && place.x(1) - place.x(0) < 400) return;
     const room = isRightward ? place.x(1) - cx : cx - place.x(0), whole = this.#labeled || isRefused ? why : `${labelOf(this.#track)}: ${why}`;
     const words = [whole, why, why.split(" by ")[0]].find((it) => LETTER * it.length + 20 < room) ?? "";
     const start = isRightward ? cx + 10 : cx - 10 - LETTER * words.length;

@@ -96,7 +96,7 @@ export class Diagram {
     const width = this.#box.clientWidth;
     this.width = width;
     this.isNarrow = width < 520;
-    this.left = this.isNarrow ? 46 : width < 760 ? 92 : 128;
+    this.left = this.isNarrow ? 46 : width < 760 ? 106 : 132;
     this.#layers = Object.fromEntries(["grid", "lanes", "tracks", "bars", "breaks", "flags"].map((name) => [name, svg("g", { class: `layer-${name}` })]));
     this.#canvas.replaceChildren(svg("g", { id: "moving" }, ...Object.values(this.#layers)));
     this.#drawLanes();
@@ -305,7 +305,7 @@ export class Diagram {
     if (!told) return [];
     const words = typeof told === "string" ? told : told[action.value];
     let row = y - 5;
-    while (!this.free(this.x(0.5) - 40, this.x(0.5) + 40, row)) row += ROW;
+    for (let tries = 0; tries < 2 && !this.free(this.x(0.5) - 40, this.x(0.5) + 40, row); tries++) row += ROW;
     return [svg("line", { class: "deed", x1: this.x(0), x2: this.x(1), y1: y, y2: y }), svg("text", { class: "deed", x: this.x(0.5), y: row, "text-anchor": "middle", stroke: "var(--card)", "stroke-width": 4, "paint-order": "stroke" }, words)];
   }
 

@@ -184,7 +184,8 @@ export class Endpoint {
     for (let it; (it = this.agent.pollEvent()); ) this.#told(it);
     if (next === null) return;
     const { clock } = this.world, due = Math.max(Math.ceil(next), clock.now); // whole milliseconds, and never early
-    if (this.#timeout && this.#timeout.due <= due) return; // the earliest time since the last timeout counts
+    const isLater = this.#timeout && this.#timeout.due <= due;
+    if (isLater && (!this.settings.waitsLast || this.#timeout.due === due)) return; // the earliest time since the last timeout counts
     clock.cancel(this.#timeout);
     this.#timeout = clock.at(due, () => this.#handleTimeout());
   }

@@ -27,6 +27,7 @@ class Page {
 
   start() {
     for (const story of STORIES) $("stories").append(html("button", { type: "button", dataset: { story: story.id }, onclick: () => this.#tell(story) }, story.title));
+    if (innerWidth < 700) for (const it of ["sideCardA", "sideCardB", "networkCard"]) $(it).open = false;
     this.#listen();
     this.open(location.hash);
     requestAnimationFrame((at) => this.#frame(at));

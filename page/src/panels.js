@@ -58,18 +58,24 @@ export function eventText(it) {
 export class Log {
   #shown = 0;
   #list = $("log");
+  #follows = true; // the viewer has not scrolled up
+
+  constructor() {
+    const list = this.#list;
+    const look = () => (this.#follows = list.scrollTop + list.clientHeight > list.scrollHeight - 24);
+    for (const name of ["wheel", "touchmove", "keydown", "pointerup"]) list.addEventListener(name, () => requestAnimationFrame(look), { passive: true });
+  }
 
   clear() {
     this.#shown = 0;
+    this.#follows = true;
     this.#list.replaceChildren();
   }
 
   show(events) {
-    if (this.#shown === events.length) return;
-    const isAtEnd = this.#list.scrollTop + this.#list.clientHeight > this.#list.scrollHeight - 20;
     for (; this.#shown < events.length; this.#shown++) this.#list.append(this.#row(events[this.#shown]));
     while (this.#list.childElementCount > 600) this.#list.firstChild.remove();
-    if (isAtEnd) this.#list.scrollTop = this.#list.scrollHeight;
+    if (this.#follows) this.#list.scrollTop = this.#list.scrollHeight;
   }
 
   #row(it) {

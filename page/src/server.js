@@ -55,7 +55,7 @@ export class Server {
   #toClient({ source, destination, payload, track }) {
     const client = this.#clients.get(destination.port);
     if (!client || !this.#permitted.has(`${destination.port} ${source.address}`)) {
-      return track.lose(this.#network.clock.now, this.edge, "no permission at the relay");
+      return track.lose(this.#network.clock.now, this.edge, "not permitted at the relay");
     }
     const word = { type: "relayed", relay: destination, peer: source, datagram: payload };
     this.#network.route({ source: this.address, destination: client, payload: word, track });

@@ -31,7 +31,8 @@ export class Session {
   #planned;
 
   /**
-   * @param settings as DEFAULTS of settings.js; and `drops`, for tests: which packets of A's and B's first interface are lost
+   * @param settings as DEFAULTS of settings.js; for tests also `drops`, which packets of A's and B's wifi are lost, `ties`, the tie-breakers, and
+   *   `waitsLast`: the endpoints wait until the last time that pollTimeout returned, as those of the simulator lab do
    * @param actions what the viewer does: { at, do, value }, in the order of their times
    * @param ice the library
    * @param watch observes calls and packets, as StoryText does
@@ -135,7 +136,7 @@ export class Session {
     const rules = settings.rules === "original" ? ice.originalRules() : ice.modernRules();
     const own = {
       controlling: settings[`role${side}`] === "controlling", renomination: settings.renomination, stun: true, turn: settings[`turn${side}`],
-      port: HOMES[side].port, rules: settings.suspicion ? { ...rules, suspicionTimeout: 4500, suspicionInterval: 200 } : rules,
+      port: HOMES[side].port, waitsLast: settings.waitsLast, tieBreaker: settings.ties?.[side], rules: settings.suspicion ? { ...rules, suspicionTimeout: 4500, suspicionInterval: 200 } : rules,
     };
     const world = {
       clock: this.clock, server: this.server, ice, watch: this.watch, random: (name) => this.random(name),

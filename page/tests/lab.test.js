@@ -29,13 +29,13 @@ const lab = skip ? { status: 3, stderr: skip } : spawnSync(python, [fileURLToPat
   input: JSON.stringify(networks), encoding: "utf8", maxBuffer: 1 << 28 });
 const why = lab.status === 0 ? false : lab.status === 3 ? lab.stderr.trim() : false;
 
-/** The same of the page, with the sides' own tie-breakers: of the agents only the roles show. */
-function played({ until, ...settings }) {
-  const session = new Session(settings, [], ice);
+/** The same of the page, with the tie-breakers of lab. */
+function played({ until, ...settings }, { A, B }, waitsLast) {
+  const session = new Session({ ...settings, waitsLast, ties: { A: BigInt(A), B: BigInt(B) } }, [], ice);
   session.runTo(until);
   const own = session.tracks.filter((it) => it.contents);
-  const first = (side, chosen) => Math.min(...chosen.map((it) => it), Infinity);
-  const answered = (side) => first(side, own.filter((it) => it.side !== side && it.message.class === "success" && it.taken?.accepted).map((it) => it.taken.at));
+  const responses = (side) => own.filter((it) => it.side !== side && it.message.class === "success" && it.taken?.accepted);
+  const answered = (side) => responses(side)[0]?.taken.at ?? null;
   const selected = (side) => session.events.find((it) => it.side === side && it.what === "nominatedSend")?.at ?? null;
   const isPast = (it) => it.end && it.end.at <= until;
   return {
@@ -50,10 +50,13 @@ test("the simulator ran", { skip: why }, () => assert.equal(lab.status, 0, lab.s
 
 for (const [place, name] of Object.keys(NETWORKS).entries()) {
   test(`as in lab: ${name}`, { skip: why }, () => {
-    const theirs = JSON.parse(lab.stdout)[place], ours = played(networks[place]);
+    const theirs = JSON.parse(lab.stdout)[place], ours = played(networks[place], theirs.ties, true);
     assert.deepEqual(ours.selected, theirs.selected);
     assert.deepEqual(ours.answered, theirs.answered);
     assert.equal(ours.packets.length, theirs.packets.length);
     assert.deepEqual(sorted(ours.packets), sorted(theirs.packets));
+    // The page itself waits until the earliest time, as README's loop does: later checks come sooner, and the times below are the same.
+    const page = played(networks[place], theirs.ties, false);
+    assert.deepEqual([page.answered, page.selected], [theirs.answered, theirs.selected]);
   });
 }

@@ -4,7 +4,7 @@
 usage: page/tests/lab_numbers.py < NETWORKS      NETWORKS: a list of settings as in page/src/settings.js, each with "until" in ms, in JSON
 
 Prints, for each network, what both agents sent up to that time: side, time, when it was received or null, and why it was lost or null; when each
-side's first check was answered, and when each side first selected a path. Times are milliseconds. The library is that of IS_ICE_LIB, or the one
+side's first check was answered, when each side first selected a path, and the tie-breakers. Times are milliseconds. The library is that of IS_ICE_LIB, or the one
 that python/build linked; status 3: there is none.
 """
 from __future__ import annotations
@@ -22,7 +22,8 @@ if any(word in ("-h", "--help") for word in sys.argv[1:]):
     print(__doc__)
     sys.exit(0)
 try:
-    import is_ice  # noqa: F401
+    from is_ice import IceAgent
+    IceAgent()
 except (ImportError, OSError) as why:
     print(f"the library for Python is not built: {why}", file=sys.stderr)
     sys.exit(3)
@@ -115,7 +116,8 @@ def played(settings: dict[str, Any]) -> dict[str, Any]:
             answered[side] = min(answered.get(side, 1e9), ms(it.fates[-1][0]))
     firsts = {side.upper(): own.first for side, own in outcome.sides.items()}
     return {"packets": packets, "answered": {side: answered.get(side) for side in "AB"},
-            "selected": {side: None if first is None else first / MILLISECOND for side, first in firsts.items()}}
+            "selected": {side: None if first is None else first / MILLISECOND for side, first in firsts.items()},
+            "ties": {side.upper(): str(endpoint.tie_breaker) for side, endpoint in session.endpoints.items()}}
 
 
 def main() -> None:
