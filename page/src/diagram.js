@@ -125,7 +125,7 @@ export class Diagram {
   draw() {
     const { session } = this, box = this.#box, height = box.clientHeight;
     if (!session || !height) return;
-    const bottom = TOP + this.y, total = Math.max(height, bottom + 70);
+    const bottom = TOP + this.y, total = Math.max(height, bottom + 44);
     $("spacer").style.height = `${total - height}px`;
     if (this.#follows) box.scrollTop = total;
     const top = box.scrollTop, now = this.scale.time(this.y);

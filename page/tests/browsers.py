@@ -1,9 +1,10 @@
 #!/usr/bin/env python3
 """Tests the built page in headless Chromium and Firefox.
 
-usage: page/tests/browsers.py [--pictures] PAGE [chromium|firefox ..]      --pictures writes the pictures anew that Chromium's are compared with
+usage: page/tests/browsers.py [--pictures] PAGE [chromium|firefox ..]
 
-A browser that is not installed is skipped, and so is all if Debian's python3-aiohttp is not there. IS_ICE_JS and IS_ICE_WASM are as for page/build.
+--pictures writes the pictures anew that Chromium's are compared with. A browser that is not installed is skipped, and so is all if Debian's
+python3-aiohttp is not there. IS_ICE_JS and IS_ICE_WASM are as for page/build.
 """
 
 from __future__ import annotations
@@ -69,7 +70,8 @@ async def links(viewer: Any, url: str) -> None:
     require(await viewer.call("checks.digest") == digest, f"{fragment} plays other packets")
     require(await viewer._evaluate("wrong") == [], await viewer._evaluate("wrong"))
     capture = base64.b64decode(await viewer.call("checks.saved", "savePcap"))
-    wanted = await viewer._evaluate("page.session.tracks.filter((it) => it.contents).reduce((n, it) => n + !it.isHostile + Boolean(it.taken), 0)")
+    wanted = await viewer._evaluate(
+        "page.session.tracks.filter((it) => it.contents).reduce((n, it) => n + !it.isHostile + Boolean(it.taken), 0)")
     read_by_tshark(capture, cast(int, wanted))
     picture = base64.b64decode(await viewer.call("checks.saved", "savePicture")).decode()
     require(picture.startswith("<svg") and picture.count("class=\"line\"") > 10, "the picture has no arrows")
@@ -84,8 +86,9 @@ def read_by_tshark(capture: bytes, wanted: int) -> None:
     with tempfile.NamedTemporaryFile(suffix=".pcapng") as file:
         file.write(capture)
         file.flush()
-        told = subprocess.run(["tshark", "-r", file.name, "-o", "udp.check_checksum:TRUE", "-o", "ip.check_checksum:TRUE", "-T", "fields", "-e", "stun.type",
-                               "-e", "_ws.malformed", "-e", "udp.checksum.status", "-e", "ip.checksum.status"], capture_output=True, text=True, check=True)
+        fields = [word for name in ("stun.type", "_ws.malformed", "udp.checksum.status", "ip.checksum.status") for word in ("-e", name)]
+        options = ["-o", "udp.check_checksum:TRUE", "-o", "ip.check_checksum:TRUE", "-T", "fields", *fields]
+        told = subprocess.run(["tshark", "-r", file.name, *options], capture_output=True, text=True, check=True)
     rows = [line.split("\t") for line in told.stdout.splitlines()]
     require(len(rows) == wanted, f"{len(rows)} packets, not {wanted}")
     require(all(row[1:] == ["", "1", "1"] for row in rows), "malformed packets, or wrong checksums")

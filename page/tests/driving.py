@@ -1,4 +1,4 @@
-"""Chromium and Firefox with the page loaded: what a viewer of it can do, and what goes wrong in it. interwork/browsers has the protocols."""
+"""Chromium and Firefox with the page loaded: what a viewer can do, and what goes wrong. interwork/browsers has the protocols."""
 
 from __future__ import annotations
 

@@ -1,11 +1,12 @@
 #!/usr/bin/env python3
 """Plays networks of the page in the simulator `lab`, for the test lab.test.js.
 
-usage: page/tests/lab_numbers.py < NETWORKS      NETWORKS: a list of settings as in page/src/settings.js, each with "until" in ms, in JSON
+usage: page/tests/lab_numbers.py < NETWORKS
 
-Prints, for each network, what both agents sent up to that time: side, time, when it was received or null, and why it was lost or null; when each
-side's first check was answered, when each side first selected a path, and the tie-breakers. Times are milliseconds. The library is that of IS_ICE_LIB, or the one
-that python/build linked; status 3: there is none.
+NETWORKS is a list in JSON: settings as in page/src/settings.js, each with "until", in ms. Prints, for each network, what both agents sent
+up to that time: side, time, when it was received or null, and why it was lost or null; when each side's first check was answered, when each
+side first selected a path, and the tie-breakers. Times are milliseconds. The library is that of IS_ICE_LIB, or the one that python/build linked;
+status 3: there is none.
 """
 from __future__ import annotations
 
@@ -50,7 +51,8 @@ class Dropping(Link):
     def carry(self, now: int, size: int) -> list[int]:
         """Returns the times at which a packet arrives."""
         self.count += 1
-        return [] if self.count - 1 in self.numbers else self.link.carry(now, size)
+        arrivals: list[int] = [] if self.count - 1 in self.numbers else self.link.carry(now, size)
+        return arrivals
 
 
 def nats(settings: dict[str, Any]) -> tuple[GatewaySettings, ...]:
@@ -81,9 +83,10 @@ def agent(settings: dict[str, Any], side: str) -> AgentSettings:
 def scenario(settings: dict[str, Any]) -> Scenario:
     """Returns the scenario of a network of the page: a fifth of the delay is on each side's link."""
     near = round(settings["delay"] / 5)
+    signaling = SignalingSettings(delay_ms=settings["signaling"], jitter_ms=0)
     return Scenario("page", "page", seconds=(settings["until"] + 0.5) / 1000, settle_s=1e6, connects="sometimes", symmetric=False,
                     network={"internet": settings["delay"] - 2 * near}, link={"home": LinkSettings(delay_ms=near)}, nat=nats(settings),
-                    signaling=SignalingSettings(delay_ms=settings["signaling"], jitter_ms=0), a=agent(settings, "a"), b=agent(settings, "b"))
+                    signaling=signaling, a=agent(settings, "a"), b=agent(settings, "b"))
 
 
 def ms(time: int) -> float:
