@@ -54,8 +54,9 @@ export class Arrow {
 
   #drawHead(at) {
     const [x, y] = at.at(-1), [px, py] = at.findLast(([ox, oy]) => ox !== x || oy !== y) ?? [x, y];
-    const angle = Math.atan2(y - py, x - px), corner = (turn) => `${(x - HEAD * Math.cos(angle + turn)).toFixed(1)} ${(y - HEAD * Math.sin(angle + turn)).toFixed(1)}`;
-    this.#head.setAttribute("d", `M${x.toFixed(1)} ${y.toFixed(1)}L${corner(0.36)}L${corner(-0.36)}Z`);
+    const angle = Math.atan2(y - py, x - px), point = (...at) => at.map((it) => it.toFixed(1)).join(" ");
+    const corner = (turn) => point(x - HEAD * Math.cos(angle + turn), y - HEAD * Math.sin(angle + turn));
+    this.#head.setAttribute("d", `M${point(x, y)}L${corner(0.36)}L${corner(-0.36)}Z`);
   }
 
   /** Puts its words on the line, once it has passed the place for them, if nothing is there. */
@@ -70,7 +71,8 @@ export class Arrow {
     const { part, time, a, b } = free, [x, y] = [place.x(part), place.y(time) + this.#shift];
     const slope = Math.atan2(place.y(b.at) - place.y(a.at), place.x(b.x) - place.x(a.x));
     const turn = ((Math.cos(slope) < 0 ? slope + Math.PI : slope) * 180) / Math.PI;
-    this.element.append(svg("text", { transform: `translate(${x.toFixed(1)} ${(y - 5).toFixed(1)}) rotate(${turn.toFixed(1)})`, "text-anchor": "middle" }, words));
+    const transform = `translate(${x.toFixed(1)} ${(y - 5).toFixed(1)}) rotate(${turn.toFixed(1)})`;
+    this.element.append(svg("text", { transform, "text-anchor": "middle" }, words));
   }
 
   /** Where and when it has crossed a place, if it has. */

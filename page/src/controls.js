@@ -6,6 +6,8 @@ const UNITS = { delay: " ms", jitter: " ms", loss: " %", signaling: " ms" };
 const LABELS = { delay: "Delay", jitter: "Jitter", loss: "Loss", signaling: "Signaling" };
 /** These act on the session that runs; the others begin a new one. */
 export const LIVE = ["delay", "jitter", "loss"];
+const HINT = "The seed makes passwords, transaction IDs, jitter and loss, so a link repeats a session to the packet. "
+  + "A program takes them from the system.";
 const CUTS = { cutAB: "Cut A → B", cutBA: "Cut B → A", cutRelay: "Cut the relay" };
 
 /** The forms of what the viewer sets. `change(name, value)` is called for settings, `deed(name, value)` for cuts. */
@@ -21,13 +23,14 @@ export class Controls {
     $("agents").append(
       this.#choice("rules", "Rules", { modern: "modern", original: "as the original" }), this.#tick("renomination", "Renomination"),
       this.#tick("suspicion", "Leave a silent path soon, after 4.5 s"), this.#number("seed", "Seed"),
-      html("p", { className: "hint" }, "The seed makes passwords, transaction IDs, jitter and loss, so a link repeats a session to the packet. Outside this page they come from the system."));
+      html("p", { className: "hint" }, HINT));
   }
 
   #side(side) {
     const nats = Object.fromEntries(Object.entries(NATS).map(([name, { label }]) => [name, label]));
-    $(`side${side}`).append(this.#choice(`nat${side}`, "NAT", nats), this.#choice(`role${side}`, "Role", { controlling: "controlling", controlled: "controlled" }),
-      this.#tick(`turn${side}`, "A TURN relay"));
+    const roles = { controlling: "controlling", controlled: "controlled" };
+    $(`side${side}`).append(
+      this.#choice(`nat${side}`, "NAT", nats), this.#choice(`role${side}`, "Role", roles), this.#tick(`turn${side}`, "A TURN relay"));
     if (side === "A") $("sideA").append(this.#tick("mobileA", "Mobile too, behind its carrier's NAT"));
     $(`side${side}`).append(this.#range(`dead${side}`, "Dead ends"));
   }

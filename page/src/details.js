@@ -6,27 +6,47 @@ const NAMES = {
   check: "Binding request", nomination: "Binding request with USE-CANDIDATE", response: "Binding success response", failure: "Binding error response",
   media: "Media", server: "To or from the server", signal: "Signaling",
 };
+const capital = (words) => words[0].toUpperCase() + words.slice(1);
+
+function titleOf(track) {
+  const { kind, contents, isHostile } = track;
+  const name = isHostile && kind === "media" ? "no STUN message" : NAMES[kind];
+  return `${isHostile ? `${capital(isHostile)}: ` : ""}${name}${contents ? `, ${contents.length} bytes` : `: ${labelOf(track)}`}`;
+}
+
+function pathOf({ source, destination, wire }) {
+  const seen = wire && text(wire.source) !== text(source) ? `, on the way from ${text(wire.source)}` : "";
+  return `${text(source)} → ${text(destination)}${seen}`;
+}
+
+/** What an attribute says, if the message has it. */
+function attributesOf({ priority, iceControlling, iceControlled, mappedAddress, error }) {
+  const role = iceControlling !== null ? "ICE-CONTROLLING" : iceControlled !== null ? "ICE-CONTROLLED" : null;
+  return [
+    role && `PRIORITY ${priority}, ${role}`, mappedAddress && `XOR-MAPPED-ADDRESS ${text(mappedAddress)}`,
+    error && `ERROR-CODE ${error.code} ${error.reason}`,
+  ].filter(Boolean);
+}
 
 /** What is known of a packet, in lines: first its name. */
 export function linesOf(track) {
-  const { kind, sent, source, destination, contents, message, isHostile, taken, end, stops } = track;
-  const lines = [`${isHostile ? `${isHostile[0].toUpperCase()}${isHostile.slice(1)}: ` : ""}${NAMES[kind]}${contents ? `, ${contents.length} bytes` : `: ${labelOf(track)}`}`];
-  if (source) lines.push(`${text(source)} → ${text(destination)}${track.wire && text(track.wire.source) !== text(source) ? `, on the way from ${text(track.wire.source)}` : ""}`);
-  if (message?.iceControlling !== null && message?.iceControlling !== undefined) lines.push(`PRIORITY ${message.priority}, ICE-CONTROLLING`);
-  if (message?.iceControlled !== null && message?.iceControlled !== undefined) lines.push(`PRIORITY ${message.priority}, ICE-CONTROLLED`);
-  if (message?.mappedAddress) lines.push(`XOR-MAPPED-ADDRESS ${text(message.mappedAddress)}`);
-  if (message?.error) lines.push(`ERROR-CODE ${message.error.code} ${message.error.reason}`);
-  const passed = stops.filter((it) => it.lane?.length > 1).map((it) => it.lane);
-  lines.push(`${isHostile ? "Sent by an attacker" : `Sent by ${track.side}`} at ${timeText(sent)}${passed.length ? `, past ${[...new Set(passed)].join(", ")}` : ""}`);
+  const { side, sent, source, message, isHostile, taken, end, stops } = track;
+  const passed = [...new Set(stops.filter((it) => it.lane?.length > 1).map((it) => it.lane))];
+  const lines = [titleOf(track)];
+  if (source) lines.push(pathOf(track));
+  if (message) lines.push(...attributesOf(message));
+  lines.push(`Sent by ${isHostile ? "an attacker" : side} at ${timeText(sent)}${passed.length ? `, past ${passed.join(", ")}` : ""}`);
   if (end) lines.push(`Does not arrive: ${end.why}`);
   else if (taken) lines.push(`${taken.accepted ? "Accepted" : "Refused"} at ${timeText(taken.at)}`);
   return lines;
 }
 
-/** The line below the diagram for the chosen packet. */
-export function detailsOf(track, deeds) {
+/** The line below the diagram for the chosen packet. `deed` is called with what the viewer does to it. */
+export function detailsOf(track, deed) {
   const [first, ...rest] = linesOf(track);
   const isCheck = ["check", "nomination"].includes(track.kind) && track.wire && !track.isHostile;
-  const buttons = isCheck ? [["Forge it", "forge"], ["Replay it", "replay"]].map(([label, name]) => html("button", { type: "button", onclick: () => deeds(name) }, label)) : [];
-  return [html("b", {}, track.transaction ? `#${track.transaction} ` : "", first), ...rest.map((line) => html("span", {}, line)), ...buttons];
+  const deeds = isCheck ? { forge: "Forge it", replay: "Replay it" } : {};
+  const buttons = Object.entries(deeds).map(([name, label]) => html("button", { type: "button", onclick: () => deed(name) }, label));
+  const number = track.transaction ? `#${track.transaction} ` : "";
+  return [html("b", {}, number, first), ...rest.map((line) => html("span", {}, line)), ...buttons];
 }

@@ -5,9 +5,11 @@ import { BREAK, Scale } from "./scale.js";
 import { LANES } from "./session.js";
 
 const TOP = 26, ROW = 13;
+const LAYERS = ["grid", "lanes", "tracks", "bars", "breaks", "flags"];
+const SHORT = { "TURN relay": "relay", "STUN server": "STUN", mobile: "mobile" };
 const DEEDS = {
-  cutAB: ["A → B mended", "A → B cut"], cutBA: ["B → A mended", "B → A cut"], cutRelay: ["relay mended", "relay cut"], wifi: ["A's wifi off", "A's wifi on"],
-  restart: "ICE restart", flood: "flood begins",
+  cutAB: ["A → B mended", "A → B cut"], cutBA: ["B → A mended", "B → A cut"], cutRelay: ["relay mended", "relay cut"],
+  wifi: ["A's wifi off", "A's wifi on"], restart: "ICE restart", flood: "flood begins",
 };
 
 /** The sequence diagram: time goes down, and it grows with the session. */
@@ -21,6 +23,7 @@ export class Diagram {
   #follows = true;
   #bars = { A: [], B: [] };
   #drawnEvents = 0;
+  #flagRows = []; // those left of A, where times would be too
 
   constructor() {
     this.#box.addEventListener("scroll", () => {
@@ -93,11 +96,12 @@ export class Diagram {
     this.#taken.clear();
     this.#bars = { A: [], B: [] };
     this.#drawnEvents = 0;
+    this.#flagRows = [];
     const width = this.#box.clientWidth;
     this.width = width;
     this.isNarrow = width < 520;
     this.left = this.isNarrow ? 46 : width < 760 ? 106 : 132;
-    this.#layers = Object.fromEntries(["grid", "lanes", "tracks", "bars", "breaks", "flags"].map((name) => [name, svg("g", { class: `layer-${name}` })]));
+    this.#layers = Object.fromEntries(LAYERS.map((name) => [name, svg("g", { class: `layer-${name}` })]));
     this.#canvas.replaceChildren(svg("g", { id: "moving" }, ...Object.values(this.#layers)));
     this.#drawLanes();
     this.#drawHeads();
@@ -137,9 +141,9 @@ export class Diagram {
   }
 
   #drawTracks(now, top, bottom) {
-    const place = { x: (part) => this.x(part), y: (time) => this.place(time), free: (x0, x1, y) => this.free(x0, x1, y) };
+    const place = { x: (part) => this.x(part), y: (time) => this.place(time), free: (...box) => this.free(...box) };
     for (const track of this.session.tracks) {
-      const isSeen = track.sent <= now && this.place(track.sent) < bottom && this.place(Math.min(now, Arrow.endOf(track))) > top;
+      const isSeen = track.sent <= now && this.place(track.sent) < bottom && this.place(Math.min(now, track.stops.at(-1).at)) > top;
       let arrow = this.#arrows.get(track);
       if (!isSeen) {
         arrow?.element.remove();
@@ -204,7 +208,10 @@ export class Diagram {
 
   get lanes() {
     const { settings } = this.session, found = [];
-    for (const side of ["A", "B"]) if (settings[`nat${side}`] !== "none") found.push({ x: side === "A" ? 0.2 : 0.8, name: LANES[side], more: NATS[settings[`nat${side}`]].short });
+    for (const [side, x] of [["A", 0.2], ["B", 0.8]]) {
+      const nat = settings[`nat${side}`];
+      if (nat !== "none") found.push({ x, name: LANES[side], more: NATS[nat].short });
+    }
     if (settings.mobileA) found.push({ x: 0.32, name: "mobile", more: "carrier" });
     const isRelay = settings.turnA || settings.turnB;
     found.push({ x: 0.5, name: isRelay ? "TURN relay" : "STUN server", more: this.session.server.address.address, isServer: true });
@@ -225,10 +232,11 @@ export class Diagram {
       say(x, 22, side, `name ${side}`);
       if (!this.isNarrow) say(x, 38, this.session.interfaces[side].at(0).ip + (this.session.interfaces[side].length > 1 ? " …" : ""), "");
     }
+    const apart = (x) => Math.min(...this.lanes.filter((it) => it.x !== x).map((it) => Math.abs(this.x(it.x) - this.x(x))));
     for (const [n, { x, name, more }] of this.lanes.entries()) {
       const high = this.lanes.some((it) => it.name === "mobile") && this.isNarrow && n % 2 ? 10 : 0;
-      say(x, 20 + high, this.isNarrow ? name.replace("router ", "NAT ").split(" ")[this.isNarrow && name.includes("TURN") ? 1 : 0] : name, "lane-name");
-      if (!this.isNarrow) say(x, 36, more, "");
+      say(x, 20 + high, this.isNarrow ? SHORT[name] ?? "NAT" : name, "lane-name");
+      if (!this.isNarrow && apart(x) > 95) say(x, 36, more, "");
     }
     $("heads").replaceChildren(...texts, svg("g", { id: "pathMark" }));
     this.drawPath();
@@ -260,7 +268,9 @@ export class Diagram {
       if (y > Math.min(bottom, top + height)) break;
       if (inCut(time) || y - last < 30) continue;
       last = y;
-      lines.push(svg("line", { class: "grid", x1: 0, x2: this.width, y1: y, y2: y }), svg("text", { x: 8, y: y - 3 }, time < 1000 ? `${time}` : `${+(time / 1000).toFixed(3)} s`));
+      const words = time < 1000 ? `${time}` : `${+(time / 1000).toFixed(3)} s`;
+      lines.push(svg("line", { class: "grid", x1: 0, x2: this.width, y1: y, y2: y }));
+      if (!this.#flagRows.some((row) => Math.abs(row - y + 3) < 12)) lines.push(svg("text", { x: 8, y: y - 3 }, words));
     }
     const breaks = scale.cuts.filter(({ y }) => y + BREAK > top - 60 && y < top + height);
     this.#layers.breaks.replaceChildren(...breaks.flatMap(({ from, to, y }) => this.#breakAt(TOP + y + BREAK / 2, to - from)));
@@ -292,12 +302,14 @@ export class Diagram {
   }
 
   #flag(side, y, words) {
-    if (words === "selects") this.#layers.flags.append(svg("circle", { cx: this.x(side === "A" ? 0 : 1), cy: y, r: 5, fill: "var(--response)", stroke: "var(--card)", "stroke-width": 2 }));
+    const x = this.x(side === "A" ? 0 : 1), [x0, x1] = side === "A" ? [0, x] : [x, this.width];
+    if (words === "selects") this.#layers.flags.append(svg("circle", { class: "selects", cx: x, cy: y, r: 5 }));
     if (this.isNarrow) return;
     let row = y + 4;
-    const [x0, x1] = side === "A" ? [0, this.x(0)] : [this.x(1), this.width];
     while (!this.free(x0, x1, row)) row += ROW;
-    this.#layers.flags.append(svg("text", { class: "flag", x: this.x(side === "A" ? 0 : 1) + (side === "A" ? -12 : 12), y: row, "text-anchor": side === "A" ? "end" : "start" }, words));
+    if (side === "A") this.#flagRows.push(row);
+    const attributes = side === "A" ? { x: x - 12, "text-anchor": "end" } : { x: x + 12, "text-anchor": "start" };
+    this.#layers.flags.append(svg("text", { class: "flag", y: row, ...attributes }, words));
   }
 
   #deed(action, y) {
@@ -306,7 +318,8 @@ export class Diagram {
     const words = typeof told === "string" ? told : told[action.value];
     let row = y - 5;
     for (let tries = 0; tries < 2 && !this.free(this.x(0.5) - 40, this.x(0.5) + 40, row); tries++) row += ROW;
-    return [svg("line", { class: "deed", x1: this.x(0), x2: this.x(1), y1: y, y2: y }), svg("text", { class: "deed", x: this.x(0.5), y: row, "text-anchor": "middle", stroke: "var(--card)", "stroke-width": 4, "paint-order": "stroke" }, words)];
+    const line = svg("line", { class: "deed", x1: this.x(0), x2: this.x(1), y1: y, y2: y });
+    return [line, svg("text", { class: "deed", x: this.x(0.5), y: row, "text-anchor": "middle" }, words)];
   }
 
   #drawBars(bottom) {

@@ -3,7 +3,7 @@ import { Controls, LIVE } from "./controls.js";
 import { detailsOf, linesOf } from "./details.js";
 import { Diagram } from "./diagram.js";
 import { $, html, save, timeText } from "./dom.js";
-import { Log, eventText, outcome, showPairs } from "./panels.js";
+import { Log, outcome, showPairs } from "./panels.js";
 import { captureOf } from "./pcapng.js";
 import { pictureOf } from "./picture.js";
 import { Session } from "./session.js";
@@ -12,6 +12,7 @@ import { STORIES } from "./stories.js";
 import { StoryText } from "./story_text.js";
 import { WASM } from "./wasm.js";
 
+const OWN_UNTIL = 2500; // ms: a session with settings of the viewer's own pauses then
 const FAST = 2200; // pixels a second, at most
 const PANELS_EVERY = 120; // ms
 
@@ -26,7 +27,10 @@ class Page {
   #lastFrame = 0;
 
   start() {
-    for (const story of STORIES) $("stories").append(html("button", { type: "button", dataset: { story: story.id }, onclick: () => this.#tell(story) }, story.title));
+    for (const story of STORIES) {
+      const properties = { type: "button", dataset: { story: story.id }, onclick: () => this.#tell(story) };
+      $("stories").append(html("button", properties, story.title));
+    }
     if (innerWidth < 700) for (const it of ["sideCardA", "sideCardB", "networkCard"]) $(it).open = false;
     this.#listen();
     this.open(location.hash);
@@ -52,12 +56,13 @@ class Page {
     this.session?.close();
     Object.assign(this, { story, settings, text: new StoryText(story.title, ice) });
     this.session = new Session(settings, actions, ice, this.text);
-    this.#until = story.until;
+    const isOwn = toFragment({ story, settings, actions }) !== `story=${story.id}`;
+    this.#until = isOwn ? Math.max(story.until, OWN_UNTIL) : story.until;
     $("speed").value = speed;
     $("zoom").value = zoom;
     for (const it of $("stories").children) it.setAttribute("aria-current", String(it.dataset.story === story.id));
     document.querySelector(`[data-story="${story.id}"]`).scrollIntoView({ inline: "center", block: "nearest" });
-    $("says").textContent = story.says;
+    $("says").textContent = isOwn ? `Your own setting, begun from “${story.title}”.` : story.says;
     $("details").replaceChildren();
     this.#log.clear();
     this.#diagram.show(this.session, this.#perMs);
@@ -240,7 +245,7 @@ try {
   globalThis.page = new Page();
   globalThis.page.start();
 } catch (why) {
-  document.querySelector("main").replaceChildren(html("p", { className: "failed" }, `The agents did not start: ${why.message}. The page needs a browser with WebAssembly and DecompressionStream.`));
+  const words = `The agents did not start: ${why.message}. The page needs a browser with WebAssembly and DecompressionStream.`;
+  document.querySelector("main").replaceChildren(html("p", { className: "failed" }, words));
   throw why;
 }
-export { eventText };

@@ -15,6 +15,7 @@ const HOMES = {
 const MOBILE = { ip: "10.64.0.10", outside: "203.0.113.3", edge: 0.32, delay: 25 };
 /** The lanes of the routers. */
 export const LANES = { A: "router A", B: "router B", mobile: "mobile carrier" };
+const SUSPICION = { suspicionTimeout: 4500, suspicionInterval: 200 }; // ms, as the guide has them
 const NOTHING = { call() {}, sent() {}, took() {}, selected() {} };
 
 /** What stays the same if a packet changes nothing: all that the agent's getters tell, but for counters of time. */
@@ -135,8 +136,9 @@ export class Session {
     const { settings, ice } = this;
     const rules = settings.rules === "original" ? ice.originalRules() : ice.modernRules();
     const own = {
-      controlling: settings[`role${side}`] === "controlling", renomination: settings.renomination, stun: true, turn: settings[`turn${side}`],
-      port: HOMES[side].port, waitsLast: settings.waitsLast, tieBreaker: settings.ties?.[side], rules: settings.suspicion ? { ...rules, suspicionTimeout: 4500, suspicionInterval: 200 } : rules,
+      controlling: settings[`role${side}`] === "controlling", renomination: settings.renomination,
+      rules: settings.suspicion ? { ...rules, ...SUSPICION } : rules,
+      stun: true, turn: settings[`turn${side}`], port: HOMES[side].port, waitsLast: settings.waitsLast, tieBreaker: settings.ties?.[side],
     };
     const world = {
       clock: this.clock, server: this.server, ice, watch: this.watch, random: (name) => this.random(name),
@@ -177,8 +179,9 @@ export class Session {
 
   #signal(side, message) {
     const to = side === "A" ? "B" : "A", arrival = this.now + this.settings.signaling;
-    const label = [message.creds && "credentials", ...message.lines.map((line) => this.ice.lineFields(line).kind)].filter(Boolean);
-    const track = new Track("signal", side, this.now, side === "A" ? 0 : 1, { label: label.length > 3 ? `${label.length} candidates` : label.join(", ") });
+    const words = [message.creds && "credentials", ...message.lines.map((line) => this.ice.lineFields(line).kind)].filter(Boolean);
+    const label = words.length > 3 ? `${words.length} candidates` : words.join(", ");
+    const track = new Track("signal", side, this.now, side === "A" ? 0 : 1, { label });
     track.go(arrival, side === "A" ? 1 : 0, to);
     this.tracks.push(track);
     this.clock.at(arrival, () => {

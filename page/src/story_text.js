@@ -93,6 +93,7 @@ export class StoryText {
   /** The file. */
   get text() {
     const head = ["# A session of the page, as a story.", this.#end ? `# It is cut: ${this.#end}.` : "", ...this.#defined].filter(Boolean);
-    return [...head, "", `story ${this.#title.toLowerCase()}`, `world ${this.#starts.A} ${this.#starts.B}`, "asserts selects", ...this.#lines, ""].join("\n");
+    const begin = [`story ${this.#title.toLowerCase()}`, `world ${this.#starts.A} ${this.#starts.B}`, "asserts selects"];
+    return [...head, "", ...begin, ...this.#lines, ""].join("\n");
   }
 }

@@ -120,6 +120,11 @@ async def keyboard(viewer: Any, url: str) -> None:
     await viewer.press("Enter")
     await asyncio.sleep(0.3)
     require(await viewer._evaluate("page.story.id") == "flood", "Enter tells no story")
+    said = await viewer._evaluate("document.getElementById('says').textContent")
+    await viewer._evaluate("document.getElementById('turnA').focus()")
+    await viewer.press(" ")
+    require(await viewer._evaluate("page.session.settings.turnA"), "Space sets nothing")
+    require(await viewer._evaluate("document.getElementById('says').textContent") != said, "the page says of an own setting what a story says")
 
 
 async def plays(viewer: Any, url: str) -> None:

@@ -9,7 +9,8 @@ const [light, dark] = readFileSync(new URL("../src/style.css", import.meta.url),
 /** The relative luminance of a color. */
 function luminance(color) {
   const long = color.length === 4 ? color.replace(/[0-9a-f]/gi, "$&$&") : color;
-  const [r, g, b] = [1, 3, 5].map((at) => parseInt(long.slice(at, at + 2), 16) / 255).map((it) => (it <= 0.04045 ? it / 12.92 : ((it + 0.055) / 1.055) ** 2.4));
+  const linear = (it) => (it <= 0.04045 ? it / 12.92 : ((it + 0.055) / 1.055) ** 2.4);
+  const [r, g, b] = [1, 3, 5].map((at) => linear(parseInt(long.slice(at, at + 2), 16) / 255));
   return 0.2126 * r + 0.7152 * g + 0.0722 * b;
 }
 

@@ -65,6 +65,11 @@ class ChromiumViewer(Chromium):
 class FirefoxViewer(Firefox):
     """A viewer with Firefox."""
 
+    async def _load(self) -> None:
+        await super()._load()
+        # only a new window has the focus, and without it Enter presses no button
+        self._context = (await self._command_result("browsingContext.create", {"type": "window"}))["context"]
+
     async def open(self, url: str) -> None:
         """Loads the page anew."""
         if not hasattr(self, "_is_watched"):

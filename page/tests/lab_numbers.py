@@ -4,9 +4,9 @@
 usage: page/tests/lab_numbers.py < NETWORKS
 
 NETWORKS is a list in JSON: settings as in page/src/settings.js, each with "until", in ms. Prints, for each network, what both agents sent
-up to that time: side, time, when it was received or null, and why it was lost or null; when each side's first check was answered, when each
-side first selected a path, and the tie-breakers. Times are milliseconds. The library is that of IS_ICE_LIB, or the one that python/build linked;
-status 3: there is none.
+up to that time: side, time, when it was received or null, and why it was lost or null; when each side's first check was answered, when
+each side first selected a path, and the tie-breakers. Times are milliseconds. The library is that of IS_ICE_LIB, or the one that
+python/build linked; status 3: there is none.
 """
 from __future__ import annotations
 

@@ -26,7 +26,10 @@ test("calls come in the order of their times, and those of one time in the order
 });
 
 // RFC 4787, sections 4.1 and 5: whether a packet of the peer, from another port of it, and from another host comes in.
-for (const [kind, ...passes] of [["cone", true, true, true], ["restricted", true, true, false], ["port", true, false, false], ["symmetric", true, false, false]]) {
+const PASSES = {
+  cone: [true, true, true], restricted: [true, true, false], port: [true, false, false], symmetric: [true, false, false],
+};
+for (const [kind, passes] of Object.entries(PASSES)) {
   test(`a NAT that is ${kind} lets in who it should`, () => {
     const it = nat(kind), outside = it.outgoing(0, INSIDE, PEER);
     assert.equal(outside.address, OUTSIDE);

@@ -16,7 +16,8 @@ function played(id, changes = {}, until = story(id).until) {
 const agents = ({ endpoints }) => [endpoints.A.agent, endpoints.B.agent];
 const selections = ({ events }, side) => events.filter((it) => it.what === "nominatedSend" && it.side === side);
 const isRelayed = ({ server }, { source, destination }) => [source, destination].some((it) => it.address === server.address.address);
-const packets = ({ tracks }) => tracks.filter((it) => it.contents).map((it) => [it.side, it.sent, it.taken?.at, it.end?.why, Buffer.from(it.contents).toString("hex")]);
+const packetOf = (it) => [it.side, it.sent, it.taken?.at, it.end?.why, Buffer.from(it.contents).toString("hex")];
+const packets = ({ tracks }) => tracks.filter((it) => it.contents).map(packetOf);
 
 function connected(session) {
   for (const agent of agents(session)) assert.ok(["connected", "completed"].includes(agent.state), agent.state);
@@ -100,7 +101,8 @@ test("a session repeats to the packet, and another seed gives another one", { sk
 });
 
 test("a link repeats what the viewer did, to the packet", { skip }, () => {
-  const session = played("two-homes", { turnA: true }, 300), deeds = [["delay", 70, 300], ["say", undefined, 350], ["cutAB", 1, 410], ["forge", undefined, 412], ["restart", undefined, 500]];
+  const session = played("two-homes", { turnA: true }, 300);
+  const deeds = [["delay", 70, 300], ["say", undefined, 350], ["cutAB", 1, 410], ["forge", undefined, 412], ["restart", undefined, 500]];
   for (const [name, value, at] of deeds) {
     session.runTo(at);
     session.act(name, value);
@@ -118,7 +120,8 @@ test("sessions give back their memory", { skip }, () => {
   assert.ok(ice.heapUsed() <= before);
 });
 
-const WORD = /^(A|B)(@\d+|\?|>|<\d+@\d+;from=[\d.]+:\d+;to=[\d.]+:\d+ = (A|B) (true|false)|\.[a-z]+\d*(=[\w.:/]+)?)( : selects [\d.]+:\d+ to [\d.]+:\d+)?$/;
+const ADDRESS = "[\\d.]+:\\d+", ARRIVAL = `<\\d+@\\d+;from=${ADDRESS};to=${ADDRESS} = [AB] (true|false)`;
+const WORD = new RegExp(`^[AB](@\\d+|\\?|>|${ARRIVAL}|\\.[a-z]+\\d*(=[\\w.:/]+)?)( : selects ${ADDRESS} to ${ADDRESS})?$`);
 
 test("a session is saved as a story of docs/SCRIPTS.md", { skip }, () => {
   const text = new StoryText("Two homes", ice), session = new Session(DEFAULTS, [], ice, text);

@@ -31,7 +31,8 @@ test("the link of an unchanged story names the story alone", () => {
 });
 
 test("any text gives a session", () => {
-  const texts = ["", "#", "story=none", "natA=%", "delay=1e9&loss=-3&seed=x&natB=<b>&turnA=yes", "do=@@@!restart@-1!cutAB@5!restart@7!__proto__@9", "__proto__=1&constructor=2"];
+  const texts = ["", "#", "story=none", "natA=%", "delay=1e9&loss=-3&seed=x&natB=<b>&turnA=yes", "__proto__=1&constructor=2",
+    "do=@@@!restart@-1!cutAB@5!restart@7!__proto__@9"];
   for (const text of texts) {
     const { settings, actions } = fromFragment(text, STORIES);
     assert.deepEqual(settings, { ...DEFAULTS, ...STORIES[0].settings });
