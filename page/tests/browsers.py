@@ -124,7 +124,7 @@ async def keyboard(viewer: Any, url: str) -> None:
     await viewer._evaluate("document.getElementById('turnA').focus()")
     await viewer.press(" ")
     require(await viewer._evaluate("page.session.settings.turnA"), "Space sets nothing")
-    require(await viewer._evaluate("document.getElementById('says').textContent") != said, "the page says of an own setting what a story says")
+    require(await viewer._evaluate("document.getElementById('says').textContent") != said, "an own setting has the words of a story")
 
 
 async def plays(viewer: Any, url: str) -> None:
