@@ -259,6 +259,7 @@ export class Diagram {
   #drawGrid(top, height, bottom) {
     const { grid } = this.#layers, { scale } = this, step = [10, 20, 50, 100, 200, 500, 1000].find((it) => it * scale.perMs > 44) ?? 2000;
     const lines = [];
+    const cutRows = scale.cuts.map((it) => TOP + it.y + BREAK / 2 + 4);
     const inCut = (time) => scale.cuts.some((it) => time > it.from && time < it.to);
     let last = -100;
     for (let time = Math.max(0, Math.floor(scale.time(top - TOP) / step) * step); ; time += step) {
@@ -270,7 +271,7 @@ export class Diagram {
       last = y;
       const words = time < 1000 ? `${time}` : `${+(time / 1000).toFixed(3)} s`;
       lines.push(svg("line", { class: "grid", x1: 0, x2: this.width, y1: y, y2: y }));
-      if (!this.#flagRows.some((row) => Math.abs(row - y + 3) < 12)) lines.push(svg("text", { x: 8, y: y - 3 }, words));
+      if (![...this.#flagRows, ...cutRows].some((row) => Math.abs(row - y + 3) < 12)) lines.push(svg("text", { x: 8, y: y - 3 }, words));
     }
     const breaks = scale.cuts.filter(({ y }) => y + BREAK > top - 60 && y < top + height);
     this.#layers.breaks.replaceChildren(...breaks.flatMap(({ from, to, y }) => this.#breakAt(TOP + y + BREAK / 2, to - from)));
