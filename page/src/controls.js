@@ -22,7 +22,7 @@ export class Controls {
     $("network").append(this.#cuts(deed));
     $("agents").append(
       this.#choice("rules", "Rules", { modern: "modern", original: "as the original" }), this.#tick("renomination", "Renomination"),
-      this.#tick("suspicion", "Leave a silent path soon, after 4.5 s"), this.#number("seed", "Seed"),
+      this.#number("seed", "Seed"),
       html("p", { className: "hint" }, HINT));
   }
 

@@ -15,7 +15,6 @@ const HOMES = {
 const MOBILE = { ip: "10.64.0.10", outside: "203.0.113.3", edge: 0.32, delay: 25 };
 /** The lanes of the routers. */
 export const LANES = { A: "router A", B: "router B", mobile: "mobile carrier" };
-const SUSPICION = { suspicionTimeout: 4500, suspicionInterval: 200 }; // ms, as the guide has them
 const NOTHING = { call() {}, sent() {}, took() {}, selected() {} };
 
 /** What stays the same if a packet changes nothing: all that the agent's getters tell, but for counters of time. */
@@ -134,10 +133,9 @@ export class Session {
 
   #endpoint(side) {
     const { settings, ice } = this;
-    const rules = settings.rules === "original" ? ice.originalRules() : ice.modernRules();
     const own = {
       controlling: settings[`role${side}`] === "controlling", renomination: settings.renomination,
-      rules: settings.suspicion ? { ...rules, ...SUSPICION } : rules,
+      rules: settings.rules === "original" ? ice.originalRules() : ice.modernRules(),
       stun: true, turn: settings[`turn${side}`], port: HOMES[side].port, waitsLast: settings.waitsLast, tieBreaker: settings.ties?.[side],
     };
     const world = {

@@ -16,7 +16,6 @@ export const DEFAULTS = {
   signaling: 50, // the delay of signaling, in ms
   rules: "modern", // or original
   renomination: false,
-  suspicion: false, // leave a silent path soon
 };
 
 /** The numbers among them, with their ranges. */

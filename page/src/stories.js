@@ -21,10 +21,10 @@ export const STORIES = [
     settings: { natA: "none", delay: 60, jitter: 30, loss: 40, seed: 5 }, actions: [],
   },
   {
-    id: "path-dies", title: "The path dies", until: 7200, speed: -1,
-    says: "After two seconds the direct line dies without a word. Nobody is told. The agents notice that no "
-      + "answer comes, and move to the relay.",
-    settings: { natB: "cone", turnB: true, suspicion: true }, actions: [{ at: 2000, do: "cutAB", value: 1 }, { at: 2000, do: "cutBA", value: 1 }],
+    id: "path-dies", title: "The path dies", until: 33000, speed: 1,
+    says: "After two seconds the direct line dies without a word. Nobody is told. Within half a minute consent ends, since no "
+      + "answer came, and both agents move to the relay.",
+    settings: { natB: "cone", turnB: true }, actions: [{ at: 2000, do: "cutAB", value: 1 }, { at: 2000, do: "cutBA", value: 1 }],
   },
   {
     id: "change-of-network", title: "Wifi to mobile", until: 3000, speed: -2,

@@ -1,6 +1,6 @@
 import { text } from "./endpoint.js";
 
-// A story has no words for the longest RTO and for suspicion, and its agents begin with an RTO of 3 s at most: so they agree up to here, in ms.
+// A story has no word for the longest RTO, and its agents begin with an RTO of 3 s at most: so they agree up to here, in ms.
 const EXACT = 2800;
 // How agents of C, Rust, Python and JavaScript begin, where those of a story begin otherwise.
 const BEGIN = ["retransmits=11", "discovered=32"];
@@ -30,7 +30,6 @@ export class StoryText {
     const words = BEGIN.map((it) => `${side}.${it}`);
     if (settings.rules.selectsAtOnce) words.unshift(`${side}.rules=modern`);
     if (settings.renomination) words.push(`${side}.renomination`);
-    if (settings.rules.suspicionTimeout) this.#stop("the agents leave a silent path soon, which a story cannot say");
     this.#add(words.join(" "));
   }
 

@@ -46,14 +46,12 @@ test("a bad wire: packets are lost, and both select a path", { skip }, () => {
   assert.ok(session.tracks.filter((it) => it.end?.why === "lost").length >= 5);
 });
 
-test("the path dies: both leave it for the relay, and without suspicion only when consent ends", { skip }, () => {
+test("the path dies: both leave it for the relay when consent ends", { skip }, () => {
   const session = played("path-dies"), [first, second] = selections(session, "A");
   assert.equal(isRelayed(session, first.event), false);
   assert.equal(isRelayed(session, second.event), true);
-  assert.ok(second.at > 2000 && second.at < 2000 + 4500 + 1000);
+  assert.ok(second.at > 29_600 && second.at < 2000 + 29_600 + 1000, String(second.at)); // RFC 7675: within 30 s
   assert.equal(isRelayed(session, connected(session)), true);
-  const patient = selections(played("path-dies", { suspicion: false }, 40_000), "A")[1].at;
-  assert.ok(patient > 29_600 && patient < 2000 + 29_600 + 1000, String(patient)); // RFC 7675: within 30 s
 });
 
 test("wifi to mobile: after the restart both are on the mobile path", { skip }, () => {
@@ -134,7 +132,7 @@ test("a session is saved as a story of docs/SCRIPTS.md", { skip }, () => {
 });
 
 test("a story that says less than the session says so", { skip }, () => {
-  const text = new StoryText("The path dies", ice), session = new Session({ ...DEFAULTS, suspicion: true }, [], ice, text);
-  session.runTo(420);
-  assert.match(text.text, /^# It is cut: the agents leave a silent path soon/m);
+  const text = new StoryText("Two homes", ice), session = new Session(DEFAULTS, [], ice, text);
+  session.runTo(4000);
+  assert.match(text.text, /^# It is cut: what happens after 2800 ms is left out/m);
 });
