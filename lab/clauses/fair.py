@@ -30,7 +30,14 @@ def have_distinct_ids(x: Execution) -> bool:
     return len(set(ids)) == len(ids)
 
 
+def compares_ties(x: Execution, side: str) -> bool:
+    """Whether the side is never lite, or never has the rule by which a lite agent keeps its role (`ComparesTies`)."""
+    states = [x.state(at, side) for at in range(len(x) + 1)]
+    return not any(state.lite for state in states) or not any(state.rules.lite_keeps_role for state in states)
+
+
 def is_fair_world(x: Execution) -> Lacks:
-    """Both agents are new, no packet is in flight, their tie-breakers differ, and so do the IDs of checks (`IsFairWorld`)."""
+    """Both agents are new, no packet is in flight, their tie-breakers differ and decide roles, and the IDs of checks differ (`IsFairWorld`)."""
     tie = x.state(0, "a").tie_breaker != x.state(0, "b").tie_breaker
-    return lacks(new=are_new_agents(x), empty=is_empty(x), tie=tie, distinct=have_distinct_ids(x))
+    compares = all(compares_ties(x, side) for side in SIDES)
+    return lacks(new=are_new_agents(x), empty=is_empty(x), tie=tie, distinct=have_distinct_ids(x), compares=compares)
