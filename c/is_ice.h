@@ -464,7 +464,7 @@ IS_ICE_QUIET_CALL int32_t is_ice_set_max_pairs(is_ice_agent *agent, size_t limit
  * source is reported.
  *
  * The other agent can name a new mapped address in each response. At the limit such an address is not listed by
- * is_ice_local_candidate, and the response counts as ever. Peer-reflexive candidates that is_ice_add_local added count.
+ * is_ice_local_candidate, and the response counts as ever.
  *
  * With 0 no packet brings a candidate. IS_ICE_NO_LIMIT: each sender and each mapped address becomes one. Set the
  * limit before the first packet: a lower one removes no candidate. IS_ICE_OK. Value: 32. */

@@ -208,13 +208,13 @@ def wheel(library, number, tag):
 
 
 def for_rust(archive):
-    """The crate with the static library in lib/, the package with serde, the program that is patched, and documents.
+    """The crate with the static library in lib/, the packages with serde and for str0m, the programs that are patched, and documents.
 
-    The crate and the package with serde are no workspaces of their own, so that they may be members of the user's."""
+    The crate and these packages are no workspaces of their own, so that they may be members of the user's."""
     sources = ("README.md", "build.rs", "src/**/*.rs", "examples/**/*.rs", "tests/**/*.rs", "serde/Cargo.toml", "serde/tests/*.rs",
-               "drop_in/Cargo.toml", "drop_in/src/*.rs", "drop_in/tests/*.rs")
+               "drop_in/Cargo.toml", "drop_in/src/*.rs", "drop_in/tests/*.rs", "str0m/**/Cargo.toml", "str0m/**/*.rs")
     places = {**documents.carried("."), **documents.placed("rust", ".", *sources)}
-    manifests = {name: (top / "rust" / name).read_text() for name in ("Cargo.toml", "serde/Cargo.toml")}
+    manifests = {name: (top / "rust" / name).read_text() for name in ("Cargo.toml", "serde/Cargo.toml", "str0m/Cargo.toml")}
     manifests = {name: text.replace("\n[workspace]\n", "").encode() for name, text in manifests.items()}
     files = {**documents.documents(places), **documents.others(places), **licenses()}
     return {**files, **manifests, "lib/libis_ice.a": archive}

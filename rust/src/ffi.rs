@@ -14,6 +14,8 @@ use std::{ptr, slice};
 
 pub(crate) const OK: i32 = 0;
 pub(crate) const NOTHING: i32 = 1;
+pub(crate) const OTHER_COMPONENT: i32 = 2;
+pub(crate) const OTHER_UFRAG: i32 = 3;
 pub(crate) const NOT_UTF8: i32 = -3;
 pub(crate) const BAD_ADDRESS: i32 = -4;
 pub(crate) const UNPARSED: i32 = -5;
