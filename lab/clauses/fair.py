@@ -37,7 +37,7 @@ def compares_ties(x: Execution, side: str) -> bool:
 
 
 def is_fair_world(x: Execution) -> Lacks:
-    """Both agents are new, no packet is in flight, their tie-breakers differ and decide roles, and the IDs of checks differ (`IsFairWorld`)."""
+    """Both agents are new, no packet is in flight, their tie-breakers differ and decide the roles, and IDs differ (`IsFairWorld`)."""
     tie = x.state(0, "a").tie_breaker != x.state(0, "b").tie_breaker
     compares = all(compares_ties(x, side) for side in SIDES)
     return lacks(new=are_new_agents(x), empty=is_empty(x), tie=tie, distinct=have_distinct_ids(x), compares=compares)
