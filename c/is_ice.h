@@ -34,7 +34,8 @@
  * length to *length.
  *
  * Times and durations are whole nanoseconds. Times count from an origin that the caller chooses, as CLOCK_MONOTONIC
- * does, and may begin at 0.
+ * does, and may begin at 0. They end a minute before 2^64: in that minute is_ice_poll_timeout returns one time again and
+ * again.
  *
  * Memory comes from the program's malloc, realloc and free, through three functions that are linked with the library.
  * The comment of a call says if it does not allocate.
