@@ -32,8 +32,9 @@ def have_distinct_ids(x: Execution) -> bool:
 
 def compares_ties(x: Execution, side: str) -> bool:
     """Whether the side is never lite, or never has the rule by which a lite agent keeps its role (`ComparesTies`)."""
-    states = [x.state(at, side) for at in range(len(x) + 1)]
-    return not any(state.lite for state in states) or not any(state.rules.lite_keeps_role for state in states)
+    lite = x.indices(("is_lite", side), lambda s: s.before[side].lite)
+    keeps = x.indices(("keeps_role", side), lambda s: s.before[side].rules.lite_keeps_role)
+    return not lite or not keeps
 
 
 def is_fair_world(x: Execution) -> Lacks:
