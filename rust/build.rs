@@ -1,14 +1,15 @@
-//! Links the library: the archive next to this file in lib/, which a release has, else that of IS_ICE_LIB, else that of
+//! Links the library: the archive of the target in lib/ next to this file, which a release has, else that of IS_ICE_LIB, else that of
 //! `pkg-config is_ice`. The package in serde/ has this script too.
 
 use std::path::{Path, PathBuf};
 use std::process::{Command, exit};
 
-/// The archive of a release of this crate.
+/// The archive of a release of this crate, for the system and processor of the target.
 fn released() -> Option<PathBuf> {
     let package = PathBuf::from(std::env::var_os("CARGO_MANIFEST_DIR")?);
-    let folder = if package.ends_with("serde") { "../lib" } else { "lib" };
-    let archive = package.join(folder).join("libis_ice.a");
+    let folder = package.join(if package.ends_with("serde") { "../lib" } else { "lib" });
+    let of_target = |name| std::env::var(format!("CARGO_CFG_TARGET_{name}")).ok();
+    let archive = folder.join(format!("{}-{}/libis_ice.a", of_target("OS")?, of_target("ARCH")?));
     archive.exists().then_some(archive)
 }
 
