@@ -8,7 +8,6 @@ from packing import Link, ar, folders, gzipped, tar_gz
 
 here = pathlib.Path(__file__).resolve().parent
 top = here.parent
-MULTIARCH = "usr/lib/x86_64-linux-gnu"
 MAINTAINER = "Tigvalk maintainers <maintainers@users.noreply.tigvalk.example>"
 REVISION = 1  # of the packages of one version
 CHANGELOG = """is-ice ({version}) unstable; urgency=medium
@@ -70,17 +69,18 @@ def packed(files, date, described_by, **more):
     return ar({"debian-binary": b"2.0\n", **parts}, date)
 
 
-def packages(library, others, soname, number, glibc, date):
-    """Both packages, by their file names. `others` is what the second one has."""
+def packages(processor, library, others, soname, number, glibc, date):
+    """Both packages for a processor, by their file names. `others` is what the second one has."""
     interface = soname.rpartition(".")[2]
     runtime, dev = names(interface)
     version = f"{number}-{REVISION}"
-    values = {"VERSION": version, "GLIBC": glibc, "RUNTIME": runtime}
-    own = {f"{MULTIARCH}/{soname}": library, **described(runtime, number, version, date)}
+    values = {"VERSION": version, "GLIBC": glibc, "RUNTIME": runtime, "ARCHITECTURE": processor.debian}
+    own = {f"{processor.multiarch}/{soname}": library, **described(runtime, number, version, date)}
     others = {**others, **described(dev, number, version, date)}
     shlibs = f"libis_ice {interface} {runtime}\n".encode()
     ldconfig = b"activate-noawait ldconfig\n"
+    name = f"{version}_{processor.debian}"
     return {
-        f"{runtime}_{version}_amd64.deb": packed(own, date, control("control.in", own, **values), shlibs=shlibs, triggers=ldconfig),
-        f"{dev}_{version}_amd64.deb": packed(others, date, control("control-dev.in", others, **values)),
+        f"{runtime}_{name}.deb": packed(own, date, control("control.in", own, **values), shlibs=shlibs, triggers=ldconfig),
+        f"{dev}_{name}.deb": packed(others, date, control("control-dev.in", others, **values)),
     }
