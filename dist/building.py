@@ -11,6 +11,9 @@ import tomllib
 
 import documents
 import manual
+import metadata
+import notices
+import symbols
 from packing import Link, gzipped
 from versions import differing, version
 
@@ -55,7 +58,11 @@ def below(folder, files):
 
 
 def licenses():
-    return contents(top, *LICENSES)
+    """The licenses of the project, and the notices of what the library contains besides."""
+    try:
+        return {**contents(top, *LICENSES), "third-party.txt": notices.text().encode()}
+    except ValueError as why:
+        raise Failed(str(why)) from None
 
 
 # ---- what the release is named after
@@ -76,11 +83,6 @@ def git(*words):
     return run("git", "-C", top, *words).strip()
 
 
-def date():
-    """The date of the commit, or SOURCE_DATE_EPOCH, in seconds."""
-    return int(os.environ.get("SOURCE_DATE_EPOCH") or git("log", "-1", "--format=%ct"))
-
-
 def kit():
     return run("rt", "version").strip() if shutil.which("rt") else None
 
@@ -99,11 +101,16 @@ def proved():
     return library
 
 
-def shared(archive, soname, target, compiler=CC):
-    """Links the shared library. It has no start files, so its bytes depend on the archive and the linker only."""
+def shared(archive, soname, target, compiler=CC, tools=""):
+    """Links the shared library, and writes its symbols next to it (.debug). It has no start files, so its bytes depend on the archive and
+    the linker only. `tools` is the prefix of the tools of its processor."""
+    script, linked = target.with_suffix(".map"), target.with_suffix(".linked")
+    script.write_text(symbols.version_script(interface()))
     options = ["--whole-archive", archive, "--no-whole-archive", "--no-undefined", "--as-needed", "--gc-sections", "--build-id=sha1"]
-    options += ["-soname", soname, f"--version-script={here / 'exports.map'}", "-z", "relro", "-z", "now", "-z", "noexecstack"]
-    run(compiler, "-shared", "-nostartfiles", "-s", "-o", target, *(word for option in options for word in ("-Xlinker", option)))
+    options += ["-soname", soname, f"--version-script={script}", "-z", "relro", "-z", "now", "-z", "noexecstack"]
+    run(compiler, "-shared", "-nostartfiles", "-o", linked, *(word for option in options for word in ("-Xlinker", option)))
+    run(f"{tools}objcopy", "--only-keep-debug", linked, f"{target}.debug")
+    run(f"{tools}strip", "-s", "-o", target, linked)
     return target
 
 
@@ -119,6 +126,8 @@ def exports_only_calls(library):
     exported = {line.split()[-1].split("@")[0] for line in lines if " A " not in line}
     if exported != declared():
         raise Failed(f"{library}: calls and exports differ: {sorted(exported ^ declared())}")
+    if others := symbols.differing(declared()):
+        raise Failed(f"dist/symbols.txt says of other calls in which release they came: {others}")
 
 
 def needs_only_libc(library):
@@ -134,7 +143,7 @@ def suits_level(library, processor):
     others = {line.split("\t")[1].split()[0] for line in code.splitlines() if line.count("\t") and line.split("\t")[1].strip()}
     others = sorted(name for name in others if processor.beyond.fullmatch(name))
     if others:
-        raise Failed(f"{library} is not for {processor.level}: {' '.join(others)}")
+        raise Failed(f"{library} is not for {processor.level}, for which `rt lib --cpu x86-64` builds it: {' '.join(others)}")
 
 
 def lowest_glibc(library):
@@ -183,16 +192,11 @@ def wheel(library, number, tag):
     places = {**documents.carried(docs), **documents.placed("python", docs, "README.md", "peer.py", "examples/**/*.*"),
               **dict.fromkeys(documents.placed("python/is_ice", ".", "*.py"))}
     readme = documents.document(project_readme := f"python/{project['readme']}", {**places, project_readme: None})
-    extras = "".join(f"Provides-Extra: {name}\n" + "".join(f'Requires-Dist: {needed}; extra == "{name}"\n' for needed in packages)
-                     for name, packages in project.get("optional-dependencies", {}).items())
-    metadata = (f"Metadata-Version: 2.1\nName: {project['name']}\nVersion: {number}\nSummary: {project['description']}\n"
-                f"License: {project['license']['text']}\nRequires-Python: {project['requires-python']}\n{extras}"
-                f"Description-Content-Type: text/markdown\n\n{readme}")
     files = below("is_ice", contents(top / "python" / "is_ice", "*.py", "py.typed"))
     files["is_ice/libis_ice.so"] = library
     files |= documents.documents(places) | documents.others(places)
     files |= below(f"{info}/licenses", licenses())
-    files[f"{info}/METADATA"] = metadata.encode()
+    files[f"{info}/METADATA"] = metadata.of_wheel(project, number, readme)
     files[f"{info}/WHEEL"] = f"Wheel-Version: 1.0\nGenerator: dist\nRoot-Is-Purelib: false\nTag: {tag}\n".encode()
     record = ""
     for name, file in files.items():
@@ -210,6 +214,6 @@ def for_rust(archives):
                "drop_in/Cargo.toml", "drop_in/src/*.rs", "drop_in/tests/*.rs", "str0m/**/Cargo.toml", "str0m/**/*.rs")
     places = {**documents.carried("."), **documents.placed("rust", ".", *sources)}
     manifests = {name: (top / "rust" / name).read_text() for name in ("Cargo.toml", "serde/Cargo.toml", "str0m/Cargo.toml")}
-    manifests = {name: text.replace("\n[workspace]\n", "").encode() for name, text in manifests.items()}
+    manifests = {name: metadata.manifest(text) for name, text in manifests.items()}
     files = {**documents.documents(places), **documents.others(places), **licenses()}
     return {**files, **manifests, **{f"lib/linux-{processor.name}/libis_ice.a": archive for processor, archive in archives.items()}}

@@ -27,9 +27,13 @@ class Processor(NamedTuple):
         return self.prefix + name
 
 
-# The instructions of AVX and later begin with v. TZCNT is not among the others: older processors run it as BSF, and compilers use it as
+# In the first part are those of x86-64-v2: SSE3, SSSE3, SSE4, POPCNT. Those of AVX and later begin with v. TZCNT is not among them: older
+# processors run it as BSF, and compilers use it as
 # such.
-X86_64 = Processor("x86_64", "amd64", "x86-64-v2", "", re.compile(
+X86_64 = Processor("x86_64", "amd64", "x86-64", "", re.compile(
+    r"addsubp[sd]|h(?:add|sub)p[sd]|lddqu|movddup|movs[hl]dup|fisttp\w*|cmpxchg16b|popcnt\w*|pabs\w|palignr|ph(?:add|sub|min)\w+|pmaddubsw"
+    r"|pmulhrsw|pshufb|psign\w|p?blend\w+|dpp[sd]|extractps|insertps|p(?:extr|insr)[bdq]|p(?:max|min)(?:sb|sd|uw|ud)|pmov[sz]x\w+"
+    r"|pmul(?:dq|ld)|packusdw|pcmp(?:eq|gt)q|ptest|round[ps][sd]|mpsadbw|movntdqa|pcmp[ei]str\w|crc32\w*|"
     r"v(?!err|erw)\w+|andn|bextr|bls(?:i|r|msk)|bzhi|mulx|pdep|pext|rorx|s[ah][lr]x|lzcnt|movbe|ad[co]x"
     r"|sha(?:1|256)\w+|aes\w+|pclmul\w+|rd(?:rand|seed)"))
 # Armv8.0-A, without its optional parts and what came later: atomics of Armv8.1, CRC, cryptography, dot products, pointer authentication,

@@ -2,14 +2,17 @@
 import datetime
 import hashlib
 import os
+import re
 from typing import NamedTuple
 
 import debian
 import documents
+import origin
 import other_systems
-from building import (Failed, below, date, exports_only_calls, for_c, for_rust, git, interface, kit, lowest_glibc, needs_only_libc,
-                      one_version, proved, run, shared, suits_level, top, wheel)
-from packing import tar_gz, zipped
+import sbom
+from building import (Failed, below, exports_only_calls, for_c, for_rust, interface, kit, lowest_glibc, needs_only_libc, one_version,
+                      proved, run, shared, suits_level, top, wheel)
+from packing import gzipped, tar_gz, zipped
 from processors import ARM64, X86_64, Processor
 
 
@@ -19,6 +22,8 @@ class Libraries(NamedTuple):
     source: str
     static: bytes
     dynamic: bytes
+    debug: bytes
+    build_id: str
     glibc: str
     linker: str
 
@@ -28,13 +33,15 @@ def libraries(processor, archive, stage):
     tools = {"AR": processor.tool("ar"), "STRIP": processor.tool("strip")} if processor.prefix else {}
     run(top / "c" / "run", "install", stage, env={**os.environ, **tools, "IS_ICE_LIB": str(archive)})
     static, soname = stage / "lib" / "libis_ice.a", f"libis_ice.so.{interface()}"
-    dynamic = shared(static, soname, stage / "lib" / soname, processor.compiler)
+    dynamic = shared(static, soname, stage / "lib" / soname, processor.compiler, processor.prefix)
     exports_only_calls(dynamic)
     needs_only_libc(dynamic)
     suits_level(dynamic, processor)
     linker = run(processor.compiler, "-Wl,--version").splitlines()[0]
     source = hashlib.sha256(archive.read_bytes()).hexdigest()
-    return Libraries(processor, source, static.read_bytes(), dynamic.read_bytes(), lowest_glibc(dynamic), linker)
+    debug = dynamic.with_name(f"{soname}.debug").read_bytes()
+    build_id = re.search(r"Build ID: ([0-9a-f]+)", run("readelf", "-n", dynamic))[1]
+    return Libraries(processor, source, static.read_bytes(), dynamic.read_bytes(), debug, build_id, lowest_glibc(dynamic), linker)
 
 
 def closed(package):
@@ -54,16 +61,15 @@ def for_linux(built, number, when):
     return {
         f"{name}.tar.gz": tar_gz(below(name, c), when),
         f"is_ice-{number}-{tag}.whl": zipped(closed(wheel(built.dynamic, number, tag)), when),
-        **debian.packages(processor, built.dynamic, dev, soname, number, built.glibc, when),
+        **debian.packages(processor, built.dynamic, dev, soname, number, built.glibc, when, built.debug, built.build_id),
     }
 
 
 def built_from(number, every, others, when, ci_line):
     """What was built from what."""
-    commit = git("rev-parse", "HEAD") + (" with changes that are not committed" if git("status", "--porcelain") else "")
     rows = {
         "version": number,
-        "commit": commit,
+        "commit": origin.commit(),
         "date": datetime.datetime.fromtimestamp(when, datetime.timezone.utc).strftime("%Y-%m-%d %H:%M:%S UTC"),
         "kit": kit() or "unknown: rt is not on the path",
     }
@@ -77,7 +83,7 @@ def built_from(number, every, others, when, ci_line):
 
 def release(stage, ci_line=None):
     """Builds all release files in memory: a dictionary from their names to their bytes. Folders below `stage` get the libraries."""
-    number, when, library = one_version(), date(), proved()
+    number, when, library = one_version(), origin.date(), proved()
     archives = {X86_64: library}
     if arm := other_systems.built("arm64", library):
         archives[ARM64] = arm / "libis_c.a"
@@ -91,6 +97,9 @@ def release(stage, ci_line=None):
     for make in (other_systems.windows, other_systems.npm):
         more, rows = make(library, number, when, stage)
         files, others = {**files, **more}, {**others, **rows}
+    if source := origin.archive(f"is_ice-{number}"):
+        files[f"is_ice-{number}-source.tar.gz"] = gzipped(source)
+    files[f"is_ice-{number}.spdx.json"] = sbom.document(files, number, origin.commit(), when, kit())
     files["BUILT"] = built_from(number, every, others, when, ci_line)
     sums = "".join(f"{hashlib.sha256(file).hexdigest()}  {name}\n" for name, file in files.items())
     return {**files, "SHA256SUMS": sums.encode()}

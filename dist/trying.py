@@ -11,7 +11,7 @@ import tempfile
 import time
 import zipfile
 
-from building import CC, Failed, run
+from building import CC, Failed, interface, run
 from processors import X86_64
 from progress import shown
 
@@ -184,7 +184,7 @@ def step_rust(place, out):
 
 def debs(out, processor=X86_64):
     """The Debian packages for a processor: of the shared library, and for compilers."""
-    return the(out, f"libis-ice[0-9]*_{processor.debian}.deb"), the(out, f"libis-ice-dev_*_{processor.debian}.deb")
+    return the(out, f"libis-ice{interface()}_*_{processor.debian}.deb"), the(out, f"libis-ice-dev_*_{processor.debian}.deb")
 
 
 def step_deb(place, out):

@@ -16,6 +16,7 @@ from building import Failed, run
 here = pathlib.Path(__file__).resolve().parent
 top = here.parent
 X86_64, ARM64 = "x86_64-unknown-linux-gnu", "aarch64-unknown-linux-gnu"
+BASELINE = ["--cpu", "x86-64"]  # as `rt lib` has it for the library
 # A clang that also keeps the module that it is given.
 KEEPING = """#!/bin/sh
 for word in "$@"; do
@@ -61,10 +62,10 @@ def words_of_rt():
         return of_rt.words([])
 
 
-def built(target, toolchain, archive):
+def built(target, toolchain, archive, *more):
     """Builds the static library for a target, and returns the line of its verdict."""
     words = ["rattle", "build", *words_of_rt(), "--incremental", "out/incremental", "--target", target, "--toolchain", toolchain]
-    words += ["--backend", "llvm", "-o", archive]
+    words += [*more, "--backend", "llvm", "-o", archive]
     ran = subprocess.run([str(word) for word in words], cwd=crate(), stdout=subprocess.PIPE, stderr=subprocess.STDOUT, text=True)
     verdict = re.search(r"(?m)^.*\blogic=\w* ?proved\b.*$|^.*\bproved\b.*\btarget=.*$", ran.stdout)
     if ran.returncode != 0 or not verdict:
@@ -89,9 +90,9 @@ def with_module(folder):
     """Builds the library for x86-64 once more, and keeps its module in the folder. It has to be the library of `rt lib`, to the byte.
     Returns the line of the verdict."""
     module, again = folder / "module.bc", folder / "libis_c.a"
-    verdict = built(X86_64, keeping_toolchain(folder / "toolchain", module), again)
+    verdict = built(X86_64, keeping_toolchain(folder / "toolchain", module), again, *BASELINE)
     if not module.exists():
         raise Failed("the compiler gave clang no module")
     if again.read_bytes() != library().read_bytes():
-        raise Failed(f"{library()} is another library than a build of these sources: run `rt lib` in crates/is_c")
+        raise Failed(f"{library()} is another library than a build of these sources: run `rt lib --cpu x86-64` in crates/is_c")
     return verdict

@@ -17,7 +17,7 @@ FLAGS += [word for flag in ("-trap-unreachable", "-no-x86-call-frame-opt", "-dis
                             "-sink-common-insts=false") for word in ("-mllvm", flag)]
 # Linux's way to touch each page of a large frame. Windows calls __chkstk, and a module of WebAssembly has its stack below all else.
 PROBES = '"probe-stack"="inline-asm" "stack-probe-size"="3072" '
-PROCESSOR = '"target-cpu"="x86-64-v2"'
+PROCESSOR = '"target-cpu"="x86-64"'
 
 
 class Back(NamedTuple):
@@ -29,7 +29,7 @@ class Back(NamedTuple):
     tables: str = ""  # likewise, after nounwind
 
 
-WINDOWS = Back("x86_64-w64-windows-gnu", "x86-64-v2", ["-march=x86-64", "-mllvm", "-no-trap-after-noreturn"],
+WINDOWS = Back("x86_64-w64-windows-gnu", "x86-64", ["-march=x86-64", "-mllvm", "-no-trap-after-noreturn"],
                tables="uwtable ")  # without a row of .pdata nothing can walk through a function's frame
 WASM = Back("wasm64-unknown-unknown", "lime1",
             ["-mcpu=lime1", *(word for flag in ("div-rem", "fp-convert") for word in ("-mllvm", f"-expand-{flag}-bits=64"))],
