@@ -1,5 +1,7 @@
 """Tests the module with the library: two agents connect, calls fail with their errors, texts and addresses round-trip."""
 
+from __future__ import annotations
+
 import copy
 import ctypes
 import dataclasses
@@ -119,7 +121,7 @@ def last_paths(
         agent.set_renomination(renomination)
         agent.set_rules(dataclasses.replace(agent.rules, numbered_nominations=numbered))
         agent.set_remote_credentials(other.local_credentials)
-        for preference, address in zip((2000, 1000), addresses, strict=False):
+        for preference, address in zip((2000, 1000), addresses):
             agent.set_local_preference(preference)
             agent.add_local_candidate(Candidate.host(address))
     a.add_remote_candidate(LINE_OF_THERE)
@@ -530,7 +532,7 @@ class Errors(unittest.TestCase):
         for renomination, numbered, expected in ((True, True, {1, 2}), (True, False, set()), (False, True, set())):
             sent: list[bytes] = []
             last_paths(renomination, numbered, sent)
-            self.assertEqual({int.from_bytes(number) for packet in sent for number in NOMINATION.findall(packet)}, expected)
+            self.assertEqual({int.from_bytes(number, "big") for packet in sent for number in NOMINATION.findall(packet)}, expected)
 
     def test_rules(self) -> None:
         early = EarlyRto(retransmits=2, interval=SECOND // 10, cap=SECOND * 35 // 100)
