@@ -90,7 +90,16 @@ def text():
     return kept
 
 
-if __name__ == "__main__":
-    if len(sys.argv) > 1 or not kit():
+def main():
+    if {"-h", "--help"} & set(sys.argv[1:]):
+        print(__doc__.strip())
+    elif len(sys.argv) > 1:
         sys.exit(__doc__.strip())
-    KEPT.write_text(made(kit()))
+    elif kit():
+        KEPT.write_text(made(kit()))
+    else:
+        sys.exit("dist/notices.py: the kit is not on the path")
+
+
+if __name__ == "__main__":
+    main()
