@@ -392,7 +392,8 @@ impl IceAgent {
     /// Whether `handle_packet` would accept the packet: it is for this agent, and a response came back on the path of its check.
     pub fn accepts_packet(&self, packet: &StunPacket<'_>) -> bool {
         let (source, destination) = (address_of(packet.source), address_of(packet.destination));
-        self.ask(|agent| ffi::is_ice_accepts_packet(agent, number_of(packet.proto), &source, &destination, packet.message.bytes())) == ffi::OK
+        self.ask(|agent| ffi::is_ice_accepts_packet(agent, number_of(packet.proto), &source, &destination, packet.message.bytes()))
+            == ffi::OK
     }
 
     /// Passes a received packet to the agent. Returns whether it is for this agent; if not, the agent is unchanged. A message that was
@@ -431,10 +432,11 @@ impl IceAgent {
         let now = self.time(now);
         let (source, destination) = (address_of(source), address_of(destination));
         let before = is_heard().then(|| self.controlling());
-        let is_accepted = self.tell(|agent| match ffi::is_ice_handle_packet(agent, now, number_of(proto), &source, &destination, bytes) {
-            ffi::UNPARSED => ffi::NOTHING,
-            code => code,
-        })?;
+        let is_accepted =
+            self.tell(|agent| match ffi::is_ice_handle_packet(agent, now, number_of(proto), &source, &destination, bytes) {
+                ffi::UNPARSED => ffi::NOTHING,
+                code => code,
+            })?;
         if !is_accepted {
             logged!(debug, "Message not accepted");
         }
