@@ -53,6 +53,8 @@ pub(super) fn no_message() -> Message {
         use_candidate: true,
         has_integrity: true,
         has_fingerprint: true,
+        requested_transport: 9,
+        requested_family: 9,
     }
 }
 
