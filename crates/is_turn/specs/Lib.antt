@@ -1,0 +1,4 @@
+pub mod Timing
+pub mod Answer
+pub mod Client
+pub mod Response

@@ -1,0 +1,3 @@
+//! The client of a STUN server.
+
+mod binding;
