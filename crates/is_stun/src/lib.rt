@@ -2,7 +2,7 @@
 #![tactic(auto)]
 
 mod accessors;
-mod address;
+pub mod address;
 mod attributes;
 mod builder;
 pub mod channel_data;
