@@ -1123,8 +1123,8 @@ typedef struct is_ice_stun_message {
     bool use_candidate;                /* USE-CANDIDATE (RFC 8445, section 16.1) */
     bool has_integrity;                /* MESSAGE-INTEGRITY (RFC 8489, section 14.5); is_ice_stun_verify verifies it */
     bool has_fingerprint;              /* FINGERPRINT (RFC 8489, section 14.7); is_ice_stun_write always writes it */
-    uint8_t requested_transport;       /* REQUESTED-TRANSPORT (RFC 8656, section 18.7): IS_ICE_STUN_UDP in each Allocate request; 0: none */
-    uint8_t requested_family;          /* REQUESTED-ADDRESS-FAMILY (RFC 8656, section 18.6): 4 or 6; 0: none, which requests IPv4 */
+    uint8_t requested_transport;       /* REQUESTED-TRANSPORT (RFC 8656, section 18.7); 0: none. An Allocate has UDP */
+    uint8_t requested_family;          /* REQUESTED-ADDRESS-FAMILY (section 18.6): 4 or 6; 0: none, which requests IPv4 */
 } is_ice_stun_message;
 
 /* is_ice_is_stun - returns whether a datagram begins as a STUN message, and not as media on the same socket (RFC 7983). It
