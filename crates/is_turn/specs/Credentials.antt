@@ -1,5 +1,5 @@
 -- The long-term credentials of a TURN client (RFC 8489, section 9.2): what a challenge makes of a USERNAME and a password.
-use Rattle.std.specs.Prelude.{ℕ, ◌<◌, ◌⊎◌, ◌||◌, Bool, true, false, List, [], ◌∷◌, ◌++◌, length, nat_lt, bytes_eq, Option, Some, None, option_map, if◌then◌else◌}
+use Rattle.std.specs.Prelude.{ℕ, ◌<◌, ◌≤◌, ◌⊎◌, ◌||◌, Bool, true, false, List, [], ◌∷◌, ◌++◌, length, nat_lt, bytes_eq, Option, Some, None, option_map, if◌then◌else◌}
 use Rattle.md5.specs.Md5.{md5}
 use Rattle.is_turn.specs.declared.credentials.Challenge.{Challenge as RawChallenge}
 use Rattle.is_turn.specs.declared.credentials.Credentials.{Credentials as RawCredentials}
@@ -34,6 +34,9 @@ credentials_of c = record {
 }
 
 -- ---- what happens to them
+
+abbrev pub IsShort : List ℕ → List ℕ → Type 0
+IsShort username password = (length username ≤ 508) × (length password ≤ 763)
 
 abbrev pub IsTooLong : List ℕ → List ℕ → Type 0
 IsTooLong username password = (508 < length username) ⊎ (763 < length password)

@@ -4,5 +4,6 @@ pub mod Credentials
 pub mod Answer
 pub mod Requests
 pub mod Verdict
+pub mod Incoming
 pub mod Client
 pub mod Response

@@ -2,7 +2,7 @@
 
 ghost use Rattle.std.specs.Prelude.{◌≡◌, MatchOption};
 ghost use Rattle.std.specs.Option.{option_copied};
-ghost use Rattle.is_turn.specs.Credentials.{long_term_key, credentials_of, new_credentials, challenged, forgotten, IsTooLong};
+ghost use Rattle.is_turn.specs.Credentials.{long_term_key, credentials_of, new_credentials, challenged, forgotten, IsShort, IsTooLong};
 
 use crate::octets::{LONGEST, Octets};
 use md5::{Digest, Md5};
@@ -45,7 +45,8 @@ impl Credentials {
     /// Makes the credentials of a client that had no challenge yet. `None` if USERNAME is longer than 508 bytes, or the password
     /// longer than 763.
     pub fn new(username: &str, password: &str) -> Option<Credentials>
-        ensures { MatchOption result (IsTooLong username.now password.now) (λ c. credentials_of c ≡ new_credentials username.now password.now) }
+        ensures { MatchOption result (IsTooLong username.now password.now) (λ c. IsShort username.now password.now
+            × (credentials_of c ≡ new_credentials username.now password.now)) }
     {
         if username.len() > LONGEST_USERNAME || password.len() > LONGEST {
             return None;

@@ -5,6 +5,7 @@
 mod answer;
 mod client;
 mod credentials;
+mod incoming;
 mod octets;
 mod requests;
 mod timing;
@@ -12,6 +13,7 @@ mod verdict;
 
 pub use crate::client::{Received, StunClient, StunEvent};
 pub use crate::credentials::{Credentials, long_term_key};
+pub use crate::incoming::{Incoming, read_incoming};
 pub use crate::requests::{Request, write_request, write_send};
 pub use crate::timing::ClientTiming;
 pub use crate::verdict::{Verdict, verdict_on};

@@ -4,7 +4,8 @@ use is_proto::{DefaultSha1HmacProvider, StunError};
 use is_stun::finding::value_of;
 use is_stun::stun::*;
 use is_turn::{
-    Credentials, Request, Verdict, long_term_key, verdict_on, write_request, write_send,
+    Credentials, Incoming, Request, Verdict, long_term_key, read_incoming, verdict_on,
+    write_request, write_send,
 };
 use std::net::{Ipv4Addr, SocketAddr, SocketAddrV4};
 use std::test::*;
@@ -148,5 +149,52 @@ fn only_signed_responses_are_genuine(rt: HostRuntime) -> Result<(), Fail> {
     assert!(rt;
         verdict_on(&message, None, None, true, &DefaultSha1HmacProvider) == Verdict::Genuine
     );
+    Ok(())
+}
+
+fn is_channel_data(incoming: Incoming<'_>, number: u16, contents: &[u8]) -> bool {
+    match incoming {
+        Incoming::ChannelData(from, found) => from == number && found == contents,
+        _ => false,
+    }
+}
+
+fn is_data_of(incoming: Incoming<'_>, peer: SocketAddr, contents: &[u8]) -> bool {
+    match incoming {
+        Incoming::Data(from, found) => from == peer && found == contents,
+        _ => false,
+    }
+}
+
+#[test]
+fn datagrams_of_a_server_are_distinguished(rt: HostRuntime) -> Result<(), Fail> {
+    let mut buf = [0; 60];
+    let channel = [0x40, 0x01, 0x00, 0x02, 7, 8];
+    assert!(rt; is_channel_data(read_incoming(&channel), 0x4001, &[7, 8]));
+    assert!(rt; matches!(read_incoming(&channel[..5]), Incoming::Unparsed));
+    assert!(rt; matches!(read_incoming(b""), Incoming::Unparsed));
+    let data = Builder::new()
+        .data()
+        .indication()
+        .xor_peer_address(peer())
+        .data(b"media")
+        .build(ID);
+    let len = data.to_bytes(None, &mut buf, &DefaultSha1HmacProvider)?;
+    assert!(rt; is_data_of(read_incoming(&buf[..len]), peer(), b"media"));
+    // The same with a top bit that no STUN message has.
+    buf[0] |= 0x80;
+    assert!(rt; matches!(read_incoming(&buf[..len]), Incoming::Unparsed));
+    let bare = Builder::new()
+        .data()
+        .indication()
+        .xor_peer_address(peer())
+        .build(ID);
+    let len = bare.to_bytes(None, &mut buf, &DefaultSha1HmacProvider)?;
+    assert!(rt; matches!(read_incoming(&buf[..len]), Incoming::Malformed));
+    let success = StunMessage::binding_reply(ID, peer());
+    let len = success.to_bytes(None, &mut buf, &DefaultSha1HmacProvider)?;
+    assert!(rt; matches!(read_incoming(&buf[..len]), Incoming::Response(_)));
+    let sent = write_send(peer(), b"media", &ID, &mut buf)?;
+    assert!(rt; matches!(read_incoming(&buf[..sent]), Incoming::Unasked));
     Ok(())
 }
