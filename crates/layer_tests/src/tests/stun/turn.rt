@@ -106,7 +106,7 @@ fn an_allocate_request_has_a_transport_and_a_family(rt: HostRuntime) -> Result<(
     let mut buf = [0; 44];
     let len = message.to_bytes_with(&requested, None, &mut buf, &DefaultSha1HmacProvider)?;
     assert!(rt; len == 44);
-    assert!(rt; buf[..36] == ALLOCATE[..]);
+    assert!(rt; buf.starts_with(&ALLOCATE));
     assert!(rt; Requested::of(&buf) == requested);
     assert!(rt; StunMessage::parse_any(&buf)?.is_allocate_request());
     // A family that RFC 8656 does not define, and a value of three bytes.

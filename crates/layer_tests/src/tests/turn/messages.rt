@@ -27,6 +27,21 @@ const SAMPLE_USERNAME: [u8; 18] = [
 
 const ID: TransId = TransId([1, 2, 3, 4, 5, 6, 7, 8, 9, 10, 11, 12]);
 
+/// An Allocate request for ten minutes and an IPv6 address, up to FINGERPRINT (RFC 8656, sections 17 and 18).
+const ALLOCATE: [u8; 44] = [
+    0x00, 0x03, 0x00, 0x20, 0x21, 0x12, 0xa4, 0x42, 1, 2, 3, 4, 5, 6, 7, 8, 9, 10, 11, 12, 0x00,
+    0x19, 0x00, 0x04, 17, 0, 0, 0, 0x00, 0x0d, 0x00, 0x04, 0x00, 0x00, 0x02, 0x58, 0x00, 0x17,
+    0x00, 0x04, 2, 0, 0, 0,
+];
+
+/// The message at the front of the buffer.
+fn parsed(buf: &[u8], len: usize) -> Result<StunMessage<'_>, StunError> {
+    if len > buf.len() {
+        return Err(StunError::BufferTooShort);
+    }
+    StunMessage::parse_any(&buf[..len])
+}
+
 fn peer() -> SocketAddr {
     SocketAddr::V4(SocketAddrV4::new(Ipv4Addr::new(192, 0, 2, 1), 32853))
 }
@@ -52,29 +67,22 @@ fn requests_have_the_types_of_the_rfc(rt: HostRuntime) -> Result<(), Fail> {
     let mut buf = [0; 60];
     let allocate = Request::Allocate(600, Some(AddressFamily::Ipv6));
     assert!(rt; written(&allocate, None, &mut buf) == Some(52));
-    let front = [0x00, 0x03, 0x00, 0x20, 0x21, 0x12, 0xa4, 0x42];
-    assert!(rt; buf[..8] == front[..]);
-    let asked = [
-        0x00, 0x19, 0x00, 0x04, 17, 0, 0, 0, 0x00, 0x0d, 0x00, 0x04, 0x00, 0x00, 0x02, 0x58, 0x00,
-        0x17, 0x00, 0x04, 2, 0, 0, 0,
-    ];
-    assert!(rt; buf[20..44] == asked[..]);
+    assert!(rt; buf.starts_with(&ALLOCATE));
     assert!(rt; written(&Request::Refresh(0), None, &mut buf) == Some(36));
-    assert!(rt; StunMessage::parse_any(&buf[..36])?.is_refresh_request());
-    assert!(rt; StunMessage::parse_any(&buf[..36])?.lifetime() == Some(0));
+    assert!(rt; parsed(&buf, 36)?.is_refresh_request());
+    assert!(rt; parsed(&buf, 36)?.lifetime() == Some(0));
     assert!(rt; written(&Request::CreatePermission(peer()), None, &mut buf) == Some(40));
-    assert!(rt; StunMessage::parse_any(&buf[..40])?.is_create_permission_request());
-    assert!(rt; StunMessage::parse_any(&buf[..40])?.xor_peer_address() == Some(peer()));
+    assert!(rt; parsed(&buf, 40)?.is_create_permission_request());
+    assert!(rt; parsed(&buf, 40)?.xor_peer_address() == Some(peer()));
     assert!(rt; written(&Request::ChannelBind(0x4001, peer()), None, &mut buf) == Some(48));
-    assert!(rt; StunMessage::parse_any(&buf[..48])?.is_channel_bind_request());
-    assert!(rt; StunMessage::parse_any(&buf[..48])?.channel_number() == Some(0x4001));
+    assert!(rt; parsed(&buf, 48)?.is_channel_bind_request());
+    assert!(rt; parsed(&buf, 48)?.channel_number() == Some(0x4001));
+    let mut short = [0; 51];
     let sent = write_send(peer(), b"media", &ID, &mut buf)?;
     assert!(rt; sent == 52);
-    assert!(rt; StunMessage::parse_any(&buf[..52])?.is_send_indication());
-    assert!(rt; StunMessage::parse_any(&buf[..52])?.data() == Some(b"media".as_slice()));
-    assert!(rt;
-        write_send(peer(), b"media", &ID, &mut buf[..51]) == Err(StunError::BufferTooShort)
-    );
+    assert!(rt; parsed(&buf, 52)?.is_send_indication());
+    assert!(rt; parsed(&buf, 52)?.data() == Some(b"media".as_slice()));
+    assert!(rt; write_send(peer(), b"media", &ID, &mut short) == Err(StunError::BufferTooShort));
     Ok(())
 }
 
@@ -88,18 +96,18 @@ fn a_challenge_makes_the_key(rt: HostRuntime) -> Result<(), Fail> {
     assert!(rt; !credentials.take_challenge(Some("realm"), None));
     assert!(rt; credentials.take_challenge(Some("realm"), Some("nonce")));
     let len = written(&Request::Refresh(600), Some(&credentials), &mut buf).unwrap_or(0);
-    let message = StunMessage::parse_any(&buf[..len])?;
+    let message = parsed(&buf, len)?;
     assert!(rt; message.verify(&KEY, &DefaultSha1HmacProvider));
     assert!(rt; message.username() == Some("user"));
     assert!(rt; message.realm() == Some("realm"));
     assert!(rt; message.nonce() == Some("nonce"));
-    assert!(rt; value_of(&buf[..len], 0x0022).is_none());
+    assert!(rt; value_of(&buf, 0x0022).is_none());
     // Once the password is forgotten, the realm stays, and the nonce may change.
     credentials.confirm();
     assert!(rt; !credentials.take_challenge(Some("other"), Some("new")));
     assert!(rt; credentials.take_challenge(Some("realm"), Some("new")));
     let len = written(&Request::Refresh(600), Some(&credentials), &mut buf).unwrap_or(0);
-    let message = StunMessage::parse_any(&buf[..len])?;
+    let message = parsed(&buf, len)?;
     assert!(rt; message.verify(&KEY, &DefaultSha1HmacProvider));
     assert!(rt; message.nonce() == Some("new"));
     Ok(())
@@ -121,7 +129,7 @@ fn verdict_of(code: u16, signs: bool, was_signed: bool, is_confirmed: bool) -> O
     let len = built
         .to_bytes(key, &mut buf, &DefaultSha1HmacProvider)
         .ok()?;
-    let message = StunMessage::parse_any(&buf[..len]).ok()?;
+    let message = parsed(&buf, len).ok()?;
     let own = if was_signed { Some(KEY) } else { None };
     Some(verdict_on(&message, Some(&known), own, true, &DefaultSha1HmacProvider))
 }
@@ -139,13 +147,13 @@ fn only_signed_responses_are_genuine(rt: HostRuntime) -> Result<(), Fail> {
     let mut buf = [0; 60];
     let bare = Builder::new().refresh().failure().build(ID);
     let len = bare.to_bytes(None, &mut buf, &DefaultSha1HmacProvider)?;
-    let message = StunMessage::parse_any(&buf[..len])?;
+    let message = parsed(&buf, len)?;
     assert!(rt;
         verdict_on(&message, None, None, true, &DefaultSha1HmacProvider) == Verdict::Malformed
     );
     let success = StunMessage::binding_reply(ID, peer());
     let len = success.to_bytes(None, &mut buf, &DefaultSha1HmacProvider)?;
-    let message = StunMessage::parse_any(&buf[..len])?;
+    let message = parsed(&buf, len)?;
     assert!(rt;
         verdict_on(&message, None, None, true, &DefaultSha1HmacProvider) == Verdict::Genuine
     );
