@@ -97,7 +97,7 @@ enum {
     IS_ICE_BAD_MESSAGE = -15,          /* see is_ice_stun_write, for this and the next */
     IS_ICE_MESSAGE_TOO_LONG = -16,
     IS_ICE_TOO_MANY_CANDIDATES = -17,  /* as many candidates of the side are listed as is_ice_set_max_candidates allows */
-    IS_ICE_LITE_STAYS_CONTROLLED = -18 /* a lite agent that keeps its role was to be controlling: see is_ice_set_rules */
+    IS_ICE_LITE_STAYS_CONTROLLED = -18 /* a lite agent that keeps its role was to be controlling: see is_ice_set_settings */
 };
 
 /* is_ice_code_text - describes a code for a message: a zero-terminated text with static lifetime. */
@@ -332,26 +332,22 @@ typedef struct is_ice_preference_table {
     is_ice_kind_preferences v6;
 } is_ice_preference_table;
 
-/* What an agent does beyond the behavior of the Rust crate `is` 0.12.0: see is_ice_set_rules. A count of 0: there is no
- * such rule. */
-typedef struct is_ice_agent_rules {
-    uint64_t triggered_checks; /* each of the first so many requests on a pair triggers a check of it */
-    size_t early_retransmits;  /* so many early retransmissions of a check, as long as no response arrives */
-    uint64_t early_interval;   /* the time before each; less than 1 ms counts as 1 ms */
-    uint64_t early_cap;        /* the longest time before a later one, up to which it doubles: early_interval at least */
-    uint64_t consent_timeout;  /* so long after its last answered check was sent, a pair is removed */
-    uint64_t early_pacing;     /* until the agent is settled, the pacing interval Ta is at most this; 5 ms at least */
-    bool kinds_in_turn;        /* until a path is selected, every second check goes to the next kind of pairs */
-    bool selects_at_once;      /* a controlled agent selects a valid pair when the request that nominates it arrives */
-    bool strict_consent;       /* the other agent's checks do not keep a pair; else each keeps it for 15 s */
-    bool selected_first;       /* every second check goes to the selected pair if it is due */
-    bool timeout_after_requests; /* is_ice_poll_timeout returns a time after an early request was served, too */
-    bool lite_keeps_role;      /* a lite agent never changes its role, whatever the tie-breakers are */
-    bool numbered_nominations; /* with renomination, nominations have numbers, and the greatest one counts */
-    bool discovered_if_served; /* no IS_ICE_DISCOVERED_RECV for a request that is dropped */
-    bool state_after_nomination; /* the state is evaluated after nomination in each call */
-    bool invalidates_listed; /* each candidate that is listed can be invalidated */
-} is_ice_agent_rules;
+/* All that a program may choose of an agent: see is_ice_set_settings. Times are in nanoseconds. */
+typedef struct is_ice_agent_settings {
+    uint64_t timing_advance;  /* the pacing interval Ta: see is_ice_set_timing_advance */
+    uint64_t initial_rto;     /* see is_ice_set_initial_rto */
+    uint64_t max_rto;         /* see is_ice_set_max_rto */
+    uint64_t lite_timeout;    /* see is_ice_set_lite_timeout */
+    uint64_t consent_timeout; /* so long after its last answered check a pair is removed; 0: by the timing */
+    size_t max_retransmits;   /* see is_ice_set_max_retransmits */
+    size_t max_pairs;         /* see is_ice_set_max_pairs */
+    size_t max_discovered;    /* see is_ice_set_max_discovered */
+    size_t max_candidates;    /* see is_ice_set_max_candidates */
+    uint64_t room[4];         /* later versions have fields here: leave it as the library wrote it */
+    bool modern;              /* the behavior of this library, and not that of the Rust crate `is` 0.12.0 */
+    bool strict_consent;      /* the other agent's checks do not keep a pair */
+    bool renomination;        /* see is_ice_set_renomination */
+} is_ice_agent_settings;
 
 /* ---- creating */
 
@@ -402,7 +398,7 @@ IS_ICE_QUIET_CALL void is_ice_agent_free(is_ice_agent *agent);
 /* is_ice_set_controlling - makes the agent controlling or controlled. The agent of the side that made the offer is
  * controlling (RFC 8445, section 6.1.1). If both agents claim one role, they resolve the role conflict.
  *
- * IS_ICE_OK. IS_ICE_LITE_STAYS_CONTROLLED: the agent is lite, `controlling` is true, and is_ice_rules returns
+ * IS_ICE_OK. IS_ICE_LITE_STAYS_CONTROLLED: the agent is lite, `controlling` is true, and is_ice_settings returns
  * lite_keeps_role; the role is unchanged. Value: false. */
 IS_ICE_CALL int32_t is_ice_set_controlling(is_ice_agent *agent, bool controlling);
 
@@ -476,14 +472,14 @@ IS_ICE_QUIET_CALL int32_t is_ice_set_max_candidates(is_ice_agent *agent, size_t 
 
 /* is_ice_set_timing_advance - sets the pacing interval Ta (RFC 8445, section 14.2): the least time from the last
  * is_ice_handle_timeout call to the next one that is_ice_poll_timeout returns. Each is_ice_handle_timeout call sends at
- * most one packet. By the rule early_pacing of is_ice_set_rules the interval is shorter until the agent is settled: it has
- * a path and, if it is controlling, has sent the check that nominates it. IS_ICE_OK. Value: 50 ms. */
+ * most one packet. With `modern` of is_ice_set_settings the interval is shorter until the agent is settled: it has a path
+ * and, if it is controlling, has sent the check that nominates it. IS_ICE_OK. Value: 50 ms. */
 IS_ICE_QUIET_CALL int32_t is_ice_set_timing_advance(is_ice_agent *agent, uint64_t nanoseconds);
 
 /* is_ice_set_initial_rto - sets the time from a pair's first check until the second one is due. It doubles with each
  * further check, up to the limit of is_ice_set_max_rto. If a check has had no response for longer than half that limit,
  * only the checks without a response count, so that checks become more frequent again. Early retransmissions
- * (is_ice_set_rules) have delays of their own. IS_ICE_OK. Value: 250 ms. */
+ * (is_ice_set_settings) have delays of their own. IS_ICE_OK. Value: 250 ms. */
 IS_ICE_QUIET_CALL int32_t is_ice_set_initial_rto(is_ice_agent *agent, uint64_t nanoseconds);
 
 /* is_ice_set_max_rto - sets the longest time from one check of a pair until the next one is due. A pair that works is
@@ -493,8 +489,8 @@ IS_ICE_QUIET_CALL int32_t is_ice_set_max_rto(is_ice_agent *agent, uint64_t nanos
 /* is_ice_set_max_retransmits - sets after how many checks in a row without a response a pair is removed. It is not
  * removed while the last of them may still be answered in time, nor within 15 s of a check of the other agent on it.
  * With the default values and few pairs that is up to 29.6 s after its last answered check; with many pairs each check
- * waits for its turn, and the consent_timeout of is_ice_set_rules ends the pair. With early retransmissions
- * (is_ice_set_rules) a pair is not removed within ice_timeout of is_ice_status after the first of its checks without a
+ * waits for its turn, and the consent_timeout of is_ice_set_settings ends the pair. With early retransmissions
+ * (is_ice_set_settings) a pair is not removed within ice_timeout of is_ice_status after the first of its checks without a
  * response, either.
  *
  * IS_ICE_OK. IS_ICE_BAD_LIMIT: the limit is 0. Value: 11. */
@@ -511,20 +507,26 @@ IS_ICE_CALL int32_t is_ice_retransmit_timeout(
 IS_ICE_QUIET_CALL int32_t is_ice_retransmit_delay(
     uint64_t initial_rto, uint64_t max_rto, size_t max_retransmits, size_t sent, uint64_t *delay);
 
-/* is_ice_modern_rules, is_ice_original_rules - return the rules that connect sooner and end consent in time, and those of
- * the Rust crate `is` 0.12.0, of which each is off. By the first, one request triggers a check; there are 2 early
- * retransmissions, each after 100 ms, and later ones after 350 ms at most. Consent lasts 29.6 s, and is not strict. Early
- * pacing is 10 ms. Each other rule is on. On any thread. IS_ICE_OK. */
-IS_ICE_QUIET_CALL int32_t is_ice_modern_rules(is_ice_agent_rules *rules);
-IS_ICE_QUIET_CALL int32_t is_ice_original_rules(is_ice_agent_rules *rules);
+/* is_ice_modern_settings, is_ice_original_settings - write the settings with which a new agent begins, and those of the
+ * Rust crate `is` 0.12.0. By the first, max_rto is 2.9 s, max_retransmits 11, max_discovered 32, max_candidates 100, and
+ * modern true. By the second they are 3 s, 9, (size_t)-1 for both limits, and false. The others are the same: 50 ms,
+ * 250 ms, 15 s, consent by the timing and not strict, 100 pairs, no renomination. On any thread. IS_ICE_OK. */
+IS_ICE_QUIET_CALL int32_t is_ice_modern_settings(is_ice_agent_settings *settings);
+IS_ICE_QUIET_CALL int32_t is_ice_original_settings(is_ice_agent_settings *settings);
 
-/* is_ice_set_rules - sets what the agent does beyond the behavior of the Rust crate `is` 0.12.0. docs/GUIDE.md says of each
- * rule what it does, and what it costs ("Rules"). To change one rule, change its field in what is_ice_rules or
- * is_ice_modern_rules returned: a later version of this header may have further fields. The other agent may have other
- * rules. The struct is copied. is_ice_rules returns what was set, except for early_interval and early_cap without early
- * retransmissions, and strict_consent without consent_timeout: these are 0, 0 and false.
- * IS_ICE_OK. Value: is_ice_modern_rules. */
-IS_ICE_QUIET_CALL int32_t is_ice_set_rules(is_ice_agent *agent, const is_ice_agent_rules *rules);
+/* is_ice_set_settings - sets all that a program may choose. To change one setting, change its field in what
+ * is_ice_settings or is_ice_modern_settings wrote, or call its own function: so later fields keep the values that the
+ * library gives them. Set it before the session: a pair whose due time is fixed already keeps it, unless an RTO changes.
+ * The struct is copied. IS_ICE_OK. IS_ICE_BAD_LIMIT: max_retransmits is 0; nothing is changed.
+ *
+ * consent_timeout: with `modern` a pair is removed so long after its last check that got a response was sent, however
+ * many pairs there are (RFC 7675, section 5.1). Unless strict_consent is true, the other agent's checks keep the pair
+ * too, each for 15 s. With 0 the time is max_rto and ice_timeout of is_ice_status together, 29.6 s for a new agent. A
+ * browser gives a path up after 30 s, and does not nominate it again.
+ *
+ * modern: the behavior of this library, and not that of the Rust crate `is` 0.12.0. docs/GUIDE.md says what it brings,
+ * and what it costs ("Profiles and settings"). The other agent may behave otherwise. */
+IS_ICE_CALL int32_t is_ice_set_settings(is_ice_agent *agent, const is_ice_agent_settings *settings);
 
 /* is_ice_set_mtu - stores how long a packet may be, and the length to warn about; is_ice_status returns both.
  * IS_ICE_OK. IS_ICE_MTU_TOO_SMALL: `mtu` is below 588. A check with NOMINATION has at most 596 bytes. Values: 1150 and
@@ -839,7 +841,7 @@ IS_ICE_CALL int32_t is_ice_accepts_message(is_ice_agent *agent, const uint8_t *b
  * queued here. Does not allocate.
  *
  * IS_ICE_OK: *at is the time. IS_ICE_NOTHING: no is_ice_handle_timeout call has returned IS_ICE_OK yet (see also
- * timeout_after_requests of is_ice_set_rules); *at is unchanged. */
+ * `modern` of is_ice_set_settings); *at is unchanged. */
 IS_ICE_CALL int32_t is_ice_poll_timeout(is_ice_agent *agent, uint64_t *at);
 
 /* is_ice_poll_timeout_soon - returns this time for an agent that changed since the last is_ice_handle_timeout call: it
@@ -885,8 +887,8 @@ IS_ICE_CALL int32_t is_ice_recreate_pairs(is_ice_agent *agent);
 /* is_ice_status - returns the settings of the agent, and its state. IS_ICE_OK. */
 IS_ICE_CALL int32_t is_ice_status(is_ice_agent *agent, is_ice_agent_status *status);
 
-/* is_ice_rules - returns the rules of the agent. IS_ICE_OK. */
-IS_ICE_CALL int32_t is_ice_rules(is_ice_agent *agent, is_ice_agent_rules *rules);
+/* is_ice_settings - returns what is set. IS_ICE_OK. */
+IS_ICE_CALL int32_t is_ice_settings(is_ice_agent *agent, is_ice_agent_settings *settings);
 
 /* is_ice_stats - returns the counters since the last restart. IS_ICE_OK. */
 IS_ICE_CALL int32_t is_ice_stats(is_ice_agent *agent, is_ice_agent_stats *stats);
@@ -1168,7 +1170,7 @@ IS_ICE_SIZE(is_ice_pair, 96);
 IS_ICE_SIZE(is_ice_removed_pair, 104);
 IS_ICE_SIZE(is_ice_kind_preferences, 8);
 IS_ICE_SIZE(is_ice_preference_table, 16);
-IS_ICE_SIZE(is_ice_agent_rules, 64);
+IS_ICE_SIZE(is_ice_agent_settings, 112);
 IS_ICE_SIZE(is_ice_stun_transaction, 12);
 IS_ICE_SIZE(is_ice_stun_result, 32);
 IS_ICE_SIZE(is_ice_stun_number, 16);

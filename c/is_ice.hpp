@@ -45,7 +45,7 @@ using address = is_ice_address;
 using candidate = is_ice_candidate;
 using fields = is_ice_fields;
 using pair = is_ice_pair;
-using rules = is_ice_agent_rules;
+using settings = is_ice_agent_settings;
 using status = is_ice_agent_status;
 using counters = is_ice_agent_stats;
 using nominated_pair = is_ice_nominated_pair;
@@ -270,8 +270,8 @@ inline nanoseconds retransmit_delay(
     return detail::duration(delay);
 }
 
-inline rules modern_rules() { return *detail::filled<rules>(is_ice_modern_rules); }
-inline rules original_rules() { return *detail::filled<rules>(is_ice_original_rules); }
+inline settings modern_settings() { return *detail::filled<settings>(is_ice_modern_settings); }
+inline settings original_settings() { return *detail::filled<settings>(is_ice_original_settings); }
 
 /* ---- candidates without an agent: their texts and their JSON */
 
@@ -448,7 +448,7 @@ public:
     void set_initial_rto(nanoseconds time) { done(is_ice_set_initial_rto(at(), detail::count(time))); }
     void set_max_rto(nanoseconds time) { done(is_ice_set_max_rto(at(), detail::count(time))); }
     void set_max_retransmits(size_t limit) { done(is_ice_set_max_retransmits(at(), limit)); }
-    void set_rules(const is_ice::rules &rules) { done(is_ice_set_rules(at(), &rules)); }
+    void set_settings(const is_ice::settings &settings) { done(is_ice_set_settings(at(), &settings)); }
     void set_mtu(size_t mtu, size_t warn) { done(is_ice_set_mtu(at(), mtu, warn)); }
     void skip_pair_ids(uint64_t number) { done(is_ice_skip_pair_ids(at(), number)); }
     void set_local_preference(uint16_t preference) { done(is_ice_set_local_preference(at(), preference)); }
@@ -575,7 +575,7 @@ public:
     void recreate_pairs() { done(is_ice_recreate_pairs(at())); }
 
     is_ice::status status() const { return *filled<is_ice::status>(is_ice_status); }
-    is_ice::rules rules() const { return *filled<is_ice::rules>(is_ice_rules); }
+    is_ice::settings settings() const { return *filled<is_ice::settings>(is_ice_settings); }
     counters stats() const { return *filled<counters>(is_ice_stats); }
     std::optional<nominated_pair> nominated() const { return filled<nominated_pair>(is_ice_nominated); }
     std::optional<media_path> valid_path() const { return filled<media_path>(is_ice_valid_path); }

@@ -6,10 +6,10 @@ from collections.abc import Iterable
 from dataclasses import dataclass, replace
 from typing import Self, TypeVar
 
-from is_ice import Candidate, CandidateKind, IceConnectionState, IceCreds, Removal, SocketAddress, line_fields
+from is_ice import Candidate, CandidateKind, IceConnectionState, IceCreds, Profile, Removal, Settings, SocketAddress, line_fields
 
 from .clock import MILLISECOND
-from .kinds import ORIGINAL, Rules, least_of_most
+from .kinds import least_of_most
 from .numbers import first_numbered
 from .pairs import Pair, Path, Place, Timing, pair_priority
 from .removed import LIMIT, Removed, why_expired
@@ -20,6 +20,8 @@ KINDS = {CandidateKind.HOST: "host", CandidateKind.SERVER_REFLEXIVE: "srflx", Ca
          CandidateKind.PEER_REFLEXIVE: "prflx"}
 # The least pacing interval Ta (RFC 8445, section 14.2).
 LEAST_ADVANCE = 5 * MILLISECOND
+# With `Modern`, the pacing interval Ta until the agent is settled.
+EARLY_ADVANCE = 10 * MILLISECOND
 # With many pairs, the time in which each of them can be checked once.
 CYCLE = 500 * MILLISECOND
 # How many candidates of each side packets may bring to an agent that the library makes.
@@ -39,7 +41,6 @@ class Candidates:
     controlling: bool = False
     lite: bool = False
     renominates: bool = False
-    rules: Rules = ORIGINAL  # `with_rules` sets them
     peer: IceCreds | None = None
     timing: Timing = Timing()
     advance: int = 50 * MILLISECOND
@@ -62,9 +63,17 @@ class Candidates:
     removed: tuple[Removed, ...] = ()  # the pairs that were removed last, since the last restart
     last: int | None = None
 
-    def with_rules(self, rules: Rules) -> Self:
-        """Returns the agent with these rules. Due times that are fixed stay."""
-        return replace(self, rules=rules, timing=replace(self.timing, early=rules.early_rto, consent=rules.consent))
+    @property
+    def modern(self) -> bool:
+        """Whether its profile is `Modern`."""
+        return self.timing.modern
+
+    def with_settings(self, given: Settings) -> Self:
+        """Returns the agent with these settings of the library. If an RTO changes, due times are computed again."""
+        timing = Timing(given.initial_rto, given.max_rto, given.max_retransmits, given.lite_timeout, given.profile is Profile.MODERN,
+                        given.consent.timeout, given.consent.strict)
+        return replace(self.with_timing(timing), advance=given.timing_advance, max_pairs=given.max_pairs,
+                       max_discovered=given.max_discovered, renominates=given.renomination)
 
     def with_timing(self, timing: Timing) -> Self:
         """Returns the agent with these settings. If an RTO changes, due times are computed again."""
@@ -92,17 +101,17 @@ class Candidates:
     @property
     def numbers(self) -> bool:
         """Whether nominations have numbers."""
-        return self.renominates and self.rules.numbered_nominations
+        return self.renominates and self.modern
 
     @property
     def keeps_role(self) -> bool:
         """Whether it never changes its role."""
-        return self.lite and self.rules.lite_keeps_role
+        return self.lite and self.modern
 
     @property
     def settles(self) -> bool:
-        """Whether the state is evaluated after nomination, and not before it: by the rule, once the session has begun."""
-        return self.rules.state_after_nomination and self.state is not NEW
+        """Whether the state is evaluated after nomination, and not before it: with `Modern`, once the session has begun."""
+        return self.modern and self.state is not NEW
 
     @property
     def followed(self) -> int | None:
@@ -140,11 +149,10 @@ class Candidates:
 
     @property
     def pacing(self) -> int:
-        """The pacing interval Ta: by the rule it is shorter until the agent is settled (`pacing_of`)."""
-        early = self.rules.early_pacing
-        if early is None or self.is_settled:
+        """The pacing interval Ta: with `Modern` it is shorter until the agent is settled (`pacing_of`)."""
+        if not self.modern or self.is_settled:
             return self.advance
-        return min(self.advance, max(LEAST_ADVANCE, min(early, CYCLE // max(1, len(self.pairs)))))
+        return min(self.advance, max(LEAST_ADVANCE, min(EARLY_ADVANCE, CYCLE // max(1, len(self.pairs)))))
 
     def chosen(self) -> Pair | None:
         """Returns the pair to be selected: of an agent that follows its peer the followed pair, or the one that was selected last; else an
@@ -178,9 +186,8 @@ class Candidates:
         return next((i for i, c in enumerate(self.remote) if c.is_found and i not in used), None)
 
     def place_to_discard(self, candidate: Place, places: tuple[Place, ...]) -> int | None:
-        """Returns the index of the first equal candidate, if that one is live; by the rule, of the first equal one that is live."""
-        passes_over = self.rules.invalidates_listed
-        at = next((i for i, c in enumerate(places) if _are_equal(c, candidate) and not (passes_over and c.is_discarded)), None)
+        """Returns the index of the first equal candidate, if that one is live; with `Modern`, of the first equal one that is live."""
+        at = next((i for i, c in enumerate(places) if _are_equal(c, candidate) and not (self.modern and c.is_discarded)), None)
         return None if at is None or places[at].is_discarded else at
 
     def to_discard(self, candidate: Candidate) -> tuple[int | None, int | None]:
@@ -191,8 +198,7 @@ class Candidates:
 
     def goes_first(self, pair: Pair) -> bool:
         """Whether it comes before all kinds, in turn: the selected pair, and urgent ones."""
-        is_selected = self.rules.selected_first and pair.number == self.selected
-        return is_selected or (self.rules.triggered_checks is not None and pair.is_urgent)
+        return self.modern and (pair.number == self.selected or pair.is_urgent)
 
     def has_first(self, now: int) -> bool:
         """Whether such a pair is due."""
@@ -201,8 +207,7 @@ class Candidates:
     def is_ahead_turn(self, now: int) -> bool:
         """Whether the next check goes ahead: every second one, to the selected pair, to an urgent pair, or to the next kind until a path is
         selected."""
-        are_kinds_in_turn = self.rules.kinds_in_turn and not self.state.is_connected()
-        return self.rules.goes_ahead and self.ahead_turn and (are_kinds_in_turn or self.has_first(now))
+        return self.modern and self.ahead_turn and (not self.state.is_connected() or self.has_first(now))
 
     # ---- forming pairs
 
@@ -221,7 +226,7 @@ class Candidates:
 
     def _to_evict(self) -> Pair:
         """Returns the pair that goes at the limit."""
-        if self.rules.kinds_in_turn:
+        if self.modern:
             return least_of_most(self.local, self.remote, self.pairs)
         return min(self.pairs, key=lambda p: p.priority)
 

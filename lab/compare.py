@@ -5,7 +5,6 @@ from __future__ import annotations
 from collections.abc import Callable, Sequence
 from dataclasses import dataclass, replace
 from pathlib import Path
-from typing import Any
 
 from . import bars, figures, plot, pool, scenario
 from .figures import Figures
@@ -90,18 +89,17 @@ CONSENT_CUT_S = 8
 
 
 def _consent_pairs() -> list[Setting]:
-    return [_silent(count, rule) for count in CONSENT_INTERFACES for rule in (True, False)]
+    return [_silent(count, profile) for count in CONSENT_INTERFACES for profile in ("modern", "original")]
 
 
-def _silent(count: int, rule: bool) -> Setting:
+def _silent(count: int, profile: str) -> Setting:
     made = scenario.load("many_interfaces")
     pairs = "1 pair" if count == 1 else f"{count * count} pairs"
-    label = f"{pairs}, {'with' if rule else 'without'} the rules"
-    changes: dict[str, Any] = {} if rule else {"consent_ms": 0, "selected_first": False}
+    label = f"{pairs}, {profile}"
 
     def side(name: str) -> AgentSettings:
         own = made.side(name)
-        return replace(own, interface=own.interface[-count:], max_rto_ms=2900, retransmits=11, **changes)
+        return replace(own, interface=own.interface[-count:], max_rto_ms=2900, retransmits=11, profile=profile)
 
     cut = ScenarioEvent(CONSENT_CUT_S, "a", "silent", "eth9")
     changed = replace(made, name=label, a=side("a"), b=side("b"), event=(cut,), seconds=120, settle_s=110, connects="sometimes")
@@ -145,16 +143,16 @@ QUESTIONS = {
 }
 
 
-def _by_original_rules(setting: Setting) -> Setting:
+def _by_original(setting: Setting) -> Setting:
     made = setting.scenario
-    a, b = (replace(made.side(side), rules="original") for side in scenario.SIDES)
+    a, b = (replace(made.side(side), profile="original") for side in scenario.SIDES)
     return replace(setting, scenario=replace(made, a=a, b=b))
 
 
 def run(name: str, count: int, seed: int, processes: int, quiet: bool, path: Path, own: bool, is_original: bool = False) -> None:
-    """Runs the sessions of each setting, prints the table, and writes the plot. `is_original`: the agents have the original's rules."""
+    """Runs the sessions of each setting, prints the table, and writes the plot. `is_original`: the agents have the profile `Original`."""
     question = QUESTIONS[name]
-    settings = [_by_original_rules(s) for s in question.settings()] if is_original else question.settings()
+    settings = [_by_original(s) for s in question.settings()] if is_original else question.settings()
     told = figures.gather(pool.run([s.scenario for s in settings], count, seed, processes, quiet))
     times = {s.label: [time - question.shift for time in question.times(told[s.label])] for s in settings}
     _print(question, times, count)

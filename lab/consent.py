@@ -8,7 +8,7 @@ from functools import cache
 from pathlib import Path as File
 from random import Random
 
-from is_ice import IceAgentEvent, IceConnectionStateChange, NominatedSend, Rules
+from is_ice import IceAgent, IceAgentEvent, IceConnectionStateChange, NominatedSend
 
 from . import pool, scenario
 from .clock import BEGINNING, MILLISECOND, SECOND, nanoseconds
@@ -98,10 +98,9 @@ class Departure:
 
 @cache
 def timeout() -> int:
-    """Returns how long a response keeps a pair by the modern rules."""
-    consent = Rules.modern().consent
-    assert consent is not None
-    return consent.timeout
+    """Returns how long a response keeps a pair by the modern settings: the longest RTO and a whole series of checks."""
+    with IceAgent() as agent:
+        return agent.settings.max_rto + agent.ice_timeout
 
 
 class Paths:

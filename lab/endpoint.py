@@ -6,7 +6,7 @@ from dataclasses import replace
 from random import Random
 from typing import Protocol as Interface_, cast
 
-from is_ice import Candidate, Consent, EarlyRto, IceAgent, IceAgentEvent, IceCreds, Rules, SocketAddress, line_fields, new_creds
+from is_ice import Candidate, Consent, IceAgent, IceAgentEvent, IceCreds, Profile, Settings, SocketAddress, line_fields, new_creds
 
 from .clock import Clock, nanoseconds
 from .log import Beginning, Log, LoggedAgent
@@ -20,25 +20,10 @@ REQUESTS = 7
 FIRST_RTO = 500_000_000
 
 
-def rules_by(s: AgentSettings) -> Rules:
-    """Returns the rules of an agent with these settings."""
-    rules = Rules.original() if s.rules == "original" else Rules.modern()
-    if s.kinds_in_turn is not None:
-        rules = replace(rules, kinds_in_turn=s.kinds_in_turn)
-    if s.triggered_checks is not None:
-        rules = replace(rules, triggered_checks=s.triggered_checks or None)
-    if s.early_retransmits is not None:
-        early = EarlyRto(s.early_retransmits, nanoseconds(s.early_interval_ms), nanoseconds(s.early_cap_ms))
-        rules = replace(rules, early_rto=early if s.early_retransmits else None)
-    if s.consent_ms is not None:
-        consent = Consent(nanoseconds(s.consent_ms), s.strict_consent)
-        rules = replace(rules, consent=consent if s.consent_ms else None)
-    if s.early_pacing_ms is not None:
-        rules = replace(rules, early_pacing=nanoseconds(s.early_pacing_ms) or None)
-    names = ("selects_at_once", "selected_first", "timeout_after_requests", "lite_keeps_role", "numbered_nominations",
-             "discovered_if_served", "state_after_nomination", "invalidates_listed")
-    own = {name: getattr(s, name) for name in names}
-    return replace(rules, **{name: value for name, value in own.items() if value is not None})
+def settings_by(s: AgentSettings, settings: Settings) -> Settings:
+    """Returns the settings of an agent with the profile and the consent of these."""
+    timeout = None if s.consent_ms is None else nanoseconds(s.consent_ms)
+    return replace(settings, profile=Profile[s.profile.upper()], consent=Consent(timeout, s.strict_consent))
 
 
 class Watch(Interface_):
@@ -98,8 +83,7 @@ class Endpoint:
         for limit, set_limit in ((s.retransmits, agent.set_max_stun_retransmits), (s.max_pairs, agent.set_max_candidate_pairs)):
             if limit is not None:
                 set_limit(limit)
-        if (rules := rules_by(s)) != agent.rules:
-            agent.set_rules(rules)
+        agent.set_settings(settings_by(s, agent.settings))
 
     # ---- starting, restarting, interfaces
 

@@ -1,11 +1,10 @@
-"""Measures how long agents with many host candidates take, by different rules. Prints tables, and plots the times."""
+"""Measures how long agents with many host candidates take, by either profile. Prints tables, and plots the times."""
 
 from __future__ import annotations
 
 from collections.abc import Iterable
 from dataclasses import dataclass, field, replace
 from pathlib import Path
-from typing import Any
 
 from . import plot, pool, scenario
 from .clock import MILLISECOND
@@ -24,19 +23,8 @@ SECONDS = 40
 # So that packets do not arrive at the very time of a timeout.
 JITTER_MS = 1
 PLACES = {True: "Each side behind a NAT with address-and-port-dependent filtering", False: "No NAT"}
-# With which rules agents are measured: the settings of both sides.
-RULES: dict[str, dict[str, Any]] = {
-    "modern": {},
-    "no kinds in turn": {"kinds_in_turn": False},
-    "no triggered checks": {"triggered_checks": 0},
-    "no early retransmissions": {"early_retransmits": 0},
-    "no selection at once": {"selects_at_once": False},
-    "no early pacing": {"early_pacing_ms": 0},
-    "only kinds in turn": {"rules": "original", "kinds_in_turn": True},
-    "original": {"rules": "original"},
-}
-# Those of the tables here; `lab/rules.py` has them all.
-BOTH = ("modern", "original")
+# By which profile agents are measured.
+PROFILES = ("modern", "original")
 
 
 @dataclass(frozen=True)
@@ -48,12 +36,12 @@ class Cell:
     delay: int
     loss: int
     hosts: int
-    rules: str
+    profile: str
     late: int = 0
 
     @property
     def name(self) -> str:
-        """Its name, from which the seeds come: the sessions of all rules have the same."""
+        """Its name, from which the seeds come: the sessions of both profiles have the same."""
         return f"hosts {self.has_nat} {self.delay} {self.loss} {self.hosts}" + (f" {self.late}" if self.late else "")
 
     def scenario(self) -> Scenario:
@@ -71,7 +59,7 @@ class Cell:
         alive = replace(made.interface[-1], up="up", down="down")
         if not self.has_nat:
             alive = replace(alive, ip=f"192.0.2.{number}", network="internet")
-        return replace(made, interface=(*dead, alive), **RULES[self.rules])
+        return replace(made, interface=(*dead, alive), profile=self.profile)
 
 
 @dataclass
@@ -100,7 +88,7 @@ class Found:
 
 def cells() -> list[Cell]:
     """Returns the cells of the tables."""
-    return [Cell(has_nat, delay, loss, hosts, rules) for has_nat in PLACES for delay in DELAYS for loss in LOSSES for rules in BOTH
+    return [Cell(has_nat, delay, loss, hosts, profile) for has_nat in PLACES for delay in DELAYS for loss in LOSSES for profile in PROFILES
             for hosts in HOSTS]
 
 
@@ -112,24 +100,24 @@ def limit(delay: int) -> int:
 def table(found: dict[Cell, Found], has_nat: bool) -> str:
     """Returns the table of the cells with NATs, or of those without."""
     counts = [column for hosts in HOSTS for column in (f"{hosts} host{'s' if hosts > 1 else ''}: ms", "packets")]
-    rows = [["delay ms", "loss %", "limit ms", "rules", *counts]]
+    rows = [["delay ms", "loss %", "limit ms", "profile", *counts]]
     for delay in DELAYS:
         for loss in LOSSES:
-            for rules in BOTH:
-                told = [column for hosts in HOSTS for column in found[Cell(has_nat, delay, loss, hosts, rules)].columns()]
-                rows.append([str(delay), str(loss), str(limit(delay)), rules, *told])
+            for profile in PROFILES:
+                told = [column for hosts in HOSTS for column in found[Cell(has_nat, delay, loss, hosts, profile)].columns()]
+                rows.append([str(delay), str(loss), str(limit(delay)), profile, *told])
     return aligned(rows)
 
 
 def curves(found: dict[Cell, Found]) -> list[plot.Curve]:
-    """Returns the curves of the medians, in seconds, behind NATs and without loss: one for each delay, with each of the rules."""
+    """Returns the curves of the medians, in seconds, behind NATs and without loss: one for each delay, by each profile."""
     made = []
     for place, delay in enumerate(DELAYS):
-        for rules in BOTH:
-            medians = {hosts: quantile(found[Cell(True, delay, 0, hosts, rules)].times, 0.5) for hosts in HOSTS}
+        for profile in PROFILES:
+            medians = {hosts: quantile(found[Cell(True, delay, 0, hosts, profile)].times, 0.5) for hosts in HOSTS}
             points = [(float(hosts), median / 1000) for hosts, median in medians.items() if median is not None]
             never = next((f", never with {hosts}" for hosts, median in medians.items() if median is None), "")
-            made.append(plot.Curve(f"{delay} ms, {rules}{never}", points, rules == "original", plot.COLORS[place]))
+            made.append(plot.Curve(f"{delay} ms, {profile}{never}", points, profile == "original", plot.COLORS[place]))
     return made
 
 
@@ -144,8 +132,8 @@ def _gather(wanted: list[Cell], outcomes: Iterable[Outcome]) -> dict[Cell, Found
 def measure(wanted: list[Cell], count: int, seed: int, processes: int, quiet: bool) -> dict[Cell, Found]:
     """Runs the sessions of the cells."""
     found: dict[Cell, Found] = {}
-    for rules in RULES:
-        part = [cell for cell in wanted if cell.rules == rules]
+    for profile in PROFILES:
+        part = [cell for cell in wanted if cell.profile == profile]
         found |= _gather(part, pool.run([cell.scenario() for cell in part], count, seed, processes, quiet))
     return found
 

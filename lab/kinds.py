@@ -1,18 +1,15 @@
-"""The rules; which pair goes ahead of those that are due earlier; which loses a pair at the limit (RFC 8445, section 6.1.4.2)."""
+"""The kinds of pairs, which take turns; which kind loses a pair at the limit (RFC 8445, section 6.1.4.2)."""
 
 from __future__ import annotations
 
 from collections import Counter
 from collections.abc import Sequence
-from dataclasses import dataclass
 from functools import lru_cache
 from ipaddress import IPv4Network, IPv6Network, ip_address
-from typing import Any
 
 from is_ice import SocketAddress
 
-from .clock import MILLISECOND
-from .pairs import Consent, EarlyRto, Pair, Place
+from .pairs import Pair, Place
 
 # How many kinds of pairs there are.
 COUNT = 16
@@ -22,47 +19,6 @@ RANKS = {"prflx": 0, "srflx": 1, "relay": 2, "host": 3}
 INNER = tuple(map(IPv4Network, ("10.0.0.0/8", "172.16.0.0/12", "192.168.0.0/16", "100.64.0.0/10", "127.0.0.0/8", "169.254.0.0/16")))
 # The IPv6 addresses that are public (RFC 4291, section 2.4; RFC 3587).
 GLOBAL = IPv6Network("2000::/3")
-
-
-@dataclass(frozen=True)
-class Rules:
-    """What an agent does beyond the original's behavior."""
-
-    kinds_in_turn: bool = False
-    triggered_checks: int | None = None
-    early_rto: EarlyRto | None = None
-    selects_at_once: bool = False
-    consent: Consent | None = None
-    early_pacing: int | None = None
-    selected_first: bool = False
-    timeout_after_requests: bool = False
-    lite_keeps_role: bool = False
-    numbered_nominations: bool = False
-    discovered_if_served: bool = False
-    state_after_nomination: bool = False
-    invalidates_listed: bool = False
-
-    @property
-    def goes_ahead(self) -> bool:
-        """Whether checks may go ahead of pairs that are due earlier (`goes_ahead`)."""
-        return self.kinds_in_turn or self.triggered_checks is not None or self.selected_first
-
-
-ORIGINAL = Rules()
-# With these an agent that the library makes begins.
-MODERN = Rules(True, 1, EarlyRto(2, 100 * MILLISECOND, 350 * MILLISECOND), True, Consent(29600 * MILLISECOND), 10 * MILLISECOND,
-               True, True, True, True, True, True, True)
-
-
-def rules_of(given: Any) -> Rules:
-    """Returns rules of the library as those of the model. There 0 is the same as None."""
-    early = given.early_rto
-    own = EarlyRto(early.retransmits, early.interval, early.cap) if early is not None and early.retransmits else None
-    consent = given.consent
-    kept = Consent(consent.timeout, consent.strict) if consent is not None and consent.timeout else None
-    return Rules(given.kinds_in_turn, given.triggered_checks or None, own, given.selects_at_once, kept, given.early_pacing or None,
-                 given.selected_first, given.timeout_after_requests, given.lite_keeps_role,
-                 given.numbered_nominations, given.discovered_if_served, given.state_after_nomination, given.invalidates_listed)
 
 
 @lru_cache(maxsize=1 << 14)

@@ -9,10 +9,9 @@ from typing import Any
 from is_ice import IceAgent, RemovedPair
 
 from .clock import Clock
-from .kinds import MODERN, Rules
 
 # The calls that the log has. Queries are left out: they change nothing. So is `set_controlling`, which belongs to the beginning.
-CALLS = ("set_ice_lite", "set_renomination", "set_rules", "set_initial_stun_rto", "set_max_stun_rto", "set_max_stun_retransmits",
+CALLS = ("set_ice_lite", "set_renomination", "set_settings", "set_initial_stun_rto", "set_max_stun_rto", "set_max_stun_retransmits",
          "set_lite_timeout", "set_timing_advance", "set_max_candidate_pairs", "set_max_discovered", "set_mtu", "set_local_preference",
          "set_preference_table", "set_local_credentials", "set_remote_credentials", "add_local_candidate", "add_remote_candidate",
          "invalidate_candidate", "ice_restart", "recreate_candidate_pairs", "handle_packet", "handle_timeout", "poll_timeout",
@@ -32,12 +31,12 @@ class Entry:
 
 @dataclass(frozen=True)
 class Beginning:
-    """How an agent was created, its role, and the rules with which it began."""
+    """How an agent was created, its role, and whether its profile was `Modern` at first."""
 
     creds: Any
     tie_breaker: int
     controlling: bool = False
-    rules: Rules = MODERN
+    modern: bool = True
 
 
 @dataclass

@@ -8,7 +8,7 @@ import time
 from contextlib import ExitStack
 from pathlib import Path
 
-from . import bars, compare, consent, coverage, figures, hosts, pool, rules, scenario
+from . import bars, compare, consent, coverage, figures, hosts, pool, profiles, scenario
 from .guarantees import Broken
 from .scenario import BadScenario, Scenario
 
@@ -29,12 +29,12 @@ def _arguments() -> argparse.Namespace:
     comparing.add_argument("question", choices=sorted(compare.QUESTIONS))
     comparing.add_argument("-n", "--sessions", type=int, default=1000, help="sessions of each setting (1000)")
     comparing.add_argument("--plot", type=Path, metavar="FILE", required=True)
-    comparing.add_argument("--original", action="store_true", help="agents with the original's rules")
-    many = words.add_parser("hosts", help="measures how long agents with many host candidates take, by the modern rules and the original's")
+    comparing.add_argument("--original", action="store_true", help="agents with the profile Original")
+    many = words.add_parser("hosts", help="measures how long agents with many host candidates take, by the profile Modern and by Original")
     many.add_argument("-n", "--sessions", type=int, default=40, help="sessions of each setting (40)")
     many.add_argument("--plot", type=Path, metavar="FILE", required=True)
     many.add_argument("--document", type=Path, metavar="FILE", help="puts the tables in place of those of a document, as docs/SESSIONS.md")
-    each = words.add_parser("rules", help="measures how long agents take with each rule off in turn, also if the peer starts later")
+    each = words.add_parser("profiles", help="measures how long agents take by either profile, also if the peer starts later")
     each.add_argument("-n", "--sessions", type=int, default=40, help="sessions of each setting (40)")
     each.add_argument("--document", type=Path, metavar="FILE", help="puts the table in place of that of a document, as docs/SESSIONS.md")
     keeping = words.add_parser("consent", help="measures how long agents keep a path when its link fails, beside the end of consent")
@@ -95,8 +95,8 @@ def main() -> int:
             _cover(options)
         elif options.word == "hosts":
             hosts.run(options.sessions, options.seed, options.processes, options.quiet, options.plot, options.own_svg, options.document)
-        elif options.word == "rules":
-            rules.run(options.sessions, options.seed, options.processes, options.quiet, options.document)
+        elif options.word == "profiles":
+            profiles.run(options.sessions, options.seed, options.processes, options.quiet, options.document)
         elif options.word == "consent":
             consent.run(options.sessions, options.seed, options.processes, options.quiet, options.document)
         else:

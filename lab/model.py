@@ -108,7 +108,7 @@ class Agent(Candidates):
         if not new.controlling and taken.use_candidate:
             new = replace(new, last_nominated=pair.number, numbers_seen=new.numbers_seen or bool(taken.nomination))
         new = new._changed(pair.number, lambda p: self._served(new, p, taken))
-        selects = new.controlling or new.rules.selects_at_once
+        selects = new.controlling or new.modern
         new, told = new._nominate() if selects and was_valid else (new, ())
         new = new._settled(self.trigger_time(q)) if told else new
         return new, Issued("success", (new.local[local].base, q.source), q.id), told
@@ -128,8 +128,7 @@ class Agent(Candidates):
 
     @staticmethod
     def _served(agent: Agent, pair: Pair, q: Request) -> Pair:
-        most = agent.rules.triggered_checks
-        new = (pair if most is None else pair.triggered(most, agent.trigger_time(q))).asked(q.time)
+        new = (pair.triggered(agent.trigger_time(q)) if agent.modern else pair).asked(q.time)
         state = "succeeded" if agent.lite and not agent.controlling else pair.state
         asks = not agent.controlling and q.use_candidate and not pair.is_nominated
         nomination = ("success" if agent.lite else "nominated") if asks else pair.nomination
@@ -143,7 +142,7 @@ class Agent(Candidates):
         new, issued, told = self._taken(now, source, local, contents)
         is_dropped = message_of(contents).kind == "request" and new.peer is not None and issued is None
         waiting = len(told) + (new.state is not self.state)  # endpoints poll all events after each call
-        passes_over = source in new.sources or not new.is_below(waiting) or (new.rules.discovered_if_served and is_dropped)
+        passes_over = source in new.sources or not new.is_below(waiting) or (new.modern and is_dropped)
         return new if passes_over else new._discovered(source), issued, told
 
     def _discovered(self, source: SocketAddress) -> Agent:
@@ -186,7 +185,7 @@ class Agent(Candidates):
         """Takes a `handle_timeout`. `seen` is the path of the check that was sent, which decides between equal pairs."""
         begun = self if self.settles else self._evaluated(now)
         if self.peer is not None and (queue := self._current(now)) != ():
-            last = now if self.rules.timeout_after_requests and self.last is None else self.last
+            last = now if self.modern and self.last is None else self.last
             return replace(begun, queue=queue[1:], last=last)._serve(queue[0])
         start = replace(begun, last=now, queue=self._current(now) if self.peer is not None else self.queue)
         new, first = start._nominate()
@@ -231,9 +230,9 @@ class Agent(Candidates):
     def _turn_of(self, pair: Pair) -> int:
         """Returns the turn of a pair: the selected one comes before urgent ones, these come before all kinds, and of them the ones that a
         request brought come last."""
-        if self.rules.selected_first and pair.number == self.selected:
+        if self.modern and pair.number == self.selected:
             return 0
-        if self.rules.triggered_checks is not None and pair.is_urgent:
+        if self.modern and pair.is_urgent:
             return 2 if is_brought(self.remote, pair) else 1
         return 3 + turn_of(self.next_kind, kind_of(self.local, self.remote, pair))
 
@@ -244,7 +243,7 @@ class Agent(Candidates):
         soon = self.last + self.pacing
         new = replace(self, pairs=tuple(p.fixed(self.last, self.timing) for p in self.pairs))
         if is_waiting or self.queue or self.is_pressing:
-            return self if self.rules.triggered_checks is None else new, soon
+            return new if self.modern else self, soon
         if self.lite or not self.pairs:
             return self, self.last + 3 * SECOND
         return new, max(min(p.wake_at(self.last, self.timing) for p in new.pairs), soon)

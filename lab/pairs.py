@@ -8,6 +8,11 @@ from is_ice import SocketAddress
 
 from .clock import MILLISECOND, SECOND
 
+# How many early retransmissions there are, the delay before each, and the longest delay after them.
+EARLY_RETRANSMITS = 2
+EARLY_INTERVAL = 100 * MILLISECOND
+EARLY_CAP = 350 * MILLISECOND
+
 # From the source to the destination, as the agent that sends on it sees them.
 Path = tuple[SocketAddress, SocketAddress]
 
@@ -17,21 +22,11 @@ def reversed_path(path: Path) -> Path:
     return path[1], path[0]
 
 
-@dataclass(frozen=True)
-class EarlyRto:
-    """How checks are repeated while a pair has no response: so many retransmissions, each after an interval, and later ones after at most
-    a cap. Durations are nanoseconds."""
-
-    retransmits: int
-    interval: int
-    cap: int
-
-    def delay(self, count: int) -> int:
-        """Returns the delay after the last of `count` checks: after the early retransmissions it doubles up to the cap. The interval is at
-        least a millisecond, and the cap at least the interval."""
-        interval = max(MILLISECOND, self.interval)
-        doubled: int = interval * 2 ** max(0, count - self.retransmits)
-        return min(doubled, max(interval, self.cap))
+def early_delay(count: int) -> int:
+    """Returns the delay after the last of `count` checks of a pair without a response, with the profile `Modern`: after the early
+    retransmissions it doubles up to the cap."""
+    doubled: int = EARLY_INTERVAL * 2 ** max(0, count - EARLY_RETRANSMITS)
+    return min(doubled, EARLY_CAP)
 
 
 @dataclass(frozen=True)
@@ -45,14 +40,16 @@ class Consent:
 
 @dataclass(frozen=True)
 class Timing:
-    """The settings of retransmission. Durations are nanoseconds."""
+    """The settings of retransmission, and the profile. Durations are nanoseconds. `limit`: how long a response keeps a pair, if it is set;
+    `strict`: the peer's checks keep none."""
 
     initial: int = 250 * MILLISECOND
     greatest: int = 3000 * MILLISECOND
     retransmits: int = 9
     lite: int = 15 * SECOND
-    early: EarlyRto | None = None
-    consent: Consent | None = None
+    modern: bool = False
+    limit: int | None = None
+    strict: bool = False
 
     def delay(self, count: int) -> int:
         """Returns the delay after the last of `count` checks, in whole milliseconds: it doubles up to a bound."""
@@ -64,6 +61,11 @@ class Timing:
     def timeout(self) -> int:
         """Returns how long a full series of checks without a response takes."""
         return sum(self.delay(n) for n in range(2, self.retransmits + 1)) + self.delay(self.retransmits)
+
+    @property
+    def consent(self) -> Consent | None:
+        """How long a response keeps a pair: with the profile `Original` until enough checks have none (`consent_of`)."""
+        return Consent(self.greatest + self.timeout() if self.limit is None else self.limit, self.strict) if self.modern else None
 
 
 @dataclass(frozen=True)
@@ -183,8 +185,8 @@ class Pair:
         return self.checks[-1].sent + self._delay(now, timing)
 
     def _delay(self, now: int, timing: Timing) -> int:
-        if timing.early is not None and self.is_repeated_early(now, timing):
-            return timing.early.delay(self.silent_count)
+        if timing.modern and self.is_repeated_early(now, timing):
+            return early_delay(self.silent_count)
         silent = unanswered(self.checks)
         first = len(self.checks) - silent
         is_silent = first < len(self.checks) and timing.greatest < 2 * (now - self.checks[first].sent)
@@ -222,21 +224,21 @@ class Pair:
         return self.stays_answered(now, consent) or (consent is not None and not consent.strict and self.is_heard(now))
 
     def stays_answered(self, now: int, consent: Consent | None) -> bool:
-        """Whether its last check that got a response was sent recently enough; without one, or without the rule, it counts as such."""
+        """Whether its last check that got a response was sent recently enough; without one, or with `Original`, it counts as such."""
         return consent is None or self.consented is None or now < self.consented + consent.timeout
 
     def wake_at(self, now: int, timing: Timing) -> int:
         """Returns when it needs a `handle_timeout`: when it is due, or when consent ends if nothing arrives."""
-        due = self.due_at(now, timing)
-        if timing.consent is None or self.consented is None:
+        due, consent = self.due_at(now, timing), timing.consent
+        if consent is None or self.consented is None:
             return due
-        heard = 0 if timing.consent.strict or self.last_request is None else self.last_request + 15 * SECOND
-        return min(due, max(self.consented + timing.consent.timeout, heard))
+        heard = 0 if consent.strict or self.last_request is None else self.last_request + 15 * SECOND
+        return min(due, max(self.consented + consent.timeout, heard))
 
     def has_early_checks(self, now: int, timing: Timing) -> bool:
         """Whether the path may still work since checks that are repeated early end no pair sooner: the time of a whole series has to pass,
         since its first check if there was no response at all, otherwise since the first one without."""
-        if timing.early is None:
+        if not timing.modern:
             return False
         if self.answers == 0:
             return self.is_young(now, timing)
@@ -278,9 +280,9 @@ class Pair:
         """Returns it after a check of the peer."""
         return replace(self, requests=self.requests + 1, last_request=now)
 
-    def triggered(self, most: int, at: int) -> Pair:
-        """Returns it after one of the first `most` requests on it, unless it is valid: a due time that is fixed is at most `at`."""
-        return self if self.is_valid or self.requests >= most or self.due is None else replace(self, due=min(at, self.due))
+    def triggered(self, at: int) -> Pair:
+        """Returns it after the first request on it, unless it is valid: a due time that is fixed is at most `at`."""
+        return self if self.is_valid or self.requests > 0 or self.due is None else replace(self, due=min(at, self.due))
 
     def taking_over(self, other: Pair, lite: bool) -> Pair:
         """Returns it with what it copies from the pair that it replaces."""

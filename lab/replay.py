@@ -7,10 +7,9 @@ from dataclasses import dataclass, field, replace
 
 from is_ice import DiscoveredRecv, IceConnectionState, IceConnectionStateChange, NominatedSend, SocketAddress
 
-from .kinds import rules_of
 from .log import Entry, Log
 from .model import Agent, Issued
-from .pairs import Path
+from .pairs import Path, Timing
 from .scenario import SIDES
 from .stun import message_of
 
@@ -65,7 +64,7 @@ def replay(log: Log) -> Replay:
     """Follows both agents through the log."""
     sent, selected, found = _issued(log), _selected(log), _found(log)
     states = _states(log)
-    world = {side: Agent(b.creds, b.tie_breaker, b.controlling).with_rules(b.rules) for side, b in log.sides.items()}
+    world = {side: Agent(b.creds, b.tie_breaker, b.controlling, timing=Timing(modern=b.modern)) for side, b in log.sides.items()}
     assert set(world) == set(SIDES)
     told = Replay([])
     waiting = {side: 0 for side in SIDES}
@@ -184,8 +183,8 @@ def after_setting(agent: Agent, entry: Entry) -> Agent:
     call, given = entry.call, entry.given
     if call in SETTINGS:
         return replace(agent, **{SETTINGS[call]: given[0]})
-    if call == "set_rules":
-        return agent.with_rules(rules_of(given[0]))
+    if call == "set_settings":
+        return agent.with_settings(given[0])
     if call in TIMING:
         return agent.with_timing(replace(agent.timing, **{TIMING[call]: given[0]}))
     if call == "add_local_candidate":

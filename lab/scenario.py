@@ -47,23 +47,9 @@ class AgentSettings:
     late_ms: float = 0.0  # how much later than the agent's timeout its endpoint calls `handle_timeout`
     retransmits: int = 9
     max_pairs: int | None = None
-    rules: str = "modern"  # or original: then each rule is off; the next settings change single rules
-    kinds_in_turn: bool | None = None
-    triggered_checks: int | None = None  # 0: off
-    early_retransmits: int | None = None  # 0: off
-    early_interval_ms: float = 100.0  # before each of these, if `early_retransmits` is set
-    early_cap_ms: float = 350.0  # before each later one at most, if `early_retransmits` is set
-    selects_at_once: bool | None = None
-    consent_ms: float | None = None  # 0: off
-    strict_consent: bool = False  # if `consent_ms` is set
-    early_pacing_ms: float | None = None  # 0: off
-    selected_first: bool | None = None
-    timeout_after_requests: bool | None = None
-    lite_keeps_role: bool | None = None
-    numbered_nominations: bool | None = None
-    discovered_if_served: bool | None = None
-    state_after_nomination: bool | None = None
-    invalidates_listed: bool | None = None
+    profile: str = "modern"  # or original
+    consent_ms: float | None = 29600.0  # that of the modern settings; None: by the RTOs
+    strict_consent: bool = False
     shuffled: bool = False  # gathers from its interfaces in random order
     stun: bool = True  # gathers server-reflexive candidates
     relay: bool = False  # gathers relayed candidates
@@ -194,8 +180,8 @@ def _test(scenario: Scenario) -> None:
         known = [interface.name for interface in scenario.side(event.side).interface]
         if event.do != "restart" and event.interface not in known:
             raise BadScenario(f"{scenario.name}: side {event.side} has no interface {event.interface!r}")
-    if any(scenario.side(side).rules not in ("modern", "original") for side in SIDES):
-        raise BadScenario(f"{scenario.name}: rules is modern or original")
+    if any(scenario.side(side).profile not in ("modern", "original") for side in SIDES):
+        raise BadScenario(f"{scenario.name}: profile is modern or original")
     if scenario.connects not in ("always", "sometimes", "never"):
         raise BadScenario(f"{scenario.name}: connects is always, sometimes or never")
 

@@ -1,5 +1,5 @@
 """What is_ice.h declares, for JavaScript over the library as a module of WebAssembly, whose pointers and sizes have 64 bits; and for
-TypeScript the struct of rules, whose fields programs set by name."""
+TypeScript the struct of settings, whose fields programs set by name. Room for later versions is left out: it is zero."""
 import json
 import textwrap
 
@@ -23,9 +23,14 @@ def argument(kind):
     return ("in:" if kind.pointer == "const" else "out:") + kind_of(Type(kind.name))
 
 
+def named(struct):
+    """The fields that have a meaning."""
+    return [field for field in struct.fields if field.name != "room"]
+
+
 def structs(header):
     for struct in header.structs:
-        fields = [f'["{lower_camel(field.name)}", {field.offset}, "{kind_of(field.type)}"]' for field in struct.fields]
+        fields = [f'["{lower_camel(field.name)}", {field.offset}, "{kind_of(field.type)}"]' for field in named(struct)]
         yield wrapped(f"  {short(struct.name)}: [", [str(struct.size), *fields], "],", 140, indent="  ")
 
 
@@ -54,9 +59,9 @@ def made(header, first):
     return f"// {first}\n\n" + "\n".join(lines(header)) + "\n"
 
 
-def rules(header):
-    """The struct that is_ice_set_rules takes. Each field is a field of an object in JavaScript; times are milliseconds there."""
-    call = next(call for call in header.calls if call.name == "is_ice_set_rules")
+def settings(header):
+    """The struct that is_ice_set_settings takes. Each field is a field of an object in JavaScript; times are milliseconds there."""
+    call = next(call for call in header.calls if call.name == "is_ice_set_settings")
     name = next(kind.name for _, kind in call.arguments if kind.pointer == "const")
     return next(struct for struct in header.structs if struct.name == name)
 
@@ -68,9 +73,9 @@ def documented(text, indent=""):
 
 
 def declared(header, first):
-    struct = rules(header)
+    struct = settings(header)
     fields = []
-    for field in struct.fields:
+    for field in named(struct):
         fields += documented(field.comment, "  ")
         fields.append(f"  {lower_camel(field.name)}: {'boolean' if field.type.name == 'bool' else 'number'};")
     head = [f"// {first}", "", *documented(f"{struct.comment} Durations are milliseconds."), f"export interface {short(struct.name)} {{"]

@@ -62,12 +62,12 @@ int main(int argc, char **argv)
 {
     uint8_t buffer[1500], random[IS_ICE_TIMEOUT_RANDOM];
     bool goes_on = true, changed = false, ready[NET_SOCKETS + 1];
-    is_ice_agent_rules rules;
+    is_ice_agent_settings settings;
     is_ice_packet packet;
-    if (argc < 2 || !ok(signal_begin(&agent)) || !ok(is_ice_rules(&agent, &rules)))
+    if (argc < 2 || !ok(signal_begin(&agent)) || !ok(is_ice_settings(&agent, &settings)))
         return fprintf(stderr, "usage: chat controlling|controlled [-l]\n"), 1;
-    rules.consent_timeout = 5 * SECOND, rules.strict_consent = true; /* a lost peer is noticed after 5 s, and not after 30 s, */
-    ok(is_ice_set_rules(&agent, &rules));
+    settings.consent_timeout = 5 * SECOND, settings.strict_consent = true; /* a lost peer is noticed after 5 s, and not after 30 s, */
+    ok(is_ice_set_settings(&agent, &settings));
     ok(is_ice_set_max_rto(&agent, SECOND)); /* as the path is checked each second */
     ok(is_ice_set_controlling(&agent, strcmp(argv[1], "controlling") == 0));
     setvbuf(stdin, NULL, _IONBF, 0), setvbuf(stdout, NULL, _IOLBF, BUFSIZ); /* so that each line is waited for, and is printed */

@@ -64,9 +64,9 @@ int main(int argc, char **argv)
     if (argc < 2) std::cerr << "usage: chat controlling|controlled [-l]\n";
     bool goes_on = argc > 1, changed = false, ready[NET_SOCKETS + 1];
     is_ice::agent agent(is_ice::make_credentials(randomized<is_ice::credentials_random>()), randomized<std::array<uint64_t, 1>>()[0]);
-    auto rules = agent.rules();
-    rules.consent_timeout = 5 * SECOND, rules.strict_consent = true; // a lost peer is noticed after 5 s, and not after 30 s,
-    agent.set_rules(rules);
+    auto settings = agent.settings();
+    settings.consent_timeout = 5 * SECOND, settings.strict_consent = true; // a lost peer is noticed after 5 s, and not after 30 s,
+    agent.set_settings(settings);
     agent.set_max_rto(is_ice::nanoseconds(SECOND)); // as the path is checked each second
     agent.set_controlling(goes_on && std::string_view(argv[1]) == "controlling");
     setvbuf(stdin, nullptr, _IONBF, 0); // so that each line is waited for

@@ -53,9 +53,9 @@ static void destroy(void)
 static unsigned role_codes(bool controlling)
 {
     is_ice_agent_status status;
-    is_ice_agent_rules rules;
+    is_ice_agent_settings settings;
     bool is_kept = controlling && is_ice_status(agents[on], &status) == IS_ICE_OK && status.lite
-        && is_ice_rules(agents[on], &rules) == IS_ICE_OK && rules.lite_keeps_role;
+        && is_ice_settings(agents[on], &settings) == IS_ICE_OK && settings.modern;
     return is_kept ? LITE_STAYS : OK;
 }
 
@@ -104,46 +104,36 @@ static void set_preference(void)
     CALL(OK | QUIET, is_ice_set_preference_table(agents[on], given));
 }
 
-/* What is set is read; without early retransmissions their interval and cap are 0. */
-static bool is_read(const is_ice_agent_rules *given, const is_ice_agent_rules *told)
+/* What is set is read. */
+static bool is_read(const is_ice_agent_settings *given, const is_ice_agent_settings *told)
 {
-    uint64_t interval = given->early_retransmits > 0 ? given->early_interval : 0;
-    uint64_t cap = given->early_retransmits > 0 ? given->early_cap : 0;
-    bool strict = given->consent_timeout > 0 && given->strict_consent;
-    return told->kinds_in_turn == given->kinds_in_turn && told->selects_at_once == given->selects_at_once
-        && told->triggered_checks == given->triggered_checks && told->early_retransmits == given->early_retransmits
-        && told->early_interval == interval && told->early_cap == cap
-        && told->consent_timeout == given->consent_timeout && told->strict_consent == strict
-        && told->early_pacing == given->early_pacing
-        && told->selected_first == given->selected_first && told->timeout_after_requests == given->timeout_after_requests
-        && told->lite_keeps_role == given->lite_keeps_role && told->numbered_nominations == given->numbered_nominations
-        && told->discovered_if_served == given->discovered_if_served
-        && told->state_after_nomination == given->state_after_nomination && told->invalidates_listed == given->invalidates_listed;
+    return told->timing_advance == given->timing_advance && told->initial_rto == given->initial_rto && told->max_rto == given->max_rto
+        && told->lite_timeout == given->lite_timeout && told->consent_timeout == given->consent_timeout
+        && told->max_retransmits == given->max_retransmits && told->max_pairs == given->max_pairs
+        && told->max_discovered == given->max_discovered && told->max_candidates == given->max_candidates
+        && told->modern == given->modern && told->strict_consent == given->strict_consent && told->renomination == given->renomination;
 }
 
-/* Sets the rules of the original, those of a new agent, or each rule to a value of its own, and reads them. */
-static void set_rules(void)
+/* Sets the settings of the original, those of a new agent, or each to a value of its own, and reads them. */
+static void set_settings(void)
 {
     uint8_t kind = take();
-    is_ice_agent_rules *given = argument(sizeof *given), *told = argument(sizeof *told);
+    is_ice_agent_settings *given = argument(sizeof *given), *told = argument(sizeof *told);
     size_t agent = on;
     on = AGENTS;
-    if (kind % 4 == 0) CALL(OK | QUIET, is_ice_original_rules(given));
-    else if (kind % 4 == 1) CALL(OK | QUIET, is_ice_modern_rules(given));
+    if (kind % 4 == 0) CALL(OK | QUIET, is_ice_original_settings(given));
+    else if (kind % 4 == 1) CALL(OK | QUIET, is_ice_modern_settings(given));
     else {
-        given->triggered_checks = number(), given->early_retransmits = (size_t)number();
-        given->early_interval = number(), given->early_cap = number();
-        given->early_pacing = number();
-        given->consent_timeout = number(), given->kinds_in_turn = one_in(2), given->selects_at_once = one_in(2);
-        given->strict_consent = one_in(2), given->selected_first = one_in(2), given->timeout_after_requests = one_in(2);
-        given->lite_keeps_role = one_in(2), given->numbered_nominations = one_in(2);
-        given->discovered_if_served = one_in(2), given->state_after_nomination = one_in(2);
-        given->invalidates_listed = one_in(2);
+        given->timing_advance = number(), given->initial_rto = number(), given->max_rto = number();
+        given->lite_timeout = number(), given->consent_timeout = number();
+        given->max_retransmits = (size_t)number(), given->max_pairs = (size_t)number();
+        given->max_discovered = (size_t)number(), given->max_candidates = (size_t)number();
+        given->modern = one_in(2), given->strict_consent = one_in(2), given->renomination = one_in(2);
     }
     on = agent;
-    if (CALL(OK | QUIET, is_ice_set_rules(agents[on], given)) != IS_ICE_OK) return;
-    if (CALL(OK | QUIET | QUERY, is_ice_rules(agents[on], told)) != IS_ICE_OK || !is_read(given, told))
-        stop("rules are read otherwise than they were set");
+    if (CALL((given->max_retransmits == 0 ? BAD_LIMIT : OK) | QUIET, is_ice_set_settings(agents[on], given)) != IS_ICE_OK) return;
+    if (CALL(OK | QUIET | QUERY, is_ice_settings(agents[on], told)) != IS_ICE_OK || !is_read(given, told))
+        stop("settings are read otherwise than they were set");
 }
 
 static void set_credentials(void)
@@ -585,7 +575,7 @@ static void queries(void)
 {
     const unsigned quiet = QUIET | QUERY;
     static const size_t sizes[] = {sizeof(is_ice_agent_status), sizeof(is_ice_agent_stats), sizeof(is_ice_nominated_pair), sizeof(size_t),
-        sizeof(is_ice_pair), sizeof(size_t), sizeof(is_ice_agent_rules), sizeof(is_ice_media_path), sizeof(size_t),
+        sizeof(is_ice_pair), sizeof(size_t), sizeof(is_ice_agent_settings), sizeof(is_ice_media_path), sizeof(size_t),
         sizeof(is_ice_removed_pair), sizeof(size_t)};
     uint8_t kind = take() % COUNT(sizes);
     void *result = argument(sizes[kind]);
@@ -598,7 +588,7 @@ static void queries(void)
     if (kind == 3) code = CALL(OK | quiet, is_ice_pair_count(agents[on], result));
     if (kind == 4) code = CALL(OK | NOTHING | quiet, is_ice_pair_at(agents[on], index, result));
     if (kind == 5) CALL(OK | NOTHING | BAD_ADDRESS | quiet, is_ice_has_viable_remote(agents[on], remote));
-    if (kind == 6) code = CALL(OK | quiet, is_ice_rules(agents[on], result));
+    if (kind == 6) code = CALL(OK | quiet, is_ice_settings(agents[on], result));
     if (kind == 7) code = CALL(OK | NOTHING | quiet, is_ice_valid_path(agents[on], result));
     if (kind == 8) code = CALL(OK | quiet, is_ice_removed_count(agents[on], result));
     if (kind == 9) code = CALL(OK | NOTHING | quiet, is_ice_removed_at(agents[on], index, result));
@@ -791,7 +781,7 @@ static void (*const steps[])(void) = {
     play, handle_packet, handle_packet, add_local, add_remote, handle_timeout, poll_transmit, poll_event, poll_timeout, list, list_fields,
     line_fields, candidate_fields, line_parts, json_texts, line_texts, candidate_texts, preferences, find_pair, invalidate, queries,
     credentials, stun_read, stun_write, stun_text, stun_username, stun_response, stun_request, set_bool, set_number, set_limit, set_mtu,
-    set_preference, set_rules, set_credentials, restart, recreate, create, destroy, make_credentials, fail_next, version,
+    set_preference, set_settings, set_credentials, restart, recreate, create, destroy, make_credentials, fail_next, version,
     fields_line, line_with_fields, json_fields, times, grammar, host_address, role, username_parts, hmac, alike};
 
 /* Two agents that know each other's credentials and candidates. */

@@ -84,7 +84,7 @@ static const char *const passwords[AGENTS] = {"password of the left one", "passw
 
 /* What queries say of an agent. */
 struct view {
-    uint64_t values[36];
+    uint64_t values[35];
 };
 
 /* A code as the number of a bit. */
@@ -97,7 +97,7 @@ static unsigned bit_of(int32_t code)
 static void view(is_ice_agent *agent, struct view *v)
 {
     is_ice_agent_status status;
-    is_ice_agent_rules rules;
+    is_ice_agent_settings settings;
     is_ice_agent_stats stats;
     is_ice_nominated_pair path;
     is_ice_pair pair;
@@ -107,13 +107,10 @@ static void view(is_ice_agent *agent, struct view *v)
     uint64_t timeout = 0, *to = v->values;
     *to++ = (uint64_t)status.state, *to++ = status.controlling, *to++ = status.lite, *to++ = status.mtu, *to++ = status.mtu_warn;
     *to++ = status.ice_timeout, *to++ = status.max_candidates;
-    if (is_ice_rules(agent, &rules) == IS_ICE_OK) {
-        *to++ = rules.triggered_checks, *to++ = rules.early_retransmits, *to++ = rules.early_interval, *to++ = rules.early_cap;
-        *to++ = (uint64_t)rules.kinds_in_turn * 2 + rules.selects_at_once, *to++ = rules.consent_timeout;
-        *to++ = (uint64_t)rules.strict_consent * 4 + (uint64_t)rules.selected_first * 2 + rules.timeout_after_requests;
-        *to++ = rules.early_pacing;
-        *to++ = (uint64_t)rules.lite_keeps_role * 2 + rules.numbered_nominations;
-        *to++ = (uint64_t)rules.discovered_if_served * 4 + (uint64_t)rules.state_after_nomination * 2 + rules.invalidates_listed;
+    if (is_ice_settings(agent, &settings) == IS_ICE_OK) {
+        *to++ = settings.timing_advance, *to++ = settings.initial_rto, *to++ = settings.max_rto, *to++ = settings.lite_timeout;
+        *to++ = settings.consent_timeout, *to++ = settings.max_retransmits, *to++ = settings.max_pairs, *to++ = settings.max_discovered;
+        *to++ = (uint64_t)settings.modern * 4 + (uint64_t)settings.strict_consent * 2 + settings.renomination;
     }
     if (is_ice_stats(agent, &stats) == IS_ICE_OK) {
         *to++ = stats.bind_request_sent, *to++ = stats.bind_success_recv, *to++ = stats.bind_request_recv;

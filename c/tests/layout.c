@@ -57,58 +57,50 @@ static void settings(void)
     is_ice_agent_free(&agent);
 }
 
-/* is_ice_agent_rules: what is set is read. */
-static void keeps_rules(is_ice_agent *agent, const is_ice_agent_rules *set)
+/* is_ice_agent_settings: what is set is read, and the room is zero. */
+static void keeps_settings(is_ice_agent *agent, const is_ice_agent_settings *set)
 {
-    is_ice_agent_rules r;
-    memset(&r, 0xff, sizeof r);
-    HOLD(is_ice_set_rules(agent, set) == IS_ICE_OK && is_ice_rules(agent, &r) == IS_ICE_OK && same_agent_rules(&r, set));
+    is_ice_agent_settings s;
+    memset(&s, 0xff, sizeof s);
+    HOLD(is_ice_set_settings(agent, set) == IS_ICE_OK && is_ice_settings(agent, &s) == IS_ICE_OK && same_agent_settings(&s, set));
+    HOLD(s.room[0] == 0 && s.room[1] == 0 && s.room[2] == 0 && s.room[3] == 0);
 }
 
-/* is_ice_agent_rules: the rules of a new agent, those of the original, and each field with a value of its own. */
-static void rules(void)
+/* is_ice_agent_settings: those of a new agent, those of the original, and each field with a value of its own. */
+static void all_settings(void)
 {
     is_ice_agent agent = made();
-    is_ice_agent_rules modern, original, r;
-    memset(&modern, 0, sizeof modern), memset(&original, 0xff, sizeof original), memset(&r, 0, sizeof r);
-    HOLD(is_ice_modern_rules(&modern) == IS_ICE_OK && modern.kinds_in_turn && modern.triggered_checks == 1);
-    HOLD(modern.early_retransmits == 2 && modern.early_interval == 100000000 && modern.early_cap == 350000000 && modern.selects_at_once);
-    HOLD(modern.consent_timeout == 29600000000 && !modern.strict_consent && modern.selected_first && modern.timeout_after_requests);
-    HOLD(modern.lite_keeps_role && modern.numbered_nominations && modern.discovered_if_served && modern.state_after_nomination);
-    HOLD(modern.invalidates_listed);
-    HOLD(modern.early_pacing == 10000000);
-    HOLD(is_ice_original_rules(&original) == IS_ICE_OK && !original.kinds_in_turn && original.triggered_checks == 0);
-    HOLD(original.early_retransmits == 0 && original.early_interval == 0 && original.early_cap == 0 && !original.selects_at_once);
-    HOLD(original.consent_timeout == 0 && !original.strict_consent && !original.selected_first && !original.timeout_after_requests);
-    HOLD(!original.lite_keeps_role && !original.numbered_nominations && !original.discovered_if_served);
-    HOLD(!original.state_after_nomination && !original.invalidates_listed);
-    HOLD(original.early_pacing == 0);
-    HOLD(is_ice_rules(&agent, &r) == IS_ICE_OK && same_agent_rules(&r, &modern));
-    keeps_rules(&agent, &original), keeps_rules(&agent, &modern);
-    r = original, r.kinds_in_turn = true, keeps_rules(&agent, &r);
-    r = original, r.triggered_checks = UINT64_MAX, keeps_rules(&agent, &r);
-    r = original, r.early_retransmits = SIZE_MAX, keeps_rules(&agent, &r);
-    r.early_interval = UINT64_MAX, keeps_rules(&agent, &r);
-    r.early_cap = 1, keeps_rules(&agent, &r);
-    r.early_cap = UINT64_MAX, keeps_rules(&agent, &r);
-    r = original, r.selects_at_once = true, keeps_rules(&agent, &r);
-    r = original, r.consent_timeout = UINT64_MAX, keeps_rules(&agent, &r);
-    r.strict_consent = true, keeps_rules(&agent, &r);
-    r = original, r.early_pacing = 1, keeps_rules(&agent, &r);
-    r.early_pacing = UINT64_MAX, keeps_rules(&agent, &r);
-    r = original, r.selected_first = true, keeps_rules(&agent, &r);
-    r = original, r.timeout_after_requests = true, keeps_rules(&agent, &r);
-    r = original, r.lite_keeps_role = true, keeps_rules(&agent, &r);
-    r = original, r.numbered_nominations = true, keeps_rules(&agent, &r);
-    r = original, r.discovered_if_served = true, keeps_rules(&agent, &r);
-    r = original, r.state_after_nomination = true, keeps_rules(&agent, &r);
-    r = original, r.invalidates_listed = true, keeps_rules(&agent, &r);
-    r = original, r.early_interval = 7, r.early_cap = 7, r.strict_consent = true;
-    HOLD(is_ice_set_rules(&agent, &r) == IS_ICE_OK && is_ice_rules(&agent, &r) == IS_ICE_OK && same_agent_rules(&r, &original));
+    is_ice_agent_settings modern, original, s;
+    memset(&modern, 0, sizeof modern), memset(&original, 0xff, sizeof original), memset(&s, 0, sizeof s);
+    HOLD(is_ice_modern_settings(&modern) == IS_ICE_OK && modern.modern && !modern.strict_consent && !modern.renomination);
+    HOLD(modern.timing_advance == 50000000 && modern.initial_rto == 250000000 && modern.max_rto == 2900000000);
+    HOLD(modern.lite_timeout == 15000000000 && modern.consent_timeout == 0 && modern.max_retransmits == 11);
+    HOLD(modern.max_pairs == 100 && modern.max_discovered == 32 && modern.max_candidates == 100);
+    HOLD(is_ice_original_settings(&original) == IS_ICE_OK && !original.modern && !original.strict_consent && !original.renomination);
+    HOLD(original.timing_advance == 50000000 && original.initial_rto == 250000000 && original.max_rto == 3000000000);
+    HOLD(original.lite_timeout == 15000000000 && original.consent_timeout == 0 && original.max_retransmits == 9);
+    HOLD(original.max_pairs == 100 && original.max_discovered == SIZE_MAX && original.max_candidates == SIZE_MAX);
+    HOLD(is_ice_settings(&agent, &s) == IS_ICE_OK && same_agent_settings(&s, &modern));
+    keeps_settings(&agent, &original), keeps_settings(&agent, &modern);
+    s = original, s.timing_advance = UINT64_MAX, keeps_settings(&agent, &s);
+    s = original, s.initial_rto = UINT64_MAX, keeps_settings(&agent, &s);
+    s = original, s.max_rto = UINT64_MAX, keeps_settings(&agent, &s);
+    s = original, s.lite_timeout = UINT64_MAX, keeps_settings(&agent, &s);
+    s = original, s.consent_timeout = UINT64_MAX, keeps_settings(&agent, &s);
+    s = original, s.max_retransmits = SIZE_MAX, keeps_settings(&agent, &s);
+    s = original, s.max_pairs = SIZE_MAX, keeps_settings(&agent, &s);
+    s = original, s.max_discovered = 0, keeps_settings(&agent, &s);
+    s = original, s.max_candidates = 0, keeps_settings(&agent, &s);
+    s = original, s.modern = true, keeps_settings(&agent, &s);
+    s = original, s.strict_consent = true, keeps_settings(&agent, &s);
+    s = original, s.renomination = true, keeps_settings(&agent, &s);
+    is_ice_agent_settings kept = s;
+    s.max_retransmits = 0;
+    HOLD(is_ice_set_settings(&agent, &s) == IS_ICE_BAD_LIMIT && is_ice_settings(&agent, &s) == IS_ICE_OK && same_agent_settings(&s, &kept));
     is_ice_agent_free(&agent);
-    r = modern;
-    HOLD(is_ice_set_rules(&agent, &original) == IS_ICE_NO_AGENT && is_ice_rules(&agent, &r) == IS_ICE_NO_AGENT);
-    HOLD(same_agent_rules(&r, &modern));
+    s = modern;
+    HOLD(is_ice_set_settings(&agent, &original) == IS_ICE_NO_AGENT && is_ice_settings(&agent, &s) == IS_ICE_NO_AGENT);
+    HOLD(same_agent_settings(&s, &modern));
 }
 
 /* Adds the candidate: its text has this after the foundation. */
@@ -337,7 +329,7 @@ int main(void)
 {
     offsets();
     settings();
-    rules();
+    all_settings();
     candidates();
     alike();
     session();

@@ -106,23 +106,20 @@ static inline const char *other_layout(void)
     if (sizeof(is_ice_preference_table) != 16) return "is_ice_preference_table";
     if (offsetof(is_ice_preference_table, v4) != 0) return "is_ice_preference_table.v4";
     if (offsetof(is_ice_preference_table, v6) != 8) return "is_ice_preference_table.v6";
-    if (sizeof(is_ice_agent_rules) != 64) return "is_ice_agent_rules";
-    if (offsetof(is_ice_agent_rules, triggered_checks) != 0) return "is_ice_agent_rules.triggered_checks";
-    if (offsetof(is_ice_agent_rules, early_retransmits) != 8) return "is_ice_agent_rules.early_retransmits";
-    if (offsetof(is_ice_agent_rules, early_interval) != 16) return "is_ice_agent_rules.early_interval";
-    if (offsetof(is_ice_agent_rules, early_cap) != 24) return "is_ice_agent_rules.early_cap";
-    if (offsetof(is_ice_agent_rules, consent_timeout) != 32) return "is_ice_agent_rules.consent_timeout";
-    if (offsetof(is_ice_agent_rules, early_pacing) != 40) return "is_ice_agent_rules.early_pacing";
-    if (offsetof(is_ice_agent_rules, kinds_in_turn) != 48) return "is_ice_agent_rules.kinds_in_turn";
-    if (offsetof(is_ice_agent_rules, selects_at_once) != 49) return "is_ice_agent_rules.selects_at_once";
-    if (offsetof(is_ice_agent_rules, strict_consent) != 50) return "is_ice_agent_rules.strict_consent";
-    if (offsetof(is_ice_agent_rules, selected_first) != 51) return "is_ice_agent_rules.selected_first";
-    if (offsetof(is_ice_agent_rules, timeout_after_requests) != 52) return "is_ice_agent_rules.timeout_after_requests";
-    if (offsetof(is_ice_agent_rules, lite_keeps_role) != 53) return "is_ice_agent_rules.lite_keeps_role";
-    if (offsetof(is_ice_agent_rules, numbered_nominations) != 54) return "is_ice_agent_rules.numbered_nominations";
-    if (offsetof(is_ice_agent_rules, discovered_if_served) != 55) return "is_ice_agent_rules.discovered_if_served";
-    if (offsetof(is_ice_agent_rules, state_after_nomination) != 56) return "is_ice_agent_rules.state_after_nomination";
-    if (offsetof(is_ice_agent_rules, invalidates_listed) != 57) return "is_ice_agent_rules.invalidates_listed";
+    if (sizeof(is_ice_agent_settings) != 112) return "is_ice_agent_settings";
+    if (offsetof(is_ice_agent_settings, timing_advance) != 0) return "is_ice_agent_settings.timing_advance";
+    if (offsetof(is_ice_agent_settings, initial_rto) != 8) return "is_ice_agent_settings.initial_rto";
+    if (offsetof(is_ice_agent_settings, max_rto) != 16) return "is_ice_agent_settings.max_rto";
+    if (offsetof(is_ice_agent_settings, lite_timeout) != 24) return "is_ice_agent_settings.lite_timeout";
+    if (offsetof(is_ice_agent_settings, consent_timeout) != 32) return "is_ice_agent_settings.consent_timeout";
+    if (offsetof(is_ice_agent_settings, max_retransmits) != 40) return "is_ice_agent_settings.max_retransmits";
+    if (offsetof(is_ice_agent_settings, max_pairs) != 48) return "is_ice_agent_settings.max_pairs";
+    if (offsetof(is_ice_agent_settings, max_discovered) != 56) return "is_ice_agent_settings.max_discovered";
+    if (offsetof(is_ice_agent_settings, max_candidates) != 64) return "is_ice_agent_settings.max_candidates";
+    if (offsetof(is_ice_agent_settings, room) != 72) return "is_ice_agent_settings.room";
+    if (offsetof(is_ice_agent_settings, modern) != 104) return "is_ice_agent_settings.modern";
+    if (offsetof(is_ice_agent_settings, strict_consent) != 105) return "is_ice_agent_settings.strict_consent";
+    if (offsetof(is_ice_agent_settings, renomination) != 106) return "is_ice_agent_settings.renomination";
     if (sizeof(is_ice_stun_transaction) != 12) return "is_ice_stun_transaction";
     if (offsetof(is_ice_stun_transaction, bytes) != 0) return "is_ice_stun_transaction.bytes";
     if (sizeof(is_ice_stun_result) != 32) return "is_ice_stun_result";
@@ -297,24 +294,21 @@ static inline bool same_preference_table(const is_ice_preference_table *a, const
         && same_kind_preferences(&a->v6, &b->v6);
 }
 
-static inline bool same_agent_rules(const is_ice_agent_rules *a, const is_ice_agent_rules *b)
+static inline bool same_agent_settings(const is_ice_agent_settings *a, const is_ice_agent_settings *b)
 {
-    return a->triggered_checks == b->triggered_checks
-        && a->early_retransmits == b->early_retransmits
-        && a->early_interval == b->early_interval
-        && a->early_cap == b->early_cap
+    return a->timing_advance == b->timing_advance
+        && a->initial_rto == b->initial_rto
+        && a->max_rto == b->max_rto
+        && a->lite_timeout == b->lite_timeout
         && a->consent_timeout == b->consent_timeout
-        && a->early_pacing == b->early_pacing
-        && a->kinds_in_turn == b->kinds_in_turn
-        && a->selects_at_once == b->selects_at_once
+        && a->max_retransmits == b->max_retransmits
+        && a->max_pairs == b->max_pairs
+        && a->max_discovered == b->max_discovered
+        && a->max_candidates == b->max_candidates
+        && memcmp(a->room, b->room, sizeof a->room) == 0
+        && a->modern == b->modern
         && a->strict_consent == b->strict_consent
-        && a->selected_first == b->selected_first
-        && a->timeout_after_requests == b->timeout_after_requests
-        && a->lite_keeps_role == b->lite_keeps_role
-        && a->numbered_nominations == b->numbered_nominations
-        && a->discovered_if_served == b->discovered_if_served
-        && a->state_after_nomination == b->state_after_nomination
-        && a->invalidates_listed == b->invalidates_listed;
+        && a->renomination == b->renomination;
 }
 
 static inline bool same_stun_transaction(const is_ice_stun_transaction *a, const is_ice_stun_transaction *b)

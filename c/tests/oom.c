@@ -108,7 +108,7 @@ static void make(struct story *s)
 static void introduce(struct story *s)
 {
     static const is_ice_preference_table table = {{65000, 40000, 30000, 10}, {65001, 40001, 30001, 11}};
-    is_ice_agent_rules rules;
+    is_ice_agent_settings settings;
     uint8_t line[256];
     size_t length, index = 0;
     QUIET(IS_ICE_OK, is_ice_set_lite(&s->b, false));
@@ -127,10 +127,10 @@ static void introduce(struct story *s)
     QUIET(IS_ICE_OK, is_ice_set_local_preference(&s->b, 1));
     QUIET(IS_ICE_OK, is_ice_reset_local_preference(&s->b));
     QUIET(IS_ICE_OK, is_ice_set_preference_table(&s->b, &table));
-    QUIET(IS_ICE_OK, is_ice_original_rules(&rules));
-    QUIET(IS_ICE_OK, is_ice_set_rules(&s->b, &rules));
-    QUIET(IS_ICE_OK, is_ice_modern_rules(&rules));
-    QUIET(IS_ICE_OK, is_ice_set_rules(&s->b, &rules));
+    QUIET(IS_ICE_OK, is_ice_original_settings(&settings));
+    QUIET(IS_ICE_OK, is_ice_set_settings(&s->b, &settings));
+    QUIET(IS_ICE_OK, is_ice_modern_settings(&settings));
+    QUIET(IS_ICE_OK, is_ice_set_settings(&s->b, &settings));
     CALL(s, IS_ICE_OK, is_ice_add_local(&s->a, &host_a, &index));
     CALL(s, IS_ICE_OK, is_ice_add_local(&s->b, &host_b, &index));
     CALL(s, IS_ICE_OK, is_ice_local_candidate(&s->b, index, line, sizeof line, &length));
@@ -317,12 +317,12 @@ static void end(struct story *s)
     is_ice_nominated_pair nominated;
     is_ice_media_path path;
     is_ice_agent_status status;
-    is_ice_agent_rules rules;
+    is_ice_agent_settings settings;
     is_ice_pair pair;
     uint8_t text[64];
     size_t length, count;
     QUIET(IS_ICE_OK, is_ice_status(&s->a, &status));
-    QUIET(IS_ICE_OK, is_ice_rules(&s->a, &rules));
+    QUIET(IS_ICE_OK, is_ice_settings(&s->a, &settings));
     QUIET(IS_ICE_OK, is_ice_early_count(&s->a, &count));
     QUIET(IS_ICE_OK, is_ice_pair_count(&s->a, &count));
     QUIET(IS_ICE_OK, is_ice_pair_at(&s->a, 0, &pair));

@@ -96,7 +96,7 @@ static void create(struct story *s)
 static void set(struct story *s)
 {
     static const is_ice_preference_table table = {{65000, 40000, 30000, 10}, {65001, 40001, 30001, 11}};
-    is_ice_agent_rules rules;
+    is_ice_agent_settings settings;
     CALL(IS_ICE_OK, is_ice_set_controlling(&s->a, true));
     CALL(IS_ICE_OK, is_ice_set_controlling(&s->b, true)); /* a role conflict */
     CALL(IS_ICE_OK, is_ice_set_lite(&s->b, false));
@@ -115,9 +115,9 @@ static void set(struct story *s)
     CALL(IS_ICE_OK, is_ice_set_local_preference(&s->b, 1));
     CALL(IS_ICE_OK, is_ice_set_preference_table(&s->b, &table));
     CALL(IS_ICE_OK, is_ice_reset_local_preference(&s->b));
-    CALL(IS_ICE_OK, is_ice_modern_rules(&rules));
-    CALL(IS_ICE_OK, is_ice_original_rules(&rules));
-    CALL(IS_ICE_OK, is_ice_set_rules(&s->b, &rules));
+    CALL(IS_ICE_OK, is_ice_modern_settings(&settings));
+    CALL(IS_ICE_OK, is_ice_original_settings(&settings));
+    CALL(IS_ICE_OK, is_ice_set_settings(&s->b, &settings));
 }
 
 /* Both have the other's candidates, and b a long one that is not a candidate. */
@@ -192,7 +192,7 @@ static void ask(struct story *s)
 {
     static const char line[] = "candidate:1 1 udp 7 10.0.2.1 5000 typ host";
     is_ice_agent_status status;
-    is_ice_agent_rules rules;
+    is_ice_agent_settings settings;
     is_ice_agent_stats stats;
     is_ice_nominated_pair selected;
     is_ice_media_path path;
@@ -203,7 +203,7 @@ static void ask(struct story *s)
     uint8_t text[512];
     size_t count, length;
     CALL(IS_ICE_OK, is_ice_status(&s->a, &status));
-    CALL(IS_ICE_OK, is_ice_rules(&s->a, &rules));
+    CALL(IS_ICE_OK, is_ice_settings(&s->a, &settings));
     CALL(IS_ICE_OK, is_ice_stats(&s->a, &stats));
     CALL(IS_ICE_OK, is_ice_nominated(&s->a, &selected));
     CALL(IS_ICE_OK, is_ice_valid_path(&s->a, &path));

@@ -112,7 +112,7 @@ static void ask(void)
 {
     static const uint8_t line[] = "candidate:1 1 udp 7 10.0.0.9 9 typ host";
     static const is_ice_stun_transaction id = {{1, 2, 3}};
-    is_ice_agent_rules rules;
+    is_ice_agent_settings settings;
     is_ice_stun_message message;
     is_ice_fields fields;
     uint8_t text[256], json[256];
@@ -122,8 +122,8 @@ static void ask(void)
     must(is_ice_line_from_json(json, json_length, text, sizeof text, &length));
     must(is_ice_stun_request(&id, text, sizeof text, &length));
     must(is_ice_stun_read(text, length, &message));
-    must(is_ice_modern_rules(&rules));
-    HOLD(fields.priority == 7 && message.method == IS_ICE_STUN_BINDING && rules.kinds_in_turn);
+    must(is_ice_modern_settings(&settings));
+    HOLD(fields.priority == 7 && message.method == IS_ICE_STUN_BINDING && settings.modern);
 }
 
 static void *work(void *unused)

@@ -113,9 +113,9 @@ static void settings_are_kept()
     agent.set_controlling(true);
     agent.set_mtu(1200, 1300);
     HOLD(agent.status().controlling && agent.status().mtu == 1200 && !agent.status().lite);
-    is_ice::rules modern = is_ice::modern_rules(), original = is_ice::original_rules();
-    agent.set_rules(original);
-    HOLD(agent.rules().kinds_in_turn == original.kinds_in_turn && modern.kinds_in_turn != original.kinds_in_turn);
+    is_ice::settings modern = is_ice::modern_settings(), original = is_ice::original_settings();
+    agent.set_settings(original);
+    HOLD(agent.settings().modern == original.modern && modern.modern != original.modern);
     agent.set_preference_table({{1, 2, 3, 4}, {5, 6, 7, 8}});
     agent.reset_local_preference();
     agent.set_lite_timeout(30s);

@@ -16,7 +16,7 @@ if (!["controlling", "controlled"].includes(role)) {
 await init();
 const agent = new IceAgent(), loop = new IceLoop(agent);
 agent.setControlling(role === "controlling");
-agent.setRules({ consentTimeout: 5000, strictConsent: true }); // notice a loss after 5 s, not 30:
+agent.setSettings({ consentTimeout: 5000, strictConsent: true }); // notice a loss after 5 s, not 30:
 agent.setMaxStunRto(1000); // the path is checked each second
 let hosts = []; // the sockets' addresses
 

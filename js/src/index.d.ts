@@ -7,7 +7,7 @@ export * from "./errors.js";
 export * from "./events.js";
 export * from "./lines.js";
 export * from "./module.js";
-export * from "./rules.js";
+export * from "./named_settings.js";
 export type { KindPreferences } from "./settings.js";
 export * from "./stun.js";
 export * from "./timing.js";

@@ -13,7 +13,7 @@ export {
   lineFieldsWithAddress, lineFieldsWithUfrag, lineFromJson, lineName, lineRefusal, lineToJson, lineWithAddress, lineWithUfrag,
 } from "./lines.js";
 export { heapUsed, init } from "./module.js";
-export { modernRules, originalRules } from "./rules.js";
+export { modernSettings, originalSettings } from "./named_settings.js";
 export {
   bindingRequest, bindingResponse, hmacSha1, isStun, newTransaction, readMessage, stunUsername, usernameParts, verifyMessage, writeMessage,
 } from "./stun.js";

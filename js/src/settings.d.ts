@@ -1,5 +1,5 @@
+import type { AgentSettings } from "./abi.js";
 import type { IceCreds } from "./credentials.js";
-import type { Rules } from "./rules.js";
 
 /** Local preferences by kind, for one IP version: numbers up to 65535 (RFC 8445, section 5.1.2.1). */
 export interface KindPreferences {
@@ -20,8 +20,8 @@ export class Settings {
   setIceLite(enabled: boolean): void;
   /** Lets each nomination replace the ones before, so that both agents select the same path. Set it at both agents or at none. */
   setRenomination(enabled: boolean): void;
-  /** Sets the rules that are named, and leaves the others as they are. TypeError for a name that is no rule. */
-  setRules(rules: Partial<Rules>): void;
+  /** Sets those that are named, and leaves the others as they are. TypeError for a name that is no setting. `BadLimit`: no check may be sent. */
+  setSettings(settings: Partial<AgentSettings>): void;
   /** Sets the number that decides role conflicts: the agent with the greater one keeps its role. */
   setControlTieBreaker(tieBreaker: bigint | number): void;
   /** Limits the number of pairs, when pairs are next formed. Default: 100. */
@@ -64,5 +64,6 @@ export class Settings {
   readonly iceTimeout: number;
   /** `Infinity`: there is no limit. */
   readonly maxCandidates: number;
-  readonly rules: Rules;
+  /** All that a program may choose. */
+  readonly settings: AgentSettings;
 }

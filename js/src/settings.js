@@ -1,8 +1,8 @@
 // The settings of an agent. A new agent has the values that the library gives it.
 import { checkedCreds } from "./credentials.js";
 import { CALL, Handle, MEMORY, WITH_CREDS } from "./handle.js";
+import { putSettings } from "./named_settings.js";
 import { small, toCount, toNs, whole } from "./numbers.js";
-import { putRules } from "./rules.js";
 import { readStruct, writeStruct } from "./structs.js";
 
 /** The struct of settings and state. */
@@ -22,9 +22,9 @@ export class Settings extends Handle {
     this[CALL]("is_ice_set_renomination", +!!enabled);
   }
 
-  /** Sets the rules that are named. The others stay. */
-  setRules(rules) {
-    this[CALL]("is_ice_set_rules", putRules(this[MEMORY], { ...this.rules, ...rules }));
+  /** Sets those that are named. The others stay. */
+  setSettings(settings) {
+    this[CALL]("is_ice_set_settings", putSettings(this[MEMORY], { ...this.settings, ...settings }));
   }
 
   setControlTieBreaker(tieBreaker) {
@@ -124,9 +124,9 @@ export class Settings extends Handle {
     return this[STATUS].maxCandidates;
   }
 
-  get rules() {
+  get settings() {
     const memory = this[MEMORY];
-    this[CALL]("is_ice_rules", memory.result.arg);
-    return readStruct(memory, "AgentRules");
+    this[CALL]("is_ice_settings", memory.result.arg);
+    return readStruct(memory, "AgentSettings");
   }
 }

@@ -8,7 +8,7 @@ const MS = { read: toMs, write: toNs };
 const BITS = { read: (value) => value, write: (value, name) => whole(value, name) };
 const COUNT = { read: fromCount, write: toCount };
 function unitOf(name) {
-  if (/(timeout|interval|cap|pacing|rto|rtt|delay|lastRequest|due)$/i.test(name)) return MS;
+  if (/(timeout|advance|rto|rtt|delay|lastRequest|due)$/i.test(name)) return MS;
   return name === "priority" || name === "value" ? BITS : COUNT;
 }
 

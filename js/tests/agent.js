@@ -1,7 +1,7 @@
 // One agent, and two: calls, events, errors.
 import assert from "node:assert/strict";
 import { test } from "node:test";
-import { firstRole, IceAgent, IceError, modernRules, newCreds, originalRules } from "is-ice";
+import { firstRole, IceAgent, IceError, modernSettings, newCreds, originalSettings } from "is-ice";
 import { timeToMs, toMs, toNs } from "../src/numbers.js";
 import { closed, host, meet, pair, run } from "./support.js";
 
@@ -86,7 +86,7 @@ test("numbers and words that no call takes", () => {
   for (const count of [-1, 1.5, NaN, "3", null]) assert.throws(() => agent.setMaxDiscovered(count), RangeError, String(count));
   for (const port of [-1, 65536, 1.5, "80", null]) assert.throws(() => agent.addLocalCandidate(host("10.0.0.1", port)), RangeError);
   assert.throws(() => agent.setLocalPreference(65536), RangeError);
-  assert.throws(() => agent.setRules({ consent: 5 }), TypeError);
+  assert.throws(() => agent.setSettings({ consent: 5 }), TypeError);
   assert.throws(() => agent.handlePacket(0, at(1), at(2), "text"), TypeError);
   assert.throws(() => agent.handlePacket(0, at(1), at(2), new Uint8Array(20), "sctp"), TypeError);
   assert.throws(() => agent.addRemoteCandidate(undefined), TypeError);
@@ -122,15 +122,16 @@ test("settings", () => {
   agent.close();
 });
 
-test("rules are those of the header, and one is changed by its name", () => {
-  const agent = new IceAgent(), modern = modernRules(), original = originalRules();
-  assert.deepEqual(agent.rules, modern);
-  assert.deepEqual([modern.consentTimeout, modern.earlyInterval, modern.triggeredChecks, modern.kindsInTurn], [29600, 100, 1, true]);
-  assert.ok(Object.values(original).every((value) => value === 0 || value === false));
-  agent.setRules({ consentTimeout: 5000.5, strictConsent: true });
-  assert.deepEqual(agent.rules, { ...modern, consentTimeout: 5000.5, strictConsent: true });
-  agent.setRules(original);
-  assert.deepEqual(agent.rules, original);
+test("settings are those of the header, and one is changed by its name", () => {
+  const agent = new IceAgent(), modern = modernSettings(), original = originalSettings();
+  assert.deepEqual(agent.settings, modern);
+  assert.deepEqual([modern.modern, modern.maxRto, modern.maxRetransmits, modern.maxDiscovered, modern.maxCandidates], [true, 2900, 11, 32, 100]);
+  assert.deepEqual(original, { ...modern, modern: false, maxRto: 3000, maxRetransmits: 9, maxDiscovered: Infinity, maxCandidates: Infinity });
+  agent.setSettings({ consentTimeout: 5000.5, strictConsent: true });
+  assert.deepEqual(agent.settings, { ...modern, consentTimeout: 5000.5, strictConsent: true });
+  agent.setSettings(original);
+  assert.deepEqual(agent.settings, original);
+  assert.throws(() => agent.setSettings({ maxRetransmits: 0 }), fails("BadLimit"));
   agent.close();
 });
 

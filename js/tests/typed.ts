@@ -1,18 +1,18 @@
 // Compiles under `tsc --strict`: the types fit a caller's program.
 import {
-  addressText, bindingRequest, bindingResponse, Candidate, IceAgent, IceError, init, lineFields, modernRules, newTransaction, readMessage,
+  addressText, bindingRequest, bindingResponse, Candidate, IceAgent, IceError, init, lineFields, modernSettings, newTransaction, readMessage,
   writeMessage,
-  type CandidatePair, type IceAgentEvent, type IceConnectionState, type Rules, type SocketAddress, type Transmit,
+  type CandidatePair, type IceAgentEvent, type IceConnectionState, type AgentSettings, type SocketAddress, type Transmit,
 } from "is-ice";
 import { IceLoop } from "is-ice/node";
 
 await init(new URL("https://example.org/is_ice.wasm"));
 const agent = new IceAgent(undefined, 7n);
-const rules: Rules = modernRules();
-agent.setRules({ ...rules, consentTimeout: 5000 });
-agent.setRules({ strictConsent: true });
-// @ts-expect-error: no such rule
-agent.setRules({ strict: true });
+const settings: AgentSettings = modernSettings();
+agent.setSettings({ ...settings, consentTimeout: 5000 });
+agent.setSettings({ strictConsent: true });
+// @ts-expect-error: no such setting
+agent.setSettings({ strict: true });
 const line: string | null = agent.addLocalCandidate(Candidate.host({ address: "2001:db8::1", port: 1 }));
 agent.handleTimeout(performance.now());
 const at: number | null = agent.pollTimeout();

@@ -49,7 +49,7 @@ def lacking(x: Execution, c: Choice) -> Lacks:
     """Returns the preconditions that do not hold (`CompletesNomination`)."""
     near, last = x.state(c.at, c.side), x.steps[c.at].after[c.side]
     may_end = c.start is not None and may_end_in(x, c.side, c.path, range(c.start, c.at + 1))
-    return lacks(IsFresh=is_new_agent(x.state(0, c.side)), selects_at_once=not c.is_asked or near.rules.selects_at_once,
+    return lacks(IsFresh=is_new_agent(x.state(0, c.side)), selects_at_once=not c.is_asked or near.modern,
                  arrives=c.start is not None, controlled=not last.controlling, IsOnlyPair=is_alone(last, c.path), Ends=not may_end)
 
 

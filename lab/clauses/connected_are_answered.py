@@ -1,4 +1,4 @@
-"""The theorem `connected_are_answered` (`ConnectedAreAnswered`): with the rule `consent`, an agent that is never lite is connected only
+"""The theorem `connected_are_answered` (`ConnectedAreAnswered`): with the profile `Modern`, an agent that is never lite is connected only
 on a path on which a check got a response that was sent less than the timeout before, or, if consent is not strict, on which a check of
 the peer arrived less than 15 s before."""
 
@@ -14,7 +14,7 @@ from .verdict import Verdict, first_of_all
 
 def lacking(x: Execution, c: Choice) -> Lacks:
     """Returns the preconditions that do not hold."""
-    rule = x.steps[c.moment].after[c.side].rules.consent
+    rule = x.steps[c.moment].after[c.side].timing.consent
     return [*connected_have_consent.lacking(x, c), *lacks(AreNeverLite=is_never_lite(x, c.side, c.moment), rule=rule is not None)]
 
 
@@ -27,7 +27,7 @@ def is_alive_by(consent: Consent, now: int, p: Pair) -> bool:
 
 def verdict_of(x: Execution, c: Choice) -> Verdict:
     """Whether it is so after the call."""
-    time, consent = x.time(c.moment), x.steps[c.moment].after[c.side].rules.consent
+    time, consent = x.time(c.moment), x.steps[c.moment].after[c.side].timing.consent
     is_true = consent is not None and any(is_alive_by(consent, x.now(c.moment), p) for p in c.pairs)
     return Verdict("", time, time, time if is_true else None)
 

@@ -3,13 +3,14 @@
 from __future__ import annotations
 
 from ..model import Agent
+from ..pairs import Timing
 from ..scenario import SIDES
 from .execution import Execution, Lacks, lacks
 
 
 def is_new_agent(agent: Agent) -> bool:
-    """Whether the agent is as it was made, in either role and with any rules (`IsNewAgent`, `IsFresh`)."""
-    return agent == Agent(agent.creds, agent.tie_breaker, agent.controlling).with_rules(agent.rules)
+    """Whether the agent is as it was made, in either role and with either profile (`IsNewAgent`, `IsFresh`)."""
+    return agent == Agent(agent.creds, agent.tie_breaker, agent.controlling, timing=Timing(modern=agent.modern))
 
 
 def are_new_agents(x: Execution) -> bool:

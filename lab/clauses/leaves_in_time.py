@@ -40,7 +40,7 @@ class Choice:
 
     def consent(self, x: Execution) -> Consent | None:
         """Returns the rule of the state before the first call."""
-        return x.state(self.first, self.side).rules.consent
+        return x.state(self.first, self.side).timing.consent
 
     def pace(self, x: Execution) -> int:
         """Returns the greatest pacing interval in the rounds (`IsTimed`: `begins`, `keeps`)."""
@@ -130,7 +130,7 @@ def choices(x: Execution) -> Iterator[Choice]:
 
 def is_strict(x: Execution, side: str, at: int) -> bool:
     """Whether consent is strict in the state before the entry."""
-    consent = x.state(at, side).rules.consent
+    consent = x.state(at, side).timing.consent
     return consent is not None and consent.strict
 
 

@@ -7,7 +7,6 @@ from __future__ import annotations
 from collections.abc import Iterator
 from dataclasses import dataclass
 
-from ..kinds import Rules
 from ..model import Agent
 from ..pairs import Pair
 from ..scenario import SIDES
@@ -65,10 +64,10 @@ def pair_bound(x: Execution, side: str, first: int) -> int | None:
     return None if most is None else limits[0] + gathered * (most + signaled)
 
 
-def least_rounds(rules: Rules, retransmits: int, checks: int) -> int | None:
+def least_rounds(is_modern: bool, retransmits: int, checks: int) -> int | None:
     """Returns the least number of rounds that are enough for so many checks: two for each pair that is there at first, one for each that
     there may be later, and one for each nomination that may be sent at once (`AreEnough`). None: no number is."""
-    each = 2 if rules.goes_ahead else 1
+    each = 2 if is_modern else 1
     needed, gained = (each * checks - 1) * retransmits, retransmits - each
     return None if gained <= 0 else max(0, -(-needed // gained))
 
@@ -76,8 +75,8 @@ def least_rounds(rules: Rules, retransmits: int, checks: int) -> int | None:
 def least_later(agent: Agent, is_early: bool, bound: int, selections: int) -> int | None:
     """Returns the least number of rounds after the first one that are enough (`AreEnoughLater`). `is_early`: the pair is due before it."""
     ahead = nominations_ahead(agent, selections)
-    later = least_rounds(agent.rules, agent.timing.retransmits, 2 * bound + bound + ahead)
-    early = least_rounds(agent.rules, agent.timing.retransmits, 2 * len(agent.pairs) + bound + ahead) if is_early else None
+    later = least_rounds(agent.modern, agent.timing.retransmits, 2 * bound + bound + ahead)
+    early = least_rounds(agent.modern, agent.timing.retransmits, 2 * len(agent.pairs) + bound + ahead) if is_early else None
     found = [count for count in (later, None if early is None else max(0, early - 1)) if count is not None]
     return min(found, default=None)
 

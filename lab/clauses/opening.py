@@ -71,7 +71,7 @@ def least_later(x: Execution, side: str, place: int) -> int:
     if len(first.pairs) <= 1 or place + 1 == len(row):
         return 0
     second = x.state(row[place + 1], side)
-    return max(0, min(checks_for(first.rules, 2 * len(first.pairs)) - 2, checks_for(second.rules, 2 * len(second.pairs)) - 1))
+    return max(0, min(checks_for(first.modern, 2 * len(first.pairs)) - 2, checks_for(second.modern, 2 * len(second.pairs)) - 1))
 
 
 class Counts:
@@ -106,7 +106,7 @@ class Counts:
 
     def rounds_for_due(self, place: int, by: int) -> int:
         """Returns how many rounds, at least one, from the call at this place on suffice for the pairs that are due by a time."""
-        return max(checks_for(self._agent(place).rules, self.due_by(place, by)), 1)
+        return max(checks_for(self._agent(place).modern, self.due_by(place, by)), 1)
 
     def _agent(self, place: int) -> Agent:
         return self.x.state(self.timeouts[place], self.side)

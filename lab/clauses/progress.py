@@ -5,7 +5,6 @@ from __future__ import annotations
 from collections.abc import Sequence
 
 from ..clock import MILLISECOND
-from ..kinds import Rules
 from ..model import Agent
 from ..pairs import Pair, Path
 from .execution import Lacks, lacks
@@ -53,9 +52,9 @@ def is_lasting(now: int, agent: Agent, pair: Pair) -> bool:
 
 # ---- how many rounds suffice
 
-def checks_for(rules: Rules, count: int) -> int:
+def checks_for(is_modern: bool, count: int) -> int:
     """Returns how many checks hold so many of the pair that is due first: twice as many, if checks may go ahead (`checks_for`)."""
-    return 2 * count if rules.goes_ahead else count
+    return 2 * count if is_modern else count
 
 
 def nominations_ahead(agent: Agent, selections: int) -> int:
@@ -71,14 +70,14 @@ def due_by(by: int, now: int, agent: Agent) -> int:
 
 def are_as_many_as_due(by: int, agent: Agent, times: Sequence[int]) -> bool:
     """Whether there are as many times as pairs that are due, computed at the first of them (`AreAsManyAsDue`)."""
-    return bool(times) and checks_for(agent.rules, due_by(by, times[0], agent)) <= len(times)
+    return bool(times) and checks_for(agent.modern, due_by(by, times[0], agent)) <= len(times)
 
 
 def are_open_enough(first: Agent, last: Agent, rounds: int, ahead: int = 0) -> bool:
     """Whether there are 2n - 1 rounds for n pairs, and one for each pair that is added, and for each nomination that may be sent at once:
     so many are `ahead`. If checks may go ahead, it is 4n - 1, and two."""
-    needed = checks_for(first.rules, 2 * len(first.pairs) + last.next_number + ahead)
-    return needed <= rounds + 1 + checks_for(first.rules, first.next_number)
+    needed = checks_for(first.modern, 2 * len(first.pairs) + last.next_number + ahead)
+    return needed <= rounds + 1 + checks_for(first.modern, first.next_number)
 
 
 def suffice_for_due(by: int, now: int, first: Agent, second: Agent, later: Sequence[int]) -> bool:

@@ -33,7 +33,7 @@ def others_in(x: Execution, c: Choice, rounds: list[Round]) -> set[int]:
 
 def goes_among(x: Execution, side: str, kind: int, number: int, r: Round) -> Lacks:
     """Kinds take turns at the `handle_timeout` call, and urgent pairs go first (`TakesTurnsAmong`)."""
-    return lacks(turns=takes_turns(x, side, kind, number, r), urgent=x.state(r.moment, side).rules.triggered_checks is not None)
+    return lacks(turns=takes_turns(x, side, kind, number, r), urgent=x.state(r.moment, side).modern)
 
 
 def lacking(x: Execution, c: Choice) -> Lacks:
@@ -72,7 +72,7 @@ def spans(x: Execution, side: str, place: int, pair: int) -> Iterator[Choice]:
     c = Choice(side, pair, row[place], row[place] + 1, delays)
     for later in range(most_rounds(x, side, place, is_in_round)):
         moment = row[place + later]
-        if delays > MOST_DELAYS or not x.state(moment + 1, side).rules.kinds_in_turn:
+        if delays > MOST_DELAYS or not x.state(moment + 1, side).modern:
             return
         kinds |= kinds_at(x, side, moment)
         c = replace(c, end=moment + 1, delays=delays)

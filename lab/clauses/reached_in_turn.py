@@ -50,7 +50,7 @@ def kind_in(agent: Agent, pair: Pair) -> int:
 def takes_turns(x: Execution, side: str, kind: int, number: int, r: Round) -> Lacks:
     """The rule is set at the `handle_timeout` call, and the pair has this kind (`TakesTurns`)."""
     old, new = x.state(r.moment, side), x.state(r.moment + 1, side)
-    return lacks(rule=new.rules.kinds_in_turn, keeps=all(kind_in(old, p) == kind for p in old.pairs if p.number == number))
+    return lacks(rule=new.modern, keeps=all(kind_in(old, p) == kind for p in old.pairs if p.number == number))
 
 
 def kinds_at(x: Execution, side: str, moment: int) -> frozenset[int]:
@@ -133,7 +133,7 @@ def spans(x: Execution, side: str, place: int) -> Iterator[tuple[int, int]]:
     row, kinds, delays = x.timeouts[side], set[int](), 1
     for later in range(most_rounds(x, side, place, is_in_round)):
         moment = row[place + later]
-        if delays > MOST_DELAYS or not x.state(moment + 1, side).rules.kinds_in_turn:
+        if delays > MOST_DELAYS or not x.state(moment + 1, side).modern:
             return
         kinds |= kinds_at(x, side, moment)
         if kinds and 2 * len(kinds) * delays <= later + 1:

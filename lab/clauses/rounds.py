@@ -26,7 +26,7 @@ def least_count(x: Execution, counts: Counts, place: int, due: int) -> int | Non
     side, row = counts.side, counts.timeouts
     first, plain = x.state(row[place], side), counts.rounds_for_due(place, due)
     found = [plain] if plain <= most_rounds(x, side, place, is_between) else []
-    for count in range(max(checks_for(first.rules, 2 * len(first.pairs)) - 1, 1), most_rounds(x, side, place, is_in_round) + 1):
+    for count in range(max(checks_for(first.modern, 2 * len(first.pairs)) - 1, 1), most_rounds(x, side, place, is_in_round) + 1):
         if are_open_enough(first, x.state(row[place + count - 1] + 1, side), count):
             found.append(count)
             break

@@ -1,4 +1,4 @@
-"""`run`, clause `connected_answered` (`PathsAreAlive`): with the rule `consent`, and if the agent was never lite before, the path of
+"""`run`, clause `connected_answered` (`PathsAreAlive`): with the profile `Modern`, and if the agent was never lite before, the path of
 `connected` is that of a pair that is alive by the responses to its checks and the checks of the peer."""
 
 from __future__ import annotations
@@ -13,7 +13,7 @@ from .verdict import Verdict, first_of_all
 
 def lacking(x: Execution, c: Choice) -> Lacks:
     """Returns the preconditions that do not hold."""
-    rule = x.steps[c.moment].after[c.side].rules.consent
+    rule = x.steps[c.moment].after[c.side].timing.consent
     return [*run_connected.lacking(x, c), *lacks(NeverLite=is_never_lite(x, c.side, c.moment), rule=rule is not None)]
 
 

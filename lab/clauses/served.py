@@ -10,7 +10,7 @@ from .execution import Execution, Lacks, Round, lacks
 def is_served(agent: Agent, pair: Pair) -> Lacks:
     """The agent has the rule, a request was served on the pair, and no pair on its path is valid (`IsServed`)."""
     path = agent.path(pair)
-    return lacks(rule=agent.rules.triggered_checks is not None, requested=pair.requests > 0,
+    return lacks(rule=agent.modern, requested=pair.requests > 0,
                  invalid=not any(p.is_valid and agent.path(p) == path for p in agent.pairs))
 
 

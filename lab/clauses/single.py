@@ -64,7 +64,7 @@ def are_enough(x: Execution, side: str, by: int, rounds: list[Round]) -> bool:
 
     If checks may go ahead, it is twice as many, or 4n - 1 and two."""
     first, last = x.state(rounds[0].moment, side), x.state(rounds[-1].behind.stop, side)
-    if checks_for(first.rules, due_by(by, rounds[0].now, first)) <= len(rounds) and are_plain(x, side, rounds):
+    if checks_for(first.modern, due_by(by, rounds[0].now, first)) <= len(rounds) and are_plain(x, side, rounds):
         return True
     return are_open_enough(first, last, len(rounds))
 

@@ -1,4 +1,4 @@
-"""The theorem `states_agree` (`StatesAgree`): by the rule `state_after_nomination`, and with selection at once, an agent that is never
+"""The theorem `states_agree` (`StatesAgree`): with the profile `Modern`, an agent that is never
 lite is Connected or Completed if and only if the path that it selected last is that of a pair that is valid and nominated."""
 
 from __future__ import annotations
@@ -27,25 +27,19 @@ class Choice:
     selected: Path | None
 
 
-def lacks_rule(x: Execution, side: str, name: str, at: int) -> bool:
-    """Whether the rule of this name was off before a call of the side up to this entry, once the session had begun."""
+def is_modern_along(x: Execution, c: Choice) -> bool:
+    """Whether the profile is `Modern` before each call since the session began (`IsModernAlong`)."""
 
     def passes(step: Step) -> bool:
-        agent = step.before[side]
-        return step.entry.side == side and agent.state is not NEW and not getattr(agent.rules, name)
+        agent = step.before[c.side]
+        return step.entry.side == c.side and agent.state is not NEW and not agent.modern
 
-    return any_in(x.indices(("without", side, name), passes), range(at + 1))
-
-
-def have_rules(x: Execution, c: Choice) -> Lacks:
-    """Both rules are set before each call since the session began (`HaveRulesAlong`)."""
-    return lacks(state_after_nomination=not lacks_rule(x, c.side, "state_after_nomination", c.at),
-                 selects_at_once=not lacks_rule(x, c.side, "selects_at_once", c.at))
+    return not any_in(x.indices(("original", c.side), passes), range(c.at + 1))
 
 
 def lacking(x: Execution, c: Choice) -> Lacks:
     """Returns the preconditions that do not hold."""
-    return lacks(IsFresh=is_new_agent(x.state(0, c.side)), AreNeverLite=is_never_lite(x, c.side, c.at), HaveRulesAlong=have_rules(x, c))
+    return lacks(IsFresh=is_new_agent(x.state(0, c.side)), AreNeverLite=is_never_lite(x, c.side, c.at), IsModernAlong=is_modern_along(x, c))
 
 
 def choices(x: Execution) -> Iterator[Choice]:

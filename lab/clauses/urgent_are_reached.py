@@ -23,7 +23,7 @@ from .verdict import Verdict, first_of_all, over
 def puts_urgent_first(x: Execution, side: str, number: int, r: Round) -> Lacks:
     """The `handle_timeout` call selects no path, urgent pairs are checked first, and the pair is urgent (`PutsUrgentFirst`)."""
     old = x.state(r.moment, side)
-    return lacks(rule=old.rules.triggered_checks is not None, quiet=not x.steps[r.moment].selected,
+    return lacks(rule=old.modern, quiet=not x.steps[r.moment].selected,
                  urgent=all(p.is_urgent for p in old.pairs if p.number == number))
 
 

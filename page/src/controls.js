@@ -21,7 +21,7 @@ export class Controls {
     for (const name of Object.keys(LABELS)) $("network").append(this.#range(name));
     $("network").append(this.#cuts(deed));
     $("agents").append(
-      this.#choice("rules", "Rules", { modern: "modern", original: "as the original" }), this.#tick("renomination", "Renomination"),
+      this.#choice("profile", "Profile", { modern: "modern", original: "as the original" }), this.#tick("renomination", "Renomination"),
       this.#number("seed", "Seed"),
       html("p", { className: "hint" }, HINT));
   }

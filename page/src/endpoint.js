@@ -30,7 +30,7 @@ export class Endpoint {
     this.agent = new ice.IceAgent(this.#creds(), this.tieBreaker);
     this.agent.setControlling(settings.controlling);
     this.agent.setRenomination(settings.renomination);
-    this.agent.setRules(settings.rules);
+    this.agent.setSettings({ modern: settings.modern });
   }
 
   #creds() {

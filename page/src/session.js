@@ -135,7 +135,7 @@ export class Session {
     const { settings, ice } = this;
     const own = {
       controlling: settings[`role${side}`] === "controlling", renomination: settings.renomination,
-      rules: settings.rules === "original" ? ice.originalRules() : ice.modernRules(),
+      modern: settings.profile === "modern",
       stun: true, turn: settings[`turn${side}`], port: HOMES[side].port, waitsLast: settings.waitsLast, tieBreaker: settings.ties?.[side],
     };
     const world = {

@@ -14,7 +14,7 @@ export const DEFAULTS = {
   jitter: 0, // added, at most, in ms
   loss: 0, // per cent, one way
   signaling: 50, // the delay of signaling, in ms
-  rules: "modern", // or original
+  profile: "modern", // or original
   renomination: false,
 };
 
@@ -23,7 +23,7 @@ export const RANGES = {
   seed: [1, 999999], deadA: [0, 9], deadB: [0, 9], delay: [1, 400], jitter: [0, 200], loss: [0, 90], signaling: [0, 500],
 };
 const CHOICES = {
-  natA: ["none", "cone", "restricted", "port", "symmetric"], roleA: ["controlling", "controlled"], rules: ["modern", "original"],
+  natA: ["none", "cone", "restricted", "port", "symmetric"], roleA: ["controlling", "controlled"], profile: ["modern", "original"],
 };
 CHOICES.natB = CHOICES.natA;
 CHOICES.roleB = CHOICES.roleA;

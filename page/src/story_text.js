@@ -28,7 +28,7 @@ export class StoryText {
     this.#clock = world.clock;
     this.#starts[side] = `${tieBreaker} ${agent.controlling ? "controlling" : "controlled"}`;
     const words = BEGIN.map((it) => `${side}.${it}`);
-    if (settings.rules.selectsAtOnce) words.unshift(`${side}.rules=modern`);
+    if (settings.modern) words.unshift(`${side}.profile=modern`);
     if (settings.renomination) words.push(`${side}.renomination`);
     this.#add(words.join(" "));
   }

@@ -12,7 +12,7 @@ const NETWORKS = {
   "two homes": {},
   "no NAT": { natA: "none", natB: "none", delay: 100 },
   "a NAT on one side": { natA: "none", natB: "restricted", delay: 25 },
-  "full cones, the original's rules": { natA: "cone", natB: "cone", rules: "original" },
+  "full cones, the original's profile": { natA: "cone", natB: "cone", profile: "original" },
   "both symmetric, with relays": { natA: "symmetric", natB: "symmetric", turnA: true, turnB: true },
   "both symmetric, one relay": { natA: "symmetric", natB: "symmetric", turnB: true, delay: 70 },
   "a role conflict": { roleB: "controlling" },

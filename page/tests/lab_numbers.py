@@ -76,7 +76,7 @@ def agent(settings: dict[str, Any], side: str) -> AgentSettings:
             for n in range(settings[f"dead{side.upper()}"])]
     wifi = InterfaceSettings("wifi", public if is_open else private, "internet" if is_open else f"home {side}", "home", "home")
     return AgentSettings(controlling=settings[f"role{side.upper()}"] == "controlling", renomination=settings["renomination"],
-                         max_rto_ms=2900, retransmits=11, rules=settings["rules"],
+                         max_rto_ms=2900, retransmits=11, profile=settings["profile"],
                          relay=settings[f"turn{side.upper()}"], interface=(*dead, wifi))
 
 

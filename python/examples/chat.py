@@ -20,8 +20,8 @@ class Chat:
     def __init__(self, role, option=None):
         self.agent, self.is_local, self.hosts = IceAgent(), option == "-l", []
         self.agent.set_controlling(role == "controlling")
-        self.agent.set_rules(replace(self.agent.rules, consent=Consent(5 * SECOND, strict=True)))  # notice a loss after 5 s, not 30:
-        self.agent.set_max_stun_rto(SECOND)       # the path is checked each second
+        self.agent.set_settings(replace(          # notice a loss after 5 s, and not 30: the path is checked each second
+            self.agent.settings, consent=Consent(5 * SECOND, strict=True), max_rto=SECOND))
         self.loop = IceLoop(self.agent, self.note, self.hear)
 
     def restart(self):

@@ -1,32 +1,32 @@
-"""How soon both agents select a path, with `poll_timeout` before and after `poll_transmit`, with the original's rules and the modern ones.
+"""How soon both agents select a path, with `poll_timeout` before and after `poll_transmit`, by the original's settings and the modern ones.
 
 Two agents with a host candidate each; 20 ms of delay each way; 200 seeded sessions for each order."""
 import heapq
 import random
 import statistics
 
-from is_ice import Candidate, IceAgent, IceCreds, NominatedSend, Rules, SocketAddress
+from is_ice import Candidate, IceAgent, IceCreds, NominatedSend, Settings, SocketAddress
 
 MS = 1_000_000
 START = 60_000 * MS
 DELAY = 20 * MS
 
 
-def make_agents(rng, rules):
+def make_agents(rng, settings):
     agents = [IceAgent(IceCreds("A" * 8 + name, name * 22), rng.getrandbits(64)) for name in "ab"]
     agents[0].set_controlling(True)
     for me, peer in (agents, agents[::-1]):
-        me.set_rules(rules)
+        me.set_settings(settings)
         me.set_remote_credentials(peer.local_credentials)
     for number, (me, peer) in enumerate((agents, agents[::-1]), 1):
         peer.add_remote_candidate(me.add_local_candidate(Candidate.host(SocketAddress(f"10.0.0.{number}", 5000))))
     return agents
 
 
-def play(timeout_first, rules, seed):
+def play(timeout_first, settings, seed):
     """When the controlling and the controlled agent select their first path, in ms."""
     rng = random.Random(seed)
-    agents = make_agents(rng, rules)
+    agents = make_agents(rng, settings)
     timeouts = [START, START + rng.randrange(50) * MS]
     network, sent, selected = [], 0, [None, None]
     while None in selected:
@@ -49,8 +49,8 @@ def play(timeout_first, rules, seed):
     return [(at - START) / MS for at in selected]
 
 
-for name, rules in (("original", Rules.original()), ("modern", Rules.modern())):
+for name, settings in (("original", Settings.original()), ("modern", Settings.modern())):
     for order in ("before", "after"):
-        controlling, controlled = zip(*(play(order == "before", rules, seed) for seed in range(200)))
-        print(f"{name} rules, poll_timeout {order} poll_transmit: controlling {statistics.median(controlling):.0f} ms, "
+        controlling, controlled = zip(*(play(order == "before", settings, seed) for seed in range(200)))
+        print(f"{name} settings, poll_timeout {order} poll_transmit: controlling {statistics.median(controlling):.0f} ms, "
               f"controlled {statistics.median(controlled):.0f} ms (medians)")

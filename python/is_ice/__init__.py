@@ -60,14 +60,14 @@ from .lines import (
     line_with_address,
     line_with_ufrag,
 )
-from .rules import Consent, EarlyRto, Rules
+from .settings import Consent, Profile, Settings
 
 __all__ = [
     "AddResult", "BadAddress", "BadCandidate", "BadLimit", "BadMessage", "Candidate", "CandidateFields", "CandidateKind", "CandidatePair",
-    "CheckState", "Consent", "CredentialsTooLong", "DiscoveredRecv", "EarlyRto", "HasAgent", "IceAgent", "IceAgentEvent", "IceAgentStats",
+    "CheckState", "Consent", "CredentialsTooLong", "DiscoveredRecv", "HasAgent", "IceAgent", "IceAgentEvent", "IceAgentStats",
     "IceConnectionState", "IceConnectionStateChange", "IceCreds", "IceError", "IceRestart", "KindPreferences", "LiteStaysControlled",
     "MediaPath", "MessageTooLong", "MtuTooSmall", "NoAgent", "NominatedPair", "NominatedSend", "NotUtf8", "OutOfMemory", "PairIdsExhausted",
-    "PriorityTooHigh", "Protocol", "Removal", "RemovedPair", "Rules", "SocketAddress", "TcpType", "TooFewRandomBytes",
+    "PriorityTooHigh", "Profile", "Protocol", "Removal", "RemovedPair", "Settings", "SocketAddress", "TcpType", "TooFewRandomBytes",
     "TooManyCandidates", "Transmit", "Unparsed", "candidate_fields", "candidate_line", "default_local_preference", "has_mdns_name",
     "line_fields", "line_from_json", "line_name", "line_refusal", "line_to_json", "line_with_address", "line_with_ufrag", "new_creds",
 ]

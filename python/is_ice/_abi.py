@@ -277,26 +277,23 @@ class PreferenceTable(ctypes.Structure):
     _fields_ = [("v4", KindPreferences), ("v6", KindPreferences)]
 
 
-class AgentRules(ctypes.Structure):
-    """is_ice_agent_rules."""
+class AgentSettings(ctypes.Structure):
+    """is_ice_agent_settings."""
 
     _fields_ = [
-        ("triggered_checks", c_uint64),
-        ("early_retransmits", c_size_t),
-        ("early_interval", c_uint64),
-        ("early_cap", c_uint64),
+        ("timing_advance", c_uint64),
+        ("initial_rto", c_uint64),
+        ("max_rto", c_uint64),
+        ("lite_timeout", c_uint64),
         ("consent_timeout", c_uint64),
-        ("early_pacing", c_uint64),
-        ("kinds_in_turn", c_bool),
-        ("selects_at_once", c_bool),
+        ("max_retransmits", c_size_t),
+        ("max_pairs", c_size_t),
+        ("max_discovered", c_size_t),
+        ("max_candidates", c_size_t),
+        ("room", c_uint64 * 4),
+        ("modern", c_bool),
         ("strict_consent", c_bool),
-        ("selected_first", c_bool),
-        ("timeout_after_requests", c_bool),
-        ("lite_keeps_role", c_bool),
-        ("numbered_nominations", c_bool),
-        ("discovered_if_served", c_bool),
-        ("state_after_nomination", c_bool),
-        ("invalidates_listed", c_bool),
+        ("renomination", c_bool),
     ]
 
 
@@ -378,7 +375,7 @@ SIZES: dict[type[ctypes.Structure], int] = {
     RemovedPair: 104,
     KindPreferences: 8,
     PreferenceTable: 16,
-    AgentRules: 64,
+    AgentSettings: 112,
     StunTransaction: 12,
     StunResult: 32,
     StunNumber: 16,
@@ -407,9 +404,9 @@ PROTOTYPES: dict[str, list[object]] = {
     "is_ice_set_max_retransmits": [POINTER(Agent), c_size_t],
     "is_ice_retransmit_timeout": [c_uint64, c_uint64, c_size_t, POINTER(c_uint64)],
     "is_ice_retransmit_delay": [c_uint64, c_uint64, c_size_t, c_size_t, POINTER(c_uint64)],
-    "is_ice_modern_rules": [POINTER(AgentRules)],
-    "is_ice_original_rules": [POINTER(AgentRules)],
-    "is_ice_set_rules": [POINTER(Agent), POINTER(AgentRules)],
+    "is_ice_modern_settings": [POINTER(AgentSettings)],
+    "is_ice_original_settings": [POINTER(AgentSettings)],
+    "is_ice_set_settings": [POINTER(Agent), POINTER(AgentSettings)],
     "is_ice_set_mtu": [POINTER(Agent), c_size_t, c_size_t],
     "is_ice_skip_pair_ids": [POINTER(Agent), c_uint64],
     "is_ice_set_local_preference": [POINTER(Agent), c_uint16],
@@ -455,7 +452,7 @@ PROTOTYPES: dict[str, list[object]] = {
     "is_ice_restart": [POINTER(Agent), c_char_p, c_size_t, c_char_p, c_size_t, c_bool],
     "is_ice_recreate_pairs": [POINTER(Agent)],
     "is_ice_status": [POINTER(Agent), POINTER(AgentStatus)],
-    "is_ice_rules": [POINTER(Agent), POINTER(AgentRules)],
+    "is_ice_settings": [POINTER(Agent), POINTER(AgentSettings)],
     "is_ice_stats": [POINTER(Agent), POINTER(AgentStats)],
     "is_ice_nominated": [POINTER(Agent), POINTER(NominatedPair)],
     "is_ice_valid_path": [POINTER(Agent), POINTER(MediaPath)],

@@ -12,17 +12,15 @@ from ._unique import Unique
 from .address import in_range
 from .candidate import KindPreferences, table_of
 from .errors import done
-from .rules import Rules, rules_from, struct_of_rules
-
-_NO_LIMIT = (1 << 64) - 1
+from .settings import NO_LIMIT, Settings, settings_from, struct_of_settings
 
 
 def _limit_of(limit: int | None) -> int:
-    return _NO_LIMIT if limit is None else in_range(limit, 64, "a limit")
+    return NO_LIMIT if limit is None else in_range(limit, 64, "a limit")
 
 
 @one_call_at_a_time
-class Settings(Unique):
+class Setters(Unique):
     """The settings of an `IceAgent`: each can be set at any time."""
 
     _lock: threading.RLock
@@ -32,7 +30,7 @@ class Settings(Unique):
     def set_controlling(self, controlling: bool) -> None:
         """Makes the agent controlling or controlled: controlling on the side that made the offer.
 
-        LiteStaysControlled if a lite agent is to be controlling, and its rules have `lite_keeps_role`.
+        LiteStaysControlled if a lite agent with `Profile.MODERN` is to be controlling.
         """
         done(self._c.is_ice_set_controlling(self._at, controlling))
 
@@ -40,7 +38,7 @@ class Settings(Unique):
         """Makes the agent a lite agent, which has only host candidates and sends no checks, or a full one (RFC 8445, section 2.5).
 
         A lite agent has to be controlled, and its peer a full agent. One that is controlling never finds a path, and no call reports
-        it. So make it lite while it is controlled: by `Rules.lite_keeps_role` it then stays controlled.
+        it. So make it lite while it is controlled: with `Profile.MODERN` it then stays controlled.
         """
         done(self._c.is_ice_set_lite(self._at, enabled))
 
@@ -50,14 +48,18 @@ class Settings(Unique):
         Set it at both agents or at none, and before the first packet: agree on it in signaling, by `a=ice-options:renomination`. A
         controlling agent then puts USE-CANDIDATE only on checks of the pair that it selected last. A controlled agent selects the
         pair on which it received the last request with USE-CANDIDATE, once a check of its own was answered on it; until then it
-        keeps its path. If only the controlled agent has it, its path may change at each check of the peer. By
-        `Rules.numbered_nominations` nominations have numbers besides, as browsers send them, and the greatest one counts.
+        keeps its path. If only the controlled agent has it, its path may change at each check of the peer. With
+        `Profile.MODERN` nominations have numbers besides, as browsers send them, and the greatest one counts.
         """
         done(self._c.is_ice_set_renomination(self._at, enabled))
 
-    def set_rules(self, rules: Rules) -> None:
-        """Sets what the agent does beyond the original's behavior. The peer may have other rules. Default: `Rules.modern()`."""
-        done(self._c.is_ice_set_rules(self._at, byref(struct_of_rules(rules))))
+    def set_settings(self, settings: Settings) -> None:
+        """Sets all that a program may choose. Set it before the session: a pair whose due time is fixed already keeps it, unless an RTO
+        changes. Default: `Settings.modern()`.
+
+        BadLimit if `max_retransmits` is 0. Then nothing is changed.
+        """
+        done(self._c.is_ice_set_settings(self._at, byref(struct_of_settings(settings))))
 
     def set_control_tie_breaker(self, tie_breaker: int) -> None:
         """Sets the number that decides role conflicts: the agent with the greater one keeps its role."""
@@ -95,7 +97,7 @@ class Settings(Unique):
     def set_initial_stun_rto(self, nanoseconds: int) -> None:
         """Sets the time from a pair's first check until the second one is due; it doubles with each further check. Default: 250 ms.
 
-        Early retransmissions (`Rules.early_rto`) have delays of their own.
+        Early retransmissions (`Profile.MODERN`) have delays of their own.
         """
         done(self._c.is_ice_set_initial_rto(self._at, in_range(nanoseconds, 64, "a time")))
 
@@ -115,7 +117,7 @@ class Settings(Unique):
         """Sets after how many checks in a row without a response a pair is removed. BadLimit for 0. Default: 11.
 
         A pair is not removed while the last check may still be answered in time, nor within 15 s of a check of the peer on it. With
-        early retransmissions (`Rules.early_rto`) it is not removed within `ice_timeout` after the first of its checks without a
+        early retransmissions (`Profile.MODERN`) it is not removed within `ice_timeout` after the first of its checks without a
         response, either.
         """
         done(self._c.is_ice_set_max_retransmits(self._at, in_range(limit, 64, "a limit")))
@@ -123,7 +125,7 @@ class Settings(Unique):
     def set_mtu(self, mtu: int, warn: int) -> None:
         """Stores how long a packet may be, and the length to warn about. MtuTooSmall below 588 bytes. Default: 1150 and 1280.
 
-        Checks have at most 588 bytes, or 596 with NOMINATION (`Rules.numbered_nominations`).
+        Checks have at most 588 bytes, or 596 with NOMINATION (`Profile.MODERN` with `set_renomination`).
         """
         done(self._c.is_ice_set_mtu(self._at, in_range(mtu, 64, "an MTU"), in_range(warn, 64, "an MTU")))
 
@@ -178,9 +180,9 @@ class Settings(Unique):
     def max_candidates(self) -> int | None:
         """How many candidates of each side there may be when one is added. None: any number."""
         limit = int(self._status.max_candidates)
-        return None if limit == _NO_LIMIT else limit
+        return None if limit == NO_LIMIT else limit
 
     @property
-    def rules(self) -> Rules:
-        """What the agent does beyond the original's behavior."""
-        return rules_from(self._c.is_ice_rules, self._at)
+    def settings(self) -> Settings:
+        """What is set."""
+        return settings_from(self._c.is_ice_settings, self._at)

@@ -13,7 +13,7 @@ from ._grammar import checked
 from ._library import bytes_from, library, text_from
 from ._locked import holds_the_lock, one_call_at_a_time
 from ._loop_calls import LoopCalls
-from ._settings import Settings
+from ._settings import Setters
 from .address import PROTOCOLS, Protocol, SocketAddress, address_of, in_range, socket_of
 from .candidate import AddResult, Candidate, CandidateFields, fields_of, struct_of
 from .errors import BadCandidate, NoAgent, done, error_of, utf8
@@ -65,7 +65,7 @@ def _removed_of(pair: _abi.RemovedPair) -> RemovedPair:
 
 
 @one_call_at_a_time
-class IceAgent(Settings):
+class IceAgent(Setters):
     """One side of a session. Its names are those of the Rust crate `is`. Times and durations are whole nanoseconds.
 
     Any thread may use it: its calls are made one at a time, and a thread waits for another one's call. It is freed by `close`, at the

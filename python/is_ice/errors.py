@@ -118,7 +118,7 @@ class TooManyCandidates(IceError):
 
 
 class LiteStaysControlled(IceError):
-    """A lite agent that keeps its role (`Rules.lite_keeps_role`) was to be controlling."""
+    """A lite agent with `Profile.MODERN` was to be controlling."""
 
     code = _abi.LITE_STAYS_CONTROLLED
 

@@ -34,7 +34,6 @@ from is_ice import (
     Consent,
     CredentialsTooLong,
     DiscoveredRecv,
-    EarlyRto,
     HasAgent,
     IceAgent,
     IceConnectionState,
@@ -46,10 +45,11 @@ from is_ice import (
     MtuTooSmall,
     NoAgent,
     NominatedSend,
+    Profile,
     Protocol,
     Removal,
     RemovedPair,
-    Rules,
+    Settings,
     SocketAddress,
     TooFewRandomBytes,
     TooManyCandidates,
@@ -106,7 +106,7 @@ def play(agents: tuple[IceAgent, IceAgent], rounds: int = 10) -> tuple[list[obje
 
 
 def last_paths(
-    renomination: bool, numbered: bool = True, sent: list[bytes] | None = None,
+    renomination: bool, profile: Profile = Profile.MODERN, sent: list[bytes] | None = None,
 ) -> tuple[SocketAddress | None, SocketAddress | None]:
     """Plays two agents that rank two paths differently. Returns the address of the first one on the path that each selected last.
 
@@ -117,7 +117,7 @@ def last_paths(
     a.set_controlling(True)
     for agent, other, addresses in ((a, b, (HERE, other_here)), (b, a, (THERE,))):
         agent.set_renomination(renomination)
-        agent.set_rules(dataclasses.replace(agent.rules, numbered_nominations=numbered))
+        agent.set_settings(dataclasses.replace(agent.settings, profile=profile))
         agent.set_remote_credentials(other.local_credentials)
         for preference, address in zip((2000, 1000), addresses, strict=False):
             agent.set_local_preference(preference)
@@ -143,14 +143,19 @@ def last_paths(
     return selected.get(a), selected.get(b)
 
 
-def first_checks(rules: Rules | None, kind: str) -> list[str]:
+def set_profile(agent: IceAgent, profile: Profile) -> None:
+    """Gives the agent this behavior, and leaves its other settings."""
+    agent.set_settings(dataclasses.replace(agent.settings, profile=profile))
+
+
+def first_checks(profile: Profile | None, kind: str) -> list[str]:
     """Returns where the first four checks go, of an agent whose peer has three private host candidates and a public one of this kind.
 
-    None: the agent keeps the rules that it begins with.
+    None: the agent keeps the profile that it begins with.
     """
     agent = IceAgent()
-    if rules is not None:
-        agent.set_rules(rules)
+    if profile is not None:
+        set_profile(agent, profile)
     agent.set_remote_credentials(IceCreds("BBBB", "Q" * 22))
     agent.add_local_candidate(Candidate.host(HERE))
     for number in (2, 3, 4):
@@ -164,10 +169,10 @@ def first_checks(rules: Rules | None, kind: str) -> list[str]:
     return checked
 
 
-def paced(rules: Rules, advance: int = SECOND // 20) -> tuple[int, int]:
+def paced(profile: Profile, advance: int = SECOND // 20) -> tuple[int, int]:
     """Returns how soon after a timeout the next one comes, before the agent has a path, and once that is nominated. Other pairs wait."""
     a, b = agents = two_agents()
-    a.set_rules(rules)
+    set_profile(a, profile)
     a.set_timing_advance(advance)
     for number in (7, 8, 9):
         a.add_remote_candidate(f"candidate:{number} 1 udp {number} 10.0.0.{number} 2000 typ host")
@@ -183,10 +188,10 @@ def paced(rules: Rules, advance: int = SECOND // 20) -> tuple[int, int]:
     return before - BEGINNING, after - before
 
 
-def repeated(rules: Rules) -> list[int]:
+def repeated(profile: Profile) -> list[int]:
     """Returns the times in milliseconds of the checks on a path without responses, of the first 2 seconds."""
     agent = IceAgent()
-    agent.set_rules(rules)
+    set_profile(agent, profile)
     agent.set_remote_credentials(IceCreds("BBBB", "Q" * 22))
     agent.add_local_candidate(Candidate.host(HERE))
     agent.add_remote_candidate(LINE_OF_THERE)
@@ -209,10 +214,10 @@ def has_selected(agent: IceAgent) -> bool:
     return found
 
 
-def selections(rules: Rules) -> list[str]:
+def selections(profile: Profile) -> list[str]:
     """Returns in which calls the controlled one of two agents selects a path, while packets arrive at once."""
     a, b = two_agents()
-    b.set_rules(rules)
+    set_profile(b, profile)
     calls: list[str] = []
 
     def deliver(now: int) -> None:
@@ -249,11 +254,11 @@ def seconds_of_a_cut(agents: tuple[IceAgent, IceAgent]) -> float:
     return (now - begun) / SECOND
 
 
-def seconds_without_responses(consent: Consent | None) -> float:
+def seconds_without_responses(consent: Consent) -> float:
     """Loses all responses to the first agent, and none of the other's checks. Returns how long the first one then is connected, at most a
     minute and a second."""
     a, b = agents = two_agents()
-    a.set_rules(dataclasses.replace(a.rules, consent=consent))
+    a.set_settings(dataclasses.replace(a.settings, consent=consent))
     now, answered = BEGINNING, 0
     while now < BEGINNING + 30 * SECOND or a.stats.bind_success_recv == answered:
         answered, now = a.stats.bind_success_recv, now + SECOND // 20
@@ -276,13 +281,13 @@ def turn_without_responses(a: IceAgent, b: IceAgent, now: int) -> None:
 
 
 def checks_from(beginning: int) -> list[tuple[int, SocketAddress, int]]:
-    """The checks of the controlling one of two agents whose clock starts then, each with its turn of 50 ms; with the original's rules."""
+    """The checks of the controlling one of two agents whose clock starts then, each with its turn of 50 ms; by the original."""
     a, b = two_agents()
     for port in range(1, 5):
         a.add_remote_candidate(f"candidate:1 1 udp 1 10.0.0.9 {port} typ host")
     sent = []
     for agent in (a, b):
-        agent.set_rules(Rules.original())
+        set_profile(agent, Profile.ORIGINAL)
     for turn in range(40):
         now = beginning + turn * SECOND // 20
         for agent, other in ((a, b), (b, a)):
@@ -300,11 +305,11 @@ def is_request(contents: bytes) -> bool:
     return contents[:2] == b"\x00\x01"
 
 
-def has_timeout_after_an_early_request(rules: Rules) -> bool:
+def has_timeout_after_an_early_request(profile: Profile) -> bool:
     """Whether `poll_timeout` returns a time after the first `handle_timeout`, which serves an early request."""
     a, b = two_agents()
     late = IceAgent(a.local_credentials)
-    late.set_rules(rules)
+    set_profile(late, profile)
     late.add_local_candidate(Candidate.host(HERE))
     b.handle_timeout(BEGINNING)
     packet = b.poll_transmit()
@@ -427,21 +432,19 @@ class Sessions(unittest.TestCase):
     def test_a_path_that_is_cut_is_kept_for_almost_30_s(self) -> None:
         self.assertAlmostEqual(seconds_of_a_cut(two_agents()), 29.6, delta=0.1)
         agents = two_agents()
-        for agent in agents:  # as in the original
-            agent.set_max_stun_rto(3 * SECOND)
-            agent.set_max_stun_retransmits(9)
+        for agent in agents:
+            agent.set_settings(Settings.original())
         self.assertAlmostEqual(seconds_of_a_cut(agents), 24.5, delta=0.1)
 
-    def test_a_path_that_is_cut_one_way_ends_by_the_rule_on_consent(self) -> None:
+    def test_a_path_that_is_cut_one_way_ends_by_consent(self) -> None:
         """The peer's checks arrive and its responses are lost. By RFC 7675, section 5.1, only responses keep consent."""
         self.assertAlmostEqual(seconds_without_responses(Consent(29_600_000_000, strict=True)), 29.6, delta=0.1)
         self.assertGreater(seconds_without_responses(Consent(29_600_000_000)), 60)
-        self.assertGreater(seconds_without_responses(None), 60)
 
     def test_a_timeout_after_an_early_request(self) -> None:
         """The first `handle_timeout` serves a request that came before the peer's credentials."""
-        self.assertTrue(has_timeout_after_an_early_request(Rules.modern()))
-        self.assertFalse(has_timeout_after_an_early_request(Rules.original()))
+        self.assertTrue(has_timeout_after_an_early_request(Profile.MODERN))
+        self.assertFalse(has_timeout_after_an_early_request(Profile.ORIGINAL))
 
     def test_a_restart(self) -> None:
         a, b = two_agents()
@@ -500,13 +503,15 @@ class Errors(unittest.TestCase):
 
     def test_settings_begin_as_documented(self) -> None:
         """The defaults of docs/API.md, as c/tests/layout.c and rust/tests/calls.rs have them."""
-        agent, rules = is_ice.IceAgent(), Rules.modern()
+        agent, settings = is_ice.IceAgent(), Settings.modern()
         self.assertEqual((agent.mtu, agent.mtu_warn, agent.ice_timeout, agent.max_candidates), (1150, 1280, 26_700_000_000, 100))
-        self.assertEqual((agent.controlling, agent.ice_lite, agent.rules), (False, False, rules))
-        self.assertEqual((rules.triggered_checks, rules.early_rto), (1, EarlyRto(2, 100_000_000, 350_000_000)))
-        self.assertEqual(rules.consent, Consent(29_600_000_000, strict=False))
-        self.assertTrue(rules.kinds_in_turn and rules.selects_at_once and rules.selected_first and rules.timeout_after_requests)
-        self.assertTrue(rules.lite_keeps_role and rules.numbered_nominations)
+        self.assertEqual((agent.controlling, agent.ice_lite, agent.settings), (False, False, settings))
+        self.assertEqual(settings, Settings(
+            profile=Profile.MODERN, timing_advance=SECOND // 20, initial_rto=SECOND // 4, max_rto=2_900_000_000, max_retransmits=11,
+            lite_timeout=15 * SECOND, consent=Consent(None, strict=False), max_pairs=100, max_discovered=32, max_candidates=100,
+            renomination=False))
+        self.assertEqual(Settings.original(), dataclasses.replace(
+            settings, profile=Profile.ORIGINAL, max_rto=3 * SECOND, max_retransmits=9, max_discovered=None, max_candidates=(1 << 64) - 1))
 
     def test_settings(self) -> None:
         self.assertRaises(MtuTooSmall, self.agent.set_mtu, 587, 1280)
@@ -523,85 +528,59 @@ class Errors(unittest.TestCase):
     def test_renomination(self) -> None:
         self.assertEqual(last_paths(False), (HERE, SocketAddress("10.0.0.3", 1000)))
         self.assertEqual(last_paths(True), (HERE, HERE))
-        self.assertEqual(last_paths(True, numbered=False), (HERE, HERE))
+        self.assertEqual(last_paths(True, Profile.ORIGINAL), (HERE, HERE))
 
     def test_nominations_have_numbers(self) -> None:
         """NOMINATION of draft-thatcher-ice-renomination: type 0xC001, four bytes. The agent selects two paths."""
-        for renomination, numbered, expected in ((True, True, {1, 2}), (True, False, set()), (False, True, set())):
+        for renomination, profile, expected in (
+                (True, Profile.MODERN, {1, 2}), (True, Profile.ORIGINAL, set()), (False, Profile.MODERN, set())):
             sent: list[bytes] = []
-            last_paths(renomination, numbered, sent)
+            last_paths(renomination, profile, sent)
             self.assertEqual({int.from_bytes(number) for packet in sent for number in NOMINATION.findall(packet)}, expected)
 
-    def test_rules(self) -> None:
-        early = EarlyRto(retransmits=2, interval=SECOND // 10, cap=SECOND * 35 // 100)
-        self.assertEqual(self.agent.rules, Rules.modern())
-        self.assertEqual(Rules.modern(), Rules(
-            kinds_in_turn=True, triggered_checks=1, early_rto=early, selects_at_once=True, consent=Consent(29_600_000_000, strict=False),
-            early_pacing=10_000_000, selected_first=True, timeout_after_requests=True, lite_keeps_role=True,
-            numbered_nominations=True, discovered_if_served=True, state_after_nomination=True, invalidates_listed=True))
-        self.assertEqual(Rules.original(), Rules(
-            kinds_in_turn=False, triggered_checks=None, early_rto=None, selects_at_once=False, consent=None,
-            early_pacing=None, selected_first=False, timeout_after_requests=False, lite_keeps_role=False, numbered_nominations=False,
-            discovered_if_served=False, state_after_nomination=False, invalidates_listed=False))
+    def test_settings_are_kept(self) -> None:
         most = (1 << 64) - 1
         changes: tuple[dict[str, Any], ...] = (
-            {"kinds_in_turn": False}, {"triggered_checks": None}, {"triggered_checks": most}, {"early_rto": None},
-            {"early_rto": EarlyRto(most, most, most)}, {"early_rto": EarlyRto(1, 0, 1)}, {"early_rto": EarlyRto(1, 1, 0)},
-            {"selects_at_once": False}, {"consent": None}, {"consent": Consent(most, strict=True)}, {"consent": Consent(1)},
-            {"early_pacing": None}, {"early_pacing": 1}, {"early_pacing": most},
-            {"selected_first": False}, {"timeout_after_requests": False}, {"lite_keeps_role": False}, {"numbered_nominations": False},
-            {"discovered_if_served": False}, {"state_after_nomination": False}, {"invalidates_listed": False},
+            {"profile": Profile.ORIGINAL}, {"profile": Profile.MODERN}, {"timing_advance": most}, {"initial_rto": most}, {"max_rto": most},
+            {"max_retransmits": most}, {"lite_timeout": most}, {"consent": Consent(most, strict=True)}, {"consent": Consent(1)},
+            {"consent": Consent(None, strict=True)}, {"max_pairs": most}, {"max_discovered": None}, {"max_discovered": 0},
+            {"max_candidates": 0}, {"renomination": True},
         )
         for change in changes:
-            for rules in (Rules.modern(), Rules.original()):
-                changed = dataclasses.replace(rules, **change)
-                self.agent.set_rules(changed)
-                self.assertEqual(self.agent.rules, changed)
+            for settings in (Settings.modern(), Settings.original()):
+                changed = dataclasses.replace(settings, **change)
+                self.agent.set_settings(changed)
+                self.assertEqual(self.agent.settings, changed)
 
-    def test_rules_that_count_to_0_are_none(self) -> None:
-        self.agent.set_rules(dataclasses.replace(
-            Rules.original(), triggered_checks=0, early_rto=EarlyRto(0, 7, 8), consent=Consent(0, True),
-            early_pacing=0))
-        self.assertEqual(self.agent.rules, Rules.original())
-
-    def test_rules_that_are_refused(self) -> None:
+    def test_settings_that_are_refused(self) -> None:
         refused: tuple[dict[str, Any], ...] = (
-            {"triggered_checks": -1}, {"triggered_checks": 1 << 64}, {"early_rto": EarlyRto(1 << 64, 0, 0)},
-            {"early_rto": EarlyRto(1, -1, 0)}, {"early_rto": EarlyRto(1, 0, -1)}, {"early_rto": EarlyRto(1, 0, 1 << 64)},
-            {"consent": Consent(-1)}, {"consent": Consent(1 << 64)},
-            {"early_pacing": -1}, {"early_pacing": 1 << 64},
+            {"timing_advance": -1}, {"initial_rto": 1 << 64}, {"max_rto": -1}, {"max_retransmits": 1 << 64}, {"lite_timeout": -1},
+            {"consent": Consent(-1)}, {"consent": Consent(1 << 64)}, {"max_pairs": -1}, {"max_discovered": -1}, {"max_candidates": 1 << 64},
         )
         for change in refused:
-            self.assertRaises(ValueError, self.agent.set_rules, dataclasses.replace(Rules.modern(), **change))
-        self.assertEqual(self.agent.rules, Rules.modern())
+            self.assertRaises(ValueError, self.agent.set_settings, dataclasses.replace(Settings.modern(), **change))
+        self.assertRaises(BadLimit, self.agent.set_settings, dataclasses.replace(Settings.original(), max_retransmits=0))
+        self.assertEqual(self.agent.settings, Settings.modern())
         self.agent.close()
-        self.assertRaises(NoAgent, self.agent.set_rules, Rules.modern())
-        self.assertRaises(NoAgent, lambda: self.agent.rules)
+        self.assertRaises(NoAgent, self.agent.set_settings, Settings.modern())
+        self.assertRaises(NoAgent, lambda: self.agent.settings)
 
     def test_first_checks_are_repeated_early(self) -> None:
         """Without a response: at first an interval apart, then doubled up to the cap; or after the RTO, which doubles."""
-        ms = SECOND // 1000
-        self.assertEqual(repeated(Rules.modern()), [0, 100, 200, 400, 750, 1100, 1450, 1800])
-        self.assertEqual(repeated(Rules.original()), [0, 250, 750, 1750])
-        for early, expected in (
-            (EarlyRto(1, 50 * ms, 500 * ms), [0, 50, 150, 350, 750, 1250, 1750]),
-            (EarlyRto(3, 400 * ms, 100 * ms), [0, 400, 800, 1200, 1600, 2000]),  # a cap below the interval
-        ):
-            self.assertEqual(repeated(dataclasses.replace(Rules.original(), early_rto=early)), expected)
+        self.assertEqual(repeated(Profile.MODERN), [0, 100, 200, 400, 750, 1100, 1450, 1800])
+        self.assertEqual(repeated(Profile.ORIGINAL), [0, 250, 750, 1750])
 
     def test_checks_are_closer_until_the_path_is_nominated(self) -> None:
-        """By the rule, unless Ta is shorter, and at least 5 ms apart."""
+        """10 ms apart, unless Ta is shorter."""
         ms = SECOND // 1000
-        self.assertEqual(paced(Rules.modern()), (10 * ms, 50 * ms))
-        self.assertEqual(paced(Rules.modern(), 10 * ms), (10 * ms, 10 * ms))
-        self.assertEqual(paced(Rules.original()), (50 * ms, 50 * ms))
-        for early, expected in ((1, 5 * ms), (5 * ms + 1, 5 * ms + 1), (60 * ms, 50 * ms)):
-            self.assertEqual(paced(dataclasses.replace(Rules.original(), early_pacing=early)), (expected, 50 * ms))
+        self.assertEqual(paced(Profile.MODERN), (10 * ms, 50 * ms))
+        self.assertEqual(paced(Profile.MODERN, 7 * ms), (7 * ms, 7 * ms))
+        self.assertEqual(paced(Profile.ORIGINAL), (50 * ms, 50 * ms))
 
     def test_a_controlled_agent_selects_at_once(self) -> None:
-        """The request that nominates comes on a valid pair. Without the rule the agent selects it in the next `handle_timeout`."""
-        self.assertEqual(selections(Rules.modern()), ["handle_packet"])
-        self.assertEqual(selections(Rules.original()), ["handle_timeout"])
+        """The request that nominates comes on a valid pair. By the original the agent selects it in the next `handle_timeout`."""
+        self.assertEqual(selections(Profile.MODERN), ["handle_packet"])
+        self.assertEqual(selections(Profile.ORIGINAL), ["handle_timeout"])
 
     def test_kinds_take_turns(self) -> None:
         """The second check goes to the first kind, server-reflexive candidates, and the fourth one to the next kind, host candidates.
@@ -611,8 +590,8 @@ class Errors(unittest.TestCase):
         in_turn, in_order = ["10.0.0.2", "203.0.113.9", "10.0.0.3", "10.0.0.4"], ["10.0.0.2", "10.0.0.3", "10.0.0.4", "203.0.113.9"]
         for kind in ("srflx raddr 0.0.0.0 rport 0", "host"):
             self.assertEqual(first_checks(None, kind), in_turn)
-            self.assertEqual(first_checks(Rules.modern(), kind), in_turn)
-            self.assertEqual(first_checks(Rules.original(), kind), in_order)
+            self.assertEqual(first_checks(Profile.MODERN, kind), in_turn)
+            self.assertEqual(first_checks(Profile.ORIGINAL, kind), in_order)
 
     def test_a_public_base_comes_before_private_ones(self) -> None:
         """Checks go out by priority, except for the second one, which goes to the first kind: only the public base reaches the outside."""
@@ -804,7 +783,7 @@ class Values(unittest.TestCase):
 
     def test_a_removed_pair_has_the_code_of_an_error_response(self) -> None:
         a, b = two_agents()
-        a.set_rules(Rules.original())
+        set_profile(a, Profile.ORIGINAL)
         a.set_max_stun_retransmits(2)
         a.handle_timeout(BEGINNING)
         check = a.poll_transmit()

@@ -12,7 +12,7 @@ import unittest
 from pathlib import Path
 from unittest import mock
 
-from is_ice import Candidate, IceAgent, IceCreds, NominatedSend, OutOfMemory, Rules, SocketAddress
+from is_ice import Candidate, IceAgent, IceCreds, NominatedSend, OutOfMemory, Settings, SocketAddress
 from is_ice.demux import PacketKind, is_stun, packet_kind
 from is_ice.loop import IceLoop
 from is_ice.stun import StunClass, StunMethod, write_message
@@ -157,9 +157,9 @@ class Datagrams(unittest.IsolatedAsyncioTestCase):
         b.loop.close()
 
     async def test_the_agent_stores_checks_until_it_knows_the_peer(self) -> None:
-        for rules, begins_first in itertools.product((Rules.modern(), Rules.original()), (False, True)):
+        for settings, begins_first in itertools.product((Settings.modern(), Settings.original()), (False, True)):
             a, b = await two_sides(known=False)
-            b.agent.set_rules(rules)
+            b.agent.set_settings(settings)
             a.agent.set_remote_credentials(b.agent.local_credentials)
             a.agent.add_remote_candidate(b.agent.local_candidates()[0])
             a.agent.handle_timeout(a.loop.now())
@@ -175,7 +175,7 @@ class Datagrams(unittest.IsolatedAsyncioTestCase):
             if not begins_first:
                 b.loop.begin()
             await asyncio.sleep(0.2)
-            with self.subTest(rules=rules, begins_first=begins_first):
+            with self.subTest(settings=settings, begins_first=begins_first):
                 self.assertEqual((b.agent.early_requests, b.agent.stats.bind_request_recv), (0, 20))
             a.loop.close()
             b.loop.close()

@@ -70,10 +70,10 @@ fn main() -> Result<()> {
     let mut agent = IceAgent::new(IceCreds::new());
     agent.set_controlling(role == "controlling");
     // A lost peer is noticed after 5 s, and not after 30 s, as the path is checked each second.
-    let mut rules = agent.rules();
-    rules.consent = Some(Consent { timeout: Duration::from_secs(5), strict: true });
-    agent.set_rules(rules);
-    agent.set_max_stun_rto(Duration::from_secs(1));
+    let mut settings = agent.settings();
+    settings.consent = Consent { timeout: Some(Duration::from_secs(5)), strict: true };
+    settings.max_rto = Duration::from_secs(1);
+    agent.set_settings(settings);
     let (mut socket, mut timeout, lines) = (UdpSocket::bind("0.0.0.0:0")?, Instant::now(), typed());
     loop {
         let line = lines.try_recv().unwrap_or_default();

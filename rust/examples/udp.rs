@@ -107,7 +107,7 @@ fn main() -> Result<(), Box<dyn Error>> {
 #[cfg(test)]
 mod tests {
     use super::*;
-    use is::Rules;
+    use is::Settings;
 
     /// A check of the peer is replayed from port 0, to which no socket sends: the loop goes on, and both sides connect.
     #[test]
@@ -128,12 +128,12 @@ mod tests {
         Ok(())
     }
 
-    /// How long the controlled side takes from its first check until it selects its path by the original's rules. It is nominated in
+    /// How long the controlled side takes from its first check until it selects its path with the settings of the original. It is nominated in
     /// the first milliseconds, since the clock of the other side runs ahead. Media of a stranger arrives all the time.
     fn time_among_media() -> Result<Duration, Box<dyn Error>> {
         let (mut a, mut b) = introduced()?;
         let stranger = UdpSocket::bind("127.0.0.1:0")?;
-        b.agent.set_rules(Rules::original());
+        b.agent.set_settings(Settings::original());
         let begun = Instant::now();
         let mut ahead = begun;
         while b.peer.is_none() {
@@ -151,7 +151,7 @@ mod tests {
         Ok(begun.elapsed())
     }
 
-    /// By the original's rules a controlled side selects its path in the next `handle_timeout`: one pacing interval after its check,
+    /// With the settings of the original a controlled side selects its path in the next `handle_timeout`: one pacing interval after its check,
     /// and not when the next one is due.
     #[test]
     fn media_delays_no_timeout() -> Result<(), Box<dyn Error>> {

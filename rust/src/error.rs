@@ -62,7 +62,7 @@ pub enum CallError {
     BadLimit,
     /// There are as many candidates of the side as [`IceAgent::set_max_candidates`](crate::IceAgent::set_max_candidates) allows.
     TooManyCandidates,
-    /// A lite agent that keeps its role ([`Rules::lite_keeps_role`](crate::Rules::lite_keeps_role)) was to be controlling.
+    /// A lite agent with [`Profile::Modern`](crate::Profile::Modern) was to be controlling.
     LiteStaysControlled,
     /// Another code of `c/is_ice.h`, which no call of this crate returns.
     Other(i32),

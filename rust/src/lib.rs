@@ -22,6 +22,7 @@
 //!   package with serde.
 
 mod agent;
+mod all_settings;
 mod builder;
 mod candidate;
 mod creds;
@@ -34,7 +35,6 @@ mod pair;
 mod preference;
 mod proto;
 mod removed;
-mod rules;
 #[cfg(feature = "serde")]
 mod serde;
 mod session_log;
@@ -45,6 +45,7 @@ mod stun_texts;
 mod stun_timing;
 
 pub use agent::IceAgent;
+pub use all_settings::{Consent, Profile, Settings};
 pub use builder::CandidateBuilder;
 pub use candidate::{Candidate, CandidateKind};
 pub use creds::IceCreds;
@@ -55,5 +56,4 @@ pub use pair::{CandidatePair, CheckState};
 pub use preference::{KindPreferences, LocalPreference, PreferenceTable, default_local_preference, try_default_local_preference};
 pub use proto::{Protocol, TcpType};
 pub use removed::{Removal, RemovedPair};
-pub use rules::{Consent, EarlyRto, Rules};
 pub use session_log::SessionLog;

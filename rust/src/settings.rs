@@ -83,7 +83,7 @@ impl IceAgent {
     /// Makes the agent a lite agent, which has only host candidates and sends no checks, or a full one.
     ///
     /// A lite agent has to be controlled, and its peer a full agent. One that is controlling never finds a path, and no call reports it.
-    /// So make it lite while it is controlled: by [`Rules::lite_keeps_role`](crate::Rules::lite_keeps_role) it then stays controlled.
+    /// So make it lite while it is controlled: with [`Profile::Modern`](crate::Profile::Modern) it then stays controlled.
     pub fn set_ice_lite(&mut self, enabled: bool) {
         self.set(|agent| ffi::is_ice_set_lite(agent, enabled));
     }
@@ -96,7 +96,7 @@ impl IceAgent {
     /// pair on which it received the last request with USE-CANDIDATE, once a check of its own was answered on it; until then it
     /// keeps its path. If only the controlled agent has it, its path may change at each check of the peer.
     ///
-    /// By [`Rules::numbered_nominations`](crate::Rules::numbered_nominations) nominations have numbers besides, as browsers send them, and
+    /// With [`Profile::Modern`](crate::Profile::Modern) nominations have numbers besides, as browsers send them, and
     /// the greatest one counts.
     pub fn set_renomination(&mut self, enabled: bool) {
         self.set(|agent| ffi::is_ice_set_renomination(agent, enabled));
@@ -108,14 +108,14 @@ impl IceAgent {
     }
 
     /// Sets the time from a pair's first check until the second one is due; it doubles with each further check. Early retransmissions
-    /// ([`Rules::early_rto`](crate::Rules::early_rto)) have delays of their own. Default: 250 ms.
+    /// ([`Profile::Modern`](crate::Profile::Modern)) have delays of their own. Default: 250 ms.
     pub fn set_initial_stun_rto(&mut self, timeout: Duration) {
         self.set(|agent| ffi::is_ice_set_initial_rto(agent, nanoseconds(timeout)));
     }
 
     /// Sets the longest time from one check of a pair until the next one is due. Default: 2.9 s; in the original 3 s. With few pairs
     /// and the default values a path that stops responding is removed within 29.6 s of the last check that got a response. However many
-    /// pairs there are, [`Rules::consent`](crate::Rules::consent) ends it by then.
+    /// pairs there are, [`Consent`](crate::Consent) ends it by then.
     pub fn set_max_stun_rto(&mut self, timeout: Duration) {
         self.set(|agent| ffi::is_ice_set_max_rto(agent, nanoseconds(timeout)));
     }
@@ -129,7 +129,7 @@ impl IceAgent {
 
     /// Sets after how many checks in a row without a response a pair is removed. It is not removed while the last check may still
     /// be answered in time, nor within 15 s of a check of the peer on it. With early retransmissions
-    /// ([`Rules::early_rto`](crate::Rules::early_rto)) it is not removed within [`IceAgent::ice_timeout`] after the first of its checks
+    /// ([`Profile::Modern`](crate::Profile::Modern)) it is not removed within [`IceAgent::ice_timeout`] after the first of its checks
     /// without a response, either. Default: 11; in the original 9.
     ///
     /// # Panics
@@ -182,7 +182,7 @@ impl IceAgent {
     ///
     /// # Panics
     ///
-    /// If a lite agent is to be controlling, and its rules have [`Rules::lite_keeps_role`](crate::Rules::lite_keeps_role).
+    /// If a lite agent with [`Profile::Modern`](crate::Profile::Modern) is to be controlling.
     /// `try_set_controlling` returns an error then.
     #[track_caller]
     pub fn set_controlling(&mut self, controlling: bool) {

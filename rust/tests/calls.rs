@@ -3,8 +3,8 @@
 mod world;
 
 use is::stun::{StunMessage, StunPacket};
-use is::{CallError, Candidate, CandidateKind, CheckState, Consent, EarlyRto, IceAgent, IceAgentEvent, IceConnectionState, IceCreds};
-use is::{IceError, KindPreferences, LocalPreference, PreferenceTable, Protocol, Rules, StunError, TcpType};
+use is::{CallError, Candidate, CandidateKind, CheckState, Consent, IceAgent, IceAgentEvent, IceConnectionState, IceCreds};
+use is::{IceError, KindPreferences, LocalPreference, PreferenceTable, Profile, Protocol, Settings, StunError, TcpType};
 use std::time::{Duration, Instant};
 use world::{at, creds, host, ms};
 
@@ -100,9 +100,16 @@ fn checks_go_out_after(mut agent: IceAgent, delays: &[u64]) {
     assert!(agent.state().is_disconnected());
 }
 
-/// By the rules of a new agent: when the checks after the first one are due, until the last one, and then the end.
+/// By the settings of a new agent: when the checks after the first one are due, until the last one, and then the end.
 fn early_checks(last: u64, end: u64) -> Vec<u64> {
     [100, 200].into_iter().chain((400..=last).step_by(350)).chain([end]).collect()
+}
+
+/// Gives the agent this behavior, and leaves its other settings.
+fn set_profile(agent: &mut IceAgent, profile: Profile) {
+    let mut settings = agent.settings();
+    settings.profile = profile;
+    agent.set_settings(settings);
 }
 
 #[test]
@@ -110,21 +117,11 @@ fn checks_go_out_by_the_schedule() {
     // the last check is the first one after `ice_timeout`, which is 26.7 s here and 9.3 s below, and the end is one RTO later
     checks_go_out_after(paired(), &early_checks(27000, 29900));
     let mut agent = paired();
-    agent.set_rules(Rules::original());
+    set_profile(&mut agent, Profile::Original);
     checks_go_out_after(agent, &[250, 750, 1750, 3750, 6650, 9550, 12450, 15350, 18250, 21150, 24050]);
     let mut few = paired();
     few.set_max_stun_retransmits(5);
     checks_go_out_after(few, &early_checks(9500, 12400));
-    let (mut doubled, mut rules) = (paired(), Rules::original());
-    rules.early_rto = Some(EarlyRto { retransmits: 1, interval: ms(50), cap: ms(400) });
-    doubled.set_rules(rules);
-    doubled.set_max_stun_retransmits(2);
-    checks_go_out_after(doubled, &[50, 150, 350, 750, 1150, 1650]);
-    let (mut even, mut rules) = (paired(), Rules::original());
-    rules.early_rto = Some(EarlyRto { retransmits: 1, interval: ms(400), cap: ms(50) });
-    even.set_rules(rules);
-    even.set_max_stun_retransmits(2);
-    checks_go_out_after(even, &[400, 800, 1200, 1700]);
 }
 
 #[test]
@@ -249,68 +246,62 @@ fn delays_are_set() {
 }
 
 #[test]
-fn rules_begin_as_documented() {
-    let (modern, original) = (Rules::modern(), Rules::original());
-    assert_eq!(IceAgent::new(creds("near")).rules(), modern);
-    assert!(modern.kinds_in_turn && modern.selects_at_once && modern.selected_first && modern.timeout_after_requests);
-    assert!(modern.lite_keeps_role && modern.numbered_nominations && !original.lite_keeps_role && !original.numbered_nominations);
-    assert!(modern.discovered_if_served && modern.state_after_nomination && modern.invalidates_listed);
-    assert!(!original.discovered_if_served && !original.state_after_nomination && !original.invalidates_listed);
-    assert_eq!(modern.consent, Some(Consent { timeout: ms(29_600), strict: false }));
-    assert_eq!(modern.triggered_checks, Some(1));
-    assert_eq!(modern.early_rto, Some(EarlyRto { retransmits: 2, interval: ms(100), cap: ms(350) }));
-    assert!(!original.kinds_in_turn && !original.selects_at_once && !original.selected_first && !original.timeout_after_requests);
-    assert_eq!((original.triggered_checks, original.early_rto, original.consent), (None, None, None));
-    assert_eq!((modern.early_pacing, original.early_pacing), (Some(ms(10)), None));
+fn the_named_settings_are_as_documented() {
+    let (modern, original) = (Settings::modern(), Settings::original());
+    assert_eq!(IceAgent::new(creds("near")).settings(), modern);
+    assert_eq!((modern.profile, original.profile), (Profile::Modern, Profile::Original));
+    assert_eq!((modern.max_rto, original.max_rto), (ms(2900), ms(3000)));
+    assert_eq!((modern.max_retransmits, original.max_retransmits), (11, 9));
+    assert_eq!((modern.max_discovered, original.max_discovered), (Some(32), None));
+    assert_eq!((modern.max_candidates, original.max_candidates), (100, usize::MAX));
+    for settings in [modern, original] {
+        assert_eq!((settings.timing_advance, settings.initial_rto, settings.lite_timeout), (ms(50), ms(250), ms(15_000)));
+        assert_eq!(settings.consent, Consent { timeout: None, strict: false });
+        assert_eq!((settings.max_pairs, settings.renomination), (100, false));
+    }
 }
 
-/// The rules of an agent after these were set.
-fn rules_after(rules: Rules) -> Rules {
+/// The settings of an agent after these were set.
+fn settings_after(settings: Settings) -> Settings {
     let mut agent = IceAgent::new(creds("near"));
-    agent.set_rules(rules);
-    agent.rules()
+    agent.set_settings(settings);
+    agent.settings()
 }
 
 #[test]
-fn rules_are_set() {
+fn settings_are_set() {
     const MOST: Duration = Duration::from_nanos(u64::MAX);
-    let changes: [fn(&mut Rules); 19] = [
-        |rules| *rules = Rules::original(),
-        |rules| rules.kinds_in_turn = !rules.kinds_in_turn,
-        |rules| rules.triggered_checks = Some(u64::MAX),
-        |rules| rules.early_rto = Some(EarlyRto { retransmits: usize::MAX, interval: MOST, cap: MOST }),
-        |rules| rules.early_rto = Some(EarlyRto { retransmits: 1, interval: Duration::ZERO, cap: ms(1) }),
-        |rules| rules.early_rto = Some(EarlyRto { retransmits: 1, interval: ms(1), cap: Duration::ZERO }),
-        |rules| rules.selects_at_once = !rules.selects_at_once,
-        |rules| rules.consent = Some(Consent { timeout: MOST, strict: true }),
-        |rules| rules.consent = Some(Consent { timeout: Duration::from_nanos(1), strict: false }),
-        |rules| rules.early_pacing = None,
-        |rules| rules.early_pacing = Some(Duration::from_nanos(1)),
-        |rules| rules.early_pacing = Some(MOST),
-        |rules| rules.selected_first = !rules.selected_first,
-        |rules| rules.timeout_after_requests = !rules.timeout_after_requests,
-        |rules| rules.lite_keeps_role = !rules.lite_keeps_role,
-        |rules| rules.numbered_nominations = !rules.numbered_nominations,
-        |rules| rules.discovered_if_served = !rules.discovered_if_served,
-        |rules| rules.state_after_nomination = !rules.state_after_nomination,
-        |rules| rules.invalidates_listed = !rules.invalidates_listed,
+    let changes: [fn(&mut Settings); 14] = [
+        |settings| *settings = Settings::original(),
+        |settings| settings.profile = Profile::Original,
+        |settings| settings.profile = Profile::Modern,
+        |settings| settings.timing_advance = MOST,
+        |settings| settings.initial_rto = MOST,
+        |settings| settings.max_rto = MOST,
+        |settings| settings.max_retransmits = usize::MAX,
+        |settings| settings.lite_timeout = MOST,
+        |settings| settings.consent = Consent { timeout: Some(MOST), strict: true },
+        |settings| settings.consent = Consent { timeout: None, strict: true },
+        |settings| settings.max_pairs = usize::MAX,
+        |settings| settings.max_discovered = Some(0),
+        |settings| settings.max_candidates = 0,
+        |settings| settings.renomination = true,
     ];
     for change in changes {
-        for mut rules in [Rules::modern(), Rules::original()] {
-            change(&mut rules);
-            assert_eq!(rules_after(rules), rules);
+        for mut settings in [Settings::modern(), Settings::original()] {
+            change(&mut settings);
+            assert_eq!(settings_after(settings), settings);
         }
     }
 }
 
 #[test]
-fn rules_that_count_to_0_are_none() {
-    let mut rules = Rules::original();
-    rules.triggered_checks = Some(0);
-    rules.early_rto = Some(EarlyRto { retransmits: 0, interval: ms(7), cap: ms(8) });
-    rules.consent = Some(Consent { timeout: Duration::ZERO, strict: true });
-    rules.early_pacing = Some(Duration::ZERO);
-    assert_eq!(rules_after(rules), Rules::original());
+fn settings_without_a_check_are_refused() {
+    let mut agent = IceAgent::new(creds("near"));
+    let mut settings = Settings::original();
+    settings.max_retransmits = 0;
+    assert!(agent.try_set_settings(settings).is_err());
+    assert_eq!(agent.settings(), Settings::modern());
 }
 
 /// Where the first four checks go of an agent whose peer has three private host candidates and a public one of this kind.
@@ -338,7 +329,7 @@ fn kinds_take_turns() {
     for kind in ["srflx raddr 0.0.0.0 rport 0", "host"] {
         assert_eq!(first_checks(IceAgent::new(creds("near")), kind), ["10.0.0.2", "203.0.113.9", "10.0.0.3", "10.0.0.4"]);
         let mut original = IceAgent::new(creds("near"));
-        original.set_rules(Rules::original());
+        set_profile(&mut original, Profile::Original);
         assert_eq!(first_checks(original, kind), ["10.0.0.2", "10.0.0.3", "10.0.0.4", "203.0.113.9"]);
     }
 }
@@ -359,11 +350,9 @@ fn a_public_base_comes_before_private_ones() {
 }
 
 /// How soon after its first timeout the next one of an agent comes, which has three pairs to check.
-fn next_timeout(early_pacing: Option<Duration>, advance: Duration) -> Duration {
+fn next_timeout(profile: Profile, advance: Duration) -> Duration {
     let mut agent = IceAgent::new(creds("near"));
-    let mut rules = Rules::original();
-    rules.early_pacing = early_pacing;
-    agent.set_rules(rules);
+    set_profile(&mut agent, profile);
     agent.set_timing_advance(advance);
     agent.set_remote_credentials(creds("farr"));
     agent.add_local_candidate(host("10.0.0.1:1000")).expect("a candidate");
@@ -378,11 +367,9 @@ fn next_timeout(early_pacing: Option<Duration>, advance: Duration) -> Duration {
 
 #[test]
 fn checks_are_closer_until_there_is_a_path() {
-    assert_eq!(next_timeout(None, ms(50)), ms(50));
-    assert_eq!(next_timeout(Some(ms(20)), ms(50)), ms(20));
-    assert_eq!(next_timeout(Some(ms(20)), ms(10)), ms(10));
-    assert_eq!(next_timeout(Some(ms(1)), ms(50)), ms(5));
-    assert_eq!(next_timeout(Some(ms(60)), ms(50)), ms(50));
+    assert_eq!(next_timeout(Profile::Original, ms(50)), ms(50));
+    assert_eq!(next_timeout(Profile::Modern, ms(50)), ms(10));
+    assert_eq!(next_timeout(Profile::Modern, ms(7)), ms(7));
 }
 
 #[test]

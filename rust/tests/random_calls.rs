@@ -7,7 +7,7 @@ mod random;
 
 use is::stun::{BindingResponse, StunMessage, StunMessageBuilder, StunPacket, StunTiming, TransId};
 use is::{Candidate, CandidateKind, DefaultSha1HmacProvider, IceAgent, IceAgentEvent, IceCreds, Sha1HmacProvider, TcpType};
-use is::{Consent, EarlyRto, KindPreferences, PreferenceTable, Protocol, Rules, SessionLog};
+use is::{Consent, KindPreferences, PreferenceTable, Profile, Protocol, SessionLog, Settings};
 use random::Random;
 use random::looks::{PASSWORD, is_named_by_a_word, look_at_candidate, look_at_message, look_at_pair};
 use std::hint::black_box;
@@ -206,35 +206,30 @@ impl Session {
 
     // ---- settings
 
-    /// Rules of a name, or each on or off with any numbers.
-    fn rules(&mut self) -> Rules {
-        let (count, retransmits) = (self.random.number(), self.random.number());
-        let (interval, cap) = (self.random.duration(), self.random.duration());
-        let mut rules = if self.random.once_in(2) { Rules::modern() } else { Rules::original() };
+    /// Settings of a name, or each of any value.
+    fn settings(&mut self) -> Settings {
+        let mut settings = if self.random.once_in(2) { Settings::modern() } else { Settings::original() };
         if self.random.once_in(2) {
-            return rules;
+            return settings;
         }
-        rules.kinds_in_turn = self.random.once_in(2);
-        rules.selects_at_once = self.random.once_in(2);
-        rules.selected_first = self.random.once_in(2);
-        rules.timeout_after_requests = self.random.once_in(2);
-        rules.lite_keeps_role = self.random.once_in(2);
-        rules.numbered_nominations = self.random.once_in(2);
-        rules.discovered_if_served = self.random.once_in(2);
-        rules.state_after_nomination = self.random.once_in(2);
-        rules.invalidates_listed = self.random.once_in(2);
-        rules.triggered_checks = self.random.once_in(2).then_some(count as u64);
-        rules.early_rto = self.random.once_in(2).then_some(EarlyRto { retransmits, interval, cap });
+        settings.profile = if self.random.once_in(2) { Profile::Modern } else { Profile::Original };
+        settings.timing_advance = self.random.duration();
+        (settings.initial_rto, settings.max_rto) = (self.random.duration(), self.random.duration());
+        settings.max_retransmits = self.random.number();
+        settings.lite_timeout = self.random.duration();
         let (timeout, strict) = (self.random.duration(), self.random.once_in(2));
-        rules.consent = self.random.once_in(2).then_some(Consent { timeout, strict });
-        rules.early_pacing = self.random.once_in(2).then_some(interval);
-        rules
+        settings.consent = Consent { timeout: self.random.once_in(2).then_some(timeout), strict };
+        let limit = self.random.number();
+        settings.max_discovered = self.random.once_in(2).then_some(limit);
+        (settings.max_pairs, settings.max_candidates) = (self.random.number(), self.random.number());
+        settings.renomination = self.random.once_in(2);
+        settings
     }
 
     fn set(&mut self) {
         let (number, duration, creds) = (self.random.number(), self.random.duration(), self.random.creds());
         let (flag, side) = (self.random.once_in(2), self.side());
-        let (table, rules) = (self.table(), self.rules());
+        let (table, settings) = (self.table(), self.settings());
         self.timing();
         let agent = &mut self.agents[side];
         match self.random.below(20) {
@@ -258,7 +253,7 @@ impl Session {
             14 => agent.set_controlling(flag),
             15 => _ = black_box(agent.try_set_local_credentials(creds)),
             16 => _ = black_box(agent.try_set_remote_credentials(creds)),
-            17 => agent.set_rules(rules),
+            17 => _ = black_box(agent.try_set_settings(settings)),
             18 => agent.set_max_candidates(flag.then_some(number)),
             _ => {
                 agent.set_local_credentials(self::creds("near"));
@@ -301,7 +296,7 @@ impl Session {
             agent.state(),
             agent.stats(),
         ));
-        black_box((agent.state().is_connected(), agent.state().is_disconnected(), agent.rules()));
+        black_box((agent.state().is_connected(), agent.state().is_disconnected(), agent.settings()));
         black_box((agent.nominated_pair_rtt(), agent.nominated_pair_total_rtt(), agent.nominated_pair_responses_received()));
         black_box((agent.selected_path(), agent.valid_path(), agent.has_viable_remote_candidate(address), agent.pairs().count()));
         let (local, remote) = (agent.try_local_candidates().unwrap(), agent.try_remote_candidates().unwrap());

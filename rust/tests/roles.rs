@@ -2,7 +2,7 @@
 
 mod world;
 
-use is::{CallError, IceConnectionState};
+use is::{CallError, IceConnectionState, Settings};
 use std::time::Duration;
 use world::{World, at, host, ms};
 
@@ -78,13 +78,13 @@ fn a_lite_agent_that_stays_controlling_finds_no_path() {
     assert_eq!((world.sides[0].path(), world.sides[1].path()), (None, None));
 }
 
-/// A full agent and a lite one, both controlled; the full one has the greater tie-breaker. By the rule the lite one `keeps` its role.
+/// A full agent and a lite one, both controlled; the full one has the greater tie-breaker. By its profile the lite one `keeps` its role.
 fn controlled_beside_lite(keeps: bool) -> World {
     let mut world = claim([false, false]);
     let lite = &mut world.sides[1].agent;
-    let mut rules = lite.rules();
-    rules.lite_keeps_role = keeps;
-    lite.set_rules(rules);
+    if !keeps {
+        lite.set_settings(Settings::original());
+    }
     lite.set_ice_lite(true);
     world
 }
@@ -101,7 +101,7 @@ fn a_lite_agent_keeps_its_role() {
 }
 
 #[test]
-fn without_the_rule_the_tie_breaker_makes_it_controlling() {
+fn by_the_original_the_tie_breaker_makes_it_controlling() {
     let mut world = controlled_beside_lite(false);
     world.pass(Duration::from_secs(60));
     assert!(!world.left().controlling() && world.right().controlling());

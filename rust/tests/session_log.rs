@@ -4,7 +4,7 @@ mod world;
 
 use is::stun::{StunMessage, StunMessageBuilder, StunPacket};
 use is::{
-    Candidate, CheckState, IceAgent, IceAgentEvent, IceConnectionState, MediaPath, Protocol, Removal, RemovedPair, Rules, SessionLog,
+    Candidate, CheckState, IceAgent, IceAgentEvent, IceConnectionState, MediaPath, Protocol, Removal, RemovedPair, SessionLog, Settings,
 };
 use std::net::SocketAddr;
 use std::time::Instant;
@@ -66,7 +66,7 @@ fn refuse(agent: &mut IceAgent, now: Instant, code: u16) {
 #[test]
 fn a_removed_pair_has_the_code_of_an_error_response() {
     let (mut agent, now) = (paired(), Instant::now());
-    agent.set_rules(Rules::original());
+    agent.set_settings(Settings::original());
     agent.set_max_stun_retransmits(2);
     agent.handle_timeout(now);
     refuse(&mut agent, now, 400);

@@ -2,7 +2,7 @@
 use crate::fault::{Fault, Stop};
 use crate::fields::Fields;
 use crate::preference::FixedPreference;
-use crate::rules::rules_of;
+use crate::profile::{consent_of, profile_of};
 use crate::script::Side;
 use crate::table::{
     ADDR, BASE, CallName, FLAG, FROM, HEX, LIMIT, NOW, NUMBER, PACKET, POSITIVE, PREFERENCE, PROTO,
@@ -170,7 +170,8 @@ fn flag_call(name: CallName, flag: bool) -> Call {
 /// A call that has only numbers and names.
 fn plain_call(name: CallName, fields: Fields<'_>) -> Result<Call, Stop> {
     Ok(match name {
-        CallName::Rules => Call::SetRules(rules_of(fields)?),
+        CallName::Profile => Call::SetProfile(profile_of(fields)?),
+        CallName::Consent => Call::SetConsent(consent_of(fields)?),
         CallName::Tie => Call::SetControlTieBreaker(fields.number(NUMBER)?),
         CallName::Mtu => Call::SetMtu(fields.count(TARGET)?..=fields.count(WARN)?),
         CallName::Pairs => Call::SetMaxCandidatePairs(fields.count(NUMBER)?),

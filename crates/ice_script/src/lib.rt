@@ -8,8 +8,8 @@ mod fields;
 mod playing;
 mod preference;
 mod print;
+mod profile;
 mod reading;
-mod rules;
 mod script;
 mod table;
 

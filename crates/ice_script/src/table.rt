@@ -10,9 +10,7 @@ pub enum Kind {
     Positive,
     WholeOrNull,
     Preference,
-    RulesName,
-    EarlyRto,
-    Consent,
+    Profile,
     Address,
     Protocol,
     Hex,
@@ -31,9 +29,7 @@ impl fmt::Display for Kind {
             Kind::Positive => "a whole number from 1 to 18446744073709551615",
             Kind::WholeOrNull => "a whole number from 0 to 18446744073709551615, or null",
             Kind::Preference => "a whole number from 0 to 65535",
-            Kind::RulesName => "original, modern or kinds",
-            Kind::EarlyRto => "an object with retransmits, interval and cap, or null",
-            Kind::Consent => "an object with timeout and strict, or null",
+            Kind::Profile => "original or modern",
             Kind::Address => "IPv4:port or [IPv6]:port",
             Kind::Protocol => "udp, tcp, ssltcp or tls",
             Kind::Hex => "two hexadecimal digits a byte",
@@ -95,43 +91,11 @@ pub const PACKET: Field = Field("packet", Kind::Received);
 
 pub const WHAT: Field = Field("what", Kind::Polled);
 
-pub const NAME: Field = Field("name", Kind::RulesName);
+pub const NAME: Field = Field("name", Kind::Profile);
 
-pub const KINDS_IN_TURN: Field = Field("kinds_in_turn", Kind::Flag);
-
-pub const TRIGGERED_CHECKS: Field = Field("triggered_checks", Kind::WholeOrNull);
-
-pub const EARLY_RTO: Field = Field("early_rto", Kind::EarlyRto);
-
-pub const RETRANSMITS: Field = Field("retransmits", Kind::Whole);
-
-pub const INTERVAL: Field = Field("interval", Kind::Whole);
-
-pub const CAP: Field = Field("cap", Kind::Whole);
-
-pub const SELECTS_AT_ONCE: Field = Field("selects_at_once", Kind::Flag);
-
-pub const CONSENT: Field = Field("consent", Kind::Consent);
-
-pub const TIMEOUT: Field = Field("timeout", Kind::Whole);
+pub const LASTS: Field = Field("timeout", Kind::WholeOrNull);
 
 pub const STRICT: Field = Field("strict", Kind::Flag);
-
-pub const SELECTED_FIRST: Field = Field("selected_first", Kind::Flag);
-
-pub const TIMEOUT_AFTER_REQUESTS: Field = Field("timeout_after_requests", Kind::Flag);
-
-pub const LITE_KEEPS_ROLE: Field = Field("lite_keeps_role", Kind::Flag);
-
-pub const NUMBERED_NOMINATIONS: Field = Field("numbered_nominations", Kind::Flag);
-
-pub const DISCOVERED_IF_SERVED: Field = Field("discovered_if_served", Kind::Flag);
-
-pub const STATE_AFTER_NOMINATION: Field = Field("state_after_nomination", Kind::Flag);
-
-pub const INVALIDATES_LISTED: Field = Field("invalidates_listed", Kind::Flag);
-
-pub const EARLY_PACING: Field = Field("early_pacing", Kind::WholeOrNull);
 
 /// The name of a call.
 #[derive(Clone, Copy, PartialEq, Eq)]
@@ -140,7 +104,8 @@ pub enum CallName {
     Controlling,
     Lite,
     Renomination,
-    Rules,
+    Profile,
+    Consent,
     Tie,
     Mtu,
     Local,
@@ -171,12 +136,13 @@ pub enum CallName {
 #[derive(Clone, Copy)]
 pub struct Row(pub &'static str, pub CallName, pub &'static [Field]);
 
-static CALLS: [Row; 29] = [
+static CALLS: [Row; 30] = [
     Row("agent", CallName::Agent, &[UFRAG, PASS, TIE]),
     Row("controlling", CallName::Controlling, &[FLAG]),
     Row("lite", CallName::Lite, &[FLAG]),
     Row("renomination", CallName::Renomination, &[FLAG]),
-    Row("rules", CallName::Rules, &[NAME]),
+    Row("profile", CallName::Profile, &[NAME]),
+    Row("consent", CallName::Consent, &[LASTS, STRICT]),
     Row("tie", CallName::Tie, &[NUMBER]),
     Row("mtu", CallName::Mtu, &[TARGET, WARN]),
     Row("local", CallName::Local, &[UFRAG, PASS]),

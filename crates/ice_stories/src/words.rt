@@ -1,7 +1,7 @@
 //! The words of a story. Each is one event: a call of an agent, or a packet that is sent or received. docs/SCRIPTS.md lists them.
 use crate::messages::packet;
 use crate::names::{MS, address_of, back, creds, home, other, path_of, side_of, time, ufrag};
-use is::{AgentCall, Call, Candidate, Duration, Path, Protocol, Rules, Side, WorldEvent};
+use is::{AgentCall, Call, Candidate, Duration, Path, Profile, Protocol, Side, WorldEvent};
 use std::alloc::Global;
 use std::net::SocketAddr;
 
@@ -56,18 +56,10 @@ fn relayed(alloc: Global, text: &str) -> Option<Candidate> {
     Candidate::relayed(alloc, address, base, Protocol::Udp).ok()
 }
 
-fn rules(text: &str) -> Option<Rules> {
+fn profile(text: &str) -> Option<Profile> {
     match text {
-        "original" => Some(Rules::original()),
-        "modern" => Some(Rules::modern()),
-        "kinds" => Some(Rules {
-            kinds_in_turn: true,
-            ..Rules::original()
-        }),
-        "numbers" => Some(Rules {
-            numbered_nominations: true,
-            ..Rules::original()
-        }),
+        "original" => Some(Profile::Original),
+        "modern" => Some(Profile::Modern),
         _ => None,
     }
 }
@@ -114,7 +106,7 @@ fn call_with(alloc: Global, side: Side, name: &str, value: &str) -> Option<Call>
     match name {
         "tie" => Some(AgentCall::SetControlTieBreaker(value.parse::<u64>().ok()?)),
         "renomination" => Some(AgentCall::SetRenomination(value == "on")),
-        "rules" => Some(AgentCall::SetRules(rules(value)?)),
+        "profile" => Some(AgentCall::SetProfile(profile(value)?)),
         "advance" => Some(AgentCall::SetTimingAdvance(Duration(
             value.parse::<u64>().ok()?.saturating_mul(MS),
         ))),

@@ -1,6 +1,6 @@
 -- Which function of a run makes a call.
 use Rattle.std.specs.Prelude.{Bool, true, false}
-use Rattle.is_rules.specs.Steps.{Call, SetControlTieBreaker, SetMaxCandidatePairs, SetMaxDiscovered, SetIceLite, SetRenomination, SetRules, SetTimingAdvance, AddLocalCandidate, AddRemoteCandidate, InvalidateCandidate}
+use Rattle.is_rules.specs.Steps.{Call, SetControlTieBreaker, SetMaxCandidatePairs, SetMaxDiscovered, SetIceLite, SetRenomination, SetConsent, SetProfile, SetTimingAdvance, AddLocalCandidate, AddRemoteCandidate, InvalidateCandidate}
 use Rattle.is_rules.specs.Steps.{SetInitialStunRto, SetMaxStunRto, SetLiteTimeout, SetLocalPreference, SkipPairIds, ReceivePacket, HandleTimeout}
 
 -- a setting that takes any value
@@ -10,7 +10,8 @@ is_plain_setting (SetMaxCandidatePairs _) = true
 is_plain_setting (SetMaxDiscovered _) = true
 is_plain_setting (SetIceLite _) = true
 is_plain_setting (SetRenomination _) = true
-is_plain_setting (SetRules _) = true
+is_plain_setting (SetProfile _) = true
+is_plain_setting (SetConsent _) = true
 is_plain_setting (SetTimingAdvance _) = true
 is_plain_setting (SetInitialStunRto _) = true
 is_plain_setting (SetMaxStunRto _) = true

@@ -5,7 +5,7 @@ use Rattle.std.specs.Range.{range_inclusive_start, range_inclusive_end}
 use Rattle.is_proto.specs.Packets.{packet_of}
 use Rattle.is_rules.specs.Steps as agent
 use Rattle.is.specs.declared.calls.AgentCall.{AgentCall}
-use Rattle.is.specs.declared.calls.AgentCall.TheVariants.{SetMtu, SetControlTieBreaker, SetMaxCandidatePairs, SetMaxDiscovered, SetIceLite, SetRenomination, SetRules}
+use Rattle.is.specs.declared.calls.AgentCall.TheVariants.{SetMtu, SetControlTieBreaker, SetMaxCandidatePairs, SetMaxDiscovered, SetIceLite, SetRenomination, SetConsent, SetProfile}
 use Rattle.is.specs.declared.calls.AgentCall.TheVariants.{SetTimingAdvance, SetInitialStunRto, SetMaxStunRto, SetMaxStunRetransmits, SetLiteTimeout, SetLocalPreference}
 use Rattle.is.specs.declared.calls.AgentCall.TheVariants.{SetControlling, SetLocalCredentials, SetRemoteCredentials, SkipPairIds}
 use Rattle.is.specs.declared.calls.AgentCall.TheVariants.{AddLocalCandidate, AddRemoteCandidate, InvalidateCandidate, RestartIce}
@@ -23,7 +23,8 @@ call_view (SetMaxCandidatePairs limit) = agent.SetMaxCandidatePairs limit
 call_view (SetMaxDiscovered limit) = agent.SetMaxDiscovered limit
 call_view (SetIceLite lite) = agent.SetIceLite lite
 call_view (SetRenomination renominates) = agent.SetRenomination renominates
-call_view (SetRules rules) = agent.SetRules rules
+call_view (SetProfile profile) = agent.SetProfile profile
+call_view (SetConsent consent) = agent.SetConsent consent
 call_view (SetTimingAdvance advance) = agent.SetTimingAdvance advance.0
 call_view (SetInitialStunRto rto) = agent.SetInitialStunRto rto.0
 call_view (SetMaxStunRto rto) = agent.SetMaxStunRto rto.0

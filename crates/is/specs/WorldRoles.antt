@@ -5,6 +5,7 @@ use Rattle.is_proto.specs.Lists.{same}
 use Rattle.is_candidate.specs.Candidates.{CandidateRecord}
 use Rattle.is_stun.specs.declared.header.Class.TheVariants as class
 use Rattle.is_stun.specs.Message.{Message}
+use Rattle.is_stun.specs.Timing.{is_modern_profile}
 use Rattle.is_rules.specs.declared.credentials.IceCreds.{IceCreds}
 use Rattle.is_rules.specs.declared.emitted.Path.{Path}
 use Rattle.is_rules.specs.Request.{RequestRecord}
@@ -40,12 +41,12 @@ StaysFull side _ = Unit {0}
 abbrev pub IsNeverLite : {P : Type 0} → Side → List (LoggedEvent P) → Type 0
 IsNeverLite side log = AllByRecursion (λ x. StaysFull side x.event) log
 
--- The side does not get the rule by which a lite agent keeps its role.
+-- The side does not get the profile by which a lite agent keeps its role.
 abbrev pub LeavesRule : {P : Type 0} → Side → Event P → Type 0
-LeavesRule side (world.Call s (agent.SetRules rules)) = s ≡ side → rules.lite_keeps_role ≡ false
+LeavesRule side (world.Call s (agent.SetProfile profile)) = s ≡ side → is_modern_profile profile ≡ false
 LeavesRule side _ = Unit {0}
 
--- The side is never made lite, or never gets that rule. So it keeps its role only by its tie-breaker.
+-- The side is never made lite, or never gets that profile. So it keeps its role only by its tie-breaker.
 abbrev pub ComparesTies : {P : Type 0} → Side → List (LoggedEvent P) → Type 0
 ComparesTies side log = IsNeverLite side log ⊎ AllByRecursion (λ x. LeavesRule side x.event) log
 

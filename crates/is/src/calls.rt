@@ -3,7 +3,7 @@ use is_agent::{IceAgentEvent, IceCreds};
 use is_candidate::{Candidate, LocalPreference};
 use is_proto::{Duration, IceError, Instant, ParseFault, Protocol, Transmit};
 use is_rules::emitted::{Issued, Path};
-use is_rules::rules::Rules;
+use is_stun::stun::{ConsentSetting, Profile};
 use std::net::SocketAddr;
 use std::ops::RangeInclusive;
 
@@ -26,8 +26,10 @@ pub enum AgentCall<P> {
     SetIceLite(bool),
     /// `set_renomination`. Its result is `Done`.
     SetRenomination(bool),
-    /// `set_rules`. Its result is `Done`.
-    SetRules(Rules),
+    /// `set_profile`. Its result is `Done`.
+    SetProfile(Profile),
+    /// `set_consent`. Its result is `Done`.
+    SetConsent(ConsentSetting),
     /// `set_timing_advance`. Its result is `Done`.
     SetTimingAdvance(Duration),
     /// `set_initial_stun_rto`. Its result is `Done`.

@@ -31,8 +31,8 @@ pub use is_proto::{
     SocketText, StunError, TcpType, Text, Transmit,
 };
 pub use is_rules::emitted::{Issued, Path};
-pub use is_rules::rules::Rules;
-pub use is_stun::stun::{Consent, EarlyRto};
+pub use is_rules::settings::Settings;
+pub use is_stun::stun::{Consent, ConsentSetting, Profile};
 pub use runs::{RunLog, run};
 pub use traces::Trace;
 pub use world::{AgentSpec, TwoAgents, World};
@@ -57,8 +57,8 @@ pub mod parse {
 pub mod stun {
     pub use is_proto::StunError;
     pub use is_stun::stun::{
-        Attributes, Builder, Class, Consent, DEFAULT_MAX_RETRANSMITS, EarlyRto, HasClass,
-        HasMethod, Method, NoMethod, StunMessage, StunMessageBuilder, StunPacket, StunTiming,
-        TransId,
+        Attributes, Builder, Class, Consent, ConsentSetting, DEFAULT_MAX_RETRANSMITS, HasClass,
+        HasMethod, Method, NoMethod, Profile, StunMessage, StunMessageBuilder, StunPacket,
+        StunTiming, TransId,
     };
 }

@@ -127,11 +127,11 @@ pub fn run<H: Sha1HmacProvider + Drop, P: LocalPreference, R: Rng>(
         → NominationsSelect H.mac P.answers (record_of agent.old) (R.stream rng.old) (log_of calls.items result) }
 
     // Consent: a full agent is Connected or Completed after a `handle_timeout` call that served no early request. Then the path that was
-    // selected last since the last clear is that of an eligible pair that has consent at the time of the call, whatever rules are set.
+    // selected last since the last clear is that of an eligible pair that has consent at the time of the call, whatever profile is set.
     ensures connected { IsFresh (record_of agent.old)
         → PathsHaveConsent H.mac P.answers (record_of agent.old) (R.stream rng.old) (log_of calls.items result) }
 
-    // Never lite before such a call, with the rule `consent`: a check of the path's pair got a response, and the last such check was sent
+    // Never lite before such a call, with the profile `Modern`: a check of the path's pair got a response, and the last such check was sent
     // less than the timeout before the call. Or, if consent is not strict, a check of the peer arrived less than 15 s before it.
     ensures connected_answered { IsFresh (record_of agent.old)
         → PathsAreAlive H.mac P.answers (record_of agent.old) (R.stream rng.old) (log_of calls.items result) }

@@ -71,6 +71,6 @@ module _ {H P : Type 0} where
   abbrev pub HasCheckRoomAt : ℕ → Agent H P → Type 0
   HasCheckRoomAt now a = may_fall_due now (record_of a) ≡ true → HasCheckRoom a
 
-  -- two events more, if by the rule another path is selected once the selected pair is removed
+  -- two events more, if with `Modern` another path is selected once the selected pair is removed
   abbrev pub HasSelectionRoom : AgentRecord H P → Agent H P → Type 0
   HasSelectionRoom old a = (settles old && has_selected old) ≡ true → HasEventRoom 2 a

@@ -18,7 +18,6 @@ record_of a = record {
   timing_advance = a.timing_advance.0;
   lite = a.lite;
   renominates = a.renominates;
-  rules = a.rules;
   mtu = a.mtu;
   mtu_warn = a.mtu_warn;
   local_creds = a.local_creds;

@@ -99,11 +99,11 @@ impl<H: Sha1HmacProvider + Drop, P: LocalPreference> Agent<H, P> {
         !is_below(self.max_discovered, self.events.len())
     }
 
-    /// By the rule, a request that is dropped reports no source.
+    /// With `Modern`, a request that is dropped reports no source.
     fn reports_none(&self, class: Class, emitted: &Emitted) -> bool
         ensures { result ≡ reports_none class emitted.now (record_of self.now) }
     {
-        self.rules.discovered_if_served && is_dropped(class, self.remote_creds.is_some(), emitted)
+        self.timing.is_modern() && is_dropped(class, self.remote_creds.is_some(), emitted)
     }
 
     /// Emits `DiscoveredRecv` for the source of a packet of this class, if it was not emitted for it since the last ICE restart.

@@ -17,7 +17,6 @@ use is_rules::credentials::{IceCreds, are_too_long};
 use is_rules::emitted::Emitted;
 use is_rules::event::{IceAgentEvent, IceAgentStats, IceConnectionState};
 use is_rules::request::Waiting;
-use is_rules::rules::Rules;
 use is_stun::stun::StunTiming;
 use std::alloc::Global;
 use std::collections::VecDeque;
@@ -31,7 +30,7 @@ macro_rules! sides {
             remote: &$agent.remote,
             controlling: $agent.controlling,
             lite: $agent.lite,
-            kinds_in_turn: $agent.rules.kinds_in_turn,
+            kinds_in_turn: $agent.timing.is_modern(),
         }
     };
 }
@@ -65,8 +64,6 @@ pub struct Agent<H, P> {
     pub(crate) lite: bool,
     /// Each nomination replaces the ones before.
     pub(crate) renominates: bool,
-    /// What the agent does beyond the original's behavior.
-    pub(crate) rules: Rules,
     /// The greatest length of a packet in bytes.
     pub(crate) mtu: usize,
     /// The length in bytes from which packets cause a warning.
@@ -105,7 +102,7 @@ pub struct Agent<H, P> {
     /// The early requests: received before the remote credentials.
     pub(crate) queue: VecDeque<Waiting>,
     pub(crate) state: IceConnectionState,
-    /// The time of the last `handle_timeout` call; one that serves an early request counts only by a rule.
+    /// The time of the last `handle_timeout` call; one that serves an early request counts only with the profile `Modern`.
     pub(crate) last_time: Option<Instant>,
     pub(crate) packets: VecDeque<Transmit>,
     pub(crate) events: VecDeque<IceAgentEvent>,
@@ -183,7 +180,6 @@ impl<H: Sha1HmacProvider + Drop, P: LocalPreference> Agent<H, P> {
             timing_advance: Duration(50_000_000),
             lite: false,
             renominates: false,
-            rules: Rules::original(),
             mtu: DEFAULT_MTU,
             mtu_warn: DEFAULT_MTU_WARN,
             local_creds: creds,

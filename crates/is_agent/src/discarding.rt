@@ -40,14 +40,14 @@ impl<H: Sha1HmacProvider + Drop, P: LocalPreference> Agent<H, P> {
         ensures place { result ≡ local_to_discard candidate.now (record_of self.now) }
         ensures within { IfSome result (λ place. place < length self.now.local.items) }
     {
-        place_to_discard(self.rules.invalidates_listed, &self.local, candidate)
+        place_to_discard(self.timing.is_modern(), &self.local, candidate)
     }
 
     fn remote_to_discard(&self, candidate: &Candidate) -> Option<usize>
         ensures place { result ≡ remote_to_discard candidate.now (record_of self.now) }
         ensures within { IfSome result (λ place. place < length self.now.remote.items) }
     {
-        place_to_discard(self.rules.invalidates_listed, &self.remote, candidate)
+        place_to_discard(self.timing.is_modern(), &self.remote, candidate)
     }
 
     fn discard(&mut self, candidate: &Candidate) -> bool
@@ -73,8 +73,8 @@ impl<H: Sha1HmacProvider + Drop, P: LocalPreference> Agent<H, P> {
 
     /// Discards a candidate that is no longer usable, for example because its interface was removed. It discards the first
     /// local candidate that equals this one in address, base, protocol, kind and related address, if that one is not
-    /// discarded; else the first such remote candidate, likewise. By the rule `invalidates_listed` those that are discarded are
-    /// passed over. The pairs of the discarded candidate are removed. Returns whether there was one. By the rule `state_after_nomination`, another path is selected at once if the selected one is lost.
+    /// discarded; else the first such remote candidate, likewise. With the profile `Modern` those that are discarded are
+    /// passed over. The pairs of the discarded candidate are removed. Returns whether there was one. With `Modern`, another path is selected at once if the selected one is lost.
     ///
     /// Fails with `OutOfMemory`, only by that rule. The agent is then unchanged.
     pub fn invalidate_candidate(&mut self, candidate: &Candidate) -> Result<bool, IceError>

@@ -25,6 +25,7 @@ impl<H: Sha1HmacProvider + Drop, P: LocalPreference> Agent<H, P> {
             lite: self.lite,
             now,
             timing: &self.timing,
+            consent: self.timing.consent(),
         })
     }
 
@@ -37,6 +38,7 @@ impl<H: Sha1HmacProvider + Drop, P: LocalPreference> Agent<H, P> {
             lite: self.lite,
             now,
             timing: &self.timing,
+            consent: self.timing.consent(),
         });
     }
 

@@ -14,14 +14,13 @@ use is_pair::pair::CandidatePair;
 use is_proto::{Instant, Sha1HmacProvider};
 use is_rules::kinds::{Precedence, has_first_due, kind_of, next_ahead};
 use is_rules::nomination::pair_selected;
-use is_rules::rules::goes_ahead;
 
 impl<H: Sha1HmacProvider + Drop, P: LocalPreference> Agent<H, P> {
     /// Until a path is selected, kinds take turns.
     fn are_kinds_in_turn(&self) -> bool
         ensures { result ≡ are_kinds_in_turn (record_of self.now) }
     {
-        self.rules.kinds_in_turn && !self.state.is_connected()
+        self.timing.is_modern() && !self.state.is_connected()
     }
 
     /// Which pairs come before all kinds.
@@ -29,12 +28,12 @@ impl<H: Sha1HmacProvider + Drop, P: LocalPreference> Agent<H, P> {
         ensures { result ≡ precedence (record_of self.now) }
     {
         Precedence {
-            selected: if self.rules.selected_first {
+            selected: if self.timing.is_modern() {
                 self.selected_pair
             } else {
                 None
             },
-            urgent: self.rules.triggered_checks.is_some(),
+            urgent: self.timing.is_modern(),
         }
     }
 
@@ -45,8 +44,8 @@ impl<H: Sha1HmacProvider + Drop, P: LocalPreference> Agent<H, P> {
         has_first_due(&self.pairs, self.precedence(), now, &self.timing)
     }
 
-    /// The next check goes ahead of pairs that are due earlier. It is a separate function, so that agents without such rules do not
-    /// pay for it.
+    /// The next check goes ahead of pairs that are due earlier. It is a separate function, so that agents with the profile `Original` do
+    /// not pay for it.
     #[inline(never)]
     fn goes_ahead_now(&self, now: Instant) -> bool
         ensures { result ≡ (are_kinds_in_turn (record_of self.now) || has_first now.0 (record_of self.now)) }
@@ -58,7 +57,7 @@ impl<H: Sha1HmacProvider + Drop, P: LocalPreference> Agent<H, P> {
     pub(crate) fn is_ahead_turn(&self, now: Instant) -> bool
         ensures { result ≡ is_ahead_turn now.0 (record_of self.now) }
     {
-        goes_ahead(&self.rules) && self.ahead_turn && self.goes_ahead_now(now)
+        self.timing.is_modern() && self.ahead_turn && self.goes_ahead_now(now)
     }
 
     /// The pair that goes ahead. It is a separate function, so that checks in order of due times do not pay for it.

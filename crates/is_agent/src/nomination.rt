@@ -46,7 +46,7 @@ impl<H: Sha1HmacProvider + Drop, P: LocalPreference> Agent<H, P> {
     pub(crate) fn numbers(&self) -> bool
         ensures { result ≡ numbers (record_of self.now) }
     {
-        self.renominates && self.rules.numbered_nominations
+        self.renominates && self.timing.is_modern()
     }
 
     /// The number of the pair that the agent follows: the one that the peer nominated last or, once it served a nomination with a

@@ -29,7 +29,7 @@ impl<H: Sha1HmacProvider + Drop, P: LocalPreference> Agent<H, P> {
     pub(crate) fn keeps_role(&self) -> bool
         ensures { result ≡ keeps_role (record_of self.now) }
     {
-        self.lite && self.rules.lite_keeps_role
+        self.lite && self.timing.is_modern()
     }
 
     pub(crate) fn conflict(&self, request: &Request<'_>) -> Conflict

@@ -16,6 +16,7 @@ ghost use Rattle.is_rules.specs.Forming.{formed, with_pair};
 ghost use Rattle.is_stun.specs.Checks.{binding_reply};
 ghost use Rattle.is_stun.specs.Theorems.{IsPut, LONGEST_REPLY};
 ghost use Rattle.is_stun.specs.Writing.{written};
+ghost use Rattle.is_stun.specs.Timing.{is_modern};
 ghost use Rattle.is_rules.specs.Sending.{carried, with_packet};
 ghost use Rattle.is_rules.specs.Roles.{switched};
 ghost use Rattle.is_agent.specs.Ready.{IsPlan, IsReady};
@@ -204,7 +205,7 @@ impl<H: Sha1HmacProvider + Drop, P: LocalPreference> Agent<H, P> {
     fn evaluates_at(&self, number: u64) -> bool
         ensures { result ≡ (selects_at_requests (record_of self.now) && is_valid_at number (record_of self.now).pairs) }
     {
-        (self.rules.selects_at_once || self.controlling) && is_valid_at(&self.pairs, number)
+        (self.timing.is_modern() || self.controlling) && is_valid_at(&self.pairs, number)
     }
 
     /// The number of the pair that the peer nominated last, after the request at the pair with this number.
@@ -230,7 +231,7 @@ impl<H: Sha1HmacProvider + Drop, P: LocalPreference> Agent<H, P> {
 
     /// Whether, and when, the request triggers a check: at once, and not before the last `handle_timeout` call.
     fn trigger(&self, request: &Request<'_>) -> Trigger
-        ensures most { result.most ≡ (record_of self.now).rules.triggered_checks }
+        ensures modern { result.modern ≡ is_modern (record_of self.now).timing }
         ensures at { result.at.0 ≡ trigger_time (request_view request.now) (record_of self.now) }
     {
         let at = match self.last_time {
@@ -238,7 +239,7 @@ impl<H: Sha1HmacProvider + Drop, P: LocalPreference> Agent<H, P> {
             None => request.time,
         };
         Trigger {
-            most: self.rules.triggered_checks,
+            modern: self.timing.is_modern(),
             at,
         }
     }
@@ -262,7 +263,7 @@ impl<H: Sha1HmacProvider + Drop, P: LocalPreference> Agent<H, P> {
     }
 
     /// The pair records the request, nomination is evaluated if the pair is valid, and the response is sent. A controlled agent
-    /// evaluates it only if its rules say so. If a path is selected, the state is evaluated by the rule.
+    /// evaluates it only with the profile `Modern`. By this profile the state is evaluated too if a path is selected.
     fn record_and_respond(
         &mut self,
         request: &Request<'_>,

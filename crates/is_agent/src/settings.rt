@@ -3,14 +3,15 @@
 ghost use Rattle.std.specs.Prelude.{◌≡◌, ◌<◌, Some};
 ghost use Rattle.std.specs.Range.{range_inclusive_start, range_inclusive_end};
 ghost use Rattle.is_agent.specs.View.{record_of};
-ghost use Rattle.is_rules.specs.Settings.{SetsControlling, SetsMtu, with_rtos, with_rules, with_retransmits, with_lite_timeout, numbers_skipped};
+ghost use Rattle.is_rules.specs.Settings.{SetsControlling, SetsMtu, with_rtos, with_consent, with_profile, with_retransmits, with_lite_timeout, numbers_skipped, settings_of, with_settings};
 ghost use Rattle.is_rules.specs.Questions.{ice_timeout};
 
 use crate::agent::Agent;
 use is_candidate::LocalPreference;
 use is_proto::{Duration, IceError, Sha1HmacProvider};
 use is_rules::credentials::USERNAME_LIMIT;
-use is_rules::rules::Rules;
+use is_rules::settings::Settings;
+use is_stun::stun::{ConsentSetting, Profile, StunTiming};
 use std::ops::RangeInclusive;
 
 /// The length of the longest check without NOMINATION in bytes: the header, the attributes with the longest USERNAME, MESSAGE-INTEGRITY
@@ -109,28 +110,83 @@ impl<H: Sha1HmacProvider + Drop, P: LocalPreference> Agent<H, P> {
     /// then it keeps the pair that it selected last. With a controlling peer that nominates several pairs and repeats
     /// USE-CANDIDATE on each, a controlled agent would change its path at each of these checks.
     ///
-    /// With the rule `numbered_nominations` each nomination has a number besides, and a controlled agent goes by the greatest one.
+    /// With the profile `Modern` each nomination has a number besides, and a controlled agent goes by the greatest one.
     pub fn set_renomination(&mut self, renominates: bool)
         ensures { record_of self.new ≡ record (record_of self.old) { renominates = renominates } }
     {
         self.renominates = renominates;
     }
 
-    /// What the agent does beyond the original's behavior: `Rules::original()`, nothing, until it is set.
-    pub fn rules(&self) -> Rules
-        ensures { result ≡ (record_of self.now).rules }
+    /// All that a user may choose, as it is set: `Settings::original()` until it is changed.
+    pub fn settings(&self) -> Settings
+        ensures { result ≡ settings_of (record_of self.now) }
     {
-        self.rules
+        Settings {
+            profile: self.timing.profile,
+            timing_advance: self.timing_advance,
+            initial_rto: self.timing.initial_rto,
+            max_rto: self.timing.max_rto,
+            max_retransmits: self.timing.max_retransmits,
+            lite_timeout: self.timing.lite_timeout,
+            consent: self.timing.consent,
+            max_pairs: self.max_pairs,
+            max_discovered: self.max_discovered,
+            renomination: self.renominates,
+        }
     }
 
-    /// Sets what the agent does beyond the original's behavior. Set it before the session. The peer need not have the same
-    /// rules.
-    pub fn set_rules(&mut self, rules: Rules)
-        ensures { record_of self.new ≡ with_rules rules (record_of self.old) }
+    /// Sets all that a user may choose. Set it before the session: a due time that is fixed stays, unless an RTO changes. Each field has a
+    /// setter of its own, too.
+    pub fn set_settings(&mut self, settings: Settings)
+        requires { 0 < settings.max_retransmits }
+        ensures { record_of self.new ≡ with_settings settings (record_of self.old) }
     {
-        self.rules = rules;
-        self.timing.early = rules.early_rto;
-        self.timing.consent = rules.consent;
+        let keeps_rtos = self.timing.initial_rto.0 == settings.initial_rto.0
+            && self.timing.max_rto.0 == settings.max_rto.0;
+        self.timing = StunTiming {
+            initial_rto: settings.initial_rto,
+            max_retransmits: settings.max_retransmits,
+            max_rto: settings.max_rto,
+            lite_timeout: settings.lite_timeout,
+            profile: settings.profile,
+            consent: settings.consent,
+        };
+        self.timing_advance = settings.timing_advance;
+        self.max_pairs = settings.max_pairs;
+        self.max_discovered = settings.max_discovered;
+        self.renominates = settings.renomination;
+        if !keeps_rtos {
+            self.pairs.reset_next_binding_attempts();
+        }
+    }
+
+    /// Which behavior the agent has: `Profile::Original` until it is set.
+    pub fn profile(&self) -> Profile
+        ensures { result ≡ (record_of self.now).timing.profile }
+    {
+        self.timing.profile
+    }
+
+    /// Sets which behavior the agent has. Set it before the session: a due time that is fixed stays. The peer need not have the same
+    /// profile.
+    pub fn set_profile(&mut self, profile: Profile)
+        ensures { record_of self.new ≡ with_profile profile (record_of self.old) }
+    {
+        self.timing.profile = profile;
+    }
+
+    /// What was chosen of consent (RFC 7675): by the timing and not strict, until it is set.
+    pub fn consent(&self) -> ConsentSetting
+        ensures { result ≡ (record_of self.now).timing.consent }
+    {
+        self.timing.consent
+    }
+
+    /// Sets how long the response to a check keeps a pair with the profile `Modern`. Without it the setting has no effect.
+    pub fn set_consent(&mut self, consent: ConsentSetting)
+        ensures { record_of self.new ≡ with_consent consent (record_of self.old) }
+    {
+        self.timing.consent = consent;
     }
 
     /// Sets the pacing interval of what the agent sends, Ta in RFC 8445, section 14.2: 50 ms until it is set.
@@ -207,7 +263,7 @@ impl<H: Sha1HmacProvider + Drop, P: LocalPreference> Agent<H, P> {
 
     /// Gives the agent the controlling or the controlled role. Existing pairs keep their priorities.
     ///
-    /// Fails with `LiteStaysControlled` if a lite agent is to be controlling, and its rules have `lite_keeps_role`.
+    /// Fails with `LiteStaysControlled` if a lite agent with the profile `Modern` is to be controlling.
     pub fn set_controlling(&mut self, controlling: bool) -> Result<(), IceError>
         ensures { SetsControlling (record_of self.old) controlling result (record_of self.new) }
     {

@@ -23,7 +23,7 @@ impl<H: Sha1HmacProvider + Drop, P: LocalPreference> Agent<H, P> {
     fn settles(&self) -> bool
         ensures { result ≡ settles (record_of self.now) }
     {
-        self.rules.state_after_nomination && !same_state(self.state, IceConnectionState::New)
+        self.timing.is_modern() && !same_state(self.state, IceConnectionState::New)
     }
 
     /// The state when a `handle_timeout` call starts: evaluated, unless it is after nomination.
@@ -39,7 +39,7 @@ impl<H: Sha1HmacProvider + Drop, P: LocalPreference> Agent<H, P> {
         }
     }
 
-    /// The state after nomination: by the rule it is evaluated, if nomination may have changed it.
+    /// The state after nomination: with `Modern` it is evaluated, if nomination may have changed it.
     pub(crate) fn settle_state(&mut self, changes: bool, now: Instant)
         requires room { HasEventRoom 1 self.old }
         ensures settled { record_of self.new ≡ settled changes now.0 (record_of self.old) }
@@ -56,7 +56,7 @@ impl<H: Sha1HmacProvider + Drop, P: LocalPreference> Agent<H, P> {
 // ---- calls that may remove the selected pair
 
 impl<H: Sha1HmacProvider + Drop, P: LocalPreference> Agent<H, P> {
-    /// The pair that was selected last exists, and by the rule another one is selected if it is removed.
+    /// The pair that was selected last exists, and with `Modern` another one is selected if it is removed.
     pub(crate) fn keeps_selected(&self) -> bool
         ensures { result ≡ (settles (record_of self.now) && has_selected (record_of self.now)) }
     {

@@ -7,6 +7,7 @@ ghost use Rattle.std.specs.List.{list_any};
 ghost use Rattle.is_stun.specs.Theorems.{IsPut};
 ghost use Rattle.is_stun.specs.Writing.{written};
 ghost use Rattle.is_stun.specs.declared.header.Class.TheVariants as classes;
+ghost use Rattle.is_stun.specs.Timing.{is_modern};
 ghost use Rattle.is_rules.specs.declared.credentials.IceCreds as model;
 ghost use Rattle.is_agent.specs.View.{record_of, emitted_of};
 ghost use Rattle.is_agent.specs.Room.{HasPacketRoom, HasEventRoom, HasCheckRoom, HasCheckRoomAt, IsPrepared};
@@ -343,7 +344,7 @@ impl<H: Sha1HmacProvider + Drop, P: LocalPreference> Agent<H, P> {
     /// Runs the agent's timers at time `now`. In New it first emits the start event. It evaluates the state. It serves an
     /// early request, once the remote credentials are known. If there is none, it nominates a pair, removes pairs that are no
     /// longer possible or whose consent ended, and checks the pair that is due first, or in turn the selected one, an urgent one or
-    /// one of the next kind (`Rules`; RFC 8445, sections 6.1.4.2, 7.2.4, 7.3.1.4 and 8.1.1; RFC 7675). With numbered nominations it first
+    /// one of the next kind (`Profile`; RFC 8445, sections 6.1.4.2, 7.2.4, 7.3.1.4 and 8.1.1; RFC 7675). With numbered nominations it first
     /// checks a selected pair whose nomination was not sent yet. It allocates what the events and the packet that it issues need. If a
     /// pair may be nominated and its due time is not fixed, or nominations have numbers, it reserves capacity for a check too.
     ///
@@ -351,8 +352,8 @@ impl<H: Sha1HmacProvider + Drop, P: LocalPreference> Agent<H, P> {
     /// `OutOfMemory`. The agent is then unchanged, and no random words were drawn.
     pub fn handle_timeout<R: Rng>(&mut self, now: Instant, rng: &mut R) -> Result<(), IceError>
         ensures timed_out { TimesOut H.mac now.0 (record_of self.old) (R.stream rng.old) result (emitted_of self.new) (record_of self.new) (R.stream rng.new) }
-        // By the rule `timeout_after_requests` there is a last call after each successful one, also if it served a request.
-        ensures noted { IfOk result (λ _. (record_of self.old).rules.timeout_after_requests ≡ true → is_some (record_of self.new).last_time ≡ true) }
+        // With the profile `Modern` there is a last call after each successful one, also if it served a request.
+        ensures noted { IfOk result (λ _. is_modern (record_of self.old).timing ≡ true → is_some (record_of self.new).last_time ≡ true) }
     {
         theorems::calls_are_noted::<H, P>();
         match self.run_timeout(now, rng) {

@@ -96,13 +96,13 @@ impl<H: Sha1HmacProvider + Drop, P: LocalPreference> Agent<H, P> {
         self.plan(&request)
     }
 
-    /// By the rule a call that serves an early request counts as the last one, if there was none before.
+    /// With `Modern`, a call that serves an early request counts as the last one, if there was none before.
     fn note_request(&mut self, now: Instant)
         ensures noted { record_of self.new ≡ at_request now.0 (record_of self.old) }
         ensures serving { HasServingRoom self.old → HasServingRoom self.new }
         ensures news { UsesNews 0 self.old self.new }
     {
-        if self.rules.timeout_after_requests {
+        if self.timing.is_modern() {
             self.last_time = Some(self.last_time.unwrap_or(now));
         }
     }

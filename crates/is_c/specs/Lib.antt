@@ -9,7 +9,7 @@ pub mod Candidates
 pub mod Held
 pub mod Borrowing
 pub mod Limits
-pub mod Rules
+pub mod AgentSettings
 pub mod Given
 pub mod Adding
 pub mod Rejections

@@ -5,6 +5,7 @@
 
 mod accepting;
 mod address;
+mod agent_settings;
 mod candidate;
 mod candidates;
 mod clock;
@@ -30,7 +31,6 @@ mod random;
 mod rejections;
 mod removed;
 mod retransmits;
-mod rules;
 mod session;
 mod settings;
 mod slot;
@@ -44,6 +44,7 @@ mod stun_write;
 mod text;
 
 pub use address::Address;
+pub use agent_settings::AgentSettings;
 pub use candidate::LocalCandidate;
 pub use events::Event;
 pub use fields::Fields;
@@ -55,7 +56,6 @@ pub use paths::MediaPath;
 pub use preference::{KindPreferences, Preference, PreferenceTable};
 pub use questions::{Nominated, Stats, Status};
 pub use removed::Removed;
-pub use rules::AgentRules;
 pub use slot::Slot;
 pub use stun_client::{Response, Transaction};
 pub use stun_message::{Message, Number};

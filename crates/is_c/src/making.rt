@@ -5,44 +5,21 @@ ghost use Rattle.is_rules.specs.Fitting.{are_too_long};
 ghost use Rattle.is_c.specs.Codes.{OUT_OF_MEMORY, CREDENTIALS_TOO_LONG};
 ghost use Rattle.is_c.specs.Making.{fresh_home, MakesAt};
 ghost use Rattle.is_c.specs.Held.{home_of, held_by};
-ghost use Rattle.is_c.specs.Limits.{CANDIDATE_LIMIT, DISCOVERED_LIMIT, MAX_RTO, RETRANSMITS};
+ghost use Rattle.is_c.specs.Limits.{CANDIDATE_LIMIT};
 
 use crate::codes;
 use crate::credentials::creds_of;
 use crate::home::Home;
 use crate::slot::Slot;
 use is_agent::{Agent, IceCreds};
-use is_proto::Duration;
-use is_rules::rules::Rules;
+use is_rules::settings::Settings;
 use std::alloc::Global;
 
-/// How many candidates received packets may bring of each side, until another limit is set.
-fn discovered_limit() -> usize
-    ensures { result ≡ DISCOVERED_LIMIT }
-{
-    32
-}
-
 /// How many candidates of each side may be listed, until another limit is set.
-fn candidate_limit() -> usize
+pub(crate) fn candidate_limit() -> usize
     ensures { result ≡ CANDIDATE_LIMIT }
 {
     100
-}
-
-/// The longest RTO of a new agent.
-fn max_rto() -> Duration
-    ensures { result.0 ≡ MAX_RTO }
-{
-    Duration(2_900_000_000)
-}
-
-/// After how many checks without a response a new agent removes a pair. A path is removed 29.6 s after its last answered
-/// check: within the 30 s of RFC 7675, section 5.1.
-fn retransmits() -> usize
-    ensures { result ≡ RETRANSMITS }
-{
-    11
 }
 
 fn boxed_agent(alloc: Global, creds: IceCreds, tie_breaker: u64) -> Result<Box<Home>, i32>
@@ -53,10 +30,7 @@ fn boxed_agent(alloc: Global, creds: IceCreds, tie_breaker: u64) -> Result<Box<H
         Ok(agent) => agent,
         Err(error) => return Err(codes::code_of(&error)),
     };
-    agent.set_max_discovered(Some(discovered_limit()));
-    agent.set_max_stun_rto(max_rto());
-    agent.set_max_stun_retransmits(retransmits());
-    agent.set_rules(Rules::modern());
+    agent.set_settings(Settings::modern());
     let home = Home {
         agent,
         waiting: None,

@@ -93,7 +93,7 @@ pub extern "C" fn is_ice_set_max_pairs(alloc: Global, slot: &mut Slot, limit: us
 }
 
 /// The limit that a number stands for: the greatest number means none.
-fn limit_of(number: usize) -> Option<usize>
+pub(crate) fn limit_of(number: usize) -> Option<usize>
     ensures { result ≡ limit_of number }
 {
     if number == usize::MAX {

@@ -1,12 +1,12 @@
 //! The exports as C calls them, in stories that the library's own tests have too.
 
+mod agent_settings;
 mod alike;
 mod early;
 mod fields;
 mod front_ends;
 mod limits;
 mod removed;
-mod rules;
 mod selected;
 mod stun;
 mod texts;

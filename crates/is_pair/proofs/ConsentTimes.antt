@@ -1,3 +1,2 @@
 -- How long a pair has consent, and what renews it.
-pub mod RenewedConsent
 pub mod EndOfConsent

@@ -6,8 +6,7 @@ use Rattle.is_proto.specs.Lists.{Has, NonePass}
 use Rattle.is_proto.specs.Times.{MAX, SECOND, later}
 use Rattle.is_stun.specs.declared.timing.StunTiming.{StunTiming}
 use Rattle.is_stun.specs.declared.timing.Consent.{Consent}
-use Rattle.is_stun.specs.declared.timing.EarlyRto.{EarlyRto}
-use Rattle.is_stun.specs.Timing.{early_delay, resend_delay, last_resend_delay, timeout_of}
+use Rattle.is_stun.specs.Timing.{consent_of, early_delay, is_modern, resend_delay, last_resend_delay, timeout_of}
 use Rattle.is_pair.specs.declared.pair.states.NominationState.{NominationState}
 use Rattle.is_pair.specs.declared.pair.states.NominationState.TheVariants.{None as Unnominated, Nominated, Attempt, Success}
 use Rattle.is_pair.specs.Checks.{Check, last_check, unanswered_count, first_unanswered}
@@ -40,19 +39,19 @@ is_young now t p = option_map_or (λ at. nat_lt now (later at (timeout_of t))) p
 abbrev pub silent_count : PairRecord → ℕ
 silent_count p = if p.answers == 0 then p.checks_sent else unanswered_count p.checks
 
--- Checks are repeated early while no response arrived on the pair, as long as a whole series of checks takes; and those that nominate a
+-- With the profile `Modern`, checks are repeated early while no response arrived on the pair, as long as a whole series of checks takes; and those that nominate a
 -- pair with a response, until `max_retransmits` checks have none.
 abbrev pub is_repeated_early : ℕ → StunTiming → PairRecord → Bool
 is_repeated_early now t p =
     if p.answers == 0 then is_young now t p else is_nominating p.nomination && nat_lt (unanswered_count p.checks) t.max_retransmits
 
-abbrev pub delay_with : Option EarlyRto → ℕ → StunTiming → PairRecord → ℕ
-delay_with None now t p = usual_delay now t p.checks
-delay_with (Some e) now t p = if is_repeated_early now t p then early_delay e (silent_count p) else usual_delay now t p.checks
+-- the delay after the last check: with the profile `Modern` checks are repeated early
+abbrev pub delay_of : ℕ → StunTiming → PairRecord → ℕ
+delay_of now t p = if is_modern t && is_repeated_early now t p then early_delay (silent_count p) else usual_delay now t p.checks
 
 -- that long after the last check, or now if there was none
 abbrev pub next_due_time : ℕ → StunTiming → PairRecord → ℕ
-next_due_time now t p = option_map_or (λ c. later c.sent (delay_with t.early now t p)) (last_check p.checks) now
+next_due_time now t p = option_map_or (λ c. later c.sent (delay_of now t p)) (last_check p.checks) now
 
 -- a nominated pair without a check since its nomination is due before all others
 abbrev pub computed_due_time : NominationState → ℕ → StunTiming → PairRecord → ℕ
@@ -68,17 +67,16 @@ due_time_of now t p = unwrap_or p.due (min (computed_due_time p.nomination now t
 abbrev pub asked : ℕ → StunTiming → PairRecord → PairRecord
 asked now t p = record p { due = Some (due_time_of now t p) }
 
--- Triggered checks (RFC 8445, section 7.3.1.4): one of the first so many requests on the pair, which is not valid yet.
-abbrev pub is_triggered : ℕ → PairRecord → Bool
-is_triggered most p = not (is_valid p) && nat_lt p.requests most
+-- Triggered checks (RFC 8445, section 7.3.1.4): the first request on the pair, which is not valid yet.
+abbrev pub is_triggered : PairRecord → Bool
+is_triggered p = not (is_valid p) && p.requests == 0
 
 -- its due time, if it is fixed, is at most `at`
 abbrev pub moved_up : ℕ → PairRecord → PairRecord
 moved_up at p = record p { due = option_map (min at) p.due }
 
-abbrev pub triggered : Option ℕ → ℕ → PairRecord → PairRecord
-triggered None at p = p
-triggered (Some most) at p = if is_triggered most p then moved_up at p else p
+abbrev pub triggered : Bool → ℕ → PairRecord → PairRecord
+triggered modern at p = if modern && is_triggered p then moved_up at p else p
 
 -- The pair may be checked before pairs that are due earlier: a request arrived, and the pair is not valid yet, or it is nominated, and
 -- no response arrived to a check that nominates it.
@@ -99,10 +97,14 @@ is_in_time now t checks = option_map_or (λ c. nat_lt now (later c.sent (last_re
 abbrev pub is_early_silence : ℕ → StunTiming → List Check → Bool
 is_early_silence now t checks = option_map_or (λ c. nat_lt now (later c.sent (timeout_of t))) (first_unanswered checks) false
 
+-- less time has passed than a whole series of checks takes: since the first check if there was no response, otherwise since the first
+-- one without
+abbrev pub is_within_series : ℕ → StunTiming → PairRecord → Bool
+is_within_series now t p = if p.answers == 0 then is_young now t p else is_early_silence now t p.checks
+
 -- While checks are repeated early, time counts and not their number: so no pair ends sooner.
-abbrev pub has_early_checks : Option EarlyRto → ℕ → StunTiming → PairRecord → Bool
-has_early_checks None now t p = false
-has_early_checks (Some e) now t p = if p.answers == 0 then is_young now t p else is_early_silence now t p.checks
+abbrev pub has_early_checks : ℕ → StunTiming → PairRecord → Bool
+has_early_checks now t p = is_modern t && is_within_series now t p
 
 -- a check from the peer arrived, or not so many checks had no response, or the response to the last one may still arrive
 abbrev pub is_open : ℕ → StunTiming → PairRecord → Bool
@@ -113,7 +115,7 @@ is_open now t p =
     || is_in_time now t p.checks
 
 abbrev pub is_possible : ℕ → StunTiming → PairRecord → Bool
-is_possible now t p = has_early_checks t.early now t p || is_open now t p
+is_possible now t p = has_early_checks now t p || is_open now t p
 
 -- ---- consent (RFC 7675, section 5.1)
 
@@ -145,11 +147,11 @@ call_time_with None now t p = due_time_of now t p
 call_time_with (Some c) now t p = min (due_time_of now t p) (consent_end c p)
 
 abbrev pub call_time_of : ℕ → StunTiming → PairRecord → ℕ
-call_time_of now t p = call_time_with t.consent now t p
+call_time_of now t p = call_time_with (consent_of t) now t p
 
 -- The path may still work, and consent has not ended. For an ICE-lite agent, the peer's checks have not stopped.
 abbrev pub stays : Bool → ℕ → StunTiming → PairRecord → Bool
-stays lite now t p = if lite then is_lite_alive now t p else has_consent t.consent now p && is_possible now t p
+stays lite now t p = if lite then is_lite_alive now t p else has_consent (consent_of t) now p && is_possible now t p
 
 abbrev pub is_pair_expired : Bool → ℕ → StunTiming → PairRecord → Bool
 is_pair_expired lite now t p = not (stays lite now t p)

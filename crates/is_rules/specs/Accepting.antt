@@ -12,6 +12,7 @@ use Rattle.is_stun.specs.declared.header.Class.TheVariants.{Request, Success, Fa
 use Rattle.is_stun.specs.declared.header.Method.TheVariants.{Binding}
 use Rattle.is_stun.specs.Message.{Message, split_username}
 use Rattle.is_stun.specs.Integrity.{IsSignedBy}
+use Rattle.is_stun.specs.Timing.{is_modern}
 use Rattle.is_rules.specs.declared.accepting.Source.{Source}
 use Rattle.is_rules.specs.declared.event.IceAgentEvent.TheVariants.{DiscoveredRecv}
 use Rattle.is_rules.specs.declared.emitted.Path.{Path}
@@ -70,9 +71,9 @@ module _ {H P : Type 0} where
   abbrev pub is_discovered : Path → AgentRecord H P → Bool
   is_discovered path a = list_any (is_source path) a.discovered_sources
 
-  -- By the rule, a request that is dropped reports no source. `a` is the agent after the message, and `emitted` is what it emitted for it.
+  -- With `Modern`, a request that is dropped reports no source. `a` is the agent after the message, and `emitted` is what it emitted for it.
   abbrev pub reports_none : Class → Emitted → AgentRecord H P → Bool
-  reports_none class emitted a = a.rules.discovered_if_served && is_dropped class (is_some a.remote_creds) emitted
+  reports_none class emitted a = is_modern a.timing && is_dropped class (is_some a.remote_creds) emitted
 
   -- With a limit, a source is not reported while as many events wait to be polled.
   abbrev pub is_passed_over : Class → Emitted → Path → AgentRecord H P → Bool

@@ -5,6 +5,7 @@ use Rattle.is_proto.specs.Times.{MILLISECOND, SECOND}
 use Rattle.is_stun.specs.declared.timing.StunTiming.{StunTiming}
 use Rattle.is_proto.specs.declared.error.IceError.{IceError}
 use Rattle.is_proto.specs.declared.error.IceError.TheVariants.{CredentialsTooLong}
+use Rattle.is_stun.specs.declared.timing.Profile.TheVariants.{Original}
 use Rattle.is_candidate.specs.Candidates.{CandidateRecord}
 use Rattle.is_pair.specs.Pairs.{PairRecord}
 use Rattle.is_rules.specs.declared.accepting.Source.{Source}
@@ -13,7 +14,6 @@ use Rattle.is_rules.specs.declared.event.IceAgentEvent.{IceAgentEvent}
 use Rattle.is_rules.specs.declared.event.IceAgentStats.{IceAgentStats}
 use Rattle.is_rules.specs.declared.event.IceConnectionState.{IceConnectionState}
 use Rattle.is_rules.specs.declared.event.IceConnectionState.TheVariants.{New}
-use Rattle.is_rules.specs.declared.rules.Rules.{Rules}
 use Rattle.is_rules.specs.Request.{RequestRecord}
 use Rattle.is_rules.specs.Fitting.{are_too_long}
 
@@ -29,8 +29,6 @@ pub record AgentRecord (H P : Type 0) : Type 0 where
   pub lite : Bool
   -- each nomination replaces the ones before (`Nominating`)
   pub renominates : Bool
-  -- what the agent does beyond the original's behavior
-  pub rules : Rules
   -- the target MTU, and the packet length from which a warning is due
   pub mtu : ℕ
   pub mtu_warn : ℕ
@@ -61,7 +59,7 @@ pub record AgentRecord (H P : Type 0) : Type 0 where
   -- the early requests: received before the remote credentials
   pub queue : List RequestRecord
   pub state : IceConnectionState
-  -- the time of the last `handle_timeout` call; one that served an early request counts only by the rule `timeout_after_requests`
+  -- the time of the last `handle_timeout` call; one that served an early request counts only with the profile `Modern`
   pub last_time : Option ℕ
   -- the packets and events that are still to be polled
   pub packets : List Packet
@@ -69,42 +67,6 @@ pub record AgentRecord (H P : Type 0) : Type 0 where
   -- the discovered sources (`DiscoveredRecv`), and the counters
   pub discovered_sources : List Source
   pub stats : IceAgentStats
-
--- the original's behavior
-abbrev pub original_rules : Rules
-original_rules = record {
-  kinds_in_turn = false;
-  triggered_checks = None;
-  early_rto = None;
-  selects_at_once = false;
-  consent = None;
-  selected_first = false;
-  timeout_after_requests = false;
-  lite_keeps_role = false;
-  numbered_nominations = false;
-  discovered_if_served = false;
-  state_after_nomination = false;
-  invalidates_listed = false;
-  early_pacing = None;
-}
-
--- what connects fastest, and ends consent in time: within the 30 s of RFC 7675, section 5.1
-abbrev pub modern_rules : Rules
-modern_rules = record {
-  kinds_in_turn = true;
-  triggered_checks = Some 1;
-  early_rto = Some (record { retransmits = 2; interval = record { 0 = 100 * MILLISECOND }; cap = record { 0 = 350 * MILLISECOND } });
-  selects_at_once = true;
-  consent = Some (record { timeout = record { 0 = 29600 * MILLISECOND }; strict = false });
-  selected_first = true;
-  timeout_after_requests = true;
-  lite_keeps_role = true;
-  numbered_nominations = true;
-  discovered_if_served = true;
-  state_after_nomination = true;
-  invalidates_listed = true;
-  early_pacing = Some (record { 0 = 10 * MILLISECOND });
-}
 
 abbrev pub no_stats : IceAgentStats
 no_stats = record {
@@ -122,8 +84,8 @@ default_timing = record {
   max_retransmits = 9;
   max_rto = record { 0 = 3000 * MILLISECOND };
   lite_timeout = record { 0 = 15 * SECOND };
-  early = None;
-  consent = None;
+  profile = Original;
+  consent = record { timeout = None; strict = false };
 }
 
 module _ {H P : Type 0} where
@@ -138,7 +100,6 @@ module _ {H P : Type 0} where
     timing_advance = 50 * MILLISECOND;
     lite = false;
     renominates = false;
-    rules = original_rules;
     mtu = 1150;
     mtu_warn = 1280;
     local_creds = creds;

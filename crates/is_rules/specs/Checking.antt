@@ -13,10 +13,10 @@ use Rattle.is_stun.specs.Message.{Message}
 use Rattle.is_stun.specs.Checks.{binding_request, with_nomination}
 use Rattle.is_stun.specs.Theorems.{IsPut}
 use Rattle.is_stun.specs.Writing.{written}
+use Rattle.is_stun.specs.Timing.{is_modern}
 use Rattle.is_rules.specs.declared.credentials.IceCreds.{IceCreds}
 use Rattle.is_rules.specs.declared.emitted.Issued.{Issued}
 use Rattle.is_rules.specs.declared.kinds.Precedence.{Precedence}
-use Rattle.is_rules.specs.declared.rules.Rules.{Rules}
 use Rattle.is_rules.specs.Emitted.{issued_as}
 use Rattle.is_pair.specs.Multiset.{change_pair}
 use Rattle.is_rules.specs.Agent.{AgentRecord}
@@ -29,10 +29,6 @@ use Rattle.is_rules.specs.Sending.{with_packet, path_of}
 abbrev pub username_between : IceCreds → IceCreds → List ℕ
 username_between remote local = remote.ufrag ++ 58 ∷ local.ufrag
 
--- By these rules checks may go ahead of pairs that are due earlier.
-abbrev pub goes_ahead : Rules → Bool
-goes_ahead rules = rules.kinds_in_turn || is_some rules.triggered_checks || rules.selected_first
-
 module _ {H P : Type 0} where
   abbrev pub all_asked : ℕ → AgentRecord H P → AgentRecord H P
   all_asked now a = record a { pairs = map (asked now a.timing) a.pairs }
@@ -41,7 +37,7 @@ module _ {H P : Type 0} where
   all_heard now a = record a { pairs = map (heard now) a.pairs }
 
   -- The check has USE-CANDIDATE if the agent is controlling and the pair is nominated (RFC 8445, section 7.1), and its nomination
-  -- is not replaced by a later one. By the rules it has the number of the nomination, too.
+  -- is not replaced by a later one. With the profile `Modern` it has the number of the nomination, too.
   abbrev pub check_message : AgentRecord H P → IceCreds → PairRecord → List ℕ → Message
   check_message a remote p id =
       with_nomination (nomination_of a p) (binding_request (username_between remote a.local_creds) id a.controlling a.tie_breaker
@@ -49,13 +45,13 @@ module _ {H P : Type 0} where
 
   -- Until a path is selected, kinds take turns.
   abbrev pub are_kinds_in_turn : AgentRecord H P → Bool
-  are_kinds_in_turn a = a.rules.kinds_in_turn && not (is_connected a.state)
+  are_kinds_in_turn a = is_modern a.timing && not (is_connected a.state)
 
-  -- the pairs that come before all kinds: the one that was selected last, and urgent ones, each if the rules say so
+  -- the pairs that come before all kinds: the one that was selected last, and urgent ones, each with the profile `Modern`
   abbrev pub precedence : AgentRecord H P → Precedence
   precedence a = record {
-    selected = if a.rules.selected_first then a.selected_pair else None;
-    urgent = is_some a.rules.triggered_checks;
+    selected = if is_modern a.timing then a.selected_pair else None;
+    urgent = is_modern a.timing;
   }
 
   -- One of them is due.
@@ -64,7 +60,7 @@ module _ {H P : Type 0} where
 
   -- This check goes ahead: every second one may.
   abbrev pub is_ahead_turn : ℕ → AgentRecord H P → Bool
-  is_ahead_turn now a = goes_ahead a.rules && a.ahead_turn && (are_kinds_in_turn a || has_first now a)
+  is_ahead_turn now a = is_modern a.timing && a.ahead_turn && (are_kinds_in_turn a || has_first now a)
 
   -- The pair that is checked next, if no nomination is due: the one that is due first, unless the check goes ahead.
   abbrev pub IsNextInTurn : ℕ → AgentRecord H P → Option PairRecord → Type 0

@@ -2,6 +2,7 @@
 use Rattle.std.specs.Prelude.{◌≡◌, ℕ, ◌==◌, ◌&&◌, not, Bool, true, false, List, position, slice_set, Option, Some, None, Result, Ok, Err, if◌then◌else◌}
 use Rattle.is_proto.specs.declared.error.IceError.{IceError}
 use Rattle.is_proto.specs.declared.error.IceError.TheVariants.{OutOfMemory}
+use Rattle.is_stun.specs.Timing.{is_modern}
 use Rattle.is_candidate.specs.Candidates.{CandidateRecord, candidate_at}
 use Rattle.is_candidate.specs.Equality.{is_equivalent}
 use Rattle.is_pair.specs.declared.checklist.removed.Removal.{Removal}
@@ -36,16 +37,16 @@ live_at cs (Some place) = if (candidate_at cs place).discarded then None else So
 abbrev pub is_live_equivalent : CandidateRecord → CandidateRecord → Bool
 is_live_equivalent c x = is_equivalent c x && not x.discarded
 
--- the index of the first equivalent candidate, if that one is live; by the rule `invalidates_listed` that of the first one that is live
+-- the index of the first equivalent candidate, if that one is live; with the profile `Modern` that of the first one that is live
 abbrev pub place_to_discard : Bool → CandidateRecord → List CandidateRecord → Option ℕ
 place_to_discard listed c cs = if listed then position (is_live_equivalent c) cs else live_at cs (position (is_equivalent c) cs)
 
 module _ {H P : Type 0} where
   abbrev pub local_to_discard : CandidateRecord → AgentRecord H P → Option ℕ
-  local_to_discard c a = place_to_discard a.rules.invalidates_listed c a.local
+  local_to_discard c a = place_to_discard (is_modern a.timing) c a.local
 
   abbrev pub remote_to_discard : CandidateRecord → AgentRecord H P → Option ℕ
-  remote_to_discard c a = place_to_discard a.rules.invalidates_listed c a.remote
+  remote_to_discard c a = place_to_discard (is_modern a.timing) c a.remote
 
   abbrev pub local_discarded : ℕ → AgentRecord H P → AgentRecord H P
   local_discarded place a = record a {

@@ -10,6 +10,7 @@ use Rattle.is_pair.specs.Pairs.{PairRecord, is_valid, is_nominated}
 use Rattle.is_stun.specs.declared.header.Class.TheVariants as class
 use Rattle.is_stun.specs.Message.{Message}
 use Rattle.is_stun.specs.Reading.{Reads}
+use Rattle.is_stun.specs.Timing.{is_modern, is_modern_profile}
 use Rattle.is_rules.specs.declared.credentials.IceCreds.{IceCreds}
 use Rattle.is_rules.specs.declared.emitted.Issued.{Issued}
 use Rattle.is_rules.specs.declared.emitted.Path.{Path}
@@ -21,7 +22,7 @@ use Rattle.is_rules.specs.Sending.{path_of}
 use Rattle.is_rules.specs.Roles.{conflict_of, keeps_role}
 use Rattle.is_rules.specs.Accepting.{IsAcceptedOn}
 use Rattle.is_rules.specs.Answers.{is_role_conflict}
-use Rattle.is_rules.specs.Steps.{Call, SetControlTieBreaker, SetIceLite, SetRules, SetLocalCredentials, SetRemoteCredentials, RestartIce}
+use Rattle.is_rules.specs.Steps.{Call, SetControlTieBreaker, SetIceLite, SetConsent, SetProfile, SetLocalCredentials, SetRemoteCredentials, RestartIce}
 use Rattle.is_rules.specs.Steps.{RecreateCandidatePairs, ReceivePacket, Step}
 use Rattle.is_rules.specs.Sound.{IsSound, GivesBased}
 use Rattle.is_rules.specs.Serving.{nominates}
@@ -43,7 +44,7 @@ lite_set_by _ old = old
 
 -- the rule by which a lite agent keeps its role
 abbrev pub keeping_set_by : {P : Type 0} → Call P → Bool → Bool
-keeping_set_by (SetRules rules) old = rules.lite_keeps_role
+keeping_set_by (SetProfile profile) old = is_modern_profile profile
 keeping_set_by _ old = old
 
 abbrev pub remote_set_by : {P : Type 0} → Call P → Option IceCreds → Option IceCreds
@@ -88,7 +89,7 @@ module _ {H P : Type 0} where
     pub record PathEffect (old : AgentRecord H P) (call : Call P) (e : Entry) (new : AgentRecord H P) : Type 0 where
       pub provider : new.provider ≡ old.provider
       pub lite : new.lite ≡ lite_set_by call old.lite
-      pub keeping : new.rules.lite_keeps_role ≡ keeping_set_by call old.rules.lite_keeps_role
+      pub keeping : is_modern new.timing ≡ keeping_set_by call (is_modern old.timing)
       pub remote_creds : new.remote_creds ≡ remote_after call e.answer old.remote_creds
       -- A message in `Brings` was accepted. So it is a Binding message, and signed.
       pub accepted : (at : ℕ) (by : Path) (m : Message) → Brings call e at by m → IsAcceptedOn mac old by m

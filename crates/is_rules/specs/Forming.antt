@@ -3,6 +3,7 @@ use Rattle.std.specs.Prelude.{◌≡◌, ℕ, ◌+◌, ◌<◌, ◌≤◌, ◌&&
 use Rattle.std.specs.List.{flat_map}
 use Rattle.is_proto.specs.Lists.{places_where}
 use Rattle.is_proto.specs.Times.{MAX}
+use Rattle.is_stun.specs.Timing.{is_modern}
 use Rattle.is_candidate.specs.Addresses.{same_address, same_protocol, same_version}
 use Rattle.is_candidate.specs.Candidates.{CandidateRecord, base_of, candidate_at, nowhere}
 use Rattle.is_candidate.specs.Priorities.{candidate_priority}
@@ -128,7 +129,7 @@ HasNumbers next_number many = next_number + many ≤ MAX
 
 module _ {H P : Type 0} where
   abbrev pub sides_of : AgentRecord H P → SidesRecord
-  sides_of a = record { local = a.local; remote = a.remote; controlling = a.controlling; lite = a.lite; kinds_in_turn = a.rules.kinds_in_turn }
+  sides_of a = record { local = a.local; remote = a.remote; controlling = a.controlling; lite = a.lite; kinds_in_turn = is_modern a.timing }
 
   abbrev pub formed_of : AgentRecord H P → Formed
   formed_of a = formed_as a.pairs a.next_number

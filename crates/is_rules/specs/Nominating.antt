@@ -3,6 +3,7 @@ use Rattle.std.specs.Prelude.{◌≡◌, ℕ, ◌+◌, ◌==◌, ◌&&◌, ◌||
 use Rattle.std.specs.Option.{option_map_or, option_and_then, option_or}
 use Rattle.std.specs.List.{list_any}
 use Rattle.is_proto.specs.Times.{counted}
+use Rattle.is_stun.specs.Timing.{is_modern}
 use Rattle.is_candidate.specs.Candidates.{base_of, candidate_at}
 use Rattle.is_pair.specs.Pairs.{PairRecord, is_valid, is_nominated, nominated}
 use Rattle.is_rules.specs.declared.event.IceAgentEvent.TheVariants.{NominatedSend}
@@ -116,7 +117,7 @@ Names s followed old emitted new = (top : Option PairRecord) × IsChosen s.contr
 module _ {H P : Type 0} where
   -- Nominations have numbers: with renomination, by the agent's rules.
   abbrev pub numbers : AgentRecord H P → Bool
-  numbers a = a.renominates && a.rules.numbered_nominations
+  numbers a = a.renominates && is_modern a.timing
 
   -- By the numbers of the peer's nominations: the number of the pair that is selected.
   abbrev pub followed_by_number : AgentRecord H P → Option ℕ

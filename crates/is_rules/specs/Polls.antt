@@ -5,6 +5,7 @@ use Rattle.is_proto.specs.Times.{MAX, MILLISECOND, SECOND, later}
 use Rattle.is_proto.specs.declared.Duration.{Duration}
 use Rattle.is_pair.specs.Due.{call_time_of, asked}
 use Rattle.is_proto.specs.Packets.{Packet}
+use Rattle.is_stun.specs.Timing.{is_modern}
 use Rattle.is_rules.specs.declared.event.IceAgentEvent.{IceAgentEvent}
 use Rattle.is_rules.specs.Agent.{AgentRecord}
 use Rattle.is_rules.specs.Nominating.{is_pressing}
@@ -23,10 +24,13 @@ LEAST_TA = 5 * MILLISECOND
 abbrev pub CYCLE : ℕ
 CYCLE = 500 * MILLISECOND
 
--- the pacing interval by the rule `early_pacing`, with so many pairs
-abbrev pub early_advance : Option Duration → ℕ → ℕ → ℕ
-early_advance None count advance = advance
-early_advance (Some early) count advance = min advance (max LEAST_TA (min early.0 (CYCLE / max 1 count)))
+-- until the agent is settled, the pacing interval of few pairs
+abbrev pub EARLY_TA : ℕ
+EARLY_TA = 10 * MILLISECOND
+
+-- the pacing interval until then, with so many pairs: each can be checked once in a cycle. A shorter interval that is set stays.
+abbrev pub early_advance : ℕ → ℕ → ℕ
+early_advance count advance = min advance (max LEAST_TA (min EARLY_TA (CYCLE / max 1 count)))
 
 module _ {H P : Type 0} where
   -- `poll_transmit`
@@ -45,9 +49,9 @@ module _ {H P : Type 0} where
   abbrev pub is_settled : AgentRecord H P → Bool
   is_settled a = is_connected a.state && not (a.controlling && a.nomination_due)
 
-  -- the pacing interval Ta; until the agent is settled, no longer than by the rule `early_pacing`
+  -- the pacing interval Ta; with `Modern` it is shorter until the agent is settled
   abbrev pub pacing_of : AgentRecord H P → ℕ
-  pacing_of a = if is_settled a then a.timing_advance else early_advance a.rules.early_pacing (length a.pairs) a.timing_advance
+  pacing_of a = if is_modern a.timing && not (is_settled a) then early_advance (length a.pairs) a.timing_advance else a.timing_advance
 
   -- one pacing interval after the last call
   abbrev pub soon : AgentRecord H P → ℕ → ℕ
@@ -65,7 +69,7 @@ module _ {H P : Type 0} where
   abbrev pub WaitingTimeout : AgentRecord H P → ℕ → ℕ → AgentRecord H P → Type 0
   WaitingTimeout old last deadline new =
       (deadline ≡ soon old last)
-      × MatchBool (is_some old.rules.triggered_checks) (new ≡ record old { pairs = map (asked last old.timing) old.pairs }) (new ≡ old)
+      × MatchBool (is_modern old.timing) (new ≡ record old { pairs = map (asked last old.timing) old.pairs }) (new ≡ old)
 
   -- If nothing waits, it fixes them.
   abbrev pub IdleTimeout : AgentRecord H P → ℕ → ℕ → AgentRecord H P → Type 0

@@ -1,5 +1,6 @@
 -- Roles, and role conflicts (RFC 8445, section 7.3.1.1).
 use Rattle.std.specs.Prelude.{ℕ, ◌&&◌, ◌||◌, Bool, not, nat_le, map, Option, Some, None, if◌then◌else◌}
+use Rattle.is_stun.specs.Timing.{is_modern}
 use Rattle.is_pair.specs.Pairs.{PairRecord}
 use Rattle.is_rules.specs.declared.roles.Conflict.{Conflict}
 use Rattle.is_rules.specs.declared.roles.Conflict.TheVariants.{Absent, Send487, SwitchRole}
@@ -24,7 +25,7 @@ module _ {H P : Type 0} where
 
   -- Only full agents repair roles (RFC 8445, section 6.1.1): by its rules a lite agent never changes its role.
   abbrev pub keeps_role : AgentRecord H P → Bool
-  keeps_role s = s.lite && s.rules.lite_keeps_role
+  keeps_role s = s.lite && is_modern s.timing
 
   abbrev pub conflict_of : AgentRecord H P → RequestRecord → Conflict
   conflict_of s q = conflict_by (keeps_role s) s.tie_breaker (rival s q)

@@ -15,6 +15,7 @@ use Rattle.is_stun.specs.declared.header.Class.TheVariants.{Success, Failure}
 use Rattle.is_stun.specs.Checks.{binding_reply, binding_role_conflict_reply}
 use Rattle.is_stun.specs.Theorems.{IsPut}
 use Rattle.is_stun.specs.Writing.{written}
+use Rattle.is_stun.specs.Timing.{is_modern}
 use Rattle.is_rules.specs.declared.credentials.IceCreds.{IceCreds}
 use Rattle.is_rules.specs.declared.places.RemotePlace.{RemotePlace}
 use Rattle.is_rules.specs.declared.places.RemotePlace.TheVariants.{Known, Barred, Unknown, Vacant, Full}
@@ -128,7 +129,7 @@ module _ {H P : Type 0} where
 
   -- the pair after the request
   abbrev pub after_request : RequestRecord → AgentRecord H P → PairRecord → PairRecord
-  after_request q s p = served s.controlling s.lite (as_taken (numbers s) q) (triggered s.rules.triggered_checks (trigger_time q s) p)
+  after_request q s p = served s.controlling s.lite (as_taken (numbers s) q) (triggered (is_modern s.timing) (trigger_time q s) p)
 
   abbrev pub pair_served : RequestRecord → ℕ → AgentRecord H P → AgentRecord H P
   pair_served q number s = record s {
@@ -139,7 +140,7 @@ module _ {H P : Type 0} where
 
   -- Nomination is evaluated when a request arrives on a valid pair (RFC 8445, sections 7.3.1.5 and 8.1.1).
   abbrev pub selects_at_requests : AgentRecord H P → Bool
-  selects_at_requests s = if s.rules.selects_at_once then true else s.controlling
+  selects_at_requests s = if is_modern s.timing then true else s.controlling
 
   -- ---- what serving prepares
 
@@ -169,8 +170,8 @@ module _ {H P : Type 0} where
         IsPut (written (mac s.provider) (Some s.local_creds.pass) (binding_reply q.id q.path.source)) (binding_reply q.id (carried q.path.source))
         × (emitted ≡ emitted_by (Some (issued_as path Success q.id)) selected_paths None) × (new ≡ replied q path s)
 
-    -- The pair records the request. A controlling agent evaluates nomination if the pair is valid, and by the rule a controlled one too.
-    -- If that selects a path, the state is evaluated by the rule. Then the response is sent.
+    -- The pair records the request. A controlling agent evaluates nomination if the pair is valid, and with `Modern` a controlled one too.
+    -- If that selects a path, the state is evaluated with `Modern`. Then the response is sent.
     abbrev pub RecordsAndResponds : RequestRecord → ℕ → ℕ → ℕ → AgentRecord H P → Emitted → AgentRecord H P → Type 0
     RecordsAndResponds q l r number s emitted new =
         (path : Option Path) × (mid : AgentRecord H P)

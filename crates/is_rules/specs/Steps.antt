@@ -8,14 +8,15 @@ use Rattle.is_proto.specs.declared.error.ParseFault.{ParseFault}
 use Rattle.is_candidate.specs.Candidates.{CandidateRecord}
 use Rattle.is_stun.specs.Message.{Message}
 use Rattle.is_stun.specs.Reading.{Reads, Fault}
+use Rattle.is_stun.specs.declared.timing.Profile.{Profile}
+use Rattle.is_stun.specs.declared.timing.ConsentSetting.{ConsentSetting}
 use Rattle.is_rules.specs.declared.credentials.IceCreds.{IceCreds}
 use Rattle.is_rules.specs.declared.event.IceAgentEvent.{IceAgentEvent}
 use Rattle.is_rules.specs.declared.emitted.Path.{Path}
 use Rattle.is_rules.specs.declared.emitted.Emitted.{Emitted}
-use Rattle.is_rules.specs.declared.rules.Rules.{Rules}
 use Rattle.is_rules.specs.Emitted.{nothing_emitted}
 use Rattle.is_rules.specs.Agent.{AgentRecord}
-use Rattle.is_rules.specs.Settings.{SetsControlling, SetsMtu, with_rtos, with_rules, with_retransmits, with_lite_timeout, numbers_skipped}
+use Rattle.is_rules.specs.Settings.{SetsControlling, SetsMtu, with_rtos, with_consent, with_profile, with_retransmits, with_lite_timeout, numbers_skipped}
 use Rattle.is_rules.specs.Credentials.{SetsLocal, SetsRemote}
 use Rattle.is_rules.specs.Discarding.{Invalidates}
 use Rattle.is_rules.specs.Local.{AddsLocal}
@@ -36,7 +37,8 @@ pub data Call (P : Type 0) : Type 0 where
   SetMaxDiscovered : Option ℕ → Call P
   SetIceLite : Bool → Call P
   SetRenomination : Bool → Call P
-  SetRules : Rules → Call P
+  SetProfile : Profile → Call P
+  SetConsent : ConsentSetting → Call P
   SetTimingAdvance : ℕ → Call P
   SetInitialStunRto : ℕ → Call P
   SetMaxStunRto : ℕ → Call P
@@ -152,7 +154,8 @@ module _ {H P : Type 0} (mac : H → List ℕ → List ℕ → List ℕ) (answer
   Step old s (SetMaxDiscovered limit) e new t = Becomes (record old { max_discovered = limit }) s e new t
   Step old s (SetIceLite lite) e new t = Becomes (record old { lite = lite }) s e new t
   Step old s (SetRenomination renominates) e new t = Becomes (record old { renominates = renominates }) s e new t
-  Step old s (SetRules rules) e new t = Becomes (with_rules rules old) s e new t
+  Step old s (SetProfile profile) e new t = Becomes (with_profile profile old) s e new t
+  Step old s (SetConsent consent) e new t = Becomes (with_consent consent old) s e new t
   Step old s (SetTimingAdvance by) e new t = Becomes (record old { timing_advance = by }) s e new t
   Step old s (SetInitialStunRto rto) e new t = Becomes (with_rtos rto old.timing.max_rto.0 old) s e new t
   Step old s (SetMaxStunRto rto) e new t = Becomes (with_rtos old.timing.initial_rto.0 rto old) s e new t

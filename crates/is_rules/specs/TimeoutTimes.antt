@@ -3,6 +3,7 @@ use Rattle.std.specs.Prelude.{◌≡◌, ℕ, ◌*◌, ◌<◌, ◌≤◌, min, 
 use Rattle.rand_core.specs.Stream.{Stream}
 use Rattle.is_proto.specs.Lists.{Has}
 use Rattle.is_proto.specs.Times.{MAX, SECOND, later}
+use Rattle.is_stun.specs.Timing.{is_modern}
 use Rattle.is_pair.specs.Pairs.{PairRecord}
 use Rattle.is_pair.specs.Due.{call_time_of}
 use Rattle.is_rules.specs.Agent.{AgentRecord}
@@ -48,9 +49,9 @@ abbrev pub TimeoutIsGiven : Type 0 → Type 0 → Type 0
 TimeoutIsGiven H P = (old new : AgentRecord H P) (deadline : Option ℕ) → PollsTimeout old deadline new → IsGiven old deadline
 
 module _ {H P : Type 0} (mac : H → List ℕ → List ℕ → List ℕ) where
-  -- By the rule `timeout_after_requests`, a `handle_timeout` call returns `Ok` at this time.
+  -- With the profile `Modern`, a `handle_timeout` call returns `Ok` at this time.
   pub record IsNotedCall (old : AgentRecord H P) (now : ℕ) (s : Stream) (emitted : Emitted) (new : AgentRecord H P) (t : Stream) : Type 0 where
-    pub by_rule : old.rules.timeout_after_requests ≡ true
+    pub by_rule : is_modern old.timing ≡ true
     pub call : TimesOut mac now old s (Ok tt) emitted new t
 
   -- A `handle_timeout` call of a full agent that knows the peer returns `Ok`, and serves no early request.

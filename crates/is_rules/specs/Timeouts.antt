@@ -1,10 +1,11 @@
 -- What a `handle_timeout` call does. It evaluates the state. Then it serves an early request, if there is one; otherwise it
--- nominates, removes failed pairs and sends a check. By the rule `state_after_nomination` the state is evaluated after nomination.
+-- nominates, removes failed pairs and sends a check. With the profile `Modern` the state is evaluated after nomination.
 use Rattle.std.specs.Prelude.{◌≡◌, ℕ, Bool, true, List, [], ◌∷◌, ◌++◌, Option, Some, None, MatchBool, MatchOption, Result, Ok, Err, unwrap_or, if◌then◌else◌}
 use Rattle.std.specs.List.{list_any}
 use Rattle.rand_core.specs.Stream.{Stream}
 use Rattle.is_proto.specs.declared.error.IceError.{IceError}
 use Rattle.is_proto.specs.declared.error.IceError.TheVariants.{OutOfMemory}
+use Rattle.is_stun.specs.Timing.{is_modern}
 use Rattle.is_pair.specs.Pairs.{PairRecord}
 use Rattle.is_pair.specs.Due as due
 use Rattle.is_rules.specs.declared.event.IceAgentEvent.TheVariants.{IceRestart}
@@ -43,7 +44,7 @@ module _ {H P : Type 0} where
   abbrev pub expired_gone : ℕ → AgentRecord H P → AgentRecord H P
   expired_gone now a = record a { pairs = without (is_expired now a) a.pairs }
 
-  -- If a pair is removed, nomination and state are evaluated. Otherwise the state is, by the rule.
+  -- If a pair is removed, nomination and state are evaluated. Otherwise the state is, with `Modern`.
   abbrev pub RemovesExpired : ℕ → AgentRecord H P → Option Path → AgentRecord H P → Type 0
   RemovesExpired now old path new =
       MatchBool (list_any (is_expired now old) old.pairs)
@@ -55,9 +56,9 @@ module _ {H P : Type 0} where
   abbrev pub at_timeout : ℕ → AgentRecord H P → AgentRecord H P
   at_timeout now a = record a { last_time = Some now }
 
-  -- By the rule `timeout_after_requests` a call that serves an early request counts as the last one, if there was none before.
+  -- With the profile `Modern` a call that serves an early request counts as the last one, if there was none before.
   abbrev pub at_request : ℕ → AgentRecord H P → AgentRecord H P
-  at_request now a = record a { last_time = if a.rules.timeout_after_requests then Some (unwrap_or a.last_time now) else a.last_time }
+  at_request now a = record a { last_time = if is_modern a.timing then Some (unwrap_or a.last_time now) else a.last_time }
 
   -- Why a `handle_timeout` call may fail: for a reason for which the early request that it serves may fail, and without one only
   -- for an allocation failure.

@@ -75,8 +75,8 @@ pub struct ServingRole {
 /// Whether, and when, the request triggers a check of the pair.
 #[derive(Clone, Copy)]
 pub struct Trigger {
-    /// Each of the first so many requests on a pair does.
-    pub most: Option<u64>,
+    /// The first request on a pair does.
+    pub modern: bool,
     /// When it is due.
     pub at: Instant,
 }
@@ -122,10 +122,10 @@ impl PairChange for Serves<'_> {
     ghost use Rattle.is_rules.specs.Serving.{served};
     ghost use Rattle.is_pair.specs.Due.{triggered};
 
-    ghost makes = { λ t p. served t.role.controlling t.role.lite (request_view t.request) (triggered t.trigger.most t.trigger.at.0 p) };
+    ghost makes = { λ t p. served t.role.controlling t.role.lite (request_view t.request) (triggered t.trigger.modern t.trigger.at.0 p) };
 
     fn change(&self, pair: &mut CandidatePair) {
-        trigger(pair, self.trigger.most, self.trigger.at);
+        trigger(pair, self.trigger.modern, self.trigger.at);
         pair.increase_remote_binding_requests(self.request.time);
         validate_by_peer(pair, self.role);
         nominate_by_peer(pair, &self.request, self.role);
@@ -142,7 +142,7 @@ pub fn serve_pair(
     trigger: Trigger,
 )
     ensures placed { (local remote : List CandidateRecord) → are_placed local remote (multiset_of pairs.old) ≡ true → are_placed local remote (multiset_of pairs.new) ≡ true }
-    ensures served { multiset_of pairs.new ≡ change_pair number (λ p. served role.controlling role.lite (request_view request.now) (triggered trigger.most trigger.at.0 p)) (multiset_of pairs.old) }
+    ensures served { multiset_of pairs.new ≡ change_pair number (λ p. served role.controlling role.lite (request_view request.now) (triggered trigger.modern trigger.at.0 p)) (multiset_of pairs.old) }
     ensures room { (n : ℕ) → HasRoom n pairs.old → HasRoom n pairs.new }
     ensures below { (n : ℕ) → are_below n (multiset_of pairs.old) ≡ true → are_below n (multiset_of pairs.new) ≡ true }
 {

@@ -16,7 +16,7 @@ pub struct Sides<'a> {
     pub controlling: bool,
     /// The agent is ICE-lite.
     pub lite: bool,
-    /// At the limit the kind with the most pairs loses one (`Rules::kinds_in_turn`).
+    /// Kinds take turns: at the limit the kind with the most pairs loses one.
     pub kinds_in_turn: bool,
     // so that each pair priority fits into 64 bits
     ghost low: { NoneTooHigh local.now },

@@ -33,7 +33,7 @@ pub fn timeout_is_given<H: Sha1HmacProvider, P: LocalPreference>()
     ensures { TimeoutIsGiven H P }
 {}
 
-/// With the rule `timeout_after_requests` there is a last call after each successful `handle_timeout` call. So `poll_timeout` returns a
+/// With the profile `Modern` there is a last call after each successful `handle_timeout` call. So `poll_timeout` returns a
 /// time after it. If it served no early request, that is at least one pacing interval later, or 3 s if there is nothing to check.
 pub fn calls_are_noted<H: Sha1HmacProvider, P: LocalPreference>()
     ensures noted { CallsAreNoted P H.mac }

@@ -30,6 +30,8 @@ pub mod stun {
     pub use crate::builder::{Builder, HasClass, HasMethod, NoMethod, StunMessageBuilder};
     pub use crate::header::{Class, Method};
     pub use crate::message::{StunMessage, StunPacket};
-    pub use crate::timing::{Consent, DEFAULT_MAX_RETRANSMITS, EarlyRto, StunTiming};
+    pub use crate::timing::{
+        Consent, ConsentSetting, DEFAULT_MAX_RETRANSMITS, Profile, StunTiming, early_delay,
+    };
     pub use crate::trans_id::TransId;
 }

@@ -1,38 +1,65 @@
 //! The retransmission timing of checks: the delay before each one, and the time that a full series of checks takes (RFC
 //! 8489, section 6.2.1).
 
-ghost use Rattle.std.specs.Prelude.{◌≡◌, ◌*◌, ◌^◌, ◌/◌, ◌-◌, ◌<◌, ◌≤◌, ℕ, min, None};
+ghost use Rattle.std.specs.Prelude.{◌≡◌, ◌*◌, ◌^◌, ◌/◌, ◌-◌, ◌<◌, ◌≤◌, ℕ, min, None, false};
 ghost use Rattle.is_proto.specs.Times.{MILLISECOND, SECOND};
-ghost use Rattle.is_stun.specs.Timing.{early_delay, resend_delay, last_resend_delay, timeout_of};
+ghost use Rattle.is_stun.specs.declared.timing.Profile.TheVariants.{Original};
+ghost use Rattle.is_stun.specs.Timing.{consent_of, consent_timeout, early_delay, is_modern, is_modern_profile, resend_delay, last_resend_delay, timeout_of};
 
 use is_proto::Duration;
-
-/// The least delay between two checks of a pair.
-const LEAST_DELAY: Duration = Duration(1_000_000);
 
 /// How many checks are sent without a response, as in libwebrtc.
 pub const DEFAULT_MAX_RETRANSMITS: usize = 9;
 
-/// How checks are repeated while a pair has no response: so a path is found soon although packets are lost or the peer begins late.
+/// How many early retransmissions there are: two, so that on a path of 300 ms, whose first response comes after 600 ms, four checks are
+/// sent by then, the last one after 400 ms.
+const EARLY_RETRANSMITS: u64 = 2;
+
+/// The delay before each early retransmission: below the 500 ms of RFC 8445, section 14.3, as that of other stacks.
+const EARLY_INTERVAL: Duration = Duration(100_000_000);
+
+/// The longest delay after them while there is no response. With one up to the longest RTO, a peer that begins late, or a row of losses,
+/// costs seconds.
+const EARLY_CAP: Duration = Duration(350_000_000);
+
+/// Which behavior an agent has.
 #[derive(Clone, Copy, Debug, PartialEq, Eq)]
-pub struct EarlyRto {
-    /// How many early retransmissions there are.
-    pub retransmits: usize,
-    /// The delay before each of them. Less than a millisecond counts as one.
-    pub interval: Duration,
-    /// The longest delay: after the early retransmissions it doubles up to this. Less than the interval counts as the interval.
-    pub cap: Duration,
+pub enum Profile {
+    /// The behavior of the Rust crate `is` 0.12.0.
+    Original,
+    /// What agents connect soonest with, and by which consent ends in time.
+    Modern,
 }
 
-impl EarlyRto {
-    /// Returns how long to wait after the last of `send_count` checks before the next one.
-    pub fn delay(self, send_count: u64) -> Duration
-        ensures { result.0 ≡ early_delay self send_count }
+impl Profile {
+    /// Whether this is `Modern`.
+    pub fn is_modern(self) -> bool
+        ensures { result ≡ is_modern_profile self }
     {
-        let interval = self.interval.max(LEAST_DELAY);
-        let doublings = send_count.saturating_sub(self.retransmits as u64);
-        Duration(doubled(interval.0, doublings as usize, interval.max(self.cap).0))
+        match self {
+            Profile::Original => false,
+            Profile::Modern => true,
+        }
     }
+}
+
+/// Returns how long to wait after the last of `send_count` checks before the next one, while a pair of a `Modern` agent has no
+/// response.
+pub fn early_delay(send_count: u64) -> Duration
+    ensures { result.0 ≡ early_delay send_count }
+{
+    let doublings = send_count.saturating_sub(EARLY_RETRANSMITS);
+    Duration(doubled(EARLY_INTERVAL.0, doublings as usize, EARLY_CAP.0))
+}
+
+/// What a user chooses of consent (RFC 7675).
+#[derive(Clone, Copy, Debug, PartialEq, Eq)]
+pub struct ConsentSetting {
+    /// How long after its last check that got a response was sent a pair is kept. Each nanosecond counts. None: the longest RTO and a
+    /// whole series of checks after it, so that no pair ends sooner than without consent.
+    pub timeout: Option<Duration>,
+    /// Whether only responses keep a pair, as in RFC 7675. Otherwise the peer's checks keep it too, each for 15 s.
+    pub strict: bool,
 }
 
 /// How long a full agent keeps a pair after its last check that got a response (consent freshness, RFC 7675, section 5.1).
@@ -57,15 +84,16 @@ pub struct StunTiming {
     /// How long an ICE-lite agent keeps a pair after the peer's last check on it. Each nanosecond counts. With zero, no check
     /// keeps a pair.
     pub lite_timeout: Duration,
-    /// How the checks of a pair without a response, and those that nominate it, are repeated at first. None: by the RTO.
-    pub early: Option<EarlyRto>,
-    /// How long a response keeps a pair of a full agent. None: a pair is kept until enough checks have no response.
-    pub consent: Option<Consent>,
+    /// With `Modern` the checks of a pair without a response, and those that nominate it, are repeated early, and consent ends by the
+    /// clock. With `Original` a pair is kept until enough checks have no response.
+    pub profile: Profile,
+    /// How long a response keeps a pair of a full agent with `Modern`.
+    pub consent: ConsentSetting,
 }
 
 /// An initial RTO of 250 ms, 9 retransmits, a longest RTO of 3 s, and 15 s for an ICE-lite agent.
 impl Default for StunTiming {
-    ghost is_default = { λ t. t ≡ record { initial_rto = record { 0 = 250 * MILLISECOND }; max_retransmits = 9; max_rto = record { 0 = 3000 * MILLISECOND }; lite_timeout = record { 0 = 15 * SECOND }; early = None; consent = None } };
+    ghost is_default = { λ t. t ≡ record { initial_rto = record { 0 = 250 * MILLISECOND }; max_retransmits = 9; max_rto = record { 0 = 3000 * MILLISECOND }; lite_timeout = record { 0 = 15 * SECOND }; profile = Original; consent = record { timeout = None; strict = false } } };
 
     fn default() -> StunTiming {
         StunTiming {
@@ -73,8 +101,11 @@ impl Default for StunTiming {
             max_retransmits: DEFAULT_MAX_RETRANSMITS,
             max_rto: Duration(3_000_000_000),
             lite_timeout: Duration(15_000_000_000),
-            early: None,
-            consent: None,
+            profile: Profile::Original,
+            consent: ConsentSetting {
+                timeout: None,
+                strict: false,
+            },
         }
     }
 }
@@ -128,6 +159,36 @@ impl StunTiming {
         ensures steady { self.now.max_rto.0 / MILLISECOND < 2 ^ (result - 1) }
     {
         (u64::BITS - self.max_rto.as_millis().leading_zeros()) as usize + 1
+    }
+
+    /// Whether the profile is `Modern`.
+    pub fn is_modern(&self) -> bool
+        ensures { result ≡ is_modern self.now }
+    {
+        self.profile.is_modern()
+    }
+
+    /// Returns how long a response keeps a pair of a full agent. None: a pair is kept until enough checks have no response.
+    pub fn consent(&self) -> Option<Consent>
+        ensures { result ≡ consent_of self.now }
+    {
+        match self.profile {
+            Profile::Original => None,
+            Profile::Modern => Some(Consent {
+                timeout: self.consent_timeout(),
+                strict: self.consent.strict,
+            }),
+        }
+    }
+
+    /// Returns how long the response to a check keeps a pair.
+    fn consent_timeout(&self) -> Duration
+        ensures { result.0 ≡ consent_timeout self.now }
+    {
+        match self.consent.timeout {
+            Some(timeout) => timeout,
+            None => self.max_rto.saturating_add(self.timeout()),
+        }
     }
 
     /// Returns how many checks are sent.

@@ -1,4 +1,4 @@
--- By the rule `state_after_nomination` an agent is connected if and only if the path that it selected last can be used.
+-- With the profile `Modern` an agent is connected if and only if the path that it selected last can be used.
 pub mod LivePairs
 pub mod SelectedPairs
 pub mod Outcomes

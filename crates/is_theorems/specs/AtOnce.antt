@@ -5,6 +5,7 @@ use Rattle.is_proto.specs.Lists.{Has}
 use Rattle.is_candidate.specs.Candidates.{CandidateRecord}
 use Rattle.is_pair.specs.Pairs.{PairRecord, is_valid}
 use Rattle.is_stun.specs.declared.header.Class.TheVariants as class
+use Rattle.is_stun.specs.Timing.{is_modern}
 use Rattle.is_rules.specs.declared.emitted.Issued.{Issued}
 use Rattle.is_rules.specs.declared.emitted.Path.{Path}
 use Rattle.is_rules.specs.Agent.{AgentRecord}
@@ -27,14 +28,14 @@ module _ {H P : Type 0} where
     abbrev pub ServedSelect : AgentRecord H P → Stream → List (Logged P) → Type 0
     ServedSelect first s log =
         AtEach mac answers first s log (λ before mid x after. (issued : Issued) → x.entry.emitted.issued ≡ Some issued
-        → issued.class ≡ class.Success → mid.rules.selects_at_once ≡ true → WereValidOn mid after issued.path
+        → issued.class ≡ class.Success → is_modern mid.timing ≡ true → WereValidOn mid after issued.path
         → (p : PairRecord) → Has after.pairs p → is_eligible after.controlling p ≡ true → IsTopPath mac answers (x ∷ before) after)
 
     -- If the request nominates the path to a controlled agent, the pair on it is eligible afterwards. So a path is selected.
     abbrev pub AskedSelectAtOnce : AgentRecord H P → Stream → List (Logged P) → Type 0
     AskedSelectAtOnce first s log =
         AtEach mac answers first s log (λ before mid x after. (path : Path) → IsAskedOn mid x after path
-        → mid.rules.selects_at_once ≡ true → WereValidOn mid after path → IsTopPath mac answers (x ∷ before) after)
+        → is_modern mid.timing ≡ true → WereValidOn mid after path → IsTopPath mac answers (x ∷ before) after)
 
     -- Whether the agent is lite or not.
     abbrev pub RequestsSelect : Type 0

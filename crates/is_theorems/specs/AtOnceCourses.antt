@@ -2,6 +2,7 @@
 -- peer's nomination of the path and a success response on it.
 use Rattle.std.specs.Prelude.{◌≡◌, ℕ, ◌⊎◌, true, false, List, [], ◌∷◌, ◌++◌, None}
 use Rattle.rand_core.specs.Stream.{Stream}
+use Rattle.is_stun.specs.Timing.{is_modern}
 use Rattle.is_candidate.specs.Candidates.{CandidateRecord}
 use Rattle.is_rules.specs.Agent.{AgentRecord}
 use Rattle.is_rules.specs.declared.emitted.Path.{Path}
@@ -25,7 +26,7 @@ module _ {H P : Type 0} (mac : H → List ℕ → List ℕ → List ℕ) (answer
     pub left : Stream
     pub step : Step mac answers near drawn call e last left
     pub arrives :
-        ((near.rules.selects_at_once ≡ true) × IsAnsweredAlong xs path × AcceptsNomination near call e path)
+        ((is_modern near.timing ≡ true) × IsAnsweredAlong xs path × AcceptsNomination near call e path)
         ⊎ (AcceptsNominationAlong mac answers xs start near course path × AcceptsSuccessOn call e path)
     pub controlled : last.controlling ≡ false
     pub only_pair : IsOnlyPair last path

@@ -2,6 +2,7 @@
 use Rattle.std.specs.Prelude.{◌≡◌, ℕ, ◌+◌, ◌*◌, ◌≤◌, ◌⊎◌, List, length, Some}
 use Rattle.rand_core.specs.Stream.{Stream}
 use Rattle.is_proto.specs.Lists.{Has}
+use Rattle.is_stun.specs.Timing.{is_modern}
 use Rattle.is_candidate.specs.Candidates.{CandidateRecord}
 use Rattle.is_pair.specs.Pairs.{PairRecord}
 use Rattle.is_rules.specs.Agent.{AgentRecord}
@@ -25,8 +26,8 @@ module _ {H P : Type 0} where
     pub line : IsInLine at by start p
     pub passing : (r : LoggedRound P) → Has rounds r → IsPassing by r
     pub lasting : (r : LoggedRound P) → Has rounds r → IsLasting r.now start p
-    pub enough : checks_for start.rules (2 * bound + last.next_number + nominations_ahead start (selection_count (entries_of rounds)))
-        ≤ length rounds + 1 + checks_for start.rules start.next_number
+    pub enough : checks_for (is_modern start.timing) (2 * bound + last.next_number + nominations_ahead start (selection_count (entries_of rounds)))
+        ≤ length rounds + 1 + checks_for (is_modern start.timing) start.next_number
 
   module _ (mac : H → List ℕ → List ℕ → List ℕ) (answers : P → CandidateRecord → ℕ → ℕ → Type 0) where
     -- Then a check is sent on the pair's path in one of them, unless a success response is received on the path in one of them, or

@@ -1,4 +1,4 @@
--- Consent (RFC 7675) by the rule `consent`: which pairs have it, and when it ends.
+-- Consent (RFC 7675) with the profile `Modern`: which pairs have it, and when it ends.
 use Rattle.std.specs.Prelude.{◌≡◌, ℕ, ◌+◌, ◌≤◌, ◌⊎◌, max, true, false, List, [], ◌∷◌, Some, None, Ok}
 use Rattle.rand_core.specs.Stream.{Stream}
 use Rattle.is_proto.specs.Lists.{Has}
@@ -6,6 +6,7 @@ use Rattle.is_candidate.specs.Candidates.{CandidateRecord}
 use Rattle.is_pair.specs.Due.{consent_end, has_consent}
 use Rattle.is_pair.specs.Pairs.{PairRecord}
 use Rattle.is_stun.specs.declared.timing.Consent.{Consent}
+use Rattle.is_stun.specs.Timing.{consent_of}
 use Rattle.is_rules.specs.Agent.{AgentRecord}
 use Rattle.is_rules.specs.declared.emitted.Emitted.{Emitted}
 use Rattle.is_rules.specs.Queue.{request_at}
@@ -32,7 +33,7 @@ module _ {H P : Type 0} (mac : H → List ℕ → List ℕ → List ℕ) where
         ⊎ IsPolledIn delay next polled rest course.0 new course.5
 
     -- The caller is punctual after a `handle_timeout` call at time `now`: in these calls it calls `poll_timeout`, and makes the next
-    -- `handle_timeout` call at time `next`. Nothing in them sets a longer pacing interval than `pace`, or changes the rules.
+    -- `handle_timeout` call at time `next`. Nothing in them sets a longer pacing interval than `pace`, or changes the profile.
     pub record IsFollowed (pace delay now next : ℕ) (first : AgentRecord H P) (xs : List (Call P × Entry)) (last : AgentRecord H P) (polled : AgentRecord H P) : Type 0 where
       pub begins : first.timing_advance ≤ pace
       pub keeps : KeepsPace pace xs
@@ -45,11 +46,11 @@ module _ {H P : Type 0} (mac : H → List ℕ → List ℕ → List ℕ) where
     abbrev pub ConsentEndsInTime : Type 0
     ConsentEndsInTime =
         (old first last polled : AgentRecord H P) (s t : Stream) (emitted : Emitted) (xs : List (Call P × Entry)) (c : Consent) (p : PairRecord) (pace delay now next : ℕ)
-        → IsMaintained old now s emitted first t → old.timing.consent ≡ Some c → IsFollowed pace delay now next first xs last polled
+        → IsMaintained old now s emitted first t → consent_of old.timing ≡ Some c → IsFollowed pace delay now next first xs last polled
         → Has polled.pairs p → next ≤ max (consent_end c p) (now + pace) + delay
 
 -- After such a call each pair has consent. There is no count of pairs, no RTO and no caller in it.
 abbrev pub ConsentHolds : {H : Type 0} (P : Type 0) → (H → List ℕ → List ℕ → List ℕ) → Type 0
 ConsentHolds {H = H} P mac =
     (old new : AgentRecord H P) (now : ℕ) (s t : Stream) (emitted : Emitted) → IsMaintained mac old now s emitted new t
-    → (p : PairRecord) → Has new.pairs p → has_consent new.timing.consent now p ≡ true
+    → (p : PairRecord) → Has new.pairs p → has_consent (consent_of new.timing) now p ≡ true

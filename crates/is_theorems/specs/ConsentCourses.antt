@@ -7,6 +7,7 @@ use Rattle.is_candidate.specs.Candidates.{CandidateRecord}
 use Rattle.is_pair.specs.Due.{has_consent}
 use Rattle.is_pair.specs.Pairs.{PairRecord, is_valid}
 use Rattle.is_stun.specs.declared.timing.Consent.{Consent}
+use Rattle.is_stun.specs.Timing.{consent_of}
 use Rattle.is_rules.specs.Agent.{AgentRecord}
 use Rattle.is_rules.specs.Connecting.{is_connected}
 use Rattle.is_rules.specs.declared.emitted.Path.{Path}
@@ -35,7 +36,7 @@ module _ {H P : Type 0} where
   abbrev pub HasConsentOn : ℕ → Option Path → AgentRecord H P → Type 0
   HasConsentOn now path a =
       (p : PairRecord) × Has a.pairs p × (is_eligible a.controlling p ≡ true) × (path ≡ Some (path_of a p))
-      × (has_consent a.timing.consent now p ≡ true)
+      × (has_consent (consent_of a.timing) now p ≡ true)
 
   module _ (mac : H → List ℕ → List ℕ → List ℕ) (answers : P → CandidateRecord → ℕ → ℕ → Type 0) where
     -- These calls of a newly created agent end with a `handle_timeout` call that serves no early request. The agent is full, and
@@ -53,7 +54,7 @@ module _ {H P : Type 0} where
       pub full : near.lite ≡ false
       pub connected : is_connected last.state ≡ true
 
-    -- Then the path that was selected last has consent, whatever rules are set.
+    -- Then the path that was selected last has consent, whatever profile is set.
     abbrev pub ConnectedHaveConsent : Type 0
     ConnectedHaveConsent =
         (before : List (Call P × Entry)) (now : ℕ) (timeout : Entry) (last : AgentRecord H P) → IsConnectedAfter before now timeout last
@@ -66,11 +67,11 @@ module _ {H P : Type 0} where
         (first last : AgentRecord H P) (xs : List (Call P × Entry)) → IsFresh first → AreNeverLite xs → Course mac answers xs first last
         → (p : PairRecord) → Has last.pairs p → is_valid p ≡ true → is_some p.consented ≡ true
 
-    -- An agent that is never lite, with the rule `consent`: if it is connected after such a call, the path that was selected last is that
+    -- An agent that is never lite, with the profile `Modern`: if it is connected after such a call, the path that was selected last is that
     -- of a pair that is alive by these responses and checks.
     abbrev pub ConnectedAreAnswered : Type 0
     ConnectedAreAnswered =
         (before : List (Call P × Entry)) (now : ℕ) (timeout : Entry) (last : AgentRecord H P) (c : Consent)
-        → IsConnectedAfter before now timeout last → AreNeverLite before → last.rules.consent ≡ Some c
+        → IsConnectedAfter before now timeout last → AreNeverLite before → consent_of last.timing ≡ Some c
         → (p : PairRecord) × Has last.pairs p × IsAliveBy c now p
         × (selected_along None (before ++ (HandleTimeout now, timeout) ∷ []) ≡ Some (path_of last p))

@@ -5,6 +5,7 @@ use Rattle.is_proto.specs.Lists.{Has}
 use Rattle.is_candidate.specs.Candidates.{CandidateRecord}
 use Rattle.is_pair.specs.Pairs.{PairRecord}
 use Rattle.is_stun.specs.declared.timing.Consent.{Consent}
+use Rattle.is_stun.specs.Timing.{consent_of}
 use Rattle.is_rules.specs.Agent.{AgentRecord}
 use Rattle.is_rules.specs.Connecting.{is_connected}
 use Rattle.is_rules.specs.Queue.{request_at}
@@ -24,18 +25,18 @@ module _ {H P : Type 0} where
     pub connected : is_connected after.state ≡ true
 
   module _ (mac : H → List ℕ → List ℕ → List ℕ) (answers : P → CandidateRecord → ℕ → ℕ → Type 0) where
-    -- At each such entry the path that was selected last since the last clear has consent, whatever rules are set.
+    -- At each such entry the path that was selected last since the last clear has consent, whatever profile is set.
     abbrev pub PathsHaveConsent : AgentRecord H P → Stream → List (Logged P) → Type 0
     PathsHaveConsent first s log =
         AtEach mac answers first s log (λ before mid x after. (now : ℕ) → IsConnectedAt now mid x after
         → HasConsentOn now (last_selected (x ∷ before)) after)
 
-    -- At each such entry of an agent that was never lite, with the rule `consent`: the path that was selected last since the last clear is
+    -- At each such entry of an agent that was never lite, with the profile `Modern`: the path that was selected last since the last clear is
     -- that of a pair that is alive by the responses to its checks and the peer's checks.
     abbrev pub PathsAreAlive : AgentRecord H P → Stream → List (Logged P) → Type 0
     PathsAreAlive first s log =
         AtEach mac answers first s log (λ before mid x after. (now : ℕ) (c : Consent) → IsConnectedAt now mid x after
-        → NeverLite before → after.rules.consent ≡ Some c
+        → NeverLite before → consent_of after.timing ≡ Some c
         → (p : PairRecord) × Has after.pairs p × IsAliveBy c now p × (last_selected (x ∷ before) ≡ Some (path_of after p)))
 
     abbrev pub SelectedHaveConsent : Type 0

@@ -9,6 +9,7 @@ use Rattle.is_pair.specs.Pairs.{PairRecord}
 use Rattle.is_pair.specs.Turns.{due_by}
 use Rattle.is_stun.specs.declared.header.Class.TheVariants as class
 use Rattle.is_stun.specs.Message.{Message}
+use Rattle.is_stun.specs.Timing.{is_modern}
 use Rattle.is_rules.specs.declared.emitted.Path.{Path}
 use Rattle.is_rules.specs.Agent.{AgentRecord}
 use Rattle.is_rules.specs.Brought.{Brings}
@@ -67,5 +68,5 @@ module _ {H P : Type 0} (mac : H → List ℕ → List ℕ → List ℕ) (answer
       (first start last : AgentRecord H P) (xs : List (Call P × Entry)) (r : CourseRound P) (rounds : List (CourseRound P)) (p : PairRecord) (by : ℕ)
       → IsFresh first → Course mac answers xs first start → start.controlling ≡ true → Awaits r.now by start p → IsUnanswered start p
       → CourseRounds (r ∷ rounds) start last → ((x : CourseRound P) → Has (r ∷ rounds) x → IsAnsweredRound by (path_of start p) x)
-      → checks_for start.rules (length (due_by by r.now start.timing start.pairs)) ≤ length (r ∷ rounds)
+      → checks_for (is_modern start.timing) (length (due_by by r.now start.timing start.pairs)) ≤ length (r ∷ rounds)
       → SelectsAmong (r ∷ rounds)

@@ -2,6 +2,7 @@
 use Rattle.std.specs.Prelude.{◌≡◌, ℕ, true, ◌<◌, ◌≤◌, ◌⊎◌, List, [], ◌∷◌, length}
 use Rattle.is_proto.specs.Lists.{Has}
 use Rattle.is_proto.specs.Times.{MAX}
+use Rattle.is_stun.specs.Timing.{is_modern}
 use Rattle.is_candidate.specs.Candidates.{CandidateRecord}
 use Rattle.is_pair.specs.Pairs.{PairRecord}
 use Rattle.is_pair.specs.Turns.{due_by}
@@ -18,7 +19,7 @@ use Rattle.is_rules.specs.Steps.{Call, Entry, Done}
 -- as many if checks may go ahead.
 abbrev pub AreAsManyAsDue : {H P : Type 0} → ℕ → AgentRecord H P → List ℕ → Type 0
 AreAsManyAsDue by a [] = ⊥
-AreAsManyAsDue by a (now ∷ later) = checks_for a.rules (length (due_by by now a.timing a.pairs)) ≤ length (now ∷ later)
+AreAsManyAsDue by a (now ∷ later) = checks_for (is_modern a.timing) (length (due_by by now a.timing a.pairs)) ≤ length (now ∷ later)
 
 -- Enough `handle_timeout` calls at these times follow one at the time `now`, for a pair that is due by the time `by`. If `by` is
 -- earlier than the first call, as many calls suffice as pairs are due by then, the first included. A single pair needs only this

@@ -4,6 +4,7 @@ use Rattle.std.specs.Prelude.{◌≡◌, ℕ, true, ◌+◌, ◌*◌, ◌<◌, �
 use Rattle.rand_core.specs.Stream.{Stream}
 use Rattle.is_proto.specs.Lists.{Has}
 use Rattle.is_proto.specs.Times.{MAX}
+use Rattle.is_stun.specs.Timing.{is_modern}
 use Rattle.is_candidate.specs.Candidates.{CandidateRecord}
 use Rattle.is_pair.specs.Pairs.{PairRecord}
 use Rattle.is_rules.specs.declared.emitted.Path.{Path}
@@ -39,14 +40,14 @@ pub record IsOpenRound {P : Type 0} (by : ℕ) (r : CourseRound P) : Type 0 wher
 abbrev pub SufficesFromDue : {H P : Type 0} → (first second last : AgentRecord H P) → (later ahead : ℕ) → Type 0
 SufficesFromDue first second last later ahead =
     (length first.pairs ≤ 1)
-    ⊎ (checks_for second.rules (2 * length second.pairs + last.next_number + ahead) ≤ later + 1 + checks_for second.rules second.next_number)
+    ⊎ (checks_for (is_modern second.timing) (2 * length second.pairs + last.next_number + ahead) ≤ later + 1 + checks_for (is_modern second.timing) second.next_number)
 
 -- The same for a pair that is due by the time `by`, if the first call comes at time `now`. If this is later than `by`, 2n - 1 rounds
 -- suffice, the first included, and one more for each pair that is added in them; if checks may go ahead, 4n - 1, and two more. Each
 -- nomination that may be sent at once counts like such a pair: so many are `all_ahead` in all rounds, and `ahead` in those after the first.
 abbrev pub Suffices : {H P : Type 0} → (by now : ℕ) → (first second last : AgentRecord H P) → (later all_ahead ahead : ℕ) → Type 0
 Suffices by now first second last later all_ahead ahead =
-    ((by < now) × (checks_for first.rules (2 * length first.pairs + last.next_number + all_ahead) ≤ later + 2 + checks_for first.rules first.next_number))
+    ((by < now) × (checks_for (is_modern first.timing) (2 * length first.pairs + last.next_number + all_ahead) ≤ later + 2 + checks_for (is_modern first.timing) first.next_number))
     ⊎ SufficesFromDue first second last later ahead
 
 -- The same for rounds of an execution, if `many` of them follow the first one or more.
@@ -76,8 +77,8 @@ module _ {H P : Type 0} (mac : H → List ℕ → List ℕ → List ℕ) (answer
       (first start last : AgentRecord H P) (xs : List (Call P × Entry)) (r : CourseRound P) (rounds : List (CourseRound P)) (p : PairRecord) (by : ℕ)
       → IsFresh first → Course mac answers xs first start → IsInLine r.now by start p → (run : PassRounds mac answers (r ∷ rounds) start last)
       → ((x : CourseRound P) → Has (r ∷ rounds) x → IsOpenRound by x) → ((x : CourseRound P) → Has (r ∷ rounds) x → IsLasting x.now start p)
-      → checks_for start.rules (2 * length start.pairs + last.next_number + nominations_ahead start (selections_among (r ∷ rounds)))
-      ≤ length (r ∷ rounds) + 1 + checks_for start.rules start.next_number
+      → checks_for (is_modern start.timing) (2 * length start.pairs + last.next_number + nominations_ahead start (selections_among (r ∷ rounds)))
+      ≤ length (r ∷ rounds) + 1 + checks_for (is_modern start.timing) start.next_number
       → IsReached (r ∷ rounds) start last run (path_of start p)
 
   -- The same of a pair that is due by the first `handle_timeout` call of the rounds, and maybe not before it. All others are later.

@@ -3,6 +3,7 @@
 use Rattle.std.specs.Prelude.{◌≡◌, ◌≢◌, ℕ, suc, ◌*◌, ◌≤◌, ◌⊎◌, true, List, [], ◌∷◌, length, Some, is_some}
 use Rattle.rand_core.specs.Stream.{Stream}
 use Rattle.is_proto.specs.Lists.{Has}
+use Rattle.is_stun.specs.Timing.{is_modern}
 use Rattle.is_candidate.specs.Candidates.{CandidateRecord}
 use Rattle.is_pair.specs.Due.{GoesBefore}
 use Rattle.is_pair.specs.Pairs.{PairRecord}
@@ -25,10 +26,10 @@ module _ {H P : Type 0} where
   abbrev pub kind_in : AgentRecord H P → PairRecord → ℕ
   kind_in a p = kind_of a.local a.remote p
 
-  -- A `handle_timeout` call of an agent with the rule, by which kinds take turns until a path is selected. When it begins, each pair has
+  -- A `handle_timeout` call of an agent with the profile `Modern`, by which kinds take turns until a path is selected. When it begins, each pair has
   -- one of these kinds, and the pair with the number has this one.
   pub record TakesTurns (kinds : List ℕ) (kind number : ℕ) (old new : AgentRecord H P) : Type 0 where
-    pub rule : new.rules.kinds_in_turn ≡ true
+    pub rule : is_modern new.timing ≡ true
     pub listed : (q : PairRecord) → Has old.pairs q → Has kinds (kind_in old q)
     pub keeps : (q : PairRecord) → Has old.pairs q → q.number ≡ number → kind_in old q ≡ kind
 

@@ -9,6 +9,7 @@ use Rattle.is_pair.specs.Pairs.{PairRecord}
 use Rattle.is_stun.specs.declared.header.Class.TheVariants as class
 use Rattle.is_stun.specs.declared.timing.Consent.{Consent}
 use Rattle.is_stun.specs.Message.{Message}
+use Rattle.is_stun.specs.Timing.{consent_of}
 use Rattle.is_rules.specs.declared.emitted.Path.{Path}
 use Rattle.is_rules.specs.Agent.{AgentRecord}
 use Rattle.is_rules.specs.Brought.{Brings}
@@ -50,10 +51,10 @@ BeginsBy limit [] = Unit {0}
 BeginsBy limit (r ∷ later) = r.now ≤ limit
 
 module _ {H P : Type 0} where
-  -- The agent has the rule `consent`, it knows its peer, and no early request waits. On this path the last check with a response was sent
+  -- The agent has the profile `Modern`, it knows its peer, and no early request waits. On this path the last check with a response was sent
   -- at time `sent`, and the peer's last check arrived at time `heard`, or earlier.
   pub record IsLastHeard (c : Consent) (sent heard : ℕ) (path : Path) (a : AgentRecord H P) : Type 0 where
-    pub rule : a.rules.consent ≡ Some c
+    pub rule : consent_of a.timing ≡ Some c
     pub peer : is_some a.remote_creds ≡ true
     pub queue : a.queue ≡ []
     pub answered : (p : PairRecord) (at : ℕ) → Has a.pairs p → path_of a p ≡ path → p.consented ≡ Some at → at ≤ sent

@@ -6,12 +6,13 @@ use Rattle.is_stun.specs.declared.header.Class.TheVariants as class
 use Rattle.is_stun.specs.declared.header.Method.TheVariants.{Binding}
 use Rattle.is_stun.specs.Integrity.{IsSignedBy}
 use Rattle.is_stun.specs.Message.{Message}
+use Rattle.is_stun.specs.Timing.{is_modern_profile}
 use Rattle.is_rules.specs.declared.credentials.IceCreds.{IceCreds}
 use Rattle.is_rules.specs.declared.emitted.Path.{Path}
 use Rattle.is_rules.specs.Steps.{Entry}
 use Rattle.is_rules.specs.Emitted.{issued_as, reversed}
 use Rattle.is_rules.specs.Answers.{goes_back}
-use Rattle.is_rules.specs.Steps.{Call, SetRenomination, SetRules}
+use Rattle.is_rules.specs.Steps.{Call, SetRenomination, SetProfile}
 use Rattle.is_rules.specs.Brought.{Brings}
 use Rattle.is_rules.specs.Owed.{Transaction, request_of, reply_of}
 use Rattle.is_rules.specs.Effects.{lite_set_by, remote_after, clears, last_of}
@@ -37,13 +38,13 @@ abbrev pub NeverLite : {P : Type 0} → List (Logged P) → Type 0
 NeverLite [] = Unit {0}
 NeverLite (x ∷ before) = (lite_set_by x.call false ≡ false) × NeverLite before
 
--- renomination, and the rule `numbered_nominations`, as the log set them last; a newly created agent has neither
+-- renomination, and the profile `Modern`, as the log set them last; a newly created agent has neither
 abbrev pub renomination_set_by : {P : Type 0} → Call P → Bool → Bool
 renomination_set_by (SetRenomination renominates) old = renominates
 renomination_set_by _ old = old
 
 abbrev pub numbering_set_by : {P : Type 0} → Call P → Bool → Bool
-numbering_set_by (SetRules rules) old = rules.numbered_nominations
+numbering_set_by (SetProfile profile) old = is_modern_profile profile
 numbering_set_by _ old = old
 
 abbrev pub renominates_of : {P : Type 0} → List (Logged P) → Bool

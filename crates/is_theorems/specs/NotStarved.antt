@@ -3,6 +3,7 @@
 use Rattle.std.specs.Prelude.{◌≡◌, ℕ, ◌+◌, ◌*◌, ◌≤◌, ◌⊎◌, Bool, true, false, List, [], ◌∷◌, length, count_by, Some}
 use Rattle.rand_core.specs.Stream.{Stream}
 use Rattle.is_proto.specs.Lists.{Has}
+use Rattle.is_stun.specs.Timing.{is_modern, consent_of}
 use Rattle.is_candidate.specs.Candidates.{CandidateRecord}
 use Rattle.is_pair.specs.Due.{has_consent}
 use Rattle.is_pair.specs.Pairs.{PairRecord}
@@ -39,7 +40,7 @@ timeout_count part = count_by (λ (x : Logged _). is_timeout x.call) part
 module _ {H P : Type 0} where
   -- All pairs that are stored have consent at this time.
   abbrev pub HaveConsent : ℕ → AgentRecord H P → Type 0
-  HaveConsent now a = (p : PairRecord) → Has a.pairs p → has_consent a.timing.consent now p ≡ true
+  HaveConsent now a = (p : PairRecord) → Has a.pairs p → has_consent (consent_of a.timing) now p ≡ true
 
   -- So many rounds are enough, whatever pairs requests add in them. For p pairs when they begin, at most n when they end, and m retransmits,
   -- m at least 2, k rounds are enough if k is at least (2p + n - 1) * m / (m - 1). If checks may go ahead, m is at least 3, and k at least
@@ -47,7 +48,7 @@ module _ {H P : Type 0} where
   -- caller chooses bounds how many paths are selected in them.
   abbrev pub AreEnough : (rounds pairs bound selections : ℕ) → AgentRecord H P → Type 0
   AreEnough rounds pairs bound selections a =
-      checks_for a.rules (2 * pairs + bound + nominations_ahead a selections) * a.timing.max_retransmits + checks_for a.rules rounds
+      checks_for (is_modern a.timing) (2 * pairs + bound + nominations_ahead a selections) * a.timing.max_retransmits + checks_for (is_modern a.timing) rounds
       ≤ (rounds + 1) * a.timing.max_retransmits
 
   -- The rounds suffice for a pair that is due by the time `by` when they begin, whatever pairs requests add in them.

@@ -7,6 +7,7 @@ use Rattle.is_candidate.specs.Candidates.{CandidateRecord}
 use Rattle.is_pair.specs.Pairs.{PairRecord}
 use Rattle.is_pair.specs.Turns.{due_by}
 use Rattle.is_stun.specs.declared.header.Class.TheVariants as class
+use Rattle.is_stun.specs.Timing.{is_modern}
 use Rattle.is_rules.specs.declared.emitted.Path.{Path}
 use Rattle.is_rules.specs.Agent.{AgentRecord}
 use Rattle.is_rules.specs.Emitted.{issued_as}
@@ -32,8 +33,8 @@ module _ {H P : Type 0} where
   -- all 2n - 1 rounds suffice, and one more for each pair that is added in them. If checks may go ahead, it is 2n, and 4n - 1 and two more.
   abbrev pub OpenRoundsSuffice : ℕ → ℕ → AgentRecord H P → List (LoggedRound P) → AgentRecord H P → Type 0
   OpenRoundsSuffice at by start rounds last =
-      ((checks_for start.rules (length (due_by by at start.timing start.pairs)) ≤ length rounds) × ArePlain rounds)
-      ⊎ (checks_for start.rules (2 * length start.pairs + last.next_number) ≤ length rounds + 1 + checks_for start.rules start.next_number)
+      ((checks_for (is_modern start.timing) (length (due_by by at start.timing start.pairs)) ≤ length rounds) × ArePlain rounds)
+      ⊎ (checks_for (is_modern start.timing) (2 * length start.pairs + last.next_number) ≤ length rounds + 1 + checks_for (is_modern start.timing) start.next_number)
 
   module _ (mac : H → List ℕ → List ℕ → List ℕ) (answers : P → CandidateRecord → ℕ → ℕ → Type 0) where
     -- At a `handle_timeout` call in the log no pair is valid, and one is due by an earlier time `by`. The call begins rounds that

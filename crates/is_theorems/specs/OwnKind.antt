@@ -3,6 +3,7 @@
 use Rattle.std.specs.Prelude.{◌≡◌, ◌≢◌, ℕ, ◌+◌, ◌*◌, ◌<◌, ◌≤◌, ◌⊎◌, true, List, length, is_some}
 use Rattle.rand_core.specs.Stream.{Stream}
 use Rattle.is_proto.specs.Lists.{Has}
+use Rattle.is_stun.specs.Timing.{is_modern}
 use Rattle.is_candidate.specs.Candidates.{CandidateRecord}
 use Rattle.is_pair.specs.Pairs.{PairRecord}
 use Rattle.is_rules.specs.Agent.{AgentRecord}
@@ -19,11 +20,11 @@ use Rattle.is_theorems.specs.Rounds.{LoggedRound, Part, entries_of}
 use Rattle.is_theorems.specs.Runs.{IsFresh}
 
 module _ {H P : Type 0} where
-  -- A `handle_timeout` call of an agent by whose rules kinds take turns and urgent pairs go first. When it begins, each other pair of the
+  -- A `handle_timeout` call of an agent by whose profile kinds take turns and urgent pairs go first. When it begins, each other pair of the
   -- kind has one of these numbers, unless it was formed after the pairs with numbers below `next`.
   pub record TakesTurnsAmong (others : List ℕ) (next : ℕ) (kinds : List ℕ) (kind number : ℕ) (old new : AgentRecord H P) : Type 0 where
     pub turns : TakesTurns kinds kind number old new
-    pub urgent : is_some old.rules.triggered_checks ≡ true
+    pub urgent : is_modern old.timing ≡ true
     pub among : (q : PairRecord) → Has old.pairs q → kind_in old q ≡ kind → q.number ≢ number → q.number < next → Has others q.number
 
   -- The call checks another pair than the one with the number, one that goes before all kinds: an urgent one.

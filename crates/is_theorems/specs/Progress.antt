@@ -1,6 +1,6 @@
 -- What an agent achieves if `handle_timeout` is called at the times that `poll_timeout` returns: every timeout makes
 -- progress, and each due pair is checked (starvation freedom).
-use Rattle.std.specs.Prelude.{◌≡◌, ◌≢◌, ℕ, ◌&&◌, ◌*◌, ◌<◌, ◌≤◌, true, false, List, [], ◌∷◌, length, Option, Some, None, is_some, Ok, ◌⊎◌, if◌then◌else◌}
+use Rattle.std.specs.Prelude.{Bool, ◌≡◌, ◌≢◌, ℕ, ◌&&◌, ◌*◌, ◌<◌, ◌≤◌, true, false, List, [], ◌∷◌, length, Option, Some, None, is_some, Ok, ◌⊎◌, if◌then◌else◌}
 use Rattle.rand_core.specs.Stream.{Stream}
 use Rattle.is_proto.specs.Lists.{Has, is_empty}
 use Rattle.is_proto.specs.Times.{MAX}
@@ -14,12 +14,11 @@ use Rattle.is_stun.specs.Message.{Message}
 use Rattle.is_rules.specs.declared.event.IceAgentEvent.{IceAgentEvent}
 use Rattle.is_rules.specs.declared.emitted.Path.{Path}
 use Rattle.is_rules.specs.declared.emitted.Emitted.{Emitted}
-use Rattle.is_rules.specs.declared.rules.Rules.{Rules}
 use Rattle.is_rules.specs.Emitted.{issued_as}
 use Rattle.is_rules.specs.Agent.{AgentRecord}
-use Rattle.is_rules.specs.Checking.{goes_ahead}
 use Rattle.is_rules.specs.Sending.{path_of}
 use Rattle.is_stun.specs.Reading.{Reads}
+use Rattle.is_stun.specs.Timing.{is_modern}
 use Rattle.is_rules.specs.Nominating.{is_eligible, is_pressing, nominates_at_once, numbers}
 use Rattle.is_rules.specs.Points.{IsTopSelected}
 use Rattle.is_rules.specs.Queue.{request_at}
@@ -58,8 +57,8 @@ pub record Round : Type 0 where
 
 -- So many checks hold n checks of the pair that is due first: if checks may go ahead, of two checks one after another at least one is
 -- of the pair that is due first.
-abbrev pub checks_for : Rules → ℕ → ℕ
-checks_for rules n = if goes_ahead rules then 2 * n else n
+abbrev pub checks_for : Bool → ℕ → ℕ
+checks_for ahead n = if ahead then 2 * n else n
 
 module _ {H P : Type 0} where
   -- The agent checks pairs: it is not lite, and the remote credentials are known.
@@ -193,7 +192,7 @@ NoPairIsStarved {H = H} P mac =
     → IsSound first → first.packets ≡ [] → first.last_time ≡ Some at → is_pressing first ≡ false → ChecksInTurn first → Awaits at by first p
     → ((x : ℕ × Emitted) → Has turns x → (by ≤ x.0) × (x.0 < MAX))
     → Turns mac turns first last
-    → checks_for first.rules (length (due_by by at first.timing first.pairs)) ≤ length turns
+    → checks_for (is_modern first.timing) (length (due_by by at first.timing first.pairs)) ≤ length turns
     → ((x : ℕ × Emitted) × Has turns x × ChecksOn first x.1 p) ⊎ IsGone p.number last.pairs
 
 -- ---- responses
@@ -209,7 +208,7 @@ AnsweredSelect {H = H} {P = P} mac answers =
     → ((x : Round) → Has (r ∷ rounds) x → (by < x.now) × (x.now < MAX))
     → (run : Rounds mac answers (r ∷ rounds) first last)
     → ((x : Round) (id : List ℕ) → Has (r ∷ rounds) x → x.emitted.issued ≡ Some (issued_as (path_of first p) class.Request id) → HasSuccess x.arrivals)
-    → checks_for first.rules (length (due_by by r.now first.timing first.pairs)) ≤ length (r ∷ rounds)
+    → checks_for (is_modern first.timing) (length (due_by by r.now first.timing first.pairs)) ≤ length (r ∷ rounds)
     → RoundSelects mac answers (r ∷ rounds) first last run
 
 module _ {H P : Type 0} (mac : H → List ℕ → List ℕ → List ℕ) (answers : P → CandidateRecord → ℕ → ℕ → Type 0) where

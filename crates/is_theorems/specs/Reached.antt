@@ -10,6 +10,7 @@ use Rattle.is_pair.specs.Checks.{unanswered_count}
 use Rattle.is_pair.specs.Due.{due_time_of, stays_answered}
 use Rattle.is_pair.specs.Pairs.{PairRecord, is_valid}
 use Rattle.is_stun.specs.declared.header.Class.TheVariants as class
+use Rattle.is_stun.specs.Timing.{is_modern, consent_of}
 use Rattle.is_rules.specs.Agent.{AgentRecord}
 use Rattle.is_rules.specs.Effects.{last_of}
 use Rattle.is_theorems.specs.Asked.{IsOnlyPair, IsAnsweredIn, IsAskedIn, MayEndIn}
@@ -77,7 +78,7 @@ module _ {H P : Type 0} where
   -- Consent does not end before this time: the last check of the pair that got a response is recent enough, or consent does not end
   -- by a clock. A pair that is not valid never got one.
   abbrev pub IsLasting : ℕ → AgentRecord H P → PairRecord → Type 0
-  IsLasting now a p = is_valid p ≡ true → stays_answered a.timing.consent now p ≡ true
+  IsLasting now a p = is_valid p ≡ true → stays_answered (consent_of a.timing) now p ≡ true
 
   -- A pair waits for its check: its due time, computed at time `at`, is at most `by`, and it will not be removed after timeout, or when
   -- consent ends, before the check. It is not valid, so nothing nominates it first, or its due time is fixed already.
@@ -99,8 +100,8 @@ module _ {H P : Type 0} where
     pub line : IsInLine at by start p
     pub passing : (r : LoggedRound P) → Has rounds r → IsPassing by r
     pub lasting : (r : LoggedRound P) → Has rounds r → IsLasting r.now start p
-    pub enough : checks_for start.rules (2 * length start.pairs + last.next_number + nominations_ahead start (selection_count (entries_of rounds)))
-        ≤ length rounds + 1 + checks_for start.rules start.next_number
+    pub enough : checks_for (is_modern start.timing) (2 * length start.pairs + last.next_number + nominations_ahead start (selection_count (entries_of rounds)))
+        ≤ length rounds + 1 + checks_for (is_modern start.timing) start.next_number
 
   module _ (mac : H → List ℕ → List ℕ → List ℕ) (answers : P → CandidateRecord → ℕ → ℕ → Type 0) where
     -- Between the `handle_timeout` calls of a segment, a call may remove a pair that uses the path's addresses. Only the addition

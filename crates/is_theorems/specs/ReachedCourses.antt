@@ -8,6 +8,7 @@ use Rattle.is_candidate.specs.Candidates.{CandidateRecord}
 use Rattle.is_pair.specs.Pairs.{PairRecord}
 use Rattle.is_pair.specs.Turns.{due_by}
 use Rattle.is_stun.specs.declared.header.Class.TheVariants as class
+use Rattle.is_stun.specs.Timing.{is_modern}
 use Rattle.is_rules.specs.declared.emitted.Path.{Path}
 use Rattle.is_rules.specs.Agent.{AgentRecord}
 use Rattle.is_theorems.specs.AskedCourses.{IsAnsweredAlong}
@@ -59,8 +60,8 @@ module _ {H P : Type 0} (mac : H → List ℕ → List ℕ → List ℕ) (answer
       (first start last : AgentRecord H P) (xs : List (Call P × Entry)) (r : CourseRound P) (rounds : List (CourseRound P)) (p : PairRecord) (by : ℕ)
       → IsFresh first → Course mac answers xs first start → IsInLine r.now by start p → PassRounds (r ∷ rounds) start last
       → ((x : CourseRound P) → Has (r ∷ rounds) x → IsPassed by x) → ((x : CourseRound P) → Has (r ∷ rounds) x → IsLasting x.now start p)
-      → checks_for start.rules (2 * length start.pairs + last.next_number + nominations_ahead start (selections_among (r ∷ rounds)))
-      ≤ length (r ∷ rounds) + 1 + checks_for start.rules start.next_number
+      → checks_for (is_modern start.timing) (2 * length start.pairs + last.next_number + nominations_ahead start (selections_among (r ∷ rounds)))
+      ≤ length (r ∷ rounds) + 1 + checks_for (is_modern start.timing) start.next_number
       → ChecksAmong (r ∷ rounds) (path_of start p) ⊎ IsAnsweredAmong (r ∷ rounds) (path_of start p)
 
   -- An execution starts with a newly created agent. At the start of the rounds no pair is valid, and n pairs are due by an
@@ -72,5 +73,5 @@ module _ {H P : Type 0} (mac : H → List ℕ → List ℕ → List ℕ) (answer
       (first start last : AgentRecord H P) (xs : List (Call P × Entry)) (r : CourseRound P) (rounds : List (CourseRound P)) (p : PairRecord) (by : ℕ)
       → IsFresh first → Course mac answers xs first start → start.controlling ≡ true → Awaits r.now by start p → IsUnanswered start p
       → CourseRounds mac answers (r ∷ rounds) start last → ((x : CourseRound P) → Has (r ∷ rounds) x → IsPassed by x)
-      → checks_for start.rules (length (due_by by r.now start.timing start.pairs)) ≤ length (r ∷ rounds)
+      → checks_for (is_modern start.timing) (length (due_by by r.now start.timing start.pairs)) ≤ length (r ∷ rounds)
       → ChecksAmong (r ∷ rounds) (path_of start p) ⊎ SelectsAmong (r ∷ rounds)

@@ -10,6 +10,7 @@ use Rattle.is_pair.specs.Pairs.{PairRecord}
 use Rattle.is_pair.specs.Turns.{due_by}
 use Rattle.is_stun.specs.declared.header.Class.TheVariants as class
 use Rattle.is_stun.specs.Message.{Message}
+use Rattle.is_stun.specs.Timing.{is_modern}
 use Rattle.is_rules.specs.declared.emitted.Path.{Path}
 use Rattle.is_rules.specs.Emitted.{issued_as}
 use Rattle.is_rules.specs.Agent.{AgentRecord}
@@ -143,7 +144,7 @@ module _ {H P : Type 0} (mac : H → List ℕ → List ℕ → List ℕ) (answer
       → began_at rounds ≡ Some at → Awaits at by start p → IsUnanswered start p
       → ((r : LoggedRound P) → Has rounds r → IsRound by (path_of start p) r)
       → IsControllingIn before start part.at (entries_of rounds) last part.following part.run
-      → checks_for start.rules (length (due_by by at start.timing start.pairs)) ≤ length rounds
+      → checks_for (is_modern start.timing) (length (due_by by at start.timing start.pairs)) ≤ length rounds
       → SegmentSelects first s log (entries_of rounds)
 
   abbrev pub AnsweredRoundsSelect : Type 0

@@ -1,8 +1,9 @@
--- How soon a request triggers a check, by the rule `triggered_checks` (RFC 8445, section 7.3.1.4): the pair on which it was served is urgent
+-- How soon a request triggers a check, with the profile `Modern` (RFC 8445, section 7.3.1.4): the pair on which it was served is urgent
 -- until it is valid, so it is checked in two rounds, however many pairs there are.
 use Rattle.std.specs.Prelude.{◌≡◌, ℕ, suc, ◌+◌, ◌*◌, ◌≤◌, ◌⊎◌, true, false, nat_lt, List, [], ◌∷◌, length, is_some}
 use Rattle.rand_core.specs.Stream.{Stream}
 use Rattle.is_proto.specs.Lists.{Has}
+use Rattle.is_stun.specs.Timing.{is_modern}
 use Rattle.is_candidate.specs.Candidates.{CandidateRecord}
 use Rattle.is_pair.specs.Pairs.{PairRecord}
 use Rattle.is_rules.specs.Agent.{AgentRecord}
@@ -24,9 +25,9 @@ use Rattle.is_theorems.specs.Runs.{IsFresh}
 use Rattle.is_theorems.specs.UrgentFirst.{IsOvertaken, IsOvertakenIn}
 
 module _ {H P : Type 0} where
-  -- A request was served on the pair, and no pair on its path is valid. The agent has the rule.
+  -- A request was served on the pair, and no pair on its path is valid. Its profile is `Modern`.
   pub record IsServed (a : AgentRecord H P) (p : PairRecord) : Type 0 where
-    pub rule : is_some a.rules.triggered_checks ≡ true
+    pub rule : is_modern a.timing ≡ true
     pub requested : nat_lt 0 p.requests ≡ true
     pub invalid : ¬ IsValidOn a (path_of a p)
 

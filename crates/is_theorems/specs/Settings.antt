@@ -1,16 +1,18 @@
 -- The settings of an agent: each changes only if the caller sets it.
 use Rattle.std.specs.Prelude.{◌≡◌, ℕ, Bool, List, [], ◌∷◌, Option, Some, if◌then◌else◌}
 use Rattle.rand_core.specs.Stream.{Stream}
+use Rattle.is_stun.specs.declared.timing.ConsentSetting.{ConsentSetting}
+use Rattle.is_stun.specs.declared.timing.Profile.{Profile}
 use Rattle.is_candidate.specs.Candidates.{CandidateRecord}
-use Rattle.is_rules.specs.declared.rules.Rules.{Rules}
 use Rattle.is_rules.specs.Agent.{AgentRecord}
-use Rattle.is_rules.specs.Steps.{Call, SetMtu, SetControlTieBreaker, SetMaxCandidatePairs, SetMaxDiscovered, SetIceLite, SetRenomination, SetRules, SetTimingAdvance}
+use Rattle.is_rules.specs.Steps.{Call, SetMtu, SetControlTieBreaker, SetMaxCandidatePairs, SetMaxDiscovered, SetIceLite, SetRenomination, SetProfile, SetConsent, SetTimingAdvance}
 use Rattle.is_rules.specs.Steps.{SetInitialStunRto, SetMaxStunRto, SetMaxStunRetransmits, SetLiteTimeout, SetLocalPreference, Answer, is_done, Entry, Step}
 use Rattle.is_theorems.specs.Logs.{Logged}
 
 -- What the caller sets and nothing else changes. Credentials and the role are not among it: ICE restarts and role conflicts change them.
 pub record SettingsRecord (P : Type 0) : Type 0 where
-  pub rules : Rules
+  pub profile : Profile
+  pub consent : ConsentSetting
   pub lite : Bool
   pub renominates : Bool
   pub tie_breaker : ℕ
@@ -27,7 +29,8 @@ pub record SettingsRecord (P : Type 0) : Type 0 where
 
 abbrev pub settings_of : {H P : Type 0} → AgentRecord H P → SettingsRecord P
 settings_of a = record {
-  rules = a.rules;
+  profile = a.timing.profile;
+  consent = a.timing.consent;
   lite = a.lite;
   renominates = a.renominates;
   tie_breaker = a.tie_breaker;
@@ -45,7 +48,8 @@ settings_of a = record {
 
 -- A setter sets its own setting, and only if it returns Ok. Any other call leaves all.
 abbrev pub settings_after : {P : Type 0} → Call P → Answer → SettingsRecord P → SettingsRecord P
-settings_after (SetRules rules) answer old = record old { rules = rules }
+settings_after (SetProfile profile) answer old = record old { profile = profile }
+settings_after (SetConsent consent) answer old = record old { consent = consent }
 settings_after (SetIceLite lite) answer old = record old { lite = lite }
 settings_after (SetRenomination renominates) answer old = record old { renominates = renominates }
 settings_after (SetControlTieBreaker tie_breaker) answer old = record old { tie_breaker = tie_breaker }

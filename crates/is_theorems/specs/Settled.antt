@@ -1,6 +1,7 @@
--- By the rule `state_after_nomination`, over an execution of one agent: it is connected if and only if it has a path for media.
+-- With the profile `Modern`, over an execution of one agent: it is connected if and only if it has a path for media.
 use Rattle.std.specs.Prelude.{◌≡◌, ℕ, ◌⊎◌, ◌↔◌, true, List, [], ◌∷◌, Option, Some, None}
 use Rattle.is_proto.specs.Lists.{Has}
+use Rattle.is_stun.specs.Timing.{is_modern}
 use Rattle.is_candidate.specs.Candidates.{CandidateRecord}
 use Rattle.is_pair.specs.Pairs.{PairRecord}
 use Rattle.is_rules.specs.Agent.{AgentRecord}
@@ -25,16 +26,16 @@ module _ {H P : Type 0} where
   IsAgreed path a = (is_connected a.state ≡ true) ↔ IsLive path a
 
   module _ (mac : H → List ℕ → List ℕ → List ℕ) (answers : P → CandidateRecord → ℕ → ℕ → Type 0) where
-    -- The rule is set before each of the calls, from the first one of the session on, and that of selection at once. Without this one a
-    -- pair may be nominated by a request, and selected by the next `handle_timeout` call.
-    abbrev pub HaveRulesAlong : (xs : List (Call P × Entry)) (old new : AgentRecord H P) → Course mac answers xs old new → Type 0
-    HaveRulesAlong [] old new course = Unit {0}
-    HaveRulesAlong (x ∷ rest) old new course =
-        ((old.state ≡ New) ⊎ ((old.rules.state_after_nomination ≡ true) × (old.rules.selects_at_once ≡ true))) × HaveRulesAlong rest course.0 new course.5
+    -- The profile is `Modern` before each of the calls, from the first one of the session on. Else a pair may be nominated by a request, and
+    -- selected by the next `handle_timeout` call.
+    abbrev pub IsModernAlong : (xs : List (Call P × Entry)) (old new : AgentRecord H P) → Course mac answers xs old new → Type 0
+    IsModernAlong [] old new course = Unit {0}
+    IsModernAlong (x ∷ rest) old new course =
+        ((old.state ≡ New) ⊎ (is_modern old.timing ≡ true)) × IsModernAlong rest course.0 new course.5
 
-    -- After any calls of a newly created agent that is never lite, with these rules: it is Connected or Completed if and only if the path
+    -- After any calls of a newly created agent that is never lite, with this profile: it is Connected or Completed if and only if the path
     -- that was selected last since the last clear is that of a pair that can be used.
     abbrev pub StatesAgree : Type 0
     StatesAgree =
         (first last : AgentRecord H P) (xs : List (Call P × Entry)) → IsFresh first → AreNeverLite xs → (course : Course mac answers xs first last)
-        → HaveRulesAlong xs first last course → IsAgreed (selected_along None xs) last
+        → IsModernAlong xs first last course → IsAgreed (selected_along None xs) last

@@ -1,8 +1,9 @@
--- How soon an urgent pair is checked, by the rule `triggered_checks` (RFC 8445, section 7.3.1.4): however many pairs there are, and whatever the
+-- How soon an urgent pair is checked, with the profile `Modern` (RFC 8445, section 7.3.1.4): however many pairs there are, and whatever the
 -- agent receives and adds, it waits only for the selected pair, and for urgent pairs whose turn comes before.
 use Rattle.std.specs.Prelude.{◌≡◌, ◌≢◌, ℕ, suc, ◌*◌, ◌≤◌, ◌⊎◌, true, false, List, [], ◌∷◌, length, is_some}
 use Rattle.rand_core.specs.Stream.{Stream}
 use Rattle.is_proto.specs.Lists.{Has}
+use Rattle.is_stun.specs.Timing.{is_modern}
 use Rattle.is_candidate.specs.Candidates.{CandidateRecord}
 use Rattle.is_pair.specs.Due.{is_urgent}
 use Rattle.is_pair.specs.Multiset.{is_named_by}
@@ -26,7 +27,7 @@ module _ {H P : Type 0} where
   -- A `handle_timeout` call that selects no path, by an agent that checks urgent pairs first. When it begins, the pair with the number is urgent:
   -- a request was served on it, and it is not valid yet, or it is nominated without a response.
   pub record PutsUrgentFirst (number : ℕ) (old : AgentRecord H P) (e : Entry) : Type 0 where
-    pub rule : is_some old.rules.triggered_checks ≡ true
+    pub rule : is_modern old.timing ≡ true
     pub quiet : selects e ≡ false
     pub urgent : (q : PairRecord) → Has old.pairs q → q.number ≡ number → is_urgent q ≡ true
 

@@ -1,4 +1,4 @@
-//! Consent to send (RFC 7675), by the rule `consent`: each pair that is kept has it, and its end is noticed in time.
+//! Consent to send (RFC 7675), with the profile `Modern`: each pair that is kept has it, and its end is noticed in time.
 
 ghost use Rattle.is_theorems.specs.Consent.{ConsentHolds, ConsentEndsInTime};
 ghost use Rattle.is_theorems.specs.ConsentCourses.{ConnectedAreAnswered, ConnectedHaveConsent, ValidHaveConsented};
@@ -23,7 +23,7 @@ pub fn consent_ends_in_time<H: Sha1HmacProvider, P: LocalPreference>()
 {}
 
 /// From a newly created agent: if a full agent is Connected or Completed after a `handle_timeout` call that serves no early request,
-/// the path that it selected last is that of an eligible pair that has consent then. This holds whatever rules are set, and whatever
+/// the path that it selected last is that of an eligible pair that has consent then. This holds whatever profile is set, and whatever
 /// it received.
 pub fn connected_have_consent<H: Sha1HmacProvider, P: LocalPreference>()
     ensures { ConnectedHaveConsent H.mac P.answers }
@@ -35,7 +35,7 @@ pub fn valid_have_consented<H: Sha1HmacProvider, P: LocalPreference>()
     ensures { ValidHaveConsented H.mac P.answers }
 {}
 
-/// From a newly created agent that is never lite, with the rule `consent`: if the agent is Connected or Completed after a `handle_timeout`
+/// From a newly created agent that is never lite, with the profile `Modern`: if the agent is Connected or Completed after a `handle_timeout`
 /// call that serves no early request, a check on the path that it selected last got a response. The last such check was sent less
 /// than the timeout before this call; or, unless consent is strict, a check of the peer arrived there less than 15 s before.
 pub fn connected_are_answered<H: Sha1HmacProvider, P: LocalPreference>()
@@ -56,7 +56,7 @@ pub fn selected_are_alive<H: Sha1HmacProvider, P: LocalPreference>()
     connected_are_answered::<H, P>();
 }
 
-/// A punctual caller leaves a path in time. From a newly created agent that is never lite, with the rule `consent`: let the last check on
+/// A punctual caller leaves a path in time. From a newly created agent that is never lite, with the profile `Modern`: let the last check on
 /// a path that got a response be sent at time t, and the peer's last check on it arrive at time u. Nothing keeps consent on it from then
 /// on. Then consent ends at t and the timeout, or unless it is strict, at u + 15 s if that is later. While the agent is connected on
 /// this path, the next `handle_timeout` call comes at most a pacing interval and δ after this end. After each call from then on the agent is

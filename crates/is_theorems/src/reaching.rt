@@ -1,11 +1,11 @@
 //! How soon a pair is checked, also if candidates are added meanwhile, or if it is due at the first timeout. The numbers of rounds are
-//! those if checks may not go ahead of pairs that are due earlier (`Rules`). If they may, 2n - 1 becomes 4n - 1, with two more for each
+//! those if checks may not go ahead of pairs that are due earlier (`Profile`). If they may, 2n - 1 becomes 4n - 1, with two more for each
 //! pair that is added, and n becomes 2n, since every second check may be of another pair. A single pair still needs one round.
 //!
 //! If nominations have numbers, each path that is selected is checked at once. So in either role each call of the rounds that selects a path
 //! counts like a pair that is added, and so does a path that was selected before them and not checked since (`nominations_ahead`).
 //!
-//! With the rule `consent` a pair that is valid when the rounds begin also has to keep consent in them: at each of their timeouts its last
+//! With the profile `Modern` a pair that is valid when the rounds begin also has to keep consent in them: at each of their timeouts its last
 //! check that got a response before them is recent enough (`IsLasting`). Otherwise it may be removed before its check.
 
 ghost use Rattle.is_theorems.specs.BoundedRounds.{LimitsReach};
@@ -103,7 +103,7 @@ pub fn reached_in_kind<H: Sha1HmacProvider, P: LocalPreference>()
     ensures { PairsAreReachedInKind H.mac P.answers }
 {}
 
-/// From a newly created agent with the rule `triggered_checks`: a pair that is due is urgent in some rounds, since a request was served on it
+/// From a newly created agent with the profile `Modern`: a pair that is due is urgent in some rounds, since a request was served on it
 /// and it is not valid yet. Then in 2 * m rounds a check is sent on its path, or m of the rounds check the selected pair or urgent pairs whose
 /// turn comes before, however many pairs there are. So one that comes first is checked in two rounds. This holds in either role, whatever
 /// the agent receives and adds in the rounds, as long as no `handle_timeout` selects a path; the exceptions are a success response on
@@ -112,7 +112,7 @@ pub fn urgent_are_reached<H: Sha1HmacProvider, P: LocalPreference>()
     ensures { UrgentPairsAreReached H.mac P.answers }
 {}
 
-/// From a newly created agent with the rule `triggered_checks`: a request was served on a pair that is due, and no pair on its path is valid.
+/// From a newly created agent with the profile `Modern`: a request was served on a pair that is due, and no pair on its path is valid.
 /// Then in 2 * m rounds a check is sent on the path, or m of the rounds check the selected pair or urgent pairs whose turn comes before,
 /// however many pairs there are. This holds in either role, whatever the agent receives and adds in the rounds, as long as no
 /// `handle_timeout` of them selects a path; the exceptions are a success response on the path, and a candidate that may remove a pair of it.

@@ -15,7 +15,7 @@ pub fn fresh_is_new<H: Sha1HmacProvider, P: LocalPreference>()
     ensures { FreshIsNew H P }
 {}
 
-/// By the rule `lite_keeps_role` no packet and no `handle_timeout` call changes the role of a lite agent; only `set_controlling` does.
+/// With the profile `Modern` no packet and no `handle_timeout` call changes the role of a lite agent; only `set_controlling` does.
 pub fn lite_agents_keep_their_role<H: Sha1HmacProvider, P: LocalPreference>()
     ensures { LiteKeepsRole H.mac P.answers }
 {}

@@ -11,7 +11,7 @@ use is_candidate::LocalPreference;
 use is_proto::Sha1HmacProvider;
 
 /// A controlling agent selects a path within as many rounds as there are pairs that are due no later than one whose checks are
-/// answered in their rounds, or within twice as many if checks may go ahead of pairs that are due earlier (`Rules`). So it is in the
+/// answered in their rounds, or within twice as many if checks may go ahead of pairs that are due earlier (`Profile`). So it is in the
 /// theorems below: for n rounds read 2n.
 pub fn answered_select<H: Sha1HmacProvider, P: LocalPreference>()
     ensures { AnsweredSelect H.mac P.answers }

@@ -120,7 +120,7 @@ pub fn accepted_nominations_are_selected<H: Sha1HmacProvider, P: LocalPreference
 /// A controlled agent, which may share its random source, selects in the call in which the second of the two arrives: the peer's
 /// nomination of a path and a success response on it, in either order. The path that was selected last is then that of an eligible
 /// pair of greatest priority, if only one pair uses the path's addresses and no pair that does may have been removed. If the nomination
-/// comes second, the rule `selects_at_once` is a precondition.
+/// comes second, the profile `Modern` is a precondition.
 pub fn completed_nominations_are_selected<H: Sha1HmacProvider, P: LocalPreference>()
     ensures { CompletedNominationsAreSelected H.mac P.answers }
 {}

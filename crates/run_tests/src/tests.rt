@@ -4,7 +4,7 @@
 mod calls;
 mod faults;
 mod playing;
-mod rules;
+mod profile;
 mod scripts;
 mod settings;
 mod surface;

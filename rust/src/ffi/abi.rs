@@ -292,23 +292,20 @@ pub(crate) struct PreferenceTable {
 
 #[repr(C)]
 #[derive(Clone, Copy, Debug, Default, PartialEq, Eq, Hash)]
-pub(crate) struct AgentRules {
-    pub(crate) triggered_checks: u64,
-    pub(crate) early_retransmits: usize,
-    pub(crate) early_interval: u64,
-    pub(crate) early_cap: u64,
+pub(crate) struct AgentSettings {
+    pub(crate) timing_advance: u64,
+    pub(crate) initial_rto: u64,
+    pub(crate) max_rto: u64,
+    pub(crate) lite_timeout: u64,
     pub(crate) consent_timeout: u64,
-    pub(crate) early_pacing: u64,
-    pub(crate) kinds_in_turn: bool,
-    pub(crate) selects_at_once: bool,
+    pub(crate) max_retransmits: usize,
+    pub(crate) max_pairs: usize,
+    pub(crate) max_discovered: usize,
+    pub(crate) max_candidates: usize,
+    pub(crate) room: [u64; 4],
+    pub(crate) modern: bool,
     pub(crate) strict_consent: bool,
-    pub(crate) selected_first: bool,
-    pub(crate) timeout_after_requests: bool,
-    pub(crate) lite_keeps_role: bool,
-    pub(crate) numbered_nominations: bool,
-    pub(crate) discovered_if_served: bool,
-    pub(crate) state_after_nomination: bool,
-    pub(crate) invalidates_listed: bool,
+    pub(crate) renomination: bool,
 }
 
 #[repr(C)]
@@ -473,23 +470,20 @@ const _: () = {
     assert!(size_of::<PreferenceTable>() == 16 && align_of::<PreferenceTable>() == 2);
     assert!(offset_of!(PreferenceTable, v4) == 0);
     assert!(offset_of!(PreferenceTable, v6) == 8);
-    assert!(size_of::<AgentRules>() == 64 && align_of::<AgentRules>() == 8);
-    assert!(offset_of!(AgentRules, triggered_checks) == 0);
-    assert!(offset_of!(AgentRules, early_retransmits) == 8);
-    assert!(offset_of!(AgentRules, early_interval) == 16);
-    assert!(offset_of!(AgentRules, early_cap) == 24);
-    assert!(offset_of!(AgentRules, consent_timeout) == 32);
-    assert!(offset_of!(AgentRules, early_pacing) == 40);
-    assert!(offset_of!(AgentRules, kinds_in_turn) == 48);
-    assert!(offset_of!(AgentRules, selects_at_once) == 49);
-    assert!(offset_of!(AgentRules, strict_consent) == 50);
-    assert!(offset_of!(AgentRules, selected_first) == 51);
-    assert!(offset_of!(AgentRules, timeout_after_requests) == 52);
-    assert!(offset_of!(AgentRules, lite_keeps_role) == 53);
-    assert!(offset_of!(AgentRules, numbered_nominations) == 54);
-    assert!(offset_of!(AgentRules, discovered_if_served) == 55);
-    assert!(offset_of!(AgentRules, state_after_nomination) == 56);
-    assert!(offset_of!(AgentRules, invalidates_listed) == 57);
+    assert!(size_of::<AgentSettings>() == 112 && align_of::<AgentSettings>() == 8);
+    assert!(offset_of!(AgentSettings, timing_advance) == 0);
+    assert!(offset_of!(AgentSettings, initial_rto) == 8);
+    assert!(offset_of!(AgentSettings, max_rto) == 16);
+    assert!(offset_of!(AgentSettings, lite_timeout) == 24);
+    assert!(offset_of!(AgentSettings, consent_timeout) == 32);
+    assert!(offset_of!(AgentSettings, max_retransmits) == 40);
+    assert!(offset_of!(AgentSettings, max_pairs) == 48);
+    assert!(offset_of!(AgentSettings, max_discovered) == 56);
+    assert!(offset_of!(AgentSettings, max_candidates) == 64);
+    assert!(offset_of!(AgentSettings, room) == 72);
+    assert!(offset_of!(AgentSettings, modern) == 104);
+    assert!(offset_of!(AgentSettings, strict_consent) == 105);
+    assert!(offset_of!(AgentSettings, renomination) == 106);
     assert!(size_of::<StunTransaction>() == 12 && align_of::<StunTransaction>() == 1);
     assert!(offset_of!(StunTransaction, bytes) == 0);
     assert!(size_of::<StunResult>() == 32 && align_of::<StunResult>() == 4);
@@ -549,9 +543,9 @@ unsafe extern "C" {
     pub(crate) safe fn is_ice_set_max_retransmits(agent: &mut Agent, limit: usize) -> i32;
     pub(crate) safe fn is_ice_retransmit_timeout(initial_rto: u64, max_rto: u64, max_retransmits: usize, timeout: &mut u64) -> i32;
     pub(crate) safe fn is_ice_retransmit_delay(initial_rto: u64, max_rto: u64, max_retransmits: usize, sent: usize, delay: &mut u64) -> i32;
-    pub(crate) safe fn is_ice_modern_rules(rules: &mut AgentRules) -> i32;
-    pub(crate) safe fn is_ice_original_rules(rules: &mut AgentRules) -> i32;
-    pub(crate) safe fn is_ice_set_rules(agent: &mut Agent, rules: &AgentRules) -> i32;
+    pub(crate) safe fn is_ice_modern_settings(settings: &mut AgentSettings) -> i32;
+    pub(crate) safe fn is_ice_original_settings(settings: &mut AgentSettings) -> i32;
+    pub(crate) safe fn is_ice_set_settings(agent: &mut Agent, settings: &AgentSettings) -> i32;
     pub(crate) safe fn is_ice_set_mtu(agent: &mut Agent, mtu: usize, warn: usize) -> i32;
     pub(crate) safe fn is_ice_skip_pair_ids(agent: &mut Agent, number: u64) -> i32;
     pub(crate) safe fn is_ice_set_local_preference(agent: &mut Agent, preference: u16) -> i32;
@@ -567,7 +561,7 @@ unsafe extern "C" {
     pub(crate) safe fn is_ice_poll_event(agent: &mut Agent, event: &mut Event) -> i32;
     pub(crate) safe fn is_ice_recreate_pairs(agent: &mut Agent) -> i32;
     pub(crate) safe fn is_ice_status(agent: &mut Agent, status: &mut AgentStatus) -> i32;
-    pub(crate) safe fn is_ice_rules(agent: &mut Agent, rules: &mut AgentRules) -> i32;
+    pub(crate) safe fn is_ice_settings(agent: &mut Agent, settings: &mut AgentSettings) -> i32;
     pub(crate) safe fn is_ice_stats(agent: &mut Agent, stats: &mut AgentStats) -> i32;
     pub(crate) safe fn is_ice_nominated(agent: &mut Agent, nominated: &mut NominatedPair) -> i32;
     pub(crate) safe fn is_ice_valid_path(agent: &mut Agent, path: &mut MediaPath) -> i32;

@@ -1,7 +1,6 @@
 //! Local candidates and their preferences; which candidates are stored, listed, invalidated and enabled again.
 
 use super::driver::Player;
-use super::settings::ORIGINAL;
 use super::step::Call::*;
 use super::step::Held::*;
 use super::step::Start::*;
@@ -9,7 +8,7 @@ use super::step::Step::*;
 use super::step::{At, Outcome, Setting, Whose};
 use super::story::{Story, play};
 use super::*;
-use is::{LocalPreference, Rules};
+use is::{LocalPreference, Profile};
 
 #[test]
 fn candidates_stay_or_not(rt: HostRuntime) -> Result<(), Fail> {
@@ -18,12 +17,6 @@ fn candidates_stay_or_not(rt: HostRuntime) -> Result<(), Fail> {
 }
 
 const OWN: &str = "candidate:1 1 udp 1 10.0.0.1 1000 typ host";
-
-/// Those that are discarded are passed over.
-const LISTED: Rules = Rules {
-    invalidates_listed: true,
-    ..ORIGINAL
-};
 
 const LOCALS: [Story; 7] = [
     Story(
@@ -85,7 +78,7 @@ const LOCALS: [Story; 7] = [
         ],
     ),
     Story(
-        "by_the_rule_a_listed_candidate_can_be_invalidated",
+        "with_modern_a_listed_candidate_can_be_invalidated",
         &[
             Begin(New("aaaa", "p", 1)),
             Does(Own("candidate:1 1 udp 100 10.0.0.1 1000 typ host")),
@@ -93,7 +86,7 @@ const LOCALS: [Story; 7] = [
             // the first equal one was superseded
             Fails(Invalidate(OWN)),
             Holds(Locals(&[At(1, 1000)])),
-            Set(Setting::Rules(LISTED)),
+            Set(Setting::Profile(Profile::Modern)),
             Does(Invalidate(OWN)),
             Holds(Locals(&[])),
             Fails(Invalidate(OWN)),

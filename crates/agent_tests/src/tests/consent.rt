@@ -1,7 +1,5 @@
 //! Consent (RFC 7675): how long the last response, and the peer's checks, keep a pair; and the selected pair, whose checks come first.
 
-use super::rules::TRIGGERS;
-use super::settings::{MODERN, ORIGINAL};
 use super::step::Call::*;
 use super::step::Emitted::*;
 use super::step::Held::*;
@@ -12,8 +10,7 @@ use super::step::Step::*;
 use super::step::{At, Count, Message, Setting, Step};
 use super::story::{Story, play};
 use super::*;
-use is::stun::Consent;
-use is::{Duration, Rules};
+use is::Profile;
 
 #[test]
 fn consent_ends_by_the_clock(rt: HostRuntime) -> Result<(), Fail> {
@@ -30,24 +27,6 @@ fn the_selected_pair_is_checked_first(rt: HostRuntime) -> Result<(), Fail> {
 fn an_ordinary_session_is_as_before(rt: HostRuntime) -> Result<(), Fail> {
     play(rt.alloc(), &SAME)
 }
-
-/// A response keeps a pair for 5 s, and nothing else does.
-const STRICT: Rules = Rules {
-    consent: Some(Consent {
-        timeout: Duration(5_000_000_000),
-        strict: true,
-    }),
-    ..ORIGINAL
-};
-
-/// The same, and the peer's checks keep it for 15 s.
-const LENIENT: Rules = Rules {
-    consent: Some(Consent {
-        timeout: Duration(5_000_000_000),
-        strict: false,
-    }),
-    ..ORIGINAL
-};
 
 /// The address of `PEER`.
 const THERE: At = At(2, 2000);
@@ -84,7 +63,11 @@ const CUT: [Step; 17] = [
 const ENDS: [Story; 10] = [
     Story(
         "a_strict_consent",
-        &[Begin(Paired), Set(Setting::Rules(STRICT))],
+        &[
+            Begin(Paired),
+            Set(Setting::Profile(Profile::Modern)),
+            Set(Setting::Consent(5000, true)),
+        ],
     ),
     Story("a_cut_after_the_second_check", &CUT),
     Story(
@@ -102,7 +85,11 @@ const ENDS: [Story; 10] = [
     ),
     Story(
         "a_consent_that_is_not_strict",
-        &[Begin(Paired), Set(Setting::Rules(LENIENT))],
+        &[
+            Begin(Paired),
+            Set(Setting::Profile(Profile::Modern)),
+            Set(Setting::Consent(5000, false)),
+        ],
     ),
     Story("the_same_cut", &CUT),
     Story(
@@ -129,12 +116,12 @@ const ENDS: [Story; 10] = [
         ],
     ),
     Story(
-        "no_consent",
-        &[Begin(Paired), Set(Setting::Rules(ORIGINAL))],
+        "no_consent_by_the_clock",
+        &[Begin(Paired), Set(Setting::Profile(Profile::Original))],
     ),
     Story("the_cut_again", &CUT),
     Story(
-        "without_the_rule_nine_checks_end_it",
+        "with_the_original_nine_checks_end_it",
         &[
             Shows(NextAt(6550)),
             Does(Timeout(17000)),
@@ -147,11 +134,12 @@ const ENDS: [Story; 10] = [
         "without_a_response_there_is_no_consent_to_end",
         &[
             Begin(Paired),
-            Set(Setting::Rules(STRICT)),
+            Set(Setting::Profile(Profile::Modern)),
+            Set(Setting::Consent(5000, true)),
             Does(Check(0)),
             Does(Check(6000)),
             Does(Check(12_000)),
-            Shows(NextAt(13_000)),
+            Shows(NextAt(12_200)),
             Holds(HasPair(PEER, true)),
         ],
     ),
@@ -163,7 +151,8 @@ const TWO: [Story; 1] = [Story(
     "the_other_path_is_selected_when_consent_ends",
     &[
         Begin(Unpaired),
-        Set(Setting::Rules(STRICT)),
+        Set(Setting::Profile(Profile::Modern)),
+        Set(Setting::Consent(5000, true)),
         Does(Peer(PEER)),
         Does(Peer(OTHER)),
         Does(CheckTo(100_000, THERE, false)),
@@ -207,18 +196,6 @@ const TWO: [Story; 1] = [Story(
 
 // ---- every second check may go to the selected pair
 
-/// Only the selected pair may go first.
-const SELECTED_FIRST: Rules = Rules {
-    selected_first: true,
-    ..ORIGINAL
-};
-
-/// The same, and urgent pairs after it.
-const SELECTED_AND_URGENT: Rules = Rules {
-    selected_first: true,
-    ..TRIGGERS
-};
-
 /// The last of 21 candidates of the peer.
 const LAST: At = At(22, 2000);
 
@@ -228,7 +205,7 @@ const FIRST: [Story; 3] = [
         "of_100_pairs_the_selected_one_has_every_second_check",
         &[
             Begin(Unpaired),
-            Set(Setting::Rules(SELECTED_FIRST)),
+            Set(Setting::Profile(Profile::Modern)),
             Set(Setting::InitialRto(40)),
             Set(Setting::MaxRto(40)),
             Does(Peers(100)),
@@ -246,10 +223,10 @@ const FIRST: [Story; 3] = [
         ],
     ),
     Story(
-        "without_the_rule_it_comes_after_99_others",
+        "with_the_original_it_comes_after_99_others",
         &[
             Begin(Unpaired),
-            Set(Setting::Rules(ORIGINAL)),
+            Set(Setting::Profile(Profile::Original)),
             Set(Setting::InitialRto(40)),
             Set(Setting::MaxRto(40)),
             Does(Peers(100)),
@@ -267,7 +244,7 @@ const FIRST: [Story; 3] = [
         "the_selected_pair_goes_before_an_urgent_one",
         &[
             Begin(Unpaired),
-            Set(Setting::Rules(SELECTED_AND_URGENT)),
+            Set(Setting::Profile(Profile::Modern)),
             Set(Setting::InitialRto(150)),
             Set(Setting::MaxRto(150)),
             Does(Peers(21)),
@@ -288,27 +265,12 @@ const FIRST: [Story; 3] = [
 
 // ---- a session in which each check has a response, and one cut
 
-/// The modern rules, with checks 50 ms apart from the start.
-const PACED: Rules = Rules {
-    early_pacing: None,
-    ..MODERN
-};
-
-/// All rules but those of consent, of the selected pair, and of calls that serve requests.
-const BEFORE: Rules = Rules {
-    consent: None,
-    selected_first: false,
-    timeout_after_requests: false,
-    lite_keeps_role: false,
-    numbered_nominations: false,
-    ..PACED
-};
-
 /// Each check has a response until 6.55 s; then nothing arrives. A series of nine checks begins at 9.55 s, before consent ends at 36.15 s.
 const SESSION: [Step; 44] = [
     Does(Check(0)),
     Takes(Answer(10, THERE)),
-    Shows(NextAt(50)),
+    // the nomination is due, 10 ms after the first check at the earliest
+    Shows(NextAt(10)),
     Does(CheckTo(50, THERE, true)),
     Takes(Answer(60, THERE)),
     Emits(Events("RcNCD")),
@@ -352,12 +314,10 @@ const SESSION: [Step; 44] = [
     Emits(Events("x")),
 ];
 
-const SAME: [Story; 4] = [
-    Story("all_rules", &[Begin(Paired), Set(Setting::Rules(PACED))]),
-    Story("a_session_by_all_rules", &SESSION),
+const SAME: [Story; 2] = [
     Story(
-        "all_rules_but_three",
-        &[Begin(Paired), Set(Setting::Rules(BEFORE))],
+        "the_profile_modern",
+        &[Begin(Paired), Set(Setting::Profile(Profile::Modern))],
     ),
-    Story("the_same_session", &SESSION),
+    Story("a_session", &SESSION),
 ];

@@ -1,6 +1,5 @@
 //! The rule `discovered_if_served`: which packets report their source.
 
-use super::settings::ORIGINAL;
 use super::step::Call::*;
 use super::step::Count::*;
 use super::step::Emitted::*;
@@ -10,7 +9,7 @@ use super::step::Step::*;
 use super::step::{At, Message, Setting};
 use super::story::{Story, play};
 use super::*;
-use is::Rules;
+use is::Profile;
 
 #[test]
 fn sources_are_reported_or_not(rt: HostRuntime) -> Result<(), Fail> {
@@ -22,18 +21,12 @@ const HERE: At = At(1, 1000);
 
 const THERE: At = At(2, 2000);
 
-/// A request that is dropped reports no source.
-const IF_SERVED: Rules = Rules {
-    discovered_if_served: true,
-    ..ORIGINAL
-};
-
 const DROPPED: [Story; 5] = [
     Story(
         "a_request_to_no_local_candidate_reports_nothing",
         &[
             Begin(Known),
-            Set(Setting::Rules(IF_SERVED)),
+            Set(Setting::Profile(Profile::Modern)),
             Takes(Request(0, At(1, 1001))),
             Emits(Nothing),
             Counts(Discovered, 0),
@@ -49,7 +42,7 @@ const DROPPED: [Story; 5] = [
         "a_request_to_a_discarded_candidate_reports_nothing",
         &[
             Begin(Known),
-            Set(Setting::Rules(IF_SERVED)),
+            Set(Setting::Profile(Profile::Modern)),
             Does(Invalidate("candidate:1 1 udp 1 10.0.0.1 1000 typ host")),
             Takes(Request(0, HERE)),
             Emits(Nothing),
@@ -60,7 +53,7 @@ const DROPPED: [Story; 5] = [
         "a_request_of_a_discarded_sender_reports_nothing",
         &[
             Begin(Known),
-            Set(Setting::Rules(IF_SERVED)),
+            Set(Setting::Profile(Profile::Modern)),
             Does(Peer(PEER)),
             Does(Invalidate(PEER)),
             Takes(Request(0, HERE)),
@@ -72,7 +65,7 @@ const DROPPED: [Story; 5] = [
         "a_nomination_to_a_controlling_agent_reports_nothing",
         &[
             Begin(Unpaired),
-            Set(Setting::Rules(IF_SERVED)),
+            Set(Setting::Profile(Profile::Modern)),
             Write(Message::Nomination, "nearpass"),
             Takes(Next(0)),
             Emits(Nothing),
@@ -83,7 +76,7 @@ const DROPPED: [Story; 5] = [
         "a_sender_past_the_limit_is_not_reported",
         &[
             Begin(Unpaired),
-            Set(Setting::Rules(IF_SERVED)),
+            Set(Setting::Profile(Profile::Modern)),
             Set(Setting::MaxDiscovered(Some(1))),
             Write(Message::NoRole, "nearpass"),
             Takes(Served(0, At(2, 2000))),
@@ -100,7 +93,7 @@ const REPORTED: [Story; 4] = [
         "an_early_request_reports_its_source_when_it_arrives",
         &[
             Begin(Early),
-            Set(Setting::Rules(IF_SERVED)),
+            Set(Setting::Profile(Profile::Modern)),
             Takes(Request(0, HERE)),
             Emits(Discovers(Protocol::Udp, THERE)),
         ],
@@ -109,7 +102,7 @@ const REPORTED: [Story; 4] = [
         "a_request_that_gets_a_487_reports_its_source",
         &[
             Begin(Unpaired),
-            Set(Setting::Rules(IF_SERVED)),
+            Set(Setting::Profile(Profile::Modern)),
             Set(Setting::TieBreaker(20)),
             Write(Message::Request(true, false), "nearpass"),
             Takes(Next(0)),
@@ -121,7 +114,7 @@ const REPORTED: [Story; 4] = [
         "a_success_response_reports_its_source",
         &[
             Begin(Paired),
-            Set(Setting::Rules(IF_SERVED)),
+            Set(Setting::Profile(Profile::Modern)),
             Does(Check(0)),
             Takes(Answer(10, THERE)),
             Emits(Events("RcNCD")),
@@ -131,7 +124,7 @@ const REPORTED: [Story; 4] = [
         "an_error_response_reports_its_source",
         &[
             Begin(Paired),
-            Set(Setting::Rules(IF_SERVED)),
+            Set(Setting::Profile(Profile::Modern)),
             Does(Check(0)),
             Write(Message::BadRequest, "farpass"),
             Takes(Next(10)),

@@ -5,7 +5,7 @@ use super::making::{creds, generator, later, packet, sent_packet, signed};
 use super::sent::sent_id;
 use super::step::{At, Call, Message, Outcome, Packet, Setting, Start, Step, Whose};
 use super::*;
-use is::Duration;
+use is::{ConsentSetting, Duration};
 use rand_core::SeedableRng;
 use rand_pcg::Pcg32;
 
@@ -143,7 +143,15 @@ impl Player {
             Setting::OneCheck => agent.set_max_stun_retransmits(1),
             Setting::TwoChecks => agent.set_max_stun_retransmits(2),
             Setting::Renomination(renominates) => agent.set_renomination(renominates),
-            Setting::Rules(rules) => agent.set_rules(rules),
+            Setting::Profile(profile) => agent.set_profile(profile),
+            Setting::Consent(ms, strict) => agent.set_consent(ConsentSetting {
+                timeout: Some(Duration::from_millis(ms)),
+                strict,
+            }),
+            Setting::All(settings) => {
+                prove!(0 < settings.max_retransmits);
+                agent.set_settings(settings)
+            }
             Setting::TieBreaker(number) => agent.set_control_tie_breaker(number),
             Setting::Published => self.rng = generator(),
         }

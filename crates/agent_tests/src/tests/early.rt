@@ -1,6 +1,5 @@
 //! Early retransmissions: while a pair has no response, its checks come soon after one another.
 
-use super::settings::ORIGINAL;
 use super::step::Call::*;
 use super::step::Emitted::*;
 use super::step::Held::*;
@@ -11,8 +10,7 @@ use super::step::Step::*;
 use super::step::{At, Count, Message, Setting};
 use super::story::{Story, play};
 use super::*;
-use is::stun::EarlyRto;
-use is::{Duration, Rules};
+use is::Profile;
 
 #[test]
 fn checks_are_repeated_early(rt: HostRuntime) -> Result<(), Fail> {
@@ -24,35 +22,15 @@ fn a_pair_that_is_repeated_early_ends_by_the_clock(rt: HostRuntime) -> Result<()
     play(rt.alloc(), &ENDS)
 }
 
-/// Only retransmissions are early: two come 100 ms apart, and the delays after them double up to 300 ms.
-const REPEATS: Rules = Rules {
-    early_rto: Some(EarlyRto {
-        retransmits: 2,
-        interval: Duration(100_000_000),
-        cap: Duration(300_000_000),
-    }),
-    ..ORIGINAL
-};
-
-/// The same with a cap below the interval.
-const STEADY: Rules = Rules {
-    early_rto: Some(EarlyRto {
-        retransmits: 2,
-        interval: Duration(100_000_000),
-        cap: Duration(0),
-    }),
-    ..ORIGINAL
-};
-
 /// The address of `PEER`.
 const THERE: At = At(2, 2000);
 
-const EARLY: [Story; 6] = [
+const EARLY: [Story; 5] = [
     Story(
         "delays_double_up_to_the_cap",
         &[
             Begin(Paired),
-            Set(Setting::Rules(REPEATS)),
+            Set(Setting::Profile(Profile::Modern)),
             Does(Check(0)),
             Shows(NextAt(100)),
             Does(Check(100)),
@@ -60,46 +38,29 @@ const EARLY: [Story; 6] = [
             Does(Check(200)),
             Shows(NextAt(400)),
             Does(Check(400)),
-            Shows(NextAt(700)),
-            Does(Check(700)),
-            Shows(NextAt(1000)),
-            Does(Check(1000)),
-            Shows(NextAt(1300)),
-            Does(Check(1300)),
-            Shows(NextAt(1600)),
-            Does(Check(1600)),
-            Shows(NextAt(1900)),
+            Shows(NextAt(750)),
+            Does(Check(750)),
+            Shows(NextAt(1100)),
+            Does(Check(1100)),
+            Shows(NextAt(1450)),
+            Does(Check(1450)),
+            Shows(NextAt(1800)),
+            Does(Check(1800)),
+            Shows(NextAt(2150)),
             // nine checks end no pair
-            Does(Check(1900)),
-            Shows(NextAt(2200)),
-            Does(Check(2200)),
+            Does(Check(2150)),
             Shows(NextAt(2500)),
             Does(Check(2500)),
+            Shows(NextAt(2850)),
+            Does(Check(2850)),
             Counts(Count::Checks, 11),
-        ],
-    ),
-    Story(
-        "with_a_cap_below_the_interval_none_doubles",
-        &[
-            Begin(Paired),
-            Set(Setting::Rules(STEADY)),
-            Does(Check(0)),
-            Shows(NextAt(100)),
-            Does(Check(100)),
-            Shows(NextAt(200)),
-            Does(Check(200)),
-            Shows(NextAt(300)),
-            Does(Check(300)),
-            Shows(NextAt(400)),
-            Does(Check(400)),
-            Shows(NextAt(500)),
         ],
     ),
     Story(
         "a_response_ends_early_retransmissions",
         &[
             Begin(Paired),
-            Set(Setting::Rules(REPEATS)),
+            Set(Setting::Profile(Profile::Modern)),
             Set(Setting::Controlling(false)),
             Does(Check(0)),
             Shows(NextAt(100)),
@@ -114,7 +75,7 @@ const EARLY: [Story; 6] = [
         "a_nomination_without_a_response_is_repeated_early",
         &[
             Begin(Paired),
-            Set(Setting::Rules(REPEATS)),
+            Set(Setting::Profile(Profile::Modern)),
             Does(Check(0)),
             Takes(Answer(10, THERE)),
             Does(CheckTo(50, THERE, true)),
@@ -124,19 +85,19 @@ const EARLY: [Story; 6] = [
             Does(CheckTo(250, THERE, true)),
             Shows(NextAt(450)),
             Does(CheckTo(450, THERE, true)),
-            Shows(NextAt(750)),
-            Does(CheckTo(750, THERE, true)),
-            Shows(NextAt(1050)),
-            Does(CheckTo(1050, THERE, true)),
-            Shows(NextAt(1350)),
-            Does(CheckTo(1350, THERE, true)),
-            Shows(NextAt(1650)),
-            Does(CheckTo(1650, THERE, true)),
-            Shows(NextAt(1950)),
-            Does(CheckTo(1950, THERE, true)),
-            Shows(NextAt(4950)),
-            Does(CheckTo(4950, THERE, true)),
-            Shows(NextAt(7950)),
+            Shows(NextAt(800)),
+            Does(CheckTo(800, THERE, true)),
+            Shows(NextAt(1150)),
+            Does(CheckTo(1150, THERE, true)),
+            Shows(NextAt(1500)),
+            Does(CheckTo(1500, THERE, true)),
+            Shows(NextAt(1850)),
+            Does(CheckTo(1850, THERE, true)),
+            Shows(NextAt(2200)),
+            Does(CheckTo(2200, THERE, true)),
+            Shows(NextAt(5200)),
+            Does(CheckTo(5200, THERE, true)),
+            Shows(NextAt(8200)),
         ],
     ),
     // the response to the third nominating check; the delay is that after four pending transactions
@@ -144,7 +105,7 @@ const EARLY: [Story; 6] = [
         "the_response_to_a_nomination_ends_them_too",
         &[
             Begin(Paired),
-            Set(Setting::Rules(REPEATS)),
+            Set(Setting::Profile(Profile::Modern)),
             Does(Check(0)),
             Takes(Answer(10, THERE)),
             Does(CheckTo(50, THERE, true)),
@@ -155,19 +116,19 @@ const EARLY: [Story; 6] = [
             Shows(NextAt(2250)),
         ],
     ),
-    // the due time that is fixed stays when rules are set
+    // the due time that is fixed stays when the profile is set
     Story(
-        "rules_leave_a_due_time_that_was_queried",
+        "a_profile_leaves_a_due_time_that_was_queried",
         &[
             Begin(Paired),
-            Set(Setting::Rules(ORIGINAL)),
+            Set(Setting::Profile(Profile::Original)),
             Does(Check(0)),
             Shows(NextAt(250)),
-            Set(Setting::Rules(REPEATS)),
+            Set(Setting::Profile(Profile::Modern)),
             Shows(NextAt(250)),
             Does(Check(250)),
             Shows(NextAt(350)),
-            Set(Setting::Rules(ORIGINAL)),
+            Set(Setting::Profile(Profile::Original)),
             Shows(NextAt(350)),
             Does(Check(350)),
             // the RTO after the third check
@@ -179,12 +140,12 @@ const EARLY: [Story; 6] = [
 // ---- by which clock: that since the first check. With two checks a whole series takes 1 s, and the RTO after the last one is 500 ms
 
 const ENDS: [Story; 3] = [
-    // the response to the fifth check may come until 1.2 s, and so there is a sixth, which is waited for by the RTO
+    // the response to the fifth check may come until 1.25 s, and so there is a sixth, which is waited for by the RTO
     Story(
         "a_pair_is_kept_for_a_whole_series_and_the_last_response",
         &[
             Begin(Paired),
-            Set(Setting::Rules(REPEATS)),
+            Set(Setting::Profile(Profile::Modern)),
             Set(Setting::TwoChecks),
             Shows(IceTimeout(1000)),
             Does(Check(0)),
@@ -194,25 +155,25 @@ const ENDS: [Story; 3] = [
             Does(Check(200)),
             Shows(NextAt(400)),
             Does(Check(400)),
-            Shows(NextAt(700)),
-            Does(Check(700)),
-            Shows(NextAt(1000)),
-            Does(Check(1000)),
-            Shows(NextAt(1500)),
-            Does(Timeout(1499)),
+            Shows(NextAt(750)),
+            Does(Check(750)),
+            Shows(NextAt(1100)),
+            Does(Check(1100)),
+            Shows(NextAt(1600)),
+            Does(Timeout(1599)),
             Holds(HasPair(PEER, true)),
-            Does(Timeout(1500)),
+            Does(Timeout(1600)),
             Emits(NoPacket),
             Counts(Count::Checks, 6),
             Holds(HasPair(PEER, false)),
         ],
     ),
-    // by the RTO from the sixth check on
+    // by the RTO from the seventh check on
     Story(
         "the_checks_of_the_peer_keep_it_longer",
         &[
             Begin(Paired),
-            Set(Setting::Rules(REPEATS)),
+            Set(Setting::Profile(Profile::Modern)),
             Set(Setting::TwoChecks),
             Write(Message::Request(false, false), "nearpass"),
             Does(Check(0)),
@@ -222,16 +183,20 @@ const ENDS: [Story; 3] = [
             Does(Check(200)),
             Shows(NextAt(400)),
             Does(Check(400)),
-            Shows(NextAt(700)),
+            Shows(NextAt(750)),
+            // it triggers the fifth check
             Takes(Served(500, THERE)),
-            Does(Check(700)),
-            Shows(NextAt(1000)),
-            Does(Check(1000)),
-            Shows(NextAt(1500)),
-            Does(Check(1500)),
-            Shows(NextAt(2000)),
-            Does(Check(2000)),
-            Shows(NextAt(2500)),
+            Shows(NextAt(500)),
+            Does(Check(500)),
+            Shows(NextAt(850)),
+            Does(Check(850)),
+            Shows(NextAt(1200)),
+            Does(Check(1200)),
+            Shows(NextAt(1700)),
+            Does(Check(1700)),
+            Shows(NextAt(2200)),
+            Does(Check(2200)),
+            Shows(NextAt(2700)),
             // the request keeps it until 15.5 s, and this check for 500 ms more
             Does(Check(15_499)),
             Shows(NextAt(15_999)),
@@ -244,10 +209,10 @@ const ENDS: [Story; 3] = [
     ),
     // the RTO counts from the beginning: the second check is the last one
     Story(
-        "without_the_rule_two_checks_are_all",
+        "with_the_original_two_checks_are_all",
         &[
             Begin(Paired),
-            Set(Setting::Rules(ORIGINAL)),
+            Set(Setting::Profile(Profile::Original)),
             Set(Setting::TwoChecks),
             Does(Check(0)),
             Shows(NextAt(250)),

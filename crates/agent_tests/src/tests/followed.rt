@@ -1,6 +1,5 @@
 //! Nominations with numbers (NOMINATION of draft-thatcher-ice-renomination): a controlled agent follows the greatest one.
 
-use super::nominations::NUMBERED;
 use super::step::Call::*;
 use super::step::Emitted::*;
 use super::step::Packet::*;
@@ -9,6 +8,7 @@ use super::step::Step::*;
 use super::step::{At, Message, Setting};
 use super::story::{Story, play};
 use super::*;
+use is::Profile;
 
 #[test]
 fn the_greatest_number_counts(rt: HostRuntime) -> Result<(), Fail> {
@@ -31,7 +31,7 @@ const NOMINATED: [Story; 5] = [
             Begin(Unpaired),
             Set(Setting::Controlling(false)),
             Set(Setting::Renomination(true)),
-            Set(Setting::Rules(NUMBERED)),
+            Set(Setting::Profile(Profile::Modern)),
             Does(Peer(FIRST)),
             Does(Peer(SECOND)),
             Does(CheckBy(60_000, AT_FIRST, None)),
@@ -94,7 +94,7 @@ const NOMINATED: [Story; 5] = [
             Begin(Unpaired),
             Set(Setting::Controlling(false)),
             Set(Setting::Renomination(true)),
-            Set(Setting::Rules(NUMBERED)),
+            Set(Setting::Profile(Profile::Modern)),
             Does(Peer(FIRST)),
             Does(Peer(SECOND)),
             Does(CheckBy(60_000, AT_FIRST, None)),
@@ -125,7 +125,7 @@ const NOMINATED: [Story; 5] = [
             Begin(Unpaired),
             Set(Setting::Controlling(false)),
             Set(Setting::Renomination(true)),
-            Set(Setting::Rules(NUMBERED)),
+            Set(Setting::Profile(Profile::Modern)),
             Does(Peer(FIRST)),
             Does(Peer(SECOND)),
             Does(CheckBy(60_000, AT_FIRST, None)),
@@ -161,7 +161,7 @@ const NOMINATED: [Story; 5] = [
             Begin(Unpaired),
             Set(Setting::Controlling(false)),
             Set(Setting::Renomination(true)),
-            Set(Setting::Rules(NUMBERED)),
+            Set(Setting::Profile(Profile::Modern)),
             Does(Peer(FIRST)),
             Does(Peer(SECOND)),
             Does(CheckBy(60_000, AT_FIRST, None)),
@@ -214,7 +214,7 @@ const NOMINATED: [Story; 5] = [
             Begin(Unpaired),
             Set(Setting::Controlling(false)),
             Set(Setting::Renomination(true)),
-            Set(Setting::Rules(NUMBERED)),
+            Set(Setting::Profile(Profile::Modern)),
             Does(Peer(FIRST)),
             Does(Peer(SECOND)),
             Does(CheckBy(60_000, AT_FIRST, None)),

@@ -1,7 +1,5 @@
 //! Nominations with numbers: what counts after a pair is removed or the session restarts, and agents that ignore numbers.
 
-use super::nominations::NUMBERED;
-use super::settings::ORIGINAL;
 use super::step::Call::*;
 use super::step::Emitted::*;
 use super::step::Packet::*;
@@ -10,6 +8,7 @@ use super::step::Step::*;
 use super::step::{At, Message, Setting, Whose};
 use super::story::{Story, play};
 use super::*;
+use is::Profile;
 
 #[test]
 fn numbers_count_until_they_are_forgotten(rt: HostRuntime) -> Result<(), Fail> {
@@ -36,7 +35,7 @@ const LATER: [Story; 6] = [
             Begin(Unpaired),
             Set(Setting::Controlling(false)),
             Set(Setting::Renomination(true)),
-            Set(Setting::Rules(NUMBERED)),
+            Set(Setting::Profile(Profile::Modern)),
             Does(Peer(FIRST)),
             Does(Peer(SECOND)),
             Does(Peer(THIRD)),
@@ -74,7 +73,7 @@ const LATER: [Story; 6] = [
             Begin(Unpaired),
             Set(Setting::Controlling(false)),
             Set(Setting::Renomination(true)),
-            Set(Setting::Rules(NUMBERED)),
+            Set(Setting::Profile(Profile::Modern)),
             Does(Peer(FIRST)),
             Does(Peer(SECOND)),
             Does(Peer(THIRD)),
@@ -112,7 +111,7 @@ const LATER: [Story; 6] = [
             Begin(Unpaired),
             Set(Setting::Controlling(false)),
             Set(Setting::Renomination(true)),
-            Set(Setting::Rules(NUMBERED)),
+            Set(Setting::Profile(Profile::Modern)),
             Does(Peer(FIRST)),
             Does(Peer(SECOND)),
             Does(CheckBy(60_000, AT_FIRST, None)),
@@ -162,12 +161,12 @@ const LATER: [Story; 6] = [
         ],
     ),
     Story(
-        "without_the_rule_numbers_are_ignored",
+        "with_the_original_numbers_are_ignored",
         &[
             Begin(Unpaired),
             Set(Setting::Controlling(false)),
             Set(Setting::Renomination(true)),
-            Set(Setting::Rules(ORIGINAL)),
+            Set(Setting::Profile(Profile::Original)),
             Does(Peer(FIRST)),
             Does(Peer(SECOND)),
             Does(CheckBy(60_000, AT_FIRST, None)),
@@ -199,7 +198,7 @@ const LATER: [Story; 6] = [
             Begin(Unpaired),
             Set(Setting::Controlling(false)),
             Set(Setting::Renomination(false)),
-            Set(Setting::Rules(NUMBERED)),
+            Set(Setting::Profile(Profile::Modern)),
             Does(Peer(FIRST)),
             Does(Peer(SECOND)),
             Does(CheckBy(60_000, AT_FIRST, None)),
@@ -227,7 +226,7 @@ const LATER: [Story; 6] = [
             Set(Setting::Controlling(false)),
             Set(Setting::Lite),
             Set(Setting::Renomination(true)),
-            Set(Setting::Rules(NUMBERED)),
+            Set(Setting::Profile(Profile::Modern)),
             Does(Peer(FIRST)),
             Does(Peer(SECOND)),
             Does(Timeout(60_000)),

@@ -1,6 +1,5 @@
 //! Nominations with numbers (NOMINATION of draft-thatcher-ice-renomination), as a controlling agent sends them.
 
-use super::settings::ORIGINAL;
 use super::step::Call::*;
 use super::step::Emitted::*;
 use super::step::Packet::*;
@@ -10,18 +9,12 @@ use super::step::Step::*;
 use super::step::{At, Setting, Whose};
 use super::story::{Story, play};
 use super::*;
-use is::Rules;
+use is::Profile;
 
 #[test]
 fn selections_are_numbered(rt: HostRuntime) -> Result<(), Fail> {
     play(rt.alloc(), &CONTROLLING)
 }
-
-/// With renomination, nominations have numbers.
-pub(super) const NUMBERED: Rules = Rules {
-    numbered_nominations: true,
-    ..ORIGINAL
-};
 
 /// Two candidates of the peer, the first one with the greater priority. The stories begin a minute after the beginning.
 const FIRST: &str = "candidate:1 1 udp 2000 10.0.0.2 2000 typ host";
@@ -33,28 +26,29 @@ const AT_FIRST: At = At(2, 2000);
 const AT_SECOND: At = At(3, 2000);
 
 const CONTROLLING: [Story; 4] = [
-    // the agent selects the second pair, and then the first one
+    // the agent selects the second pair, and then the first one. Until it is nominated, checks may be 10 ms apart
     Story(
         "each_selection_has_the_next_number",
         &[
             Begin(Unpaired),
             Set(Setting::Controlling(true)),
             Set(Setting::Renomination(true)),
-            Set(Setting::Rules(NUMBERED)),
+            Set(Setting::Profile(Profile::Modern)),
             Does(Peer(FIRST)),
             Does(Peer(SECOND)),
             Does(CheckBy(60_000, AT_FIRST, None)),
             Does(CheckBy(60_050, AT_SECOND, None)),
             Takes(Answer(60_060, AT_SECOND)),
             Emits(Selected(Some(AT_SECOND))),
-            Shows(NextAt(60_100)),
+            Shows(NextAt(60_060)),
             Does(CheckBy(60_100, AT_SECOND, Some(1))),
             Takes(Answer(60_110, AT_SECOND)),
             Does(CheckBy(60_250, AT_FIRST, None)),
             Takes(Answer(60_260, AT_FIRST)),
             Emits(Selected(Some(AT_FIRST))),
-            Shows(NextAt(60_300)),
+            Shows(NextAt(60_260)),
             Does(CheckBy(60_300, AT_FIRST, Some(2))),
+            Takes(Answer(60_310, AT_FIRST)),
             // the next check of the second pair, and then that of the first one, with the same number
             Does(CheckBy(60_600, AT_SECOND, None)),
             Does(CheckBy(61_300, AT_FIRST, Some(2))),
@@ -67,7 +61,7 @@ const CONTROLLING: [Story; 4] = [
             Begin(Unpaired),
             Set(Setting::Controlling(true)),
             Set(Setting::Renomination(true)),
-            Set(Setting::Rules(NUMBERED)),
+            Set(Setting::Profile(Profile::Modern)),
             Does(Peer(FIRST)),
             Does(Peer(SECOND)),
             Does(CheckBy(60_000, AT_FIRST, None)),
@@ -83,14 +77,14 @@ const CONTROLLING: [Story; 4] = [
             Takes(Answer(60_610, AT_SECOND)),
             Emits(Selected(Some(AT_FIRST))),
             Does(Invalidate(FIRST)),
-            Shows(NextAt(60_650)),
+            Shows(NextAt(60_610)),
             Does(CheckBy(60_650, AT_SECOND, Some(3))),
             Emits(Selected(Some(AT_SECOND))),
             // without numbers it waits for its next check
             Begin(Unpaired),
             Set(Setting::Controlling(true)),
             Set(Setting::Renomination(true)),
-            Set(Setting::Rules(ORIGINAL)),
+            Set(Setting::Profile(Profile::Original)),
             Does(Peer(FIRST)),
             Does(Peer(SECOND)),
             Does(CheckBy(60_000, AT_FIRST, None)),
@@ -119,7 +113,7 @@ const CONTROLLING: [Story; 4] = [
             Begin(Unpaired),
             Set(Setting::Controlling(true)),
             Set(Setting::Renomination(true)),
-            Set(Setting::Rules(NUMBERED)),
+            Set(Setting::Profile(Profile::Modern)),
             Does(Peer(FIRST)),
             Does(CheckBy(60_000, AT_FIRST, None)),
             Takes(Answer(60_010, AT_FIRST)),
@@ -137,7 +131,7 @@ const CONTROLLING: [Story; 4] = [
         &[
             Begin(Unpaired),
             Set(Setting::Controlling(true)),
-            Set(Setting::Rules(NUMBERED)),
+            Set(Setting::Profile(Profile::Modern)),
             Does(Peer(FIRST)),
             Does(CheckBy(60_000, AT_FIRST, None)),
             Takes(Answer(60_010, AT_FIRST)),
@@ -146,7 +140,7 @@ const CONTROLLING: [Story; 4] = [
             Begin(Unpaired),
             Set(Setting::Controlling(true)),
             Set(Setting::Renomination(true)),
-            Set(Setting::Rules(NUMBERED)),
+            Set(Setting::Profile(Profile::Modern)),
             Does(Peer(FIRST)),
             Does(CheckBy(60_000, AT_FIRST, None)),
             Takes(Answer(60_010, AT_FIRST)),

@@ -1,7 +1,5 @@
 //! When checks may follow each other: the pacing interval Ta until the agent is settled, and due times that are fixed while something waits.
 
-use super::rules::TRIGGERS;
-use super::settings::ORIGINAL;
 use super::step::Call::*;
 use super::step::Emitted::*;
 use super::step::Packet::*;
@@ -11,7 +9,7 @@ use super::step::Step::*;
 use super::step::{At, Message, Setting};
 use super::story::{Story, play};
 use super::*;
-use is::{Duration, Rules};
+use is::Profile;
 
 #[test]
 fn early_pacing_is_shorter(rt: HostRuntime) -> Result<(), Fail> {
@@ -22,30 +20,6 @@ fn early_pacing_is_shorter(rt: HostRuntime) -> Result<(), Fail> {
 fn due_times_are_fixed_while_something_waits(rt: HostRuntime) -> Result<(), Fail> {
     play(rt.alloc(), &WAITING)
 }
-
-/// Until the agent is settled, checks are 20 ms apart.
-const EARLY: Rules = Rules {
-    early_pacing: Some(Duration(20_000_000)),
-    ..ORIGINAL
-};
-
-/// The same with 1 ms, which is below the least pacing interval.
-const SHORTEST: Rules = Rules {
-    early_pacing: Some(Duration(1_000_000)),
-    ..ORIGINAL
-};
-
-/// The same with 60 ms, which is longer than the default.
-const LONG: Rules = Rules {
-    early_pacing: Some(Duration(60_000_000)),
-    ..ORIGINAL
-};
-
-/// Requests trigger checks, and with renomination nominations have numbers.
-const NUMBERED_TRIGGERS: Rules = Rules {
-    numbered_nominations: true,
-    ..TRIGGERS
-};
 
 /// The first candidates of the peer. The first one is `PEER`.
 const FIRST: At = At(2, 2000);
@@ -65,36 +39,37 @@ const ANOTHER: &str = "candidate:1 1 udp 900 10.0.0.4 2000 typ host";
 
 // ---- the pacing interval (RFC 8445, section 14.2). The default is 50 ms
 
-const PACED: [Story; 9] = [
+const PACED: [Story; 7] = [
     // since more than 60 s have passed, the nominated pair is due before all others
     Story(
         "checks_are_closer_until_the_path_is_nominated",
         &[
             Begin(Unpaired),
-            Set(Setting::Rules(EARLY)),
+            Set(Setting::Profile(Profile::Modern)),
             Does(Peers(5)),
             Does(CheckTo(100_000, FIRST, false)),
             Shows(State(IceConnectionState::Checking)),
+            Shows(NextAt(100_010)),
+            Does(CheckTo(100_010, SECOND, false)),
             Shows(NextAt(100_020)),
-            Does(CheckTo(100_020, SECOND, false)),
-            Shows(NextAt(100_040)),
-            Does(CheckTo(100_040, THIRD, false)),
-            Shows(NextAt(100_060)),
-            Takes(Answer(100_050, THIRD)),
+            Does(CheckTo(100_020, THIRD, false)),
+            Shows(NextAt(100_030)),
+            Takes(Answer(100_025, THIRD)),
             Shows(State(IceConnectionState::Connected)),
-            Shows(NextAt(100_060)),
-            Does(CheckTo(100_060, THIRD, true)),
-            Shows(NextAt(100_110)),
-            Does(CheckTo(100_110, FOURTH, false)),
-            Shows(NextAt(100_160)),
-            Does(CheckTo(100_160, FIFTH, false)),
+            Shows(NextAt(100_030)),
+            Does(CheckTo(100_030, THIRD, true)),
+            Takes(Answer(100_035, THIRD)),
+            Shows(NextAt(100_080)),
+            Does(CheckTo(100_080, FOURTH, false)),
+            Shows(NextAt(100_130)),
+            Does(CheckTo(100_130, FIFTH, false)),
         ],
     ),
     Story(
-        "without_the_rule_they_are_as_far_apart_before",
+        "with_the_original_they_are_as_far_apart_before",
         &[
             Begin(Unpaired),
-            Set(Setting::Rules(ORIGINAL)),
+            Set(Setting::Profile(Profile::Original)),
             Does(Peers(3)),
             Does(CheckTo(0, FIRST, false)),
             Shows(NextAt(50)),
@@ -107,70 +82,52 @@ const PACED: [Story; 9] = [
         "a_poll_before_the_packet_is_paced_too",
         &[
             Begin(Unpaired),
-            Set(Setting::Rules(EARLY)),
+            Set(Setting::Profile(Profile::Modern)),
             Does(Peers(3)),
             Does(Timeout(0)),
-            Shows(NextAt(20)),
-            Emits(Sends),
-            Shows(NextAt(20)),
-            // it is read at the poll
-            Set(Setting::Rules(ORIGINAL)),
-            Shows(NextAt(50)),
-        ],
-    ),
-    Story(
-        "they_are_at_least_5_ms_apart",
-        &[
-            Begin(Unpaired),
-            Set(Setting::Rules(SHORTEST)),
-            Does(Peers(3)),
-            Does(CheckTo(0, FIRST, false)),
-            Shows(NextAt(5)),
-            Does(CheckTo(5, SECOND, false)),
             Shows(NextAt(10)),
+            Emits(Sends),
+            Shows(NextAt(10)),
+            // it is read at the poll
+            Set(Setting::Profile(Profile::Original)),
+            Shows(NextAt(50)),
         ],
     ),
     Story(
         "a_shorter_interval_stays",
         &[
             Begin(Unpaired),
-            Set(Setting::Rules(EARLY)),
-            Set(Setting::Pacing(10)),
+            Set(Setting::Profile(Profile::Modern)),
+            Set(Setting::Pacing(7)),
             Does(Peers(3)),
             Does(CheckTo(0, FIRST, false)),
-            Shows(NextAt(10)),
+            Shows(NextAt(7)),
             // below 5 ms, too
-            Set(Setting::Rules(SHORTEST)),
             Set(Setting::Pacing(3)),
             Shows(NextAt(3)),
         ],
     ),
-    Story(
-        "a_longer_rule_changes_nothing",
-        &[
-            Begin(Unpaired),
-            Set(Setting::Rules(LONG)),
-            Does(Peers(3)),
-            Does(CheckTo(0, FIRST, false)),
-            Shows(NextAt(50)),
-        ],
-    ),
-    // 20 ms for each of 25 pairs are half a second, and so are 10 ms for each of 50
+    // 10 ms for each of 50 pairs are half a second, and so are 5 ms for each of 100
     Story(
         "many_pairs_are_checked_once_in_half_a_second",
         &[
             Begin(Unpaired),
-            Set(Setting::Rules(EARLY)),
+            Set(Setting::Profile(Profile::Modern)),
             Does(Peers(25)),
             Does(CheckTo(0, FIRST, false)),
-            Shows(NextAt(20)),
+            Shows(NextAt(10)),
             Begin(Unpaired),
-            Set(Setting::Rules(EARLY)),
+            Set(Setting::Profile(Profile::Modern)),
             Does(Peers(50)),
             Does(CheckTo(0, FIRST, false)),
             Shows(NextAt(10)),
-            Does(CheckTo(10, SECOND, false)),
-            Shows(NextAt(20)),
+            Begin(Unpaired),
+            Set(Setting::Profile(Profile::Modern)),
+            Does(Peers(100)),
+            Does(CheckTo(0, FIRST, false)),
+            Shows(NextAt(5)),
+            Does(CheckTo(5, SECOND, false)),
+            Shows(NextAt(10)),
         ],
     ),
     // which would be 2.5 ms each
@@ -178,19 +135,19 @@ const PACED: [Story; 9] = [
         "with_more_pairs_they_are_at_least_5_ms_apart",
         &[
             Begin(Unpaired),
-            Set(Setting::Rules(EARLY)),
+            Set(Setting::Profile(Profile::Modern)),
             Set(Setting::MaxPairs(200)),
             Does(Peers(200)),
             Does(CheckTo(0, FIRST, false)),
             Shows(NextAt(5)),
         ],
     ),
-    // the state is evaluated at the next timeout
+    // at once, as the state is
     Story(
         "they_are_closer_again_once_the_path_is_lost",
         &[
             Begin(Paired),
-            Set(Setting::Rules(EARLY)),
+            Set(Setting::Profile(Profile::Modern)),
             Does(CheckTo(0, FIRST, false)),
             Takes(Answer(10, FIRST)),
             Shows(Connected),
@@ -198,33 +155,33 @@ const PACED: [Story; 9] = [
             Does(Invalidate(PEER)),
             Does(Peer(OTHER)),
             Does(Peer(ANOTHER)),
-            Shows(NextAt(70)),
-            Does(CheckTo(70, SECOND, false)),
+            Shows(NextAt(30)),
+            Does(CheckTo(30, SECOND, false)),
             Shows(State(IceConnectionState::Checking)),
-            Shows(NextAt(90)),
+            Shows(NextAt(40)),
         ],
     ),
 ];
 
-// ---- a request moves a due time up only if it is fixed: with `triggered_checks` each poll of the next timeout fixes it
+// ---- a request moves a due time up only if it is fixed: with the profile `Modern` each poll of the next timeout fixes it
 
 const WAITING: [Story; 4] = [
-    // without the rule the RTO counts, 250 ms
+    // with the original the RTO counts, 250 ms
     Story(
         "a_poll_before_the_packet_fixes_due_times",
         &[
             Begin(Paired),
-            Set(Setting::Rules(TRIGGERS)),
+            Set(Setting::Profile(Profile::Modern)),
             Does(Timeout(0)),
-            Shows(NextAt(50)),
+            Shows(NextAt(10)),
             Emits(Sends),
             Write(Message::Request(false, false), "nearpass"),
             Takes(Served(10, FIRST)),
-            Shows(NextAt(50)),
-            Does(CheckTo(50, FIRST, false)),
-            Shows(NextAt(550)),
+            Shows(NextAt(10)),
+            Does(CheckTo(10, FIRST, false)),
+            Shows(NextAt(110)),
             Begin(Paired),
-            Set(Setting::Rules(ORIGINAL)),
+            Set(Setting::Profile(Profile::Original)),
             Does(Timeout(0)),
             Shows(NextAt(50)),
             Emits(Sends),
@@ -233,56 +190,59 @@ const WAITING: [Story; 4] = [
             Shows(NextAt(250)),
         ],
     ),
-    // the response to the first request is still queued when the second one arrives
+    // the response to the request of the second candidate is still queued when that of the first one arrives
     Story(
         "a_response_that_waits_is_no_obstacle",
         &[
-            Begin(Paired),
-            Set(Setting::Rules(TRIGGERS)),
+            Begin(Unpaired),
+            Set(Setting::Profile(Profile::Modern)),
+            Does(Peers(2)),
             Write(Message::Request(false, false), "nearpass"),
-            Does(Check(0)),
-            Takes(Next(10)),
-            Shows(NextAt(50)),
-            Takes(Next(20)),
+            Does(CheckTo(0, FIRST, false)),
+            Does(CheckTo(10, SECOND, false)),
+            Takes(Between(12, SECOND, At(1, 1000))),
+            Shows(NextAt(20)),
+            Takes(Between(15, FIRST, At(1, 1000))),
             Emits(Sends),
             Emits(Sends),
-            Shows(NextAt(50)),
-            Does(CheckTo(50, FIRST, false)),
+            Shows(NextAt(20)),
+            Does(CheckTo(20, FIRST, false)),
         ],
     ),
-    // due times are those of the rules at the poll
+    // due times are those of the profile at the poll
     Story(
-        "rules_that_are_set_later_leave_them",
+        "a_profile_that_is_set_later_leaves_them",
         &[
             Begin(Paired),
-            Set(Setting::Rules(TRIGGERS)),
+            Set(Setting::Profile(Profile::Modern)),
             Does(Timeout(0)),
-            Shows(NextAt(50)),
+            Shows(NextAt(10)),
             Emits(Sends),
-            Set(Setting::Rules(ORIGINAL)),
-            Set(Setting::Rules(TRIGGERS)),
+            Set(Setting::Profile(Profile::Original)),
+            Set(Setting::Profile(Profile::Modern)),
             Write(Message::Request(false, false), "nearpass"),
             Takes(Served(10, FIRST)),
-            Shows(NextAt(50)),
+            Shows(NextAt(10)),
         ],
     ),
-    // the path to the second candidate is selected at 60 ms; the first one is due at 250 ms, before its request
+    // the path to the second candidate is selected at 60 ms; the first one is due at 100 ms, before its request
     Story(
         "a_path_that_is_to_be_nominated_is_no_obstacle",
         &[
             Begin(Unpaired),
             Set(Setting::Renomination(true)),
-            Set(Setting::Rules(NUMBERED_TRIGGERS)),
+            Set(Setting::Profile(Profile::Modern)),
+            Set(Setting::Pacing(20)),
             Does(Peers(2)),
             Does(CheckTo(0, FIRST, false)),
             Does(CheckTo(50, SECOND, false)),
             Takes(Answer(60, SECOND)),
-            Shows(NextAt(100)),
+            Shows(NextAt(60)),
             Write(Message::Request(false, false), "nearpass"),
-            Takes(Served(70, FIRST)),
-            Does(CheckBy(100, SECOND, Some(1))),
-            Shows(NextAt(150)),
-            Does(CheckTo(150, FIRST, false)),
+            Takes(Served(62, FIRST)),
+            Does(CheckBy(64, SECOND, Some(1))),
+            Shows(NextAt(84)),
+            Does(CheckTo(84, FIRST, false)),
         ],
     ),
 ];

@@ -1,7 +1,6 @@
 //! Early requests: requests received before the remote credentials. 100 are stored, and each `handle_timeout` call
 //! serves one.
 
-use super::settings::ORIGINAL;
 use super::step::Call::*;
 use super::step::Emitted::*;
 use super::step::Held::*;
@@ -12,18 +11,12 @@ use super::step::Step::*;
 use super::step::{At, Count, Setting, Whose};
 use super::story::{Story, play};
 use super::*;
-use is::Rules;
+use is::Profile;
 
 #[test]
 fn requests_wait(rt: HostRuntime) -> Result<(), Fail> {
     play(rt.alloc(), &STORIES)
 }
-
-/// A call that serves a request counts as the last one, if there was none before.
-const COUNTS_FIRST: Rules = Rules {
-    timeout_after_requests: true,
-    ..ORIGINAL
-};
 
 const STORIES: [Story; 8] = [
     Story(
@@ -109,40 +102,40 @@ const STORIES: [Story; 8] = [
         "a_call_that_serves_a_request_is_followed_by_another",
         &[
             Begin(Early),
-            Set(Setting::Rules(COUNTS_FIRST)),
+            Set(Setting::Profile(Profile::Modern)),
             Takes(Many(3)),
             Does(Creds(Whose::Remote, "SQAt", "x")),
             Shows(NoNext),
             Does(Check(10)),
             Emits(Sent(Class::Success, 64)),
-            Shows(NextAt(60)),
-            Does(Check(60)),
+            Shows(NextAt(20)),
+            Does(Check(20)),
             Emits(Sent(Class::Success, 64)),
             // the others are served at once, and the first check follows
-            Shows(NextAt(60)),
-            Does(Check(60)),
+            Shows(NextAt(20)),
+            Does(Check(20)),
             Emits(Sent(Class::Success, 64)),
-            Shows(NextAt(60)),
-            Does(Check(60)),
+            Shows(NextAt(20)),
+            Does(Check(20)),
             Emits(Sent(Class::Request, 88)),
             // after an earlier call
             Begin(Early),
-            Set(Setting::Rules(COUNTS_FIRST)),
+            Set(Setting::Profile(Profile::Modern)),
             Does(Timeout(0)),
             Takes(Many(2)),
             Does(Creds(Whose::Remote, "SQAt", "x")),
-            Shows(NextAt(50)),
+            Shows(NextAt(10)),
             Does(Check(70)),
             Emits(Sent(Class::Success, 64)),
-            Shows(NextAt(50)),
+            Shows(NextAt(10)),
             Does(Check(70)),
             Emits(Sent(Class::Success, 64)),
-            Shows(NextAt(50)),
+            Shows(NextAt(10)),
             Does(Check(70)),
             Emits(Sent(Class::Request, 88)),
-            // without the rule
+            // with the original
             Begin(Early),
-            Set(Setting::Rules(ORIGINAL)),
+            Set(Setting::Profile(Profile::Original)),
             Takes(Many(1)),
             Does(Creds(Whose::Remote, "SQAt", "x")),
             Does(Check(10)),

@@ -1,6 +1,5 @@
 //! Why pairs were removed.
 
-use super::settings::ORIGINAL;
 use super::step::Call::*;
 use super::step::Emitted::*;
 use super::step::Held::*;
@@ -10,8 +9,7 @@ use super::step::Step::*;
 use super::step::{At, Message, Setting, Whose};
 use super::story::{Story, play};
 use super::*;
-use is::stun::Consent;
-use is::{Duration, Rules};
+use is::Profile;
 use is_agent::removed::Removal;
 
 #[test]
@@ -26,15 +24,6 @@ const SECOND: At = At(3, 2000);
 
 /// A candidate of the peer at 10.0.0.3:2000, of lower priority than the first one.
 const OTHER: &str = "candidate:1 1 udp 2130706174 10.0.0.3 2000 typ host";
-
-/// Only consent by the clock.
-const BY_CLOCK: Rules = Rules {
-    consent: Some(Consent {
-        timeout: Duration(29_600_000_000),
-        strict: false,
-    }),
-    ..ORIGINAL
-};
 
 // ---- no response, and consent
 
@@ -71,7 +60,8 @@ const SILENT: [Story; 4] = [
         "after_a_response",
         &[
             Begin(Paired),
-            Set(Setting::Rules(BY_CLOCK)),
+            Set(Setting::Profile(Profile::Modern)),
+            Set(Setting::Consent(29_600, false)),
             Does(Check(0)),
             Takes(Answer(10, THERE)),
             Does(Timeout(29_599)),

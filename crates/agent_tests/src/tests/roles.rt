@@ -2,7 +2,6 @@
 
 use super::driver::Player;
 use super::roles::Turn::*;
-use super::settings::ORIGINAL;
 use super::step::Call::*;
 use super::step::Emitted::*;
 use super::step::Held::*;
@@ -13,7 +12,7 @@ use super::step::Step::*;
 use super::step::{At, Count, Message, Outcome, Setting, Start, Step, Whose};
 use super::story::{Missed, report};
 use super::*;
-use is::Rules;
+use is::Profile;
 use is::pair::CheckState;
 
 /// A step of two agents.
@@ -153,12 +152,6 @@ const LITE_CLAIM: [Step; 5] = [
     Does(Timeout(0)),
 ];
 
-/// A lite agent keeps its role.
-const KEEPS: Rules = Rules {
-    lite_keeps_role: true,
-    ..ORIGINAL
-};
-
 const CONFLICTS: [Conflict; 10] = [
     Conflict(
         "the_lesser_tie_breaker_switches",
@@ -273,7 +266,7 @@ const CONFLICTS: [Conflict; 10] = [
         "a_lite_agent_keeps_its_role_whatever_the_tie_breakers_are",
         &[
             Serve(10, 5),
-            Two(Set(Setting::Rules(KEEPS))),
+            Two(Set(Setting::Profile(Profile::Modern))),
             ToTwo(10),
             Two(Emits(Sends)),
             Two(Emits(Sent(Class::Failure, 76))),
@@ -288,7 +281,7 @@ const CONFLICTS: [Conflict; 10] = [
             Roles(true, false),
             // an equal tie-breaker
             Serve(5, 5),
-            Two(Set(Setting::Rules(KEEPS))),
+            Two(Set(Setting::Profile(Profile::Modern))),
             ToTwo(10),
             Two(Emits(Sends)),
             Two(Emits(Sent(Class::Failure, 76))),
@@ -296,7 +289,7 @@ const CONFLICTS: [Conflict; 10] = [
         ],
     ),
     Conflict(
-        "without_the_rule_it_may_switch",
+        "with_the_original_it_may_switch",
         &[
             Serve(10, 5),
             ToTwo(10),
@@ -306,10 +299,10 @@ const CONFLICTS: [Conflict; 10] = [
         ],
     ),
     Conflict(
-        "a_full_agent_with_the_rule_may_switch",
+        "a_full_modern_agent_may_switch",
         &[
             Claim(10, 5, false),
-            Two(Set(Setting::Rules(KEEPS))),
+            Two(Set(Setting::Profile(Profile::Modern))),
             ToTwo(10),
             Two(Emits(Sends)),
             Two(Emits(Sent(Class::Success, 64))),
@@ -323,12 +316,12 @@ const CONFLICTS: [Conflict; 10] = [
             Two(Does(Control(true))),
             Roles(false, true),
             Two(Does(Control(false))),
-            Two(Set(Setting::Rules(KEEPS))),
+            Two(Set(Setting::Profile(Profile::Modern))),
             Two(Errs(Control(true), Outcome::LiteStaysControlled)),
             Roles(false, false),
             Two(Does(Control(false))),
             Roles(false, false),
-            One(Set(Setting::Rules(KEEPS))),
+            One(Set(Setting::Profile(Profile::Modern))),
             One(Does(Control(true))),
             Roles(true, false),
         ],
@@ -339,13 +332,13 @@ const CONFLICTS: [Conflict; 10] = [
         &[
             Claim(10, 5, false),
             Two(Set(Setting::Lite)),
-            Two(Set(Setting::Rules(KEEPS))),
+            Two(Set(Setting::Profile(Profile::Modern))),
             ToOne(10),
             One(Emits(Sends)),
             One(Emits(Sent(Class::Failure, 76))),
             ToTwo(20),
             Roles(false, false),
-            Two(Set(Setting::Rules(ORIGINAL))),
+            Two(Set(Setting::Profile(Profile::Original))),
             ToTwo(30),
             Roles(false, true),
         ],

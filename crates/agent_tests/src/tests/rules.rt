@@ -1,6 +1,5 @@
 //! What an agent does beyond the original's behavior: triggered checks, and selection at a request.
 
-use super::settings::ORIGINAL;
 use super::step::Call::*;
 use super::step::Emitted::*;
 use super::step::Held::*;
@@ -11,7 +10,7 @@ use super::step::Step::*;
 use super::step::{At, Count, Message, Setting, Whose};
 use super::story::{Story, play};
 use super::*;
-use is::Rules;
+use is::Profile;
 use is::pair::CheckState;
 
 #[test]
@@ -25,53 +24,37 @@ fn a_request_may_select(rt: HostRuntime) -> Result<(), Fail> {
     play(rt.alloc(), &SELECTED)
 }
 
-/// Only the first four requests on a pair trigger checks.
-pub(super) const TRIGGERS: Rules = Rules {
-    triggered_checks: Some(4),
-    ..ORIGINAL
-};
-
-/// The same, and kinds of pairs take turns.
-const TRIGGERS_AND_KINDS: Rules = Rules {
-    kinds_in_turn: true,
-    ..TRIGGERS
-};
-
-/// Only a request may select.
-const SELECTS: Rules = Rules {
-    selects_at_once: true,
-    ..ORIGINAL
-};
-
 /// The address of `PEER`.
 const THERE: At = At(2, 2000);
 
 // ---- a request on a known pair makes its next check due (RFC 8445, section 7.3.1.4)
 
 const TRIGGERED: [Story; 6] = [
-    // checks without a response at 0, 250, 750, 1750 and 3750 ms; the next one is due 3 s later
+    // checks without a response at 0, 100, 200, 400, 750 and 1100 ms; the next one is due 350 ms later
     Story(
         "a_late_peer_is_checked_at_its_first_request",
         &[
             Begin(Paired),
-            Set(Setting::Rules(TRIGGERS)),
+            Set(Setting::Profile(Profile::Modern)),
             Does(Check(0)),
-            Shows(NextAt(250)),
-            Does(Check(250)),
+            Shows(NextAt(100)),
+            Does(Check(100)),
+            Shows(NextAt(200)),
+            Does(Check(200)),
+            Shows(NextAt(400)),
+            Does(Check(400)),
             Shows(NextAt(750)),
             Does(Check(750)),
-            Shows(NextAt(1750)),
-            Does(Check(1750)),
-            Shows(NextAt(3750)),
-            Does(Check(3750)),
-            Shows(NextAt(6750)),
+            Shows(NextAt(1100)),
+            Does(Check(1100)),
+            Shows(NextAt(1450)),
             Write(Message::Request(false, false), "nearpass"),
-            Takes(Served(5000, THERE)),
-            Shows(NextAt(5000)),
-            Does(Check(5000)),
-            // the same peer, without the rule
+            Takes(Served(1200, THERE)),
+            Shows(NextAt(1200)),
+            Does(Check(1200)),
+            // the same peer, with the original
             Begin(Paired),
-            Set(Setting::Rules(ORIGINAL)),
+            Set(Setting::Profile(Profile::Original)),
             Does(Check(3750)),
             Shows(NextAt(4000)),
             Does(Check(4000)),
@@ -81,57 +64,45 @@ const TRIGGERED: [Story; 6] = [
             Shows(NextAt(4500)),
         ],
     ),
-    // the request triggers a check 50 ms after the last one, the pacing interval
+    // the request triggers a check 10 ms after the last one, the pacing interval until the agent is settled
     Story(
         "a_triggered_check_is_paced",
         &[
             Begin(Paired),
-            Set(Setting::Rules(TRIGGERS)),
+            Set(Setting::Profile(Profile::Modern)),
             Does(Check(0)),
-            Shows(NextAt(250)),
+            Shows(NextAt(100)),
             Write(Message::Request(false, false), "nearpass"),
-            Takes(Served(10, THERE)),
-            Shows(NextAt(50)),
-            Does(Check(50)),
-            // 500 ms after the second check
-            Shows(NextAt(550)),
+            Takes(Served(4, THERE)),
+            Shows(NextAt(10)),
+            Does(Check(10)),
+            // 100 ms after the second check
+            Shows(NextAt(110)),
         ],
     ),
     Story(
-        "the_first_four_requests_trigger_checks",
+        "only_the_first_request_triggers_a_check",
         &[
             Begin(Paired),
-            Set(Setting::Rules(TRIGGERS)),
+            Set(Setting::Profile(Profile::Modern)),
             Write(Message::Request(false, false), "nearpass"),
             Does(Check(0)),
-            Shows(NextAt(250)),
-            Takes(Served(100, THERE)),
             Shows(NextAt(100)),
-            Does(Check(100)),
-            Shows(NextAt(600)),
-            Takes(Served(200, THERE)),
-            Shows(NextAt(200)),
-            Does(Check(200)),
-            Shows(NextAt(1200)),
-            Takes(Served(300, THERE)),
-            Shows(NextAt(300)),
-            Does(Check(300)),
-            Shows(NextAt(2300)),
-            Takes(Served(400, THERE)),
-            Shows(NextAt(400)),
-            Does(Check(400)),
-            Shows(NextAt(3400)),
-            // the fifth
-            Takes(Served(500, THERE)),
-            Shows(NextAt(3400)),
-            Counts(Count::Checks, 5),
+            Takes(Served(50, THERE)),
+            Shows(NextAt(50)),
+            Does(Check(50)),
+            Shows(NextAt(150)),
+            // the second
+            Takes(Served(120, THERE)),
+            Shows(NextAt(150)),
+            Counts(Count::Checks, 2),
         ],
     ),
     Story(
         "a_request_on_a_valid_pair_triggers_none",
         &[
             Begin(Paired),
-            Set(Setting::Rules(TRIGGERS)),
+            Set(Setting::Profile(Profile::Modern)),
             Set(Setting::Controlling(false)),
             Does(Check(0)),
             Takes(Answer(10, THERE)),
@@ -147,9 +118,9 @@ const TRIGGERED: [Story; 6] = [
         "a_request_from_before_the_last_timeout_triggers_a_check",
         &[
             Begin(Paired),
-            Set(Setting::Rules(TRIGGERS)),
+            Set(Setting::Profile(Profile::Modern)),
             Does(Check(1000)),
-            Shows(NextAt(1250)),
+            Shows(NextAt(1100)),
             Write(Message::Request(false, false), "nearpass"),
             Takes(Served(500, THERE)),
             Set(Setting::Pacing(0)),
@@ -160,11 +131,11 @@ const TRIGGERED: [Story; 6] = [
         "a_due_time_that_was_not_queried_stays_open",
         &[
             Begin(Paired),
-            Set(Setting::Rules(TRIGGERS)),
+            Set(Setting::Profile(Profile::Modern)),
             Does(Check(0)),
             Write(Message::Request(false, false), "nearpass"),
-            Takes(Served(100, THERE)),
-            Shows(NextAt(250)),
+            Takes(Served(50, THERE)),
+            Shows(NextAt(100)),
         ],
     ),
 ];
@@ -187,20 +158,20 @@ const URGENT: [Story; 5] = [
         "a_request_puts_a_pair_before_twenty_others",
         &[
             Begin(Unpaired),
-            Set(Setting::Rules(TRIGGERS)),
+            Set(Setting::Profile(Profile::Modern)),
             Does(Peers(21)),
             Write(Message::Request(false, false), "nearpass"),
             Takes(Served(0, LAST)),
             Does(CheckTo(0, FIRST, false)),
-            Shows(NextAt(50)),
-            Does(CheckTo(50, LAST, false)),
-            // it is due again at 300 ms; till then the others are checked in their order
-            Does(CheckTo(100, SECOND, false)),
-            Does(CheckTo(150, At(4, 2000), false)),
-            Does(CheckTo(200, At(5, 2000), false)),
-            // without the rule
+            Shows(NextAt(10)),
+            Does(CheckTo(10, LAST, false)),
+            // it is due again at 110 ms; till then the others are checked in their order
+            Does(CheckTo(20, SECOND, false)),
+            Does(CheckTo(30, At(4, 2000), false)),
+            Does(CheckTo(40, At(5, 2000), false)),
+            // with the original
             Begin(Unpaired),
-            Set(Setting::Rules(ORIGINAL)),
+            Set(Setting::Profile(Profile::Original)),
             Does(Peers(21)),
             Write(Message::Request(false, false), "nearpass"),
             Takes(Served(0, LAST)),
@@ -212,20 +183,20 @@ const URGENT: [Story; 5] = [
         "a_request_after_the_first_check_is_followed_by_the_second",
         &[
             Begin(Unpaired),
-            Set(Setting::Rules(TRIGGERS)),
+            Set(Setting::Profile(Profile::Modern)),
             Does(Peers(21)),
             Does(CheckTo(0, FIRST, false)),
-            Shows(NextAt(50)),
+            Shows(NextAt(10)),
             Write(Message::Request(false, false), "nearpass"),
-            Takes(Served(40, LAST)),
-            Shows(NextAt(50)),
-            Does(CheckTo(50, LAST, false)),
-            Shows(NextAt(100)),
+            Takes(Served(5, LAST)),
+            Shows(NextAt(10)),
+            Does(CheckTo(10, LAST, false)),
+            Shows(NextAt(20)),
             // the next check is not ahead of the others, and the one after it is
-            Takes(Served(60, LAST)),
-            Does(CheckTo(100, SECOND, false)),
-            Does(CheckTo(150, LAST, false)),
-            Does(CheckTo(200, At(4, 2000), false)),
+            Takes(Served(15, At(21, 2000))),
+            Does(CheckTo(20, SECOND, false)),
+            Does(CheckTo(30, At(21, 2000), false)),
+            Does(CheckTo(40, At(4, 2000), false)),
         ],
     ),
     // a pair that a request brought, though its priority is the greatest
@@ -233,35 +204,35 @@ const URGENT: [Story; 5] = [
         "a_known_candidate_goes_before_an_unknown_sender",
         &[
             Begin(Unpaired),
-            Set(Setting::Rules(TRIGGERS)),
+            Set(Setting::Profile(Profile::Modern)),
             Does(Peers(21)),
             Does(CheckTo(0, FIRST, false)),
-            Shows(NextAt(50)),
+            Shows(NextAt(10)),
             Write(Message::Request(false, false), "nearpass"),
-            Takes(Served(10, At(50, 5000))),
-            Takes(Served(20, LAST)),
-            Does(CheckTo(50, LAST, false)),
-            Does(CheckTo(100, SECOND, false)),
-            Does(CheckTo(150, At(50, 5000), false)),
+            Takes(Served(3, At(50, 5000))),
+            Takes(Served(6, LAST)),
+            Does(CheckTo(10, LAST, false)),
+            Does(CheckTo(20, SECOND, false)),
+            Does(CheckTo(30, At(50, 5000), false)),
         ],
     ),
-    // the checks at 50, 150 and 250 ms go ahead: to the urgent pair, then to one of the next kind
+    // the checks at 10, 30 and 50 ms go ahead: to the urgent pair, then to one of the next kind
     Story(
         "an_urgent_pair_goes_before_the_next_kind",
         &[
             Begin(Unpaired),
-            Set(Setting::Rules(TRIGGERS_AND_KINDS)),
+            Set(Setting::Profile(Profile::Modern)),
             Does(Peers(5)),
             Does(Peer(REFLEXIVE)),
             Does(CheckTo(0, FIRST, false)),
-            Shows(NextAt(50)),
+            Shows(NextAt(10)),
             Write(Message::Request(false, false), "nearpass"),
-            Takes(Served(10, At(6, 2000))),
-            Does(CheckTo(50, At(6, 2000), false)),
-            Does(CheckTo(100, SECOND, false)),
-            Does(CheckTo(150, At(60, 6000), false)),
-            Does(CheckTo(200, At(4, 2000), false)),
-            Does(CheckTo(250, At(5, 2000), false)),
+            Takes(Served(5, At(6, 2000))),
+            Does(CheckTo(10, At(6, 2000), false)),
+            Does(CheckTo(20, SECOND, false)),
+            Does(CheckTo(30, At(60, 6000), false)),
+            Does(CheckTo(40, At(4, 2000), false)),
+            Does(CheckTo(50, At(5, 2000), false)),
         ],
     ),
     // the check that nominates the first pair is due before all; after it the pair is urgent until a response to it arrives
@@ -269,19 +240,21 @@ const URGENT: [Story; 5] = [
         "a_nomination_without_a_response_is_urgent",
         &[
             Begin(Unpaired),
-            Set(Setting::Rules(TRIGGERS)),
+            Set(Setting::Profile(Profile::Modern)),
             Does(Peers(21)),
             Does(CheckTo(0, FIRST, false)),
             Takes(Answer(10, FIRST)),
             Does(CheckTo(50, FIRST, true)),
             Does(CheckTo(100, SECOND, false)),
-            Does(CheckTo(150, At(4, 2000), false)),
-            Does(CheckTo(200, At(5, 2000), false)),
-            Does(CheckTo(250, At(6, 2000), false)),
-            // 500 ms after the second check of the pair
-            Does(CheckTo(550, FIRST, true)),
-            Does(CheckTo(600, At(7, 2000), false)),
-            Does(CheckTo(650, At(8, 2000), false)),
+            // every second check goes to it, if it is due: 100 ms after each of the first two that nominate it, and 200 ms after the third
+            Does(CheckTo(150, FIRST, true)),
+            Does(CheckTo(200, At(4, 2000), false)),
+            Does(CheckTo(250, FIRST, true)),
+            Does(CheckTo(300, At(5, 2000), false)),
+            Does(CheckTo(350, At(6, 2000), false)),
+            Does(CheckTo(400, At(7, 2000), false)),
+            Does(CheckTo(450, FIRST, true)),
+            Does(CheckTo(500, At(8, 2000), false)),
         ],
     ),
 ];
@@ -293,7 +266,7 @@ const SELECTED: [Story; 3] = [
         "a_nominating_request_selects_a_valid_pair",
         &[
             Begin(New("near", "nearpass", 7)),
-            Set(Setting::Rules(SELECTS)),
+            Set(Setting::Profile(Profile::Modern)),
             Does(Creds(Whose::Remote, "farr", "farpass")),
             Does(Host(At(1, 1000))),
             Does(Peer(PEER)),
@@ -307,10 +280,10 @@ const SELECTED: [Story; 3] = [
         ],
     ),
     Story(
-        "without_the_rule_the_next_timeout_selects_it",
+        "with_the_original_the_next_timeout_selects_it",
         &[
             Begin(New("near", "nearpass", 7)),
-            Set(Setting::Rules(ORIGINAL)),
+            Set(Setting::Profile(Profile::Original)),
             Does(Creds(Whose::Remote, "farr", "farpass")),
             Does(Host(At(1, 1000))),
             Does(Peer(PEER)),
@@ -328,7 +301,7 @@ const SELECTED: [Story; 3] = [
         "a_nominating_request_selects_no_pair_that_is_not_valid",
         &[
             Begin(New("near", "nearpass", 7)),
-            Set(Setting::Rules(SELECTS)),
+            Set(Setting::Profile(Profile::Modern)),
             Does(Creds(Whose::Remote, "farr", "farpass")),
             Does(Host(At(1, 1000))),
             Does(Peer(PEER)),

@@ -224,9 +224,9 @@ impl Player {
                 let actual = self.agent.state();
                 self.compares(actual, state)
             }
-            Shown::Rules(rules) => {
-                let actual = self.agent.rules();
-                self.compares(actual, rules)
+            Shown::Settings(settings) => {
+                let actual = self.agent.settings();
+                self.compares(actual, settings)
             }
             Shown::IceTimeout(ms) => {
                 let actual = self.agent.ice_timeout();

@@ -8,8 +8,7 @@ use super::step::Step::*;
 use super::step::{Outcome, Setting, Shown, Whose};
 use super::story::{Story, play};
 use super::*;
-use is::stun::{Consent, EarlyRto};
-use is::{Duration, Rules};
+use is::{ConsentSetting, Duration, Profile, Settings};
 
 #[test]
 fn settings_are_kept(rt: HostRuntime) -> Result<(), Fail> {
@@ -19,45 +18,30 @@ fn settings_are_kept(rt: HostRuntime) -> Result<(), Fail> {
 /// A tie-breaker that the agent sends in the controlling role.
 const TIE: u64 = 0x0102_0304_0506_0708;
 
-/// The original's behavior, with which an agent begins.
-pub(super) const ORIGINAL: Rules = Rules {
-    kinds_in_turn: false,
-    triggered_checks: None,
-    early_rto: None,
-    selects_at_once: false,
-    consent: None,
-    selected_first: false,
-    timeout_after_requests: false,
-    lite_keeps_role: false,
-    numbered_nominations: false,
-    discovered_if_served: false,
-    state_after_nomination: false,
-    invalidates_listed: false,
-    early_pacing: None,
+/// What a new agent is set to: the numbers of the original, and of RFC 8445, sections 14.2 and 14.3.
+const ORIGINAL: Settings = Settings {
+    profile: Profile::Original,
+    timing_advance: Duration(50_000_000),
+    initial_rto: Duration(250_000_000),
+    max_rto: Duration(3_000_000_000),
+    max_retransmits: 9,
+    lite_timeout: Duration(15_000_000_000),
+    consent: ConsentSetting {
+        timeout: None,
+        strict: false,
+    },
+    max_pairs: 100,
+    max_discovered: None,
+    renomination: false,
 };
 
-/// What connects fastest, keeps consent, and has a next timeout after each call.
-pub(super) const MODERN: Rules = Rules {
-    kinds_in_turn: true,
-    triggered_checks: Some(1),
-    early_rto: Some(EarlyRto {
-        retransmits: 2,
-        interval: Duration(100_000_000),
-        cap: Duration(350_000_000),
-    }),
-    selects_at_once: true,
-    consent: Some(Consent {
-        timeout: Duration(29_600_000_000),
-        strict: false,
-    }),
-    selected_first: true,
-    timeout_after_requests: true,
-    lite_keeps_role: true,
-    numbered_nominations: true,
-    discovered_if_served: true,
-    state_after_nomination: true,
-    invalidates_listed: true,
-    early_pacing: Some(Duration(10_000_000)),
+/// What connects fastest, and keeps consent for 29.6 s: 2.9 s and a whole series, which takes 26.7 s.
+const MODERN: Settings = Settings {
+    profile: Profile::Modern,
+    max_rto: Duration(2_900_000_000),
+    max_retransmits: 11,
+    max_discovered: Some(32),
+    ..ORIGINAL
 };
 
 const STORIES: [Story; 5] = [
@@ -79,24 +63,24 @@ const STORIES: [Story; 5] = [
             Shows(Controlling(false)),
             Shows(Lite(false)),
             Shows(State(IceConnectionState::New)),
-            Shows(Shown::Rules(ORIGINAL)),
+            Shows(Shown::Settings(ORIGINAL)),
             Shows(IceTimeout(21500)),
             Shows(NoRemoteName),
             Shows(LocalName("aaaa")),
         ],
     ),
     Story(
-        "rules_stay_until_they_are_set",
+        "settings_stay_until_they_are_set",
         &[
             Begin(Paired),
-            Set(Setting::Rules(MODERN)),
-            Shows(Shown::Rules(MODERN)),
+            Set(Setting::All(MODERN)),
+            Shows(Shown::Settings(MODERN)),
             // neither a check nor an ICE restart changes them
             Does(Check(0)),
             Does(Creds(Whose::Restarted, "next", "nextpass")),
-            Shows(Shown::Rules(MODERN)),
-            Set(Setting::Rules(ORIGINAL)),
-            Shows(Shown::Rules(ORIGINAL)),
+            Shows(Shown::Settings(MODERN)),
+            Set(Setting::All(ORIGINAL)),
+            Shows(Shown::Settings(ORIGINAL)),
         ],
     ),
     Story(
@@ -124,9 +108,9 @@ const STORIES: [Story; 5] = [
 ];
 
 #[test]
-fn rules_have_two_named_values(rt: HostRuntime) {
-    assert_eq!(rt; Rules::original(), ORIGINAL);
-    assert_eq!(rt; Rules::modern(), MODERN);
+fn settings_have_two_named_values(rt: HostRuntime) {
+    assert_eq!(rt; Settings::original(), ORIGINAL);
+    assert_eq!(rt; Settings::modern(), MODERN);
 }
 
 // ---- states

@@ -1,7 +1,6 @@
 //! The rule `state_after_nomination`: the agent is Connected or Completed if and only if the path of the last `NominatedSend` is that
 //! of a pair that can be used.
 
-use super::settings::ORIGINAL;
 use super::step::Call::*;
 use super::step::Emitted::*;
 use super::step::Packet::*;
@@ -11,7 +10,7 @@ use super::step::Step::*;
 use super::step::{At, Message, Setting, Step, Whose};
 use super::story::{Story, play};
 use super::*;
-use is::Rules;
+use is::Profile;
 
 #[test]
 fn the_state_follows_nomination(rt: HostRuntime) -> Result<(), Fail> {
@@ -26,18 +25,6 @@ const SECOND: At = At(3, 2000);
 
 /// A candidate of the peer at 10.0.0.3:2000, of lower priority than the first one.
 const OTHER: &str = "candidate:1 1 udp 2130706174 10.0.0.3 2000 typ host";
-
-/// The state is evaluated after nomination.
-const AFTER: Rules = Rules {
-    state_after_nomination: true,
-    ..ORIGINAL
-};
-
-/// And a request may select a pair.
-const AFTER_AT_ONCE: Rules = Rules {
-    selects_at_once: true,
-    ..AFTER
-};
 
 // ---- handle_timeout
 
@@ -54,15 +41,30 @@ const LOST: [Step; 9] = [
     Does(Invalidate(PEER)),
 ];
 
+/// The same with the profile `Modern`, which nominates the better path before it checks the other one.
+const LOST_MODERN: [Step; 11] = [
+    Does(Peer(PEER)),
+    Does(Peer(OTHER)),
+    Does(CheckTo(0, THERE, false)),
+    Takes(Answer(10, THERE)),
+    Emits(Events("RcNkD")),
+    Does(CheckTo(50, THERE, true)),
+    Takes(Answer(60, THERE)),
+    Does(CheckTo(100, SECOND, false)),
+    Takes(Answer(110, SECOND)),
+    Emits(Events("D")),
+    Does(Invalidate(PEER)),
+];
+
 const TIMEOUTS: [Story; 7] = [
     Story(
-        "without_the_rule",
-        &[Begin(Unpaired), Set(Setting::Rules(ORIGINAL))],
+        "with_the_original",
+        &[Begin(Unpaired), Set(Setting::Profile(Profile::Original))],
     ),
     Story("both_paths_are_valid", &LOST),
     // a state is emitted before the path, and stays
     Story(
-        "without_the_rule_a_call_that_selects_is_checking",
+        "with_the_original_a_call_that_selects_is_checking",
         &[
             Does(Timeout(100)),
             Emits(Events("cN")),
@@ -70,24 +72,24 @@ const TIMEOUTS: [Story; 7] = [
         ],
     ),
     Story(
-        "by_the_rule",
-        &[Begin(Unpaired), Set(Setting::Rules(AFTER))],
+        "with_modern",
+        &[Begin(Unpaired), Set(Setting::Profile(Profile::Modern))],
     ),
-    Story("both_paths_are_valid_again", &LOST),
+    Story("both_paths_are_valid_again", &LOST_MODERN),
     Story(
-        "by_the_rule_a_call_that_selects_is_completed",
+        "with_modern_a_call_that_selects_is_completed",
         &[
-            Does(Timeout(100)),
+            Does(Timeout(150)),
             Emits(Events("NC")),
             Shows(State(IceConnectionState::Completed)),
         ],
     ),
-    // the first call emits the start and Checking, as without the rule
+    // the first call emits the start and Checking, as with the original
     Story(
         "the_first_call_is_checking",
         &[
             Begin(Paired),
-            Set(Setting::Rules(AFTER)),
+            Set(Setting::Profile(Profile::Modern)),
             Does(Check(0)),
             Emits(Events("Rc")),
             Takes(Answer(10, THERE)),
@@ -111,12 +113,12 @@ const VALID: [Step; 6] = [
     Emits(Events("RcD")),
 ];
 
-const REQUESTS: [Story; 6] = [
+const REQUESTS: [Story; 3] = [
     Story(
         "a_controlled_agent",
         &[
             Begin(New("near", "nearpass", 7)),
-            Set(Setting::Rules(AFTER_AT_ONCE)),
+            Set(Setting::Profile(Profile::Modern)),
         ],
     ),
     Story("whose_path_is_valid", &VALID),
@@ -130,25 +132,6 @@ const REQUESTS: [Story; 6] = [
             // another one changes nothing
             Takes(Served(30, THERE)),
             Emits(Events("")),
-        ],
-    ),
-    Story(
-        "another_one_that_selects_only_in_timeouts",
-        &[
-            Begin(New("near", "nearpass", 7)),
-            Set(Setting::Rules(AFTER)),
-        ],
-    ),
-    Story("whose_path_is_valid_too", &VALID),
-    Story(
-        "is_completed_at_the_next_timeout",
-        &[
-            Write(Message::Request(true, true), "nearpass"),
-            Takes(Served(20, THERE)),
-            Emits(Events("")),
-            Shows(State(IceConnectionState::Checking)),
-            Does(Timeout(50)),
-            Emits(Events("NC")),
         ],
     ),
 ];
@@ -167,10 +150,24 @@ const BOTH: [Step; 8] = [
     Shows(State(IceConnectionState::Connected)),
 ];
 
+/// The same with the profile `Modern`.
+const BOTH_MODERN: [Step; 10] = [
+    Does(Peer(PEER)),
+    Does(Peer(OTHER)),
+    Does(CheckTo(0, THERE, false)),
+    Takes(Answer(10, THERE)),
+    Does(CheckTo(50, THERE, true)),
+    Takes(Answer(60, THERE)),
+    Does(CheckTo(100, SECOND, false)),
+    Takes(Answer(110, SECOND)),
+    Emits(Events("RcNkDD")),
+    Shows(State(IceConnectionState::Connected)),
+];
+
 const CANDIDATES: [Story; 12] = [
     Story(
-        "without_the_rule",
-        &[Begin(Unpaired), Set(Setting::Rules(ORIGINAL))],
+        "with_the_original",
+        &[Begin(Unpaired), Set(Setting::Profile(Profile::Original))],
     ),
     Story("two_paths_are_valid", &BOTH),
     Story(
@@ -182,10 +179,10 @@ const CANDIDATES: [Story; 12] = [
         ],
     ),
     Story(
-        "by_the_rule",
-        &[Begin(Unpaired), Set(Setting::Rules(AFTER))],
+        "with_modern",
+        &[Begin(Unpaired), Set(Setting::Profile(Profile::Modern))],
     ),
-    Story("two_paths_are_valid_again", &BOTH),
+    Story("two_paths_are_valid_again", &BOTH_MODERN),
     Story(
         "the_other_path_is_selected_when_one_is_invalidated",
         &[
@@ -202,8 +199,8 @@ const CANDIDATES: [Story; 12] = [
         ],
     ),
     Story(
-        "by_the_rule_a_better_candidate",
-        &[Begin(Paired), Set(Setting::Rules(AFTER))],
+        "with_modern_a_better_candidate",
+        &[Begin(Paired), Set(Setting::Profile(Profile::Modern))],
     ),
     Story(
         "of_the_same_address_loses_the_path",
@@ -220,10 +217,10 @@ const CANDIDATES: [Story; 12] = [
         ],
     ),
     Story(
-        "by_the_rule_at_the_limit_of_pairs",
+        "with_modern_at_the_limit_of_pairs",
         &[
             Begin(Unpaired),
-            Set(Setting::Rules(AFTER)),
+            Set(Setting::Profile(Profile::Modern)),
             Set(Setting::MaxPairs(1)),
         ],
     ),
@@ -242,8 +239,8 @@ const CANDIDATES: [Story; 12] = [
         ],
     ),
     Story(
-        "by_the_rule_a_call",
-        &[Begin(Paired), Set(Setting::Rules(AFTER))],
+        "with_modern_a_call",
+        &[Begin(Paired), Set(Setting::Profile(Profile::Modern))],
     ),
     Story(
         "before_the_first_timeout_changes_no_state",

@@ -2,8 +2,8 @@
 //! the functions of the driver see an agent: each of them is proved, while a table needs no proof.
 
 use super::*;
-use is::Rules;
 use is::pair::CheckState;
+use is::{Profile, Settings};
 use is_agent::removed::Removal;
 
 /// The address 10.0.0.HOST:PORT.
@@ -91,8 +91,12 @@ pub(super) enum Setting {
     TwoChecks,
     /// Each nomination replaces the ones before, or not.
     Renomination(bool),
-    /// What it does beyond the original's behavior.
-    Rules(Rules),
+    /// Which behavior it has.
+    Profile(Profile),
+    /// How long a response keeps a pair, in milliseconds, and whether consent is strict.
+    Consent(u64, bool),
+    /// All that a user may choose.
+    All(Settings),
     /// The number that resolves role conflicts.
     TieBreaker(u64),
     /// The random words are those of the published example of PCG.
@@ -304,7 +308,7 @@ pub(super) enum Shown {
     Controlling(bool),
     Lite(bool),
     Renomination(bool),
-    Rules(Rules),
+    Settings(Settings),
     State(IceConnectionState),
     Connected,
     Disconnected,

@@ -1,25 +1,18 @@
 //! Kinds of pairs take turns, and a host candidate with a public address counts as a server-reflexive one.
 
-use super::settings::ORIGINAL;
 use super::step::Call::*;
 use super::step::Setting;
 use super::step::Start::*;
 use super::step::Step::*;
 use super::story::{Story, play};
 use super::*;
-use is::Rules;
+use is::Profile;
 
 #[test]
 fn a_public_host_counts_as_reflexive(rt: HostRuntime) -> Result<(), Fail> {
     play(rt.alloc(), &LOCAL)?;
     play(rt.alloc(), &REMOTE)
 }
-
-/// Only kinds in turn: every second check is of the next kind.
-const KINDS: Rules = Rules {
-    kinds_in_turn: true,
-    ..ORIGINAL
-};
 
 /// The host candidate that the agent begins with. The pairs of those below have lower priorities than its pairs.
 const HOST: &str = "10.0.0.1:1000";
@@ -56,7 +49,7 @@ const LOCAL: [Story; 5] = [
         "pairs_of_a_public_base_come_before_the_others",
         &[
             Begin(Unpaired),
-            Set(Setting::Rules(KINDS)),
+            Set(Setting::Profile(Profile::Modern)),
             Does(Own(PUBLIC)),
             Does(Peers(3)),
             Does(CheckOn(0, HOST, FIRST)),
@@ -71,7 +64,7 @@ const LOCAL: [Story; 5] = [
         "without_turns_they_come_last",
         &[
             Begin(Unpaired),
-            Set(Setting::Rules(ORIGINAL)),
+            Set(Setting::Profile(Profile::Original)),
             Does(Own(PUBLIC)),
             Does(Peers(3)),
             Does(CheckOn(0, HOST, FIRST)),
@@ -85,7 +78,7 @@ const LOCAL: [Story; 5] = [
         "of_private_bases_none_comes_first",
         &[
             Begin(Unpaired),
-            Set(Setting::Rules(KINDS)),
+            Set(Setting::Profile(Profile::Modern)),
             Does(Own(PRIVATE)),
             Does(Peers(3)),
             Does(CheckOn(0, HOST, FIRST)),
@@ -99,19 +92,19 @@ const LOCAL: [Story; 5] = [
         "a_relayed_candidate_comes_with_the_public_base",
         &[
             Begin(Unpaired),
-            Set(Setting::Rules(KINDS)),
+            Set(Setting::Profile(Profile::Modern)),
             Does(Own(PUBLIC)),
             Does(Own(RELAYED)),
             Does(Peers(2)),
             Does(CheckOn(0, HOST, FIRST)),
-            Does(CheckOn(50, OUTER, FIRST)),
-            Does(CheckOn(100, HOST, SECOND)),
+            Does(CheckOn(10, OUTER, FIRST)),
+            Does(CheckOn(20, HOST, SECOND)),
             // no pair of kind 15 is due
-            Does(CheckOn(150, OUTER, SECOND)),
-            Does(CheckOn(200, RELAY, FIRST)),
+            Does(CheckOn(30, OUTER, SECOND)),
+            Does(CheckOn(40, RELAY, FIRST)),
             // kind 15, though a pair of kind 7 is due before it
-            Does(CheckOn(250, HOST, FIRST)),
-            Does(CheckOn(300, RELAY, SECOND)),
+            Does(CheckOn(110, HOST, FIRST)),
+            Does(CheckOn(120, RELAY, SECOND)),
         ],
     ),
     // without it all pairs are of kind 7
@@ -119,7 +112,7 @@ const LOCAL: [Story; 5] = [
         "a_discarded_public_host_does_not_count",
         &[
             Begin(Unpaired),
-            Set(Setting::Rules(KINDS)),
+            Set(Setting::Profile(Profile::Modern)),
             Does(Own(PUBLIC)),
             Does(Own(RELAYED)),
             Does(Invalidate(PUBLIC)),
@@ -150,7 +143,7 @@ const REMOTE: [Story; 2] = [
         "a_public_host_has_the_turn_of_reflexive_candidates",
         &[
             Begin(Unpaired),
-            Set(Setting::Rules(KINDS)),
+            Set(Setting::Profile(Profile::Modern)),
             Does(Peers(4)),
             Does(Peer(PUBLIC_PEER)),
             Does(Peer(REFLEXIVE_PEER)),
@@ -166,7 +159,7 @@ const REMOTE: [Story; 2] = [
         "without_turns_it_comes_after_the_private_ones",
         &[
             Begin(Unpaired),
-            Set(Setting::Rules(ORIGINAL)),
+            Set(Setting::Profile(Profile::Original)),
             Does(Peers(3)),
             Does(Peer(PUBLIC_PEER)),
             Does(CheckOn(0, HOST, FIRST)),

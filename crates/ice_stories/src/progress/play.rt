@@ -239,7 +239,7 @@ impl Play {
                 self.paces = paces;
             }
             AgentCall::SetIceLite(lite) => note.makes_lite = *lite,
-            AgentCall::SetRules(rules) => note.sets_rule = rules.lite_keeps_role,
+            AgentCall::SetProfile(profile) => note.sets_rule = profile.is_modern(),
             _ => {}
         }
     }

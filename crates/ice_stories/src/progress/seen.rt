@@ -4,6 +4,7 @@ use is::pair::{CandidatePair, CheckState};
 use is::stun::StunTiming;
 use is::{
     CandidateKind, Consent, DefaultSha1HmacProvider, Duration, IceAgent, IceCreds, Instant, Path,
+    Settings,
 };
 
 pub type Agent = IceAgent<DefaultSha1HmacProvider>;
@@ -92,16 +93,14 @@ fn is_fixed(pair: &CandidatePair) -> Option<bool> {
         max_retransmits: 1,
         max_rto: Duration(0),
         lite_timeout: Duration(0),
-        early: None,
-        consent: None,
+        ..StunTiming::default()
     };
     let hour = StunTiming {
         initial_rto: Duration(3_600_000_000_000),
         max_retransmits: 1,
         max_rto: Duration(3_600_000_000_000),
         lite_timeout: Duration(3_600_000_000_000),
-        early: None,
-        consent: None,
+        ..StunTiming::default()
     };
     let (mut early, mut late) = (pair.try_clone().ok()?, pair.try_clone().ok()?);
     Some(early.next_binding_attempt(Instant(0), &at_once) == late.next_binding_attempt(LATE, &hour))
@@ -116,8 +115,7 @@ fn pair_seen(pair: &CandidatePair, now: Instant, limit: usize) -> Option<Awaited
         max_retransmits: limit,
         max_rto: Duration(3_000_000_000),
         lite_timeout: Duration(15_000_000_000),
-        early: None,
-        consent: None,
+        ..StunTiming::default()
     };
     let mut copy = pair.try_clone().ok()?;
     Some(Awaited {
@@ -127,6 +125,18 @@ fn pair_seen(pair: &CandidatePair, now: Instant, limit: usize) -> Option<Awaited
         young: pair.is_still_possible(LATE, &timing),
         expired: !pair.is_still_possible(now, &timing),
     })
+}
+
+/// The timing of an agent with these settings.
+fn timing_of(settings: Settings) -> StunTiming {
+    StunTiming {
+        initial_rto: settings.initial_rto,
+        max_retransmits: settings.max_retransmits,
+        max_rto: settings.max_rto,
+        lite_timeout: settings.lite_timeout,
+        profile: settings.profile,
+        consent: settings.consent,
+    }
 }
 
 /// What the agent's settings and credentials show.
@@ -143,13 +153,11 @@ pub fn settings(agent: &Agent, limit: usize) -> Seen {
         joined: 0,
         nominated: true,
         renominates: agent.renomination(),
-        numbered: agent.renomination() && agent.rules().numbered_nominations,
+        numbered: agent.renomination() && agent.profile().is_modern(),
         selected: false,
-        consent: agent.rules().consent,
+        consent: timing_of(agent.settings()).consent(),
         pace: Duration(0),
-        goes_ahead: agent.rules().kinds_in_turn
-            || agent.rules().triggered_checks.is_some()
-            || agent.rules().selected_first,
+        goes_ahead: agent.profile().is_modern(),
         awaited: None,
         due: 0,
         is_valid: false,

@@ -7,7 +7,7 @@ use Rattle.is_rules.specs.Agent.{AgentRecord}
 use Rattle.is_rules.specs.Emitted.{selected_only}
 use Rattle.is_rules.specs.declared.emitted.Emitted.{Emitted}
 use Rattle.is_rules.specs.declared.emitted.Path.{Path}
-use Rattle.is_rules.specs.Steps.{Call, Answer, Entry, quiet, Step, SetMtu, SetControlTieBreaker, SetMaxCandidatePairs, SetMaxDiscovered, SetIceLite, SetRenomination, SetRules, SetTimingAdvance, SetInitialStunRto, SetMaxStunRto, SetMaxStunRetransmits, SetLiteTimeout, SetLocalPreference, SetControlling, SetLocalCredentials, SetRemoteCredentials, SkipPairIds, AddLocalCandidate, AddRemoteCandidate, InvalidateCandidate, RestartIce, RecreateCandidatePairs, ReceivePacket, HandleTimeout, PollTransmit, PollTimeout, PollEvent}
+use Rattle.is_rules.specs.Steps.{Call, Answer, Entry, quiet, Step, SetMtu, SetControlTieBreaker, SetMaxCandidatePairs, SetMaxDiscovered, SetIceLite, SetRenomination, SetConsent, SetProfile, SetTimingAdvance, SetInitialStunRto, SetMaxStunRto, SetMaxStunRetransmits, SetLiteTimeout, SetLocalPreference, SetControlling, SetLocalCredentials, SetRemoteCredentials, SkipPairIds, AddLocalCandidate, AddRemoteCandidate, InvalidateCandidate, RestartIce, RecreateCandidatePairs, ReceivePacket, HandleTimeout, PollTransmit, PollTimeout, PollEvent}
 use Rattle.is_theorems.specs.Logs.{Logged}
 use Rattle.is_theorems.specs.Reporting.{QueuesTheorem}
 use Rattle.is.specs.Queues.{IssuesNone, OthersIssueNone, QueuesAreKept}
@@ -33,7 +33,8 @@ module _ {H P : Type 0} (mac : H → List ℕ → List ℕ → List ℕ) (answer
   issues_none old new s t (SetMaxDiscovered n) e h _ = silent e _ h.0
   issues_none old new s t (SetIceLite lite) e h _ = silent e _ h.0
   issues_none old new s t (SetRenomination on) e h _ = silent e _ h.0
-  issues_none old new s t (SetRules rules) e h _ = silent e _ h.0
+  issues_none old new s t (SetProfile profile) e h _ = silent e _ h.0
+  issues_none old new s t (SetConsent consent) e h _ = silent e _ h.0
   issues_none old new s t (SetTimingAdvance by) e h _ = silent e _ h.0
   issues_none old new s t (SetInitialStunRto rto) e h _ = silent e _ h.0
   issues_none old new s t (SetMaxStunRto rto) e h _ = silent e _ h.0

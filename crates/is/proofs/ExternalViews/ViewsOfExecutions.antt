@@ -15,6 +15,7 @@ use Rattle.is_stun.specs.declared.header.Class.TheVariants as class
 use Rattle.is_stun.specs.declared.trans_id.TransId.{TransId}
 use Rattle.is_stun.specs.Message.{Message}
 use Rattle.is_stun.specs.Reading.{fault_of, message_of}
+use Rattle.is_stun.specs.Timing.{is_modern}
 use Rattle.is_theorems.proofs.BasicLemmas.EqualAddresses.{both, same_address-sound}
 use Rattle.is_rules.specs.declared.emitted.Path.{Path}
 use Rattle.is_rules.specs.Steps as agent
@@ -206,7 +207,7 @@ module _ {H P : Type 0} where
 -- it is not lite, or does not have the rule
 abbrev pub Compares : {H P : Type 0} → Bool → AgentRecord H P → Type 0
 Compares true a = a.lite ≡ false
-Compares false a = a.rules.lite_keeps_role ≡ false
+Compares false a = is_modern a.timing ≡ false
 
 -- an event that leaves it so
 abbrev pub Leaves : {P : Type 0} → Bool → Side → Event P → Type 0
@@ -227,7 +228,7 @@ neither false = refl
 pub none_keeps : {H P : Type 0} (how : Side → Bool) (w : WorldRecord H P) → BothCompare how w → NoneKeeps w
 none_keeps how w compares side = by (how side) (compares side) where
   by : (b : Bool) → Compares b (world.at side w) → keeps_role (world.at side w) ≡ false
-  by true full = ap (λ l. l && (world.at side w).rules.lite_keeps_role) full
+  by true full = ap (λ l. l && is_modern (world.at side w).timing) full
   by false off = ap (λ r. (world.at side w).lite && r) off ∙ neither (world.at side w).lite
 
 called_full : {P : Type 0} (side : Side) (c : agent.Call P) → StaysFull side (world.Call side c) → lite_set_by c false ≡ false
@@ -235,7 +236,7 @@ called_full side (agent.SetIceLite lite) full = full refl
 called_full side c full = refl
 
 called_off : {P : Type 0} (side : Side) (c : agent.Call P) → LeavesRule side (world.Call side c) → keeping_set_by c false ≡ false
-called_off side (agent.SetRules rules) off = off refl
+called_off side (agent.SetProfile profile) off = off refl
 called_off side c off = refl
 
 module _ {H P : Type 0} where
@@ -248,12 +249,12 @@ module _ {H P : Type 0} where
 
   -- a call
   compares_called : (b : Bool) (side : Side) (c : agent.Call P) (old new : AgentRecord H P) → Leaves b side (world.Call side c) → new.lite ≡ lite_set_by c old.lite
-      → new.rules.lite_keeps_role ≡ keeping_set_by c old.rules.lite_keeps_role → Compares b old → Compares b new
+      → is_modern new.timing ≡ keeping_set_by c (is_modern old.timing) → Compares b old → Compares b new
   compares_called true side c old new leaves lite keeping full = lite ∙ (ap (λ l. lite_set_by c l) full ∙ called_full side c leaves)
   compares_called false side c old new leaves lite keeping off = keeping ∙ (ap (λ r. keeping_set_by c r) off ∙ called_off side c leaves)
 
   -- what sets neither
-  compares_still : (b : Bool) (old new : AgentRecord H P) → new.lite ≡ old.lite → new.rules.lite_keeps_role ≡ old.rules.lite_keeps_role → Compares b old → Compares b new
+  compares_still : (b : Bool) (old new : AgentRecord H P) → new.lite ≡ old.lite → is_modern new.timing ≡ is_modern old.timing → Compares b old → Compares b new
   compares_still true old new lite keeping full = lite ∙ full
   compares_still false old new lite keeping off = keeping ∙ off
 
@@ -527,7 +528,7 @@ module _ {H P : Type 0} where
       acted side c k is = subst (λ v. BothCompare how v) (sym (k.world ∙ sym (same_multiset side k.new w))) (compares_put how side k.new w w.network compares is)
 
       effect : (side : Side) (c : agent.Call P) → (k : TakesTurn mac answers w s side c x.outcome w' t)
-          → (k.new.lite ≡ lite_set_by c (world.at side w).lite) × (k.new.rules.lite_keeps_role ≡ keeping_set_by c (world.at side w).rules.lite_keeps_role)
+          → (k.new.lite ≡ lite_set_by c (world.at side w).lite) × (is_modern k.new.timing ≡ keeping_set_by c (is_modern (world.at side w).timing))
       effect side c k = let path = paths (world.at side w) k.new (world.source_of side s) k.left c x.outcome.entry (sound side) k.given k.step in (path.0.lite, path.0.keeping)
 
       delivered : (o : Option InFlightRecord) (now : ℕ) (via : Path) → Delivers mac answers w s o now via x.outcome w' t → BothCompare how w'
@@ -540,8 +541,8 @@ module _ {H P : Type 0} where
       polled : (side : Side) (k : Polls mac answers w s side x.outcome w' t) → BothCompare how w'
       polled side k = subst (λ v. BothCompare how v) (sym k.world) (compares_put how side k.new w k.network compares (elim k.polled [
         | inl (_, is, multiset_is) ↦ subst (λ a. Compares (how side) a) (sym is) (compares side)
-        | inr (inl (_, given, multiset_is)) ↦ compares_still (how side) (world.at side w) k.new (ap (λ (a : AgentRecord H P). a.lite) given.1) (ap (λ (a : AgentRecord H P). a.rules.lite_keeps_role) given.1) (compares side)
-        | inr (inr (p, given, _, multiset_is)) ↦ compares_still (how side) (world.at side w) k.new (ap (λ (a : AgentRecord H P). a.lite) given.1) (ap (λ (a : AgentRecord H P). a.rules.lite_keeps_role) given.1) (compares side)
+        | inr (inl (_, given, multiset_is)) ↦ compares_still (how side) (world.at side w) k.new (ap (λ (a : AgentRecord H P). a.lite) given.1) (ap (λ (a : AgentRecord H P). is_modern a.timing) given.1) (compares side)
+        | inr (inr (p, given, _, multiset_is)) ↦ compares_still (how side) (world.at side w) k.new (ap (λ (a : AgentRecord H P). a.lite) given.1) (ap (λ (a : AgentRecord H P). is_modern a.timing) given.1) (compares side)
       ]))
 
       by : (v : Event P) → ((side : Side) → Leaves (how side) side v) → Happens mac answers w s v x.outcome w' t → BothCompare how w'

@@ -8,6 +8,7 @@ use Rattle.is_stun.specs.declared.header.Class.{Class}
 use Rattle.is_stun.specs.declared.header.Class.TheVariants as class
 use Rattle.is_stun.specs.Message.{Message}
 use Rattle.is_stun.specs.Reading.{fault_of, message_of}
+use Rattle.is_stun.specs.Timing.{is_modern}
 use Rattle.is_rules.specs.declared.credentials.IceCreds.{IceCreds}
 use Rattle.is_rules.specs.declared.emitted.Issued.{Issued}
 use Rattle.is_rules.specs.declared.emitted.Path.{Path}
@@ -124,7 +125,7 @@ pub compares_first : {H P : Type 0} (first : WorldRecord H P) (greater : Side) (
 compares_first first greater log p side = by (how_of first greater log p side) (p.new side) where
   by : (b : Bool) → IsNewAgent (world.at side first) → Compares b (world.at side first)
   by true (creds, tie, role, is) = ap (λ a. a.lite) is
-  by false (creds, tie, role, is) = ap (λ a. a.rules.lite_keeps_role) is
+  by false (creds, tie, role, is) = ap (λ a. is_modern a.timing) is
 
 -- ---- roles
 

@@ -3,12 +3,11 @@ use Rattle.std.proofs.Common.{◌≡◌, ℕ, ◌+◌, ◌*◌, ◌≤◌, ◌&&
 use Rattle.std.specs.Prelude.{MatchBool, slice_get}
 use Rattle.std.proofs.lemmas.List.Sums.{sum_by-append, sum_by-cons}
 use Rattle.is_proto.specs.Packets.{Packet}
+use Rattle.is_stun.specs.Timing.{is_modern}
 use Rattle.is_candidate.specs.Candidates.{CandidateRecord}
 use Rattle.is_rules.specs.Agent.{AgentRecord}
-use Rattle.is_rules.specs.Checking.{goes_ahead}
 use Rattle.is_rules.specs.Nominating.{numbers}
 use Rattle.is_rules.specs.Owed.{one_if}
-use Rattle.is_rules.specs.declared.rules.Rules.{Rules}
 use Rattle.is_rules.specs.Steps as agent
 use Rattle.is_rules.specs.Steps.{Answer, Entry, Polled, Rejected, quiet}
 use Rattle.is_theorems.specs.FirstTimeouts.{Suffices}
@@ -27,8 +26,8 @@ use Rattle.is.proofs.TwoAgentEvents.OwnExecutions.{only_none}
 -- ---- as numbers
 
 -- more rounds than so many suffice
-checks-fewer : (rules : Rules) (n m k : ℕ) → n ≤ m → checks_for rules m ≤ k → checks_for rules n ≤ k
-checks-fewer rules n m k le = by (goes_ahead rules) where
+checks-fewer : (ahead : Bool) (n m k : ℕ) → n ≤ m → checks_for ahead m ≤ k → checks_for ahead n ≤ k
+checks-fewer ahead n m k le = by ahead where
   by : (b : Bool) → (if b then 2 * m else m) ≤ k → (if b then 2 * n else n) ≤ k
   by true h = omega (arith, le, h)
   by false h = omega (arith, le, h)
@@ -43,14 +42,14 @@ ahead-fewer a n m le = by (numbers a) where
 pub suffice-fewer : {H P : Type 0} (by now : ℕ) (first second last : AgentRecord H P) (later all_most all_more most more : ℕ) → all_most ≤ all_more → most ≤ more
     → Suffices by now first second last later all_more more → Suffices by now first second last later all_most most
 suffice-fewer by now first second last later all_most all_more most more all_le le (inl (late, enough)) =
-    let k : checks_for first.rules (2 * length first.pairs + last.next_number + all_most) ≤ later + 2 + checks_for first.rules first.next_number =
-    checks-fewer first.rules (2 * length first.pairs + last.next_number + all_most) (2 * length first.pairs + last.next_number + all_more) (later + 2 + checks_for first.rules first.next_number)
+    let k : checks_for (is_modern first.timing) (2 * length first.pairs + last.next_number + all_most) ≤ later + 2 + checks_for (is_modern first.timing) first.next_number =
+    checks-fewer (is_modern first.timing) (2 * length first.pairs + last.next_number + all_most) (2 * length first.pairs + last.next_number + all_more) (later + 2 + checks_for (is_modern first.timing) first.next_number)
     (omega (arith, all_le)) (omega (arith, enough)) in
     inl (omega (arith, late), omega (arith, k))
 suffice-fewer by now first second last later all_most all_more most more all_le le (inr (inl few)) = inr (inl (omega (arith, few)))
 suffice-fewer by now first second last later all_most all_more most more all_le le (inr (inr enough)) =
-    let k : checks_for second.rules (2 * length second.pairs + last.next_number + most) ≤ later + 1 + checks_for second.rules second.next_number =
-    checks-fewer second.rules (2 * length second.pairs + last.next_number + most) (2 * length second.pairs + last.next_number + more) (later + 1 + checks_for second.rules second.next_number)
+    let k : checks_for (is_modern second.timing) (2 * length second.pairs + last.next_number + most) ≤ later + 1 + checks_for (is_modern second.timing) second.next_number =
+    checks-fewer (is_modern second.timing) (2 * length second.pairs + last.next_number + most) (2 * length second.pairs + last.next_number + more) (later + 1 + checks_for (is_modern second.timing) second.next_number)
     (omega (arith, le)) (omega (arith, enough)) in
     inr (inr (omega (arith, k)))
 

@@ -1,10 +1,11 @@
 //! Pairs that were removed, and why.
 
-use super::rules::OFF;
+use super::agent_settings::ORIGINAL;
 use super::selected::is_at;
 use super::stun::{no_message, no_texts};
 use super::{REQUEST, address, host, no_packet};
 use crate::address::Address;
+use crate::agent_settings::is_ice_set_settings;
 use crate::candidates::{is_ice_add_local, is_ice_add_remote, is_ice_invalidate};
 use crate::codes;
 use crate::credentials::is_ice_set_remote_credentials;
@@ -12,7 +13,6 @@ use crate::making::{is_ice_agent_free, is_ice_agent_new};
 use crate::packets::{is_ice_handle_packet, is_ice_handle_timeout, is_ice_poll_transmit};
 use crate::paths::MediaPath;
 use crate::removed::{Removed, is_ice_removed_at, is_ice_removed_count};
-use crate::rules::is_ice_set_rules;
 use crate::session::is_ice_restart;
 use crate::settings::{
     is_ice_set_controlling, is_ice_set_lite, is_ice_set_max_pairs, is_ice_set_max_retransmits,
@@ -88,8 +88,8 @@ fn is_of(removed: &Removed, last: u8, reason: i32) -> bool {
         && removed.reason == reason
 }
 
-/// A controlling agent at 10.0.0.1:1000, of a peer BBBB with the password QQQQ; of two checks at most if `checks_twice`, and then without
-/// further rules. Whether it was made.
+/// A controlling agent at 10.0.0.1:1000, of a peer BBBB with the password QQQQ; by the original and with two checks at most if
+/// `checks_twice`. Whether it was made.
 fn begins(alloc: Global, slot: &mut Slot, checks_twice: bool) -> bool {
     let mut index = 9;
     let made = is_ice_agent_new(alloc, slot, b"AAAA", b"PPPP", 1);
@@ -97,17 +97,16 @@ fn begins(alloc: Global, slot: &mut Slot, checks_twice: bool) -> bool {
     let known = is_ice_set_remote_credentials(alloc, slot, b"BBBB", b"QQQQ");
     let added = is_ice_add_local(alloc, slot, &host(own()), &mut index);
     let mut set = codes::OK;
-    let mut limited = codes::OK;
     if checks_twice {
-        set = is_ice_set_rules(alloc, slot, &OFF);
-        limited = is_ice_set_max_retransmits(alloc, slot, 2);
+        let mut settings = ORIGINAL;
+        settings.max_retransmits = 2;
+        set = is_ice_set_settings(alloc, slot, &settings);
     }
     made == codes::OK
         && leads == codes::OK
         && known == codes::OK
         && added == codes::OK
         && set == codes::OK
-        && limited == codes::OK
 }
 
 /// Makes a timeout, and returns whether a check went to the peer.

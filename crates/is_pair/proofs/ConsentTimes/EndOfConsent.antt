@@ -5,6 +5,7 @@ use Rattle.std.proofs.lemmas.Bool.Decides.{nat_tests}
 use Rattle.is_proto.specs.Times.{MAX, SECOND, later}
 use Rattle.is_stun.specs.declared.timing.StunTiming.{StunTiming}
 use Rattle.is_stun.specs.declared.timing.Consent.{Consent}
+use Rattle.is_stun.specs.Timing.{consent_of}
 use Rattle.is_pair.specs.Pairs.{PairRecord, is_recent}
 use Rattle.is_pair.specs.Due.{due_time_of, is_heard, is_possible, has_consent, consent_end, call_time_with, call_time_of, stays}
 
@@ -62,16 +63,16 @@ and-right : (a b : Bool) → (a && b) ≡ true → b ≡ true
 and-right true b is = is
 and-right false b is = absurd (cc)
 
-pub stays-with-consent : (now : ℕ) (t : StunTiming) (p : PairRecord) → stays false now t p ≡ true → has_consent t.consent now p ≡ true
-stays-with-consent now t p is = and-left (has_consent t.consent now p) (is_possible now t p) is
+pub stays-with-consent : (now : ℕ) (t : StunTiming) (p : PairRecord) → stays false now t p ≡ true → has_consent (consent_of t) now p ≡ true
+stays-with-consent now t p is = and-left (has_consent (consent_of t) now p) (is_possible now t p) is
 
 pub stays-possible : (now : ℕ) (t : StunTiming) (p : PairRecord) → stays false now t p ≡ true → is_possible now t p ≡ true
-stays-possible now t p is = and-right (has_consent t.consent now p) (is_possible now t p) is
+stays-possible now t p is = and-right (has_consent (consent_of t) now p) (is_possible now t p) is
 
 -- ---- when it needs a call
 
 pub calls-when-due : (now : ℕ) (t : StunTiming) (p : PairRecord) → call_time_of now t p ≤ due_time_of now t p
-calls-when-due now t p = of t.consent where
+calls-when-due now t p = of (consent_of t) where
   of : (o : Option Consent) → call_time_with o now t p ≤ due_time_of now t p
   of None = omega arith
   of (Some c) = omega arith

@@ -1,5 +1,5 @@
 -- A pair that was checked is due after the time of the check, whenever its due time is computed from then on.
-use Rattle.std.proofs.Common.{◌≡◌, ℕ, zero, suc, ◌+◌, ◌-◌, ◌*◌, ◌/◌, ◌^◌, ◌==◌, ◌<◌, ◌≤◌, Bool, true, false, List, [], ◌∷◌, ◌++◌, length, drop, reverse, position, min, max, Option, Some, None, unwrap_or, if◌then◌else◌, refl, ap, sym, ◌∙◌, subst, arith}
+use Rattle.std.proofs.Common.{◌≡◌, ℕ, zero, suc, ◌+◌, ◌-◌, ◌*◌, ◌/◌, ◌^◌, ◌==◌, ◌<◌, ◌≤◌, ◌&&◌, Bool, true, false, List, [], ◌∷◌, ◌++◌, length, drop, reverse, position, min, max, Option, Some, None, unwrap_or, if◌then◌else◌, refl, ap, sym, ◌∙◌, subst, arith}
 use Rattle.std.specs.Prelude.{slice_get}
 use Rattle.std.specs.Option.{option_map_or}
 use Rattle.std.proofs.Math.Nat.{one-le-pow, one-le-mul}
@@ -10,14 +10,13 @@ use Rattle.std.proofs.lemmas.List.Quantifiers.{position-Some}
 use Rattle.std.proofs.lemmas.Option.{slice_get-get_or}
 use Rattle.is_proto.specs.Times.{MAX, MILLISECOND, later}
 use Rattle.is_stun.specs.declared.timing.StunTiming.{StunTiming}
-use Rattle.is_stun.specs.declared.timing.EarlyRto.{EarlyRto}
-use Rattle.is_stun.specs.Timing.{delay_millis, resend_delay, early_delay}
+use Rattle.is_stun.specs.Timing.{delay_millis, resend_delay, early_delay, is_modern, EARLY_INTERVAL, EARLY_RETRANSMITS}
 use Rattle.is_pair.specs.declared.pair.states.NominationState.{NominationState}
 use Rattle.is_pair.specs.declared.pair.states.NominationState.TheVariants.{None as Unnominated, Nominated, Attempt, Success}
 use Rattle.is_pair.specs.States.{nomination_once_sent}
 use Rattle.is_pair.specs.Checks.{Check, is_answered, last_checks, last_check, unanswered_count}
 use Rattle.is_pair.specs.Pairs.{PairRecord, check_of, checked}
-use Rattle.is_pair.specs.Due.{is_silent, delaying_count, usual_delay, is_repeated_early, silent_count, delay_with, next_due_time, computed_due_time}
+use Rattle.is_pair.specs.Due.{is_silent, delaying_count, usual_delay, is_repeated_early, silent_count, delay_of, next_due_time, computed_due_time}
 use Rattle.is_pair.specs.Turns.{IsPaced, CheckedIsLater}
 
 -- ---- the delay
@@ -95,26 +94,19 @@ delaying : (now : ℕ) (t : StunTiming) (checks : List Check) → 0 < unanswered
 delaying now t checks open_still some = by-silence (is_silent now t checks) (unanswered_count checks) (length checks) open_still some
 
 -- the delay after it, early or not
-early-positive : (e : EarlyRto) (n : ℕ) → 0 < early_delay e n
-early-positive e n =
-    let some : 1 ≤ max MILLISECOND e.interval.0 = omega arith in
-    least _ _ (product _ _ some (one-le-pow (n - e.retransmits) 2 (omega arith))) some where
-      least : (x y : ℕ) → 1 ≤ x → 1 ≤ y → 0 < min x (max y e.cap.0)
-      least x y h k = omega (arith, h, k)
+early-positive : (n : ℕ) → 0 < early_delay n
+early-positive n = least _ _ (product EARLY_INTERVAL _ (omega arith) (one-le-pow (n - EARLY_RETRANSMITS) 2 (omega arith))) (omega arith) where
+  least : (x y : ℕ) → 1 ≤ x → 1 ≤ y → 0 < min x y
+  least x y h k = omega (arith, h, k)
 
-wait-positive : (at : ℕ) (t : StunTiming) (o : Option EarlyRto) (q : PairRecord) → IsPaced t → 0 < unanswered_count q.checks → 0 < length q.checks
-    → 0 < delay_with o at t q
-wait-positive at t o q paced open_still some = with_early o where
+wait-positive : (at : ℕ) (t : StunTiming) (q : PairRecord) → IsPaced t → 0 < unanswered_count q.checks → 0 < length q.checks → 0 < delay_of at t q
+wait-positive at t q paced open_still some = either (is_modern t && is_repeated_early at t q) where
   usual : 0 < usual_delay at t q.checks
   usual = delay-positive t (delaying_count at t q.checks) paced (delaying at t q.checks open_still some)
 
-  either : (e : EarlyRto) (b : Bool) → 0 < (if b then early_delay e (silent_count q) else usual_delay at t q.checks)
-  either e true = early-positive e (silent_count q)
-  either e false = usual
-
-  with_early : (o : Option EarlyRto) → 0 < delay_with o at t q
-  with_early None = usual
-  with_early (Some e) = either e (is_repeated_early at t q)
+  either : (b : Bool) → 0 < (if b then early_delay (silent_count q) else usual_delay at t q.checks)
+  either true = early-positive (silent_count q)
+  either false = usual
 
 -- so the next one is later
 next-later : (now at : ℕ) (t : StunTiming) (q : PairRecord) (c : Check) (front : List Check) → IsPaced t → now < MAX → c.sent ≡ now → is_answered c ≡ false → q.checks ≡ front ++ c ∷ []
@@ -122,10 +114,10 @@ next-later : (now at : ℕ) (t : StunTiming) (q : PairRecord) (c : Check) (front
 next-later now at t q c front paced early sent open_still is =
     let long : length q.checks ≡ length front + 1 = ap length is ∙ length-last front c in
     let counts : 0 < unanswered_count q.checks = subst (λ (xs : List Check). 0 < unanswered_count xs) (sym is) (unanswered front c open_still) in
-    let some : 0 < delay_with t.early at t q = wait-positive at t t.early q paced counts (omega (arith, long)) in
-    let here : next_due_time at t q ≡ later c.sent (delay_with t.early at t q) =
-    ap (λ (o : Option Check). option_map_or (λ (d : Check). later d.sent (delay_with t.early at t q)) o at) (ap last_check is ∙ last-is front c) in
-    subst (λ n. now < n) (sym here) (following c.sent (delay_with t.early at t q) sent some) where
+    let some : 0 < delay_of at t q = wait-positive at t q paced counts (omega (arith, long)) in
+    let here : next_due_time at t q ≡ later c.sent (delay_of at t q) =
+    ap (λ (o : Option Check). option_map_or (λ (d : Check). later d.sent (delay_of at t q)) o at) (ap last_check is ∙ last-is front c) in
+    subst (λ n. now < n) (sym here) (following c.sent (delay_of at t q) sent some) where
       following : (from by : ℕ) → from ≡ now → 0 < by → now < later from by
       following from by same some = omega (arith, same, some, early)
 

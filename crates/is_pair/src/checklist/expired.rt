@@ -1,11 +1,12 @@
 //! The pairs that are removed because they failed.
 
-ghost use Rattle.std.specs.Prelude.{◌<◌};
+ghost use Rattle.std.specs.Prelude.{◌<◌, ◌≡◌};
+ghost use Rattle.is_stun.specs.Timing.{consent_of};
 
 use super::{PairRemoval, PairTest, Removal};
 use crate::pair::{CandidatePair, CheckState};
 use is_proto::Instant;
-use is_stun::stun::StunTiming;
+use is_stun::stun::{Consent, StunTiming};
 
 /// A test for failed pairs: those whose consent expired (RFC 7675), and, on an ICE-lite agent, which sends no checks,
 /// those on which the peer's checks stopped.
@@ -15,7 +16,10 @@ pub struct Expired<'a> {
     pub lite: bool,
     pub now: Instant,
     pub timing: &'a StunTiming,
+    /// How long a response keeps a pair, by the timing: computed once for all pairs.
+    pub consent: Option<Consent>,
     ghost is_checked: { 0 < timing.now.max_retransmits },
+    ghost is_of_timing: { consent ≡ consent_of timing.now },
 }
 
 impl PairTest for Expired<'_> {
@@ -24,7 +28,7 @@ impl PairTest for Expired<'_> {
     ghost passes = { λ t p. is_pair_expired t.lite t.now.0 t.timing.now p };
 
     fn passes(&self, pair: &CandidatePair) -> bool {
-        !pair.stays(self.lite, self.now, self.timing)
+        !pair.stays(self.lite, self.now, self.timing, self.consent)
     }
 }
 

@@ -160,9 +160,10 @@ pub(super) fn first<'a, T: PairTest>(
 pub(super) fn earliest_call(pairs: &[CandidatePair], now: Instant, timing: &StunTiming) -> Instant
     ensures { result.0 ≡ fold min MAX (map (call_time_of now.0 timing.now) pairs.now) }
 {
+    let consent = timing.consent();
     let mut first = Instant(u64::MAX);
     for pair in pairs {
-        first = first.min(pair.call_time_of(now, timing));
+        first = first.min(pair.call_time_of(now, timing, consent));
     }
     first
 }

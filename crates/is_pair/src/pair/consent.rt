@@ -2,6 +2,7 @@
 
 ghost use Rattle.std.specs.Prelude.{◌≡◌, ◌<◌, option_map};
 ghost use Rattle.std.specs.Option.{option_map_or};
+ghost use Rattle.is_stun.specs.Timing.{consent_of};
 ghost use Rattle.is_pair.specs.Pairs.{last_of};
 ghost use Rattle.is_pair.specs.Due.{consent_end, has_consent, heard_until, is_answered_lately, stays, call_time_of};
 
@@ -33,10 +34,10 @@ impl CandidatePair {
     }
 
     /// Whether consent to send on the path has not ended.
-    fn has_consent(&self, now: Instant, timing: &StunTiming) -> bool
-        ensures { result ≡ has_consent timing.now.consent now.0 self.now }
+    fn has_consent(&self, now: Instant, consent: Option<Consent>) -> bool
+        ensures { result ≡ has_consent consent now.0 self.now }
     {
-        match timing.consent {
+        match consent {
             None => true,
             Some(consent) => {
                 self.is_answered_lately(consent, now) || (!consent.strict && self.is_heard(now))
@@ -46,14 +47,21 @@ impl CandidatePair {
 
     /// Whether the pair is kept: the path may still work, and consent has not ended. On an ICE-lite agent, the peer's checks have not
     /// stopped.
-    pub(crate) fn stays(&self, lite: bool, now: Instant, timing: &StunTiming) -> bool
-        requires { 0 < timing.now.max_retransmits }
+    pub(crate) fn stays(
+        &self,
+        lite: bool,
+        now: Instant,
+        timing: &StunTiming,
+        consent: Option<Consent>,
+    ) -> bool
+        requires retransmits { 0 < timing.now.max_retransmits }
+        requires consent { consent ≡ consent_of timing.now }
         ensures { result ≡ stays lite now.0 timing.now self.now }
     {
         if lite {
             self.is_ice_lite_alive(now, timing)
         } else {
-            self.has_consent(now, timing) && self.is_still_possible(now, timing)
+            self.has_consent(now, consent) && self.is_still_possible(now, timing)
         }
     }
 
@@ -79,11 +87,17 @@ impl CandidatePair {
 
     /// Returns when the pair needs a `handle_timeout` call: when it is due, or when consent ends.
     #[inline(always)]
-    pub(crate) fn call_time_of(&self, now: Instant, timing: &StunTiming) -> Instant
+    pub(crate) fn call_time_of(
+        &self,
+        now: Instant,
+        timing: &StunTiming,
+        consent: Option<Consent>,
+    ) -> Instant
+        requires { consent ≡ consent_of timing.now }
         ensures { result.0 ≡ call_time_of now.0 timing.now self.now }
     {
         let due = self.due_time_of(now, timing);
-        match timing.consent {
+        match consent {
             None => due,
             Some(consent) => due.min(self.consent_end(consent)),
         }

@@ -4,14 +4,14 @@ ghost use Rattle.std.specs.Prelude.{◌≡◌, ◌<◌, is_some, min};
 ghost use Rattle.is_proto.specs.Times.{later};
 ghost use Rattle.is_pair.specs.Pairs.{is_valid, undue};
 ghost use Rattle.is_pair.specs.Due.{asked, delaying_count, due_time_of, is_heard, is_in_time, is_possible, long_before, next_due_time, computed_due_time};
-ghost use Rattle.is_pair.specs.Due.{delay_with, has_early_checks, is_early_silence, is_open, is_repeated_early, is_triggered, is_urgent, is_young, moved_up, silent_count, triggered, usual_delay};
+ghost use Rattle.is_pair.specs.Due.{delay_of, has_early_checks, is_early_silence, is_open, is_repeated_early, is_triggered, is_urgent, is_within_series, is_young, moved_up, silent_count, triggered, usual_delay};
 
 use super::attempt::BindingAttempt;
 use super::requests::is_recent;
 use super::states::{CheckState, NominationState};
 use super::{CandidatePair, attempts};
 use is_proto::{Duration, Instant};
-use is_stun::stun::StunTiming;
+use is_stun::stun::{StunTiming, early_delay};
 use std::collections::VecDeque;
 
 /// How long before now a nominated pair without a check since its nomination is due, so that it comes before all
@@ -24,8 +24,8 @@ impl CandidatePair {
     /// A nominated pair without a check since its nomination is due before all others. A pair that was never checked is
     /// due now. Otherwise the check is due one RTO after the last one. The RTO depends on the number of pending
     /// transactions, or, if the peer has been silent for longer than half of `max_rto`, on the number of checks without a
-    /// response. With `early`, checks are due sooner while there is no response: after its interval at first, later after
-    /// at most its cap. The due time is at most `max_rto` from now.
+    /// response. With `Modern`, checks are due sooner while there is no response: after 100 ms at first, later after at
+    /// most 350 ms. The due time is at most `max_rto` from now.
     pub fn next_binding_attempt(&mut self, now: Instant, timing_config: &StunTiming) -> Instant
         requires { 0 < timing_config.now.max_retransmits }
         ensures time { result.0 ≡ due_time_of now.0 timing_config.now self.old }
@@ -68,7 +68,7 @@ impl CandidatePair {
     }
 
     /// Whether the path may still work. It fails if no check from the peer arrived for 15 s, `max_retransmits` checks
-    /// had no response, and the delay after the last of them has passed. With `early` the time of a whole series of checks has to pass
+    /// had no response, and the delay after the last of them has passed. With `Modern` the time of a whole series of checks has to pass
     /// besides: since the first check if there was no response at all, otherwise since the first one without.
     pub fn is_still_possible(&self, now: Instant, timing_config: &StunTiming) -> bool
         requires { 0 < timing_config.now.max_retransmits }
@@ -89,12 +89,20 @@ impl CandidatePair {
 
     /// Whether the path may still work because checks are repeated early: then time counts, and not their number.
     fn has_early_checks(&self, now: Instant, timing: &StunTiming) -> bool
-        ensures { result ≡ has_early_checks timing.now.early now.0 timing.now self.now }
+        ensures { result ≡ has_early_checks now.0 timing.now self.now }
     {
-        match timing.early {
-            None => false,
-            Some(_) if self.responses_received == 0 => self.is_young(now, timing),
-            Some(_) => is_early_silence(&self.binding_attempts, now, timing),
+        timing.is_modern() && self.is_within_series(now, timing)
+    }
+
+    /// Whether less time has passed than a whole series of checks takes: since the first check if there was no response, otherwise since
+    /// the first one without.
+    fn is_within_series(&self, now: Instant, timing: &StunTiming) -> bool
+        ensures { result ≡ is_within_series now.0 timing.now self.now }
+    {
+        if self.responses_received == 0 {
+            self.is_young(now, timing)
+        } else {
+            is_early_silence(&self.binding_attempts, now, timing)
         }
     }
 
@@ -133,13 +141,12 @@ impl CandidatePair {
 
     /// Returns the delay after the last check.
     fn delay(&self, now: Instant, timing: &StunTiming) -> Duration
-        ensures { result.0 ≡ delay_with timing.now.early now.0 timing.now self.now }
+        ensures { result.0 ≡ delay_of now.0 timing.now self.now }
     {
-        match timing.early {
-            Some(early) if self.is_repeated_early(now, timing) => {
-                early.delay(self.silent_count())
-            }
-            _ => usual_delay(&self.binding_attempts, now, timing),
+        if timing.is_modern() && self.is_repeated_early(now, timing) {
+            early_delay(self.silent_count())
+        } else {
+            usual_delay(&self.binding_attempts, now, timing)
         }
     }
 
@@ -159,11 +166,11 @@ impl CandidatePair {
         self.state == CheckState::Succeeded
     }
 
-    /// Whether a request triggers a check: it is one of the first `most`, and the pair is not valid.
-    fn is_triggered(&self, most: u64) -> bool
-        ensures { result ≡ is_triggered most self.now }
+    /// Whether a request triggers a check: it is the first one, and the pair is not valid.
+    fn is_triggered(&self) -> bool
+        ensures { result ≡ is_triggered self.now }
     {
-        !self.is_valid() && self.remote_binding_requests < most
+        !self.is_valid() && self.remote_binding_requests == 0
     }
 
     /// The next check is due at this time, if its due time is fixed and later.
@@ -258,14 +265,13 @@ pub fn reset_next_binding_attempt(pair: &mut CandidatePair)
     pair.cached_next_attempt_time = None;
 }
 
-/// After a request on a pair that is not valid, if it is one of the first `most` on the pair: the next check is due at this time, unless it
-/// is due before, or no due time is fixed (triggered checks, RFC 8445, section 7.3.1.4).
-pub fn trigger(pair: &mut CandidatePair, most: Option<u64>, at: Instant)
-    ensures { pair.new ≡ triggered most at.0 pair.old }
+/// After the first request on a pair that is not valid, if `modern`: the next check is due at this time, unless it is due before, or no
+/// due time is fixed (triggered checks, RFC 8445, section 7.3.1.4).
+pub fn trigger(pair: &mut CandidatePair, modern: bool, at: Instant)
+    ensures { pair.new ≡ triggered modern at.0 pair.old }
 {
-    match most {
-        Some(most) if pair.is_triggered(most) => pair.move_up(at),
-        _ => {}
+    if modern && pair.is_triggered() {
+        pair.move_up(at);
     }
 }
 

@@ -169,11 +169,10 @@ nominated-places : (lite : Bool) (p : PairRecord) → ((nominated lite p).local 
 nominated-places true p = (refl, refl)
 nominated-places false p = (refl, refl)
 
-triggered-places : (most : Option ℕ) (at : ℕ) → KeepsPlaces (triggered most at)
-triggered-places None at = record { local = λ p. refl; remote = λ p. refl }
-triggered-places (Some most) at = record {
-  local = λ p. if-kept (λ (x : PairRecord). x.local) (is_triggered most p) (moved_up at p) p refl;
-  remote = λ p. if-kept (λ (x : PairRecord). x.remote) (is_triggered most p) (moved_up at p) p refl;
+triggered-places : (modern : Bool) (at : ℕ) → KeepsPlaces (triggered modern at)
+triggered-places modern at = record {
+  local = λ p. if-kept (λ (x : PairRecord). x.local) (modern && is_triggered p) (moved_up at p) p refl;
+  remote = λ p. if-kept (λ (x : PairRecord). x.remote) (modern && is_triggered p) (moved_up at p) p refl;
 }
 
 nominated-by-peer-places : (controlling lite : Bool) (q : RequestRecord) → KeepsPlaces (λ p. nominated_by_peer controlling lite q (validated_by_peer controlling lite (with_request q.time p)))
@@ -200,13 +199,13 @@ served-places controlling lite q =
     }
 
 -- what a request, which may trigger a check, leaves of a pair
-pub request-places : (controlling lite : Bool) (q : RequestRecord) (most : Option ℕ) (at : ℕ)
-    → KeepsPlaces (λ p. served controlling lite q (triggered most at p))
-request-places controlling lite q most at =
-    let first = triggered-places most at in
+pub request-places : (controlling lite : Bool) (q : RequestRecord) (modern : Bool) (at : ℕ)
+    → KeepsPlaces (λ p. served controlling lite q (triggered modern at p))
+request-places controlling lite q modern at =
+    let first = triggered-places modern at in
     let own = served-places controlling lite q in record {
-      local = λ p. own.local (triggered most at p) ∙ first.local p;
-      remote = λ p. own.remote (triggered most at p) ∙ first.remote p;
+      local = λ p. own.local (triggered modern at p) ∙ first.local p;
+      remote = λ p. own.remote (triggered modern at p) ∙ first.remote p;
     }
 
 -- the same of what a checklist finds its pairs by
@@ -218,9 +217,8 @@ nominated-keys : (lite : Bool) (p : PairRecord) → keys-of (nominated lite p) �
 nominated-keys true p = refl
 nominated-keys false p = refl
 
-triggered-keys : (most : Option ℕ) (at : ℕ) (p : PairRecord) → keys-of (triggered most at p) ≡ keys-of p
-triggered-keys None at p = refl
-triggered-keys (Some most) at p = if-kept keys-of (is_triggered most p) (moved_up at p) p refl
+triggered-keys : (modern : Bool) (at : ℕ) (p : PairRecord) → keys-of (triggered modern at p) ≡ keys-of p
+triggered-keys modern at p = if-kept keys-of (modern && is_triggered p) (moved_up at p) p refl
 
 numbered-keys : (controlling : Bool) (o : Option ℕ) (p : PairRecord) → keys-of (numbered_by_peer controlling o p) ≡ keys-of p
 numbered-keys controlling None p = refl
@@ -234,9 +232,9 @@ served-keys controlling lite q p =
     ∙ (if-kept keys-of (not controlling && q.use_candidate && not (is_nominated valid)) (nominated lite valid) valid (nominated-keys lite valid)
     ∙ if-kept keys-of (lite && not controlling) (validated (with_request q.time p)) (with_request q.time p) refl)
 
-pub request-keys : (controlling lite : Bool) (q : RequestRecord) (most : Option ℕ) (at : ℕ) → KeepsKeys (λ p. served controlling lite q (triggered most at p))
-request-keys controlling lite q most at = λ p.
-    let same = served-keys controlling lite q (triggered most at p) ∙ triggered-keys most at p in
+pub request-keys : (controlling lite : Bool) (q : RequestRecord) (modern : Bool) (at : ℕ) → KeepsKeys (λ p. served controlling lite q (triggered modern at p))
+request-keys controlling lite q modern at = λ p.
+    let same = served-keys controlling lite q (triggered modern at p) ∙ triggered-keys modern at p in
     (ap (λ (k : ℕ × ℕ × List Check). k.0) same, ap (λ (k : ℕ × ℕ × List Check). k.1) same, ap (λ (k : ℕ × ℕ × List Check). k.2) same)
 
 pub self-places : (controlling lite : Bool) → KeepsPlaces (nominated_by_self controlling lite)

@@ -1,8 +1,9 @@
--- By the rule `timeout_after_requests` there is a last time after each successful `handle_timeout` call.
+-- With the profile `Modern` there is a last time after each successful `handle_timeout` call.
 use Rattle.std.proofs.Common.{◌≡◌, ℕ, ◌&&◌, Bool, true, false, List, length, Option, Some, None, Ok, refl, ap, subst, ◌∙◌, arith}
 use Rattle.std.specs.Prelude.{MatchOption, is_some}
 use Rattle.std.specs.List.{list_any}
 use Rattle.rand_core.specs.Stream.{Stream}
+use Rattle.is_stun.specs.Timing.{is_modern}
 use Rattle.is_candidate.specs.Candidates.{candidate_at}
 use Rattle.is_pair.specs.Pairs.{PairRecord}
 use Rattle.is_pair.specs.Multiset.{is_valid_at}
@@ -56,9 +57,9 @@ module _ {H P : Type 0} where
       (λ _ k. ap (λ (a : AgentRecord H P). a.last_time) k.2 ∙ nominates (expired_gone now old) k.0 path k.1)
       (λ _ k. ap (λ (a : AgentRecord H P). a.last_time) k.1)
 
-  -- ---- by the rule, the time is noted before an early request is served
+  -- ---- with `Modern`, the time is noted before an early request is served
 
-  noted : (now : ℕ) (a : AgentRecord H P) → a.rules.timeout_after_requests ≡ true → is_some (at_request now a).last_time ≡ true
+  noted : (now : ℕ) (a : AgentRecord H P) → is_modern a.timing ≡ true → is_some (at_request now a).last_time ≡ true
   noted now a on = grind (arith, on)
 
   module _ (mac : H → List ℕ → List ℕ → List ℕ) where

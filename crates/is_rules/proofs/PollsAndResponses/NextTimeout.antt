@@ -60,21 +60,19 @@ not-idle : (lite : Bool) (pairs : List PairRecord) → lite ≡ false → is_emp
 not-idle true pairs full some = absurd (cc)
 not-idle false pairs full some = some
 
--- the pacing interval by the rule: no longer than that of the agent, and not zero unless that is
-early-paced : (early : Option Duration) (count advance : ℕ) → early_advance early count advance ≤ advance
-early-paced None count advance = omega arith
-early-paced (Some early) count advance = omega arith
+-- the pacing interval until the agent is settled: no longer than that of the agent, and not zero unless that is
+early-paced : (count advance : ℕ) → early_advance count advance ≤ advance
+early-paced count advance = omega arith
 
-early-some : (early : Option Duration) (count advance : ℕ) → 0 < advance → 0 < early_advance early count advance
-early-some None count advance some = omega (arith, some)
-early-some (Some early) count advance some = omega (arith, some)
+early-some : (count advance : ℕ) → 0 < advance → 0 < early_advance count advance
+early-some count advance some = omega (arith, some)
 
 module _ {H P : Type 0} where
   pub pacing-short : (a : AgentRecord H P) → pacing_of a ≤ a.timing_advance
-  pacing-short a = let short = early-paced a.rules.early_pacing (length a.pairs) a.timing_advance in grind (arith, short)
+  pacing-short a = let short = early-paced (length a.pairs) a.timing_advance in grind (arith, short)
 
   pacing-some : (a : AgentRecord H P) → 0 < a.timing_advance → 0 < pacing_of a
-  pacing-some a some = let early = early-some a.rules.early_pacing (length a.pairs) a.timing_advance some in grind (arith, early, some)
+  pacing-some a some = let early = early-some (length a.pairs) a.timing_advance some in grind (arith, early, some)
 
   pub timeouts-from : (old new : AgentRecord H P) (last deadline : ℕ) → old.last_time ≡ Some last → PollsTimeout old (Some deadline) new → NextTimeouts old last deadline new
   timeouts-from old new last deadline is h = subst (λ o. NextTimeoutFrom o old (Some deadline) new) is h

@@ -2,6 +2,7 @@
 use Rattle.std.proofs.Common.{◌≡◌, ℕ, ◌<◌, nat_lt, length, map, position, Option, Some, None, is_some, Ok, Err, refl}
 use Rattle.is_proto.specs.declared.error.IceError.{IceError}
 use Rattle.is_proto.specs.declared.error.IceError.TheVariants.{PriorityTooHigh}
+use Rattle.is_stun.specs.Timing.{is_modern}
 use Rattle.is_candidate.specs.Candidates.{CandidateRecord, IsBased, candidate_at}
 use Rattle.is_candidate.specs.Priorities.{candidate_priority}
 use Rattle.is_candidate.specs.Equality.{is_same_place, is_temporary}
@@ -78,7 +79,7 @@ module _ {H P : Type 0} {R : Type 0} (old new : AgentRecord H P) where
 
   -- while something waits
   pub by_waiting : (last w : ℕ) → WaitingTimeout old last w new → (new ≡ old → R) → (new ≡ record old { pairs = map (asked last old.timing) old.pairs } → R) → R
-  by_waiting last w h stays asks = either (is_some old.rules.triggered_checks) h.1 (λ _ made. asks made) (λ _ made. stays made)
+  by_waiting last w h stays asks = either (is_modern old.timing) h.1 (λ _ made. asks made) (λ _ made. stays made)
 
   -- after a `handle_timeout` call at time `last`
   pub by_deadline : (last w : ℕ) → NextTimeouts old last w new → (new ≡ old → R) → (new ≡ record old { pairs = map (asked last old.timing) old.pairs } → R) → R

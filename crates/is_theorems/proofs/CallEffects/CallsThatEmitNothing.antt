@@ -13,7 +13,7 @@ use Rattle.is_rules.specs.Emitted.{nothing_emitted, selected_only}
 use Rattle.is_rules.specs.Sound.{KeepsChecks}
 use Rattle.is_rules.specs.Agent.{AgentRecord}
 use Rattle.is_rules.specs.Forming.{Combination, FormsAll}
-use Rattle.is_rules.specs.Settings.{with_rules, SetsControlling, SetsMtu, with_rtos, with_retransmits, with_lite_timeout}
+use Rattle.is_rules.specs.Settings.{with_consent, with_profile, SetsControlling, SetsMtu, with_rtos, with_retransmits, with_lite_timeout}
 use Rattle.is_rules.specs.Credentials.{SetsLocal, SetsRemote}
 use Rattle.is_rules.specs.Discarding.{change_place, discarded, local_discarded, remote_discarded, local_to_discard, remote_to_discard, InvalidatesAt, Invalidates}
 use Rattle.is_rules.specs.Nominating.{with_selection, nominated_emitted}
@@ -21,7 +21,7 @@ use Rattle.is_rules.specs.Settling.{loses_selected, Reselects}
 use Rattle.is_rules.specs.Local.{enabled, enabled_again, appended, AddsLocal}
 use Rattle.is_rules.specs.Remote.{as_remote, with_remote, AddsRemote}
 use Rattle.is_rules.specs.Restarting.{with_ufrag, kept_local, restarted, emptied, Restarts, Recreates}
-use Rattle.is_rules.specs.Steps.{Call, SetMtu, SetControlTieBreaker, SetMaxCandidatePairs, SetMaxDiscovered, SetIceLite, SetRenomination, SetRules, SetTimingAdvance, SetInitialStunRto, SetMaxStunRto, SetMaxStunRetransmits, SetLiteTimeout, SetLocalPreference, SetControlling, SetLocalCredentials, SetRemoteCredentials, SkipPairIds, AddLocalCandidate, AddRemoteCandidate, InvalidateCandidate, RestartIce, RecreateCandidatePairs, ReceivePacket, HandleTimeout, PollTransmit, PollTimeout, PollEvent, Becomes, MayDo, MaySelect, Step}
+use Rattle.is_rules.specs.Steps.{Call, SetMtu, SetControlTieBreaker, SetMaxCandidatePairs, SetMaxDiscovered, SetIceLite, SetRenomination, SetConsent, SetProfile, SetTimingAdvance, SetInitialStunRto, SetMaxStunRto, SetMaxStunRetransmits, SetLiteTimeout, SetLocalPreference, SetControlling, SetLocalCredentials, SetRemoteCredentials, SkipPairIds, AddLocalCandidate, AddRemoteCandidate, InvalidateCandidate, RestartIce, RecreateCandidatePairs, ReceivePacket, HandleTimeout, PollTransmit, PollTimeout, PollEvent, Becomes, MayDo, MaySelect, Step}
 use Rattle.is_rules.specs.Sound.{GivesBased}
 use Rattle.is_theorems.proofs.CallEffects.FailedCallsAndNewAgents.{mtu_kept, controlling_kept, local_kept, remote_kept, restart_kept, recreation_kept, enrolment_kept, storing_kept, discard_kept}
 use Rattle.is_theorems.proofs.CallEffects.AddedCandidates.{by_adding_local, by_adding_remote, by_waking}
@@ -195,7 +195,8 @@ module _ {H P : Type 0} where
     silent (SetMaxDiscovered n) is other h = becomes (SetMaxDiscovered n) _ (local_alike (Unit {0}) old _ refl refl refl refl) h
     silent (SetIceLite lite) is other h = becomes (SetIceLite lite) _ (local_alike (Unit {0}) old _ refl refl refl refl) h
     silent (SetRenomination on) is other h = becomes (SetRenomination on) _ (local_alike (Unit {0}) old _ refl refl refl refl) h
-    silent (SetRules rules) is other h = becomes (SetRules rules) (with_rules rules old) (record { selected_paths = refl; last = refl; checks = λ k. k; based = λ _ b. b }) h
+    silent (SetProfile profile) is other h = becomes (SetProfile profile) (with_profile profile old) (record { selected_paths = refl; last = refl; checks = λ k. k; based = λ _ b. b }) h
+    silent (SetConsent consent) is other h = becomes (SetConsent consent) (with_consent consent old) (record { selected_paths = refl; last = refl; checks = λ k. k; based = λ _ b. b }) h
     silent (SetTimingAdvance step) is other h = becomes (SetTimingAdvance step) _ (local_alike (Unit {0}) old _ refl refl refl refl) h
     silent (SetInitialStunRto rto) is other h = becomes (SetInitialStunRto rto) (with_rtos rto old.timing.max_rto.0 old) (record { selected_paths = refl; last = refl; checks = λ k. k; based = λ _ b. b }) h
     silent (SetMaxStunRto rto) is other h = becomes (SetMaxStunRto rto) (with_rtos old.timing.initial_rto.0 rto old) (record { selected_paths = refl; last = refl; checks = λ k. k; based = λ _ b. b }) h

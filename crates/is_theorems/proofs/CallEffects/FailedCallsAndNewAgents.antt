@@ -14,7 +14,7 @@ use Rattle.is_rules.specs.Settings.{SetsControlling, SetsMtu, with_retransmits}
 use Rattle.is_rules.specs.Credentials.{SetsLocal, SetsRemote}
 use Rattle.is_rules.specs.Remote.{as_remote, is_ignored, JoinsRemote, AddsRemote}
 use Rattle.is_rules.specs.Restarting.{Restarts, Recreates}
-use Rattle.is_rules.specs.Steps.{Call, SetMtu, SetControlTieBreaker, SetMaxCandidatePairs, SetMaxDiscovered, SetIceLite, SetRenomination, SetRules, SetTimingAdvance, SetInitialStunRto, SetMaxStunRto, SetMaxStunRetransmits, SetLiteTimeout, SetLocalPreference, SetControlling, SetLocalCredentials, SetRemoteCredentials, SkipPairIds, AddLocalCandidate, AddRemoteCandidate, InvalidateCandidate, RestartIce, RecreateCandidatePairs, ReceivePacket, HandleTimeout, PollTransmit, PollTimeout, PollEvent, Becomes, MayDo, MaySelect, Receives, Step}
+use Rattle.is_rules.specs.Steps.{Call, SetMtu, SetControlTieBreaker, SetMaxCandidatePairs, SetMaxDiscovered, SetIceLite, SetRenomination, SetConsent, SetProfile, SetTimingAdvance, SetInitialStunRto, SetMaxStunRto, SetMaxStunRetransmits, SetLiteTimeout, SetLocalPreference, SetControlling, SetLocalCredentials, SetRemoteCredentials, SkipPairIds, AddLocalCandidate, AddRemoteCandidate, InvalidateCandidate, RestartIce, RecreateCandidatePairs, ReceivePacket, HandleTimeout, PollTransmit, PollTimeout, PollEvent, Becomes, MayDo, MaySelect, Receives, Step}
 use Rattle.is_rules.specs.Sound.{FreshIsSound}
 use Rattle.is_rules.specs.Effects.{RejectionKeeps}
 use Rattle.is_candidate.specs.Candidates.{candidate_at}
@@ -194,7 +194,8 @@ module _ {H P : Type 0} where
     kept (SetMaxDiscovered n) h r = silent Done h.0 refl r
     kept (SetIceLite lite) h r = silent Done h.0 refl r
     kept (SetRenomination on) h r = silent Done h.0 refl r
-    kept (SetRules rules) h r = silent Done h.0 refl r
+    kept (SetProfile profile) h r = silent Done h.0 refl r
+    kept (SetConsent consent) h r = silent Done h.0 refl r
     kept (SetTimingAdvance by) h r = silent Done h.0 refl r
     kept (SetInitialStunRto rto) h r = silent Done h.0 refl r
     kept (SetMaxStunRto rto) h r = silent Done h.0 refl r

@@ -40,7 +40,7 @@ use Rattle.is_pair.specs.Multiset.{keeps_check}
 use Rattle.is_rules.specs.Answers.{keeps_check_on, goes_back, is_role_conflict, TakesSuccess, TakesFailure, LeavesRole}
 use Rattle.is_rules.specs.Accepting.{Takes, IsAcceptedAs, IsAcceptedOn, discovered_emitted}
 use Rattle.is_rules.specs.Timeouts.{at_request, timeout_begun, MaintainsPairs, ServesQueued, TimesOut}
-use Rattle.is_rules.specs.Steps.{Call, SetMtu, SetControlTieBreaker, SetMaxCandidatePairs, SetMaxDiscovered, SetIceLite, SetRenomination, SetRules, SetTimingAdvance, SetInitialStunRto, SetMaxStunRto, SetMaxStunRetransmits, SetLiteTimeout, SetLocalPreference, SetControlling, SetLocalCredentials, SetRemoteCredentials, SkipPairIds, AddLocalCandidate, AddRemoteCandidate, InvalidateCandidate, RestartIce, RecreateCandidatePairs, ReceivePacket, HandleTimeout, PollTransmit, PollTimeout, PollEvent, Becomes, MayDo, MaySelect, Receives, Step}
+use Rattle.is_rules.specs.Steps.{Call, SetMtu, SetControlTieBreaker, SetMaxCandidatePairs, SetMaxDiscovered, SetIceLite, SetRenomination, SetConsent, SetProfile, SetTimingAdvance, SetInitialStunRto, SetMaxStunRto, SetMaxStunRetransmits, SetLiteTimeout, SetLocalPreference, SetControlling, SetLocalCredentials, SetRemoteCredentials, SkipPairIds, AddLocalCandidate, AddRemoteCandidate, InvalidateCandidate, RestartIce, RecreateCandidatePairs, ReceivePacket, HandleTimeout, PollTransmit, PollTimeout, PollEvent, Becomes, MayDo, MaySelect, Receives, Step}
 use Rattle.is_rules.specs.Sound.{IsSound}
 use Rattle.is_rules.specs.Brought.{Brings, IsServing, IsAnswered}
 use Rattle.is_theorems.specs.Numbered.{IsNumberedByPeer, given}
@@ -378,7 +378,8 @@ module _ {H P : Type 0} (mac : H → List ℕ → List ℕ → List ℕ) (answer
   paired (SetMaxDiscovered n) sound h = becomes (SetMaxDiscovered n) (fits (SetMaxDiscovered n) sound) _ (as_it_was (SetMaxDiscovered n) sound) (calms (SetMaxDiscovered n) refl refl h) h
   paired (SetIceLite lite) sound h = becomes (SetIceLite lite) (fits (SetIceLite lite) sound) _ (as_it_was (SetIceLite lite) sound) (calms (SetIceLite lite) refl refl h) h
   paired (SetRenomination on) sound h = becomes (SetRenomination on) (fits (SetRenomination on) sound) _ (as_it_was (SetRenomination on) sound) (calms (SetRenomination on) refl refl h) h
-  paired (SetRules rules) sound h = becomes (SetRules rules) (fits (SetRules rules) sound) _ (as_it_was (SetRules rules) sound) (calms (SetRules rules) refl refl h) h
+  paired (SetProfile profile) sound h = becomes (SetProfile profile) (fits (SetProfile profile) sound) _ (as_it_was (SetProfile profile) sound) (calms (SetProfile profile) refl refl h) h
+  paired (SetConsent consent) sound h = becomes (SetConsent consent) (fits (SetConsent consent) sound) _ (as_it_was (SetConsent consent) sound) (calms (SetConsent consent) refl refl h) h
   paired (SetTimingAdvance by) sound h = becomes (SetTimingAdvance by) (fits (SetTimingAdvance by) sound) _ (as_it_was (SetTimingAdvance by) sound) (calms (SetTimingAdvance by) refl refl h) h
   paired (SetInitialStunRto rto) sound h =
       let call : Call P = SetInitialStunRto rto in

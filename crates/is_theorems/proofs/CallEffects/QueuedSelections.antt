@@ -27,7 +27,7 @@ use Rattle.is_rules.specs.Serving.{AddsUnknownSender, CountsAndServes, Drops, Fi
 use Rattle.is_rules.specs.Settings.{with_retransmits}
 use Rattle.is_rules.specs.Settling.{Reselects, loses_selected, settled, started, state_at_start, state_settled}
 use Rattle.is_rules.specs.States.{evaluated, has_nominated, has_possible, next_state, same_state, with_state}
-use Rattle.is_rules.specs.Steps.{AddLocalCandidate, AddRemoteCandidate, Answer, Becomes, Call, Entry, HandleTimeout, InvalidateCandidate, NotCalled, PollEvent, PollTimeout, PollTransmit, ReceivePacket, Receives, RecreateCandidatePairs, RestartIce, SetControlTieBreaker, SetControlling, SetIceLite, SetInitialStunRto, SetLiteTimeout, SetLocalCredentials, SetLocalPreference, SetMaxCandidatePairs, SetMaxDiscovered, SetMaxStunRetransmits, SetMaxStunRto, SetMtu, SetRemoteCredentials, SetRenomination, SetRules, SetTimingAdvance, SkipPairIds, Step, quiet}
+use Rattle.is_rules.specs.Steps.{AddLocalCandidate, AddRemoteCandidate, Answer, Becomes, Call, Entry, HandleTimeout, InvalidateCandidate, NotCalled, PollEvent, PollTimeout, PollTransmit, ReceivePacket, Receives, RecreateCandidatePairs, RestartIce, SetControlTieBreaker, SetControlling, SetIceLite, SetInitialStunRto, SetLiteTimeout, SetLocalCredentials, SetLocalPreference, SetMaxCandidatePairs, SetMaxDiscovered, SetMaxStunRetransmits, SetMaxStunRto, SetConsent, SetMtu, SetProfile, SetRemoteCredentials, SetRenomination, SetTimingAdvance, SkipPairIds, Step, quiet}
 use Rattle.is_rules.specs.Timeouts.{MaintainsPairs, RemovesExpired, ServesQueued, at_request, at_timeout, expired_gone, is_expired, start_emitted, timeout_begun}
 use Rattle.is_rules.specs.declared.credentials.IceCreds.{IceCreds}
 use Rattle.is_rules.specs.declared.emitted.Emitted.{Emitted}
@@ -296,7 +296,8 @@ module _ {H P : Type 0} (In : Path → Type 0) where
     steps old new s t (SetMaxDiscovered limit) e may h = same old new (ap (λ (a : AgentRecord H P). a.events) h.1)
     steps old new s t (SetIceLite lite) e may h = same old new (ap (λ (a : AgentRecord H P). a.events) h.1)
     steps old new s t (SetRenomination renominates) e may h = same old new (ap (λ (a : AgentRecord H P). a.events) h.1)
-    steps old new s t (SetRules rules) e may h = same old new (ap (λ (a : AgentRecord H P). a.events) h.1)
+    steps old new s t (SetProfile profile) e may h = same old new (ap (λ (a : AgentRecord H P). a.events) h.1)
+    steps old new s t (SetConsent consent) e may h = same old new (ap (λ (a : AgentRecord H P). a.events) h.1)
     steps old new s t (SetTimingAdvance by) e may h = same old new (ap (λ (a : AgentRecord H P). a.events) h.1)
     steps old new s t (SetInitialStunRto rto) e may h = same old new (ap (λ (a : AgentRecord H P). a.events) h.1)
     steps old new s t (SetMaxStunRto rto) e may h = same old new (ap (λ (a : AgentRecord H P). a.events) h.1)

@@ -40,7 +40,7 @@ use Rattle.is_rules.specs.Answers.{TakesFailure, LeavesRole, is_role_conflict}
 use Rattle.is_rules.specs.Accepting.{Takes, discovered_emitted}
 use Rattle.is_rules.specs.Checking.{all_asked, MayCheck, ChecksTop, check_message}
 use Rattle.is_rules.specs.Timeouts.{at_request, timeout_begun, at_timeout, MaintainsPairs, ServesQueued, TimesOut}
-use Rattle.is_rules.specs.Steps.{Call, SetMtu, SetControlTieBreaker, SetMaxCandidatePairs, SetMaxDiscovered, SetIceLite, SetRenomination, SetRules, SetTimingAdvance, SetInitialStunRto, SetMaxStunRto, SetMaxStunRetransmits, SetLiteTimeout, SetLocalPreference, SetControlling, SetLocalCredentials, SetRemoteCredentials, SkipPairIds, AddLocalCandidate, AddRemoteCandidate, InvalidateCandidate, RestartIce, RecreateCandidatePairs, ReceivePacket, HandleTimeout, PollTransmit, PollTimeout, PollEvent, Becomes, MayDo, MaySelect, Receives, Step}
+use Rattle.is_rules.specs.Steps.{Call, SetMtu, SetControlTieBreaker, SetMaxCandidatePairs, SetMaxDiscovered, SetIceLite, SetRenomination, SetConsent, SetProfile, SetTimingAdvance, SetInitialStunRto, SetMaxStunRto, SetMaxStunRetransmits, SetLiteTimeout, SetLocalPreference, SetControlling, SetLocalCredentials, SetRemoteCredentials, SkipPairIds, AddLocalCandidate, AddRemoteCandidate, InvalidateCandidate, RestartIce, RecreateCandidatePairs, ReceivePacket, HandleTimeout, PollTransmit, PollTimeout, PollEvent, Becomes, MayDo, MaySelect, Receives, Step}
 use Rattle.is_rules.specs.Brought.{Brings, IsServing, IsServedPastTests, SwitchesRoleFor, IsRejectedBy, IsRoleSet, role_once}
 use Rattle.is_rules.specs.Issuing.{QueuesPackets, Waits, WaitsPast, IsQueued}
 use Rattle.is_rules.specs.Effects.{tie_set_by, lite_set_by, keeping_set_by, local_after, remote_after}
@@ -49,6 +49,7 @@ use Rattle.is_theorems.proofs.RuleEffects.UnchangedSettings.{Frame, either, fram
 use Rattle.is_theorems.proofs.CallEffects.AddedCandidates.{by_adding_local, by_adding_remote, by_waking}
 use Rattle.is_pair.specs.Due.{asked}
 use Rattle.std.specs.Prelude.{map}
+use Rattle.is_stun.specs.Timing.{is_modern}
 
 choose : (b : Bool) {X R : Type 0} (P : X → Type 0) (x y : X) → P (if b then x else y) → (P x → R) → (P y → R) → R
 choose true P x y h f g = f h
@@ -114,7 +115,7 @@ module _ {H P : Type 0} where
     pub provider : new.provider ≡ old.provider
     pub tie_breaker : new.tie_breaker ≡ tie_set_by call old.tie_breaker
     pub lite : new.lite ≡ lite_set_by call old.lite
-    pub keeping : new.rules.lite_keeps_role ≡ keeping_set_by call old.rules.lite_keeps_role
+    pub keeping : is_modern new.timing ≡ keeping_set_by call (is_modern old.timing)
     pub local_creds : new.local_creds ≡ local_after call e.answer old.local_creds
     pub remote_creds : new.remote_creds ≡ remote_after call e.answer old.remote_creds
     pub sends : QueuesPackets call e old.packets new.packets
@@ -135,7 +136,7 @@ module _ {H P : Type 0} where
   -- a call that receives nothing
   plain : (old new : AgentRecord H P) (call : Call P) (e : Entry)
       → new.provider ≡ old.provider → new.tie_breaker ≡ tie_set_by call old.tie_breaker → new.lite ≡ lite_set_by call old.lite
-      → new.rules.lite_keeps_role ≡ keeping_set_by call old.rules.lite_keeps_role
+      → is_modern new.timing ≡ keeping_set_by call (is_modern old.timing)
       → new.local_creds ≡ local_after call e.answer old.local_creds → new.remote_creds ≡ remote_after call e.answer old.remote_creds
       → QueuesPackets call e old.packets new.packets → Waits old call e new
       → ((new.controlling ≡ old.controlling) ⊎ IsRoleSet call new.controlling)
@@ -165,7 +166,7 @@ module _ {H P : Type 0} where
 
   -- a call that leaves the queues, keeps settings and credentials, and receives nothing
   alike : (old new : AgentRecord H P) (call : Call P) (answer : Answer) (path : Option Path) → Alike old new
-      → tie_set_by call old.tie_breaker ≡ old.tie_breaker → lite_set_by call old.lite ≡ old.lite → keeping_set_by call old.rules.lite_keeps_role ≡ old.rules.lite_keeps_role
+      → tie_set_by call old.tie_breaker ≡ old.tie_breaker → lite_set_by call old.lite ≡ old.lite → keeping_set_by call (is_modern old.timing) ≡ is_modern old.timing
       → local_after call answer old.local_creds ≡ old.local_creds → remote_after call answer old.remote_creds ≡ old.remote_creds
       → (new.packets ≡ old.packets → QueuesPackets call (choosing answer path) old.packets new.packets)
       → (new.queue ≡ old.queue → Waits old call (choosing answer path) new)
@@ -571,7 +572,8 @@ module _ {H P : Type 0} where
     framed (SetMaxDiscovered n) (is, made, drawn) = moved old new _ _ e _ is made (plain old _ _ _ refl refl refl refl refl refl refl (inl refl) (inl refl) (λ q h. absurd h.3) (λ at by m h. absurd h))
     framed (SetIceLite lite) (is, made, drawn) = moved old new _ _ e _ is made (plain old _ _ _ refl refl refl refl refl refl refl (inl refl) (inl refl) (λ q h. absurd h.3) (λ at by m h. absurd h))
     framed (SetRenomination on) (is, made, drawn) = moved old new _ _ e _ is made (plain old _ _ _ refl refl refl refl refl refl refl (inl refl) (inl refl) (λ q h. absurd h.3) (λ at by m h. absurd h))
-    framed (SetRules rules) (is, made, drawn) = moved old new _ _ e _ is made (plain old _ _ _ refl refl refl refl refl refl refl (inl refl) (inl refl) (λ q h. absurd h.3) (λ at by m h. absurd h))
+    framed (SetProfile profile) (is, made, drawn) = moved old new _ _ e _ is made (plain old _ _ _ refl refl refl refl refl refl refl (inl refl) (inl refl) (λ q h. absurd h.3) (λ at by m h. absurd h))
+    framed (SetConsent consent) (is, made, drawn) = moved old new _ _ e _ is made (plain old _ _ _ refl refl refl refl refl refl refl (inl refl) (inl refl) (λ q h. absurd h.3) (λ at by m h. absurd h))
     framed (SetTimingAdvance by) (is, made, drawn) = moved old new _ _ e _ is made (plain old _ _ _ refl refl refl refl refl refl refl (inl refl) (inl refl) (λ q h. absurd h.3) (λ at by m h. absurd h))
     framed (SetInitialStunRto rto) (is, made, drawn) = moved old new (with_rtos rto old.timing.max_rto.0 old) _ e _ is made (plain old (with_rtos rto old.timing.max_rto.0 old) _ _ refl refl refl refl refl refl refl (inl refl) (inl refl) (λ q h. absurd h.3) (λ at by m h. absurd h))
     framed (SetMaxStunRto rto) (is, made, drawn) = moved old new (with_rtos old.timing.initial_rto.0 rto old) _ e _ is made (plain old (with_rtos old.timing.initial_rto.0 rto old) _ _ refl refl refl refl refl refl refl (inl refl) (inl refl) (λ q h. absurd h.3) (λ at by m h. absurd h))

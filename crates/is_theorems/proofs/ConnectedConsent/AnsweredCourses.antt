@@ -15,7 +15,7 @@ use Rattle.is_rules.specs.Remote.{AddsRemote}
 use Rattle.is_rules.specs.Restarting.{emptied, Recreates, Restarts}
 use Rattle.is_rules.specs.Settings.{SetsControlling, SetsMtu}
 use Rattle.is_rules.specs.Settling.{loses_selected}
-use Rattle.is_rules.specs.Steps.{Call, SetMtu, SetControlTieBreaker, SetMaxCandidatePairs, SetMaxDiscovered, SetIceLite, SetRenomination, SetRules, SetTimingAdvance, SetInitialStunRto, SetMaxStunRto, SetMaxStunRetransmits, SetLiteTimeout, SetLocalPreference, SetControlling, SetLocalCredentials, SetRemoteCredentials, SkipPairIds, AddLocalCandidate, AddRemoteCandidate, InvalidateCandidate, RestartIce, RecreateCandidatePairs, ReceivePacket, HandleTimeout, PollTransmit, PollTimeout, PollEvent, Answer, Flag, added, done, Entry, Step, MayDo, MaySelect}
+use Rattle.is_rules.specs.Steps.{Call, SetMtu, SetControlTieBreaker, SetMaxCandidatePairs, SetMaxDiscovered, SetIceLite, SetRenomination, SetConsent, SetProfile, SetTimingAdvance, SetInitialStunRto, SetMaxStunRto, SetMaxStunRetransmits, SetLiteTimeout, SetLocalPreference, SetControlling, SetLocalCredentials, SetRemoteCredentials, SkipPairIds, AddLocalCandidate, AddRemoteCandidate, InvalidateCandidate, RestartIce, RecreateCandidatePairs, ReceivePacket, HandleTimeout, PollTransmit, PollTimeout, PollEvent, Answer, Flag, added, done, Entry, Step, MayDo, MaySelect}
 use Rattle.is_theorems.specs.ConsentCourses.{AreNeverLite, ValidHaveConsented}
 use Rattle.is_theorems.specs.Exchange.{Course}
 use Rattle.is_theorems.specs.Runs.{IsFresh}
@@ -82,9 +82,10 @@ module _ {H P : Type 0} (mac : H → List ℕ → List ℕ → List ℕ) (answer
     steps (SetControlTieBreaker tie) full (is, made, drawn) = subst (λ (a : AgentRecord H P). IsFirm a) (sym made) f
     steps (SetMaxCandidatePairs k) full (is, made, drawn) = subst (λ (a : AgentRecord H P). IsFirm a) (sym made) f
     steps (SetMaxDiscovered limit) full (is, made, drawn) = subst (λ (a : AgentRecord H P). IsFirm a) (sym made) f
-    steps (SetIceLite lite) full (is, made, drawn) = subst (λ (a : AgentRecord H P). IsFirm a) (sym made) ((full, f.0.1), f.1)
+    steps (SetIceLite lite) full (is, made, drawn) = subst (λ (a : AgentRecord H P). IsFirm a) (sym made) (full, f.1)
     steps (SetRenomination on) full (is, made, drawn) = subst (λ (a : AgentRecord H P). IsFirm a) (sym made) f
-    steps (SetRules rules) full (is, made, drawn) = subst (λ (a : AgentRecord H P). IsFirm a) (sym made) ((f.0.0, refl), f.1)
+    steps (SetProfile profile) full (is, made, drawn) = subst (λ (a : AgentRecord H P). IsFirm a) (sym made) (f.0, f.1)
+    steps (SetConsent consent) full (is, made, drawn) = subst (λ (a : AgentRecord H P). IsFirm a) (sym made) (f.0, f.1)
     steps (SetTimingAdvance by) full (is, made, drawn) = subst (λ (a : AgentRecord H P). IsFirm a) (sym made) f
     steps (SetInitialStunRto rto) full (is, made, drawn) = subst (λ (a : AgentRecord H P). IsFirm a) (sym made)
         (f.0, unless-answered (old.timing.initial_rto.0 == rto && old.timing.max_rto.0 == old.timing.max_rto.0) old.pairs f.1)
@@ -122,5 +123,5 @@ module _ {H P : Type 0} (mac : H → List ℕ → List ℕ → List ℕ) (answer
       let fresh : IsFresh first = search new in
       let never : AreNeverLite xs = search full in
       let is_valid_now : is_valid p ≡ true = search valid in
-      let begins : IsFirm first = subst (λ (a : AgentRecord H P). IsFirm a) (sym fresh.2) ((refl, refl), λ q none. absurd none) in
+      let begins : IsFirm first = subst (λ (a : AgentRecord H P). IsFirm a) (sym fresh.2) (refl, λ q none. absurd none) in
       search ((along xs first last never course begins).1 p has is_valid_now)

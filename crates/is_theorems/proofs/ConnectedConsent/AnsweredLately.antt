@@ -7,6 +7,7 @@ use Rattle.is_candidate.specs.Candidates.{CandidateRecord}
 use Rattle.is_pair.specs.Due.{has_consent, is_heard}
 use Rattle.is_pair.specs.Pairs.{is_nominated, is_recent, is_valid, PairRecord}
 use Rattle.is_stun.specs.declared.timing.Consent.{Consent}
+use Rattle.is_stun.specs.Timing.{consent_of}
 use Rattle.is_rules.specs.Agent.{AgentRecord}
 use Rattle.is_rules.specs.Steps.{HandleTimeout}
 use Rattle.is_theorems.specs.ConsentCourses.{AreNeverLite, ConnectedAreAnswered, IsAliveBy}
@@ -50,11 +51,11 @@ module _ {H P : Type 0} (mac : H → List ℕ → List ℕ → List ℕ) where
   pub connected-are-answered : (answers : P → CandidateRecord → ℕ → ℕ → Type 0) → ConnectedAreAnswered mac answers
   connected-are-answered answers before now timeout last c k full rule =
       let never : AreNeverLite before = search full in
-      let ruled : last.rules.consent ≡ Some c = search rule in
-      let begins : IsFirm k.first = subst (λ (a : AgentRecord H P). IsFirm a) (sym k.fresh.2) ((refl, refl), λ q none. absurd none) in
+      let ruled : consent_of last.timing ≡ Some c = search rule in
+      let begins : IsFirm k.first = subst (λ (a : AgentRecord H P). IsFirm a) (sym k.fresh.2) (refl, λ q none. absurd none) in
       let near = along mac answers before k.first k.near never k.course begins in
       let firm = steps mac answers k.near last k.drawn k.left timeout near (HandleTimeout now) refl k.step in
       let top = connected-have-consent mac answers before now timeout last k in
       let valid = (both (is_valid top.0) (last.controlling || is_nominated top.0) top.2).0 in
-      let consent = subst (λ o. has_consent o now top.0 ≡ true) (firm.0.1 ∙ ruled) top.4 in
+      let consent = subst (λ o. has_consent o now top.0 ≡ true) ruled top.4 in
       (top.0, top.1, alive c now top.0 (firm.1 top.0 top.1 valid) consent, top.3)

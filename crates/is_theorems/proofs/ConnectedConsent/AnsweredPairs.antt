@@ -17,6 +17,7 @@ use Rattle.is_stun.specs.declared.header.Class.{Class}
 use Rattle.is_stun.specs.declared.header.Class.TheVariants as class
 use Rattle.is_stun.specs.declared.timing.StunTiming.{StunTiming}
 use Rattle.is_stun.specs.Message.{Message}
+use Rattle.is_stun.specs.Timing.{consent_of}
 use Rattle.is_rules.specs.declared.credentials.IceCreds.{IceCreds}
 use Rattle.is_rules.specs.declared.emitted.Emitted.{Emitted}
 use Rattle.is_rules.specs.declared.emitted.Issued.{Issued}
@@ -144,7 +145,7 @@ drops-each limit (p ∷ gone) old new all (over, has, others) =
 module _ {H P : Type 0} where
   -- The agent is full, and its timing has the rule of consent. Its valid pairs have checks that got a response.
   abbrev pub IsFirm : AgentRecord H P → Type 0
-  IsFirm a = ((a.lite ≡ false) × (a.timing.consent ≡ a.rules.consent)) × AreAnswered a.pairs
+  IsFirm a = (a.lite ≡ false) × AreAnswered a.pairs
 
   abbrev pub Keeps : AgentRecord H P → AgentRecord H P → Type 0
   Keeps old new = IsFirm old → IsFirm new
@@ -245,7 +246,7 @@ module _ {H P : Type 0} where
     pair : (l r number : ℕ) (s new : AgentRecord H P) (emitted : Emitted) → RecordsAndResponds mac q l r number s emitted new → Keeps s new
     pair l r number s new emitted (path, mid, nominates, (values, is, made)) f =
         let recorded : IsFirm (pair_served q number s) =
-        (f.0, answered-map (change_at number (after_request q s)) s.pairs (λ p a. at-answered number (after_request q s) p a (request-answered s p f.0.0 a)) f.1) in
+        (f.0, answered-map (change_at number (after_request q s)) s.pairs (λ p a. at-answered number (after_request q s) p a (request-answered s p f.0 a)) f.1) in
         let named = where-firm (selects_at_requests s && is_valid_at number s.pairs) (pair_served q number s) mid path nominates recorded in
         subst (λ (a : AgentRecord H P). IsFirm a) (sym made) named
 

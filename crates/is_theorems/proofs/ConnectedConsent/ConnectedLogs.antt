@@ -2,6 +2,7 @@
 use Rattle.std.proofs.Common.{◌≡◌, ℕ, true, false, List, [], ◌∷◌, ◌++◌, Option, Some, None, inl, inr, refl, ap, sym, ◌∙◌, subst}
 use Rattle.rand_core.specs.Stream.{Stream}
 use Rattle.is_proto.specs.Lists.{Has}
+use Rattle.is_stun.specs.Timing.{consent_of}
 use Rattle.is_candidate.specs.Candidates.{CandidateRecord}
 use Rattle.is_rules.specs.Agent.{AgentRecord}
 use Rattle.is_rules.specs.Connecting.{is_connected}
@@ -76,6 +77,6 @@ module _ {H P : Type 0} (mac : H → List ℕ → List ℕ → List ℕ) (answer
   pub selected-are-alive : ConnectedAreAnswered mac answers → SelectedAreAlive mac answers
   selected-are-alive are first s log fresh before mid after x point now c k full rule =
       let never : NeverLite before = search full in
-      let ruled : after.rules.consent ≡ Some c = search rule in
+      let ruled : consent_of after.timing ≡ Some c = search rule in
       let p = are (calls_onto before []) now x.entry after c (ended first s log before mid after x now fresh point k) (onto_never before never) ruled in
       (p.0, p.1, p.2, sym (same-path before x now k.call) ∙ p.3)

@@ -27,6 +27,7 @@ use Rattle.is_theorems.proofs.RuleEffects.NominatedPairs.{SelectsPath, selects_p
 use Rattle.is_theorems.proofs.RuleEffects.UnchangedSettings.{either}
 use Rattle.is_theorems.proofs.BasicLemmas.PairsInTurn.{by-begins, sent-pairs, sent_at}
 use Rattle.is_stun.specs.declared.timing.StunTiming.{StunTiming}
+use Rattle.is_stun.specs.Timing.{is_modern}
 
 -- ---- the next state
 
@@ -125,7 +126,7 @@ module _ {H P : Type 0} where
       (λ _ k. subst (λ (a : AgentRecord H P). IsBacked a) (sym k.2) (evaluated-backed now k.0))
       (λ _ k. same-backs (settled true now old) new k.1 (settled-backs now old b))
 
-  -- by the rule the state is evaluated in any case
+  -- with `Modern` the state is evaluated in any case
   gives-up-settled : (now : ℕ) (old new : AgentRecord H P) (path : Option Path) → settles old ≡ true → RemovesExpired now old path new → IsBacked new
   gives-up-settled now old new path on h = either (list_any (is_expired now old) old.pairs) h
       (λ _ k. subst (λ (a : AgentRecord H P). IsBacked a) (sym k.2) (evaluated-backed now k.0))
@@ -170,7 +171,7 @@ module _ {H P : Type 0} where
 
           by : (b : Bool) → settles old ≡ b → IsBacked kept
           by true is =
-              let on = ap (λ (state : IceConnectionState). old.rules.state_after_nomination && not (same_state state New)) (state-is true is) ∙ is in
+              let on = ap (λ (state : IceConnectionState). is_modern old.timing && not (same_state state New)) (state-is true is) ∙ is in
               gives-up-settled now named kept second (settles-named base named first nominating ∙ on) giving
           by false is = gives-up-backs now named kept second giving (nominates-backs base named first nominating (λ connected.
               evaluated-backed now old (subst (λ (state : IceConnectionState). is_connected state ≡ true) (state-is false is) connected)))

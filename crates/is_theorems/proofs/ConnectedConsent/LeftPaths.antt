@@ -10,6 +10,7 @@ use Rattle.is_pair.specs.Due.{consent_end, heard_until}
 use Rattle.is_pair.specs.Pairs.{is_valid, PairRecord}
 use Rattle.is_stun.specs.declared.timing.Consent.{Consent}
 use Rattle.is_stun.specs.declared.timing.StunTiming.{StunTiming}
+use Rattle.is_stun.specs.Timing.{consent_of}
 use Rattle.is_rules.specs.Agent.{AgentRecord}
 use Rattle.is_rules.specs.Connecting.{is_connected}
 use Rattle.is_rules.specs.declared.credentials.IceCreds.{IceCreds}
@@ -133,7 +134,7 @@ module _ {H P : Type 0} where
     record Ready (a : AgentRecord H P) : Type 0 where
       sound : IsSound a
       firm : IsFirm a
-      rule : a.timing.consent ≡ Some c
+      rule : consent_of a.timing ≡ Some c
       peer : is_some a.remote_creds ≡ true
       queue : a.queue ≡ []
       over : PairsOver c.strict sent heard path a
@@ -158,7 +159,7 @@ module _ {H P : Type 0} where
           record {
             sound = law.1;
             firm = steps mac answers old new s t e r.firm call (full-in-round call fits) step;
-            rule = ap (λ (k : Clock). k.timing.consent) clock ∙ r.rule;
+            rule = ap (λ (k : Clock). consent_of k.timing) clock ∙ r.rule;
             peer = ap (λ (o : Option IceCreds). is_some o) peer ∙ r.peer;
             queue = keeps-empty old call e new r.peer r.queue (waits-in-round old call e new fits trade.waits);
             over = step-over mac answers c.strict sent heard path call e old new s t fits silent r.sound step r.over;
@@ -178,7 +179,7 @@ module _ {H P : Type 0} where
         → now < consent_until c sent heard → Has old.pairs p → is_valid p ≡ true → path_of old p ≡ path → Step mac answers old s call e new t
         → call ≡ PollTimeout → e.answer ≡ NextTimeout (Some deadline) → next ≤ deadline + delay → next ≤ limit
     polled now next deadline call e old new s t p r last early has valid on step called answer close =
-        let soon = polled-soon mac answers pace delay now next deadline c e old new s t p r.firm.0.0 last r.rule r.slow
+        let soon = polled-soon mac answers pace delay now next deadline c e old new s t p r.firm.0 last r.rule r.slow
         (subst (λ (k : Call P). Step mac answers old s k e new t) called step) answer close has in
         let by = ends-by c sent heard path p (r.over p has on) (r.firm.1 p has valid) in
         omega (arith, soon, by, early)
@@ -224,10 +225,10 @@ module _ {H P : Type 0} where
           record {
             sound = law.1;
             firm = steps mac answers old new s t e r.firm (HandleTimeout now) refl step;
-            rule = ap (λ (k : Pace). k.clock.timing.consent) pace_is ∙ r.rule;
+            rule = ap (λ (k : Pace). consent_of k.clock.timing) pace_is ∙ r.rule;
             peer = ap (λ (o : Option IceCreds). is_some o) (law.0.remote_creds ∙ same-if (is_done e.answer) old.remote_creds) ∙ r.peer;
             queue = none-left left.0 new.queue (sym r.queue ∙ left.1);
-            over = maintained-over mac answers c.strict sent heard path now e old new s t emitted r.firm.0.0 r.sound step m r.over;
+            over = maintained-over mac answers c.strict sent heard path now e old new s t emitted r.firm.0 r.sound step m r.over;
             slow = omega (arith, slow, as_slow);
           },
           ap (λ (k : Pace). k.clock.last_time) pace_is,
@@ -278,10 +279,10 @@ module _ {H P : Type 0} where
             step = step;
             done = done;
             unqueued = none-queued r.now old ready;
-            full = ready.firm.0.0;
+            full = ready.firm.0;
             connected = is_connected_now;
           } in
-          let k = connected-are-answered mac answers before r.now r.timeout mid c after never (sym ready_mid.firm.0.1 ∙ ready_mid.rule) in
+          let k = connected-are-answered mac answers before r.now r.timeout mid c after never ready_mid.rule in
           let on : path_of mid k.0 ≡ path = some_is (path_of mid k.0) path (sym k.3 ∙ is_selected) in
           (k.0, k.1, ready_mid.sound.consented k.0 k.1 (ap (λ (o : Option ℕ). is_some o) k.2.1), on, alive-before c sent heard path r.now k.0 (ready_mid.over k.0 k.1 on) k.2)
 
@@ -326,16 +327,16 @@ module _ {H P : Type 0} where
         let fresh : IsFresh first = search new in
         let never_lite : AreNeverLite before = search never in
         let sound_first : IsSound first = subst (λ (a : AgentRecord H P). IsSound a) (sym fresh.2) (fresh_sound H P first.provider fresh.0 fresh.1) in
-        let begins : IsFirm first = subst (λ (a : AgentRecord H P). IsFirm a) (sym fresh.2) ((refl, refl), λ q none. absurd none) in
+        let begins : IsFirm first = subst (λ (a : AgentRecord H P). IsFirm a) (sym fresh.2) (refl, λ q none. absurd none) in
         let firm = along mac answers before first start never_lite led begins in
-        let rule : start.rules.consent ≡ Some c = search l.rule in
+        let rule : consent_of start.timing ≡ Some c = search l.rule in
         let peer : is_some start.remote_creds ≡ true = search l.peer in
         let queue : start.queue ≡ [] = search l.queue in
         let slow = timed.begins in
         let ready : Ready mac answers c sent heard pace delay path start = record {
           sound = sound-course mac answers before first start sound_first led;
           firm = firm;
-          rule = firm.0.1 ∙ rule;
+          rule = rule;
           peer = peer;
           queue = queue;
           over = λ p has on. record { answered = λ at is. (let le = l.answered p at has on is in omega (arith, le)); asked = λ loose at is. (let le = l.asked p at has on is in omega (arith, le)) };

@@ -11,9 +11,9 @@ use Rattle.is_pair.specs.Due as due
 use Rattle.is_pair.specs.Multiset.{is_numbered, change_at}
 use Rattle.is_stun.specs.declared.timing.StunTiming.{StunTiming}
 use Rattle.is_stun.specs.declared.timing.Consent.{Consent}
+use Rattle.is_stun.specs.Timing.{is_modern, consent_of}
 use Rattle.is_rules.specs.declared.credentials.IceCreds.{IceCreds}
 use Rattle.is_rules.specs.declared.emitted.Path.{Path}
-use Rattle.is_rules.specs.declared.rules.Rules.{Rules}
 use Rattle.is_rules.specs.Request.{RequestRecord}
 use Rattle.is_rules.specs.Agent.{AgentRecord}
 use Rattle.is_rules.specs.Nominating.{nominated_by_self, Nominates, followed, remains, selection_of}
@@ -160,7 +160,6 @@ pub record Base : Type 0 where
   pub last_time : Option ℕ
   pub controlling : Bool
   pub next_number : ℕ
-  pub rules : Rules
   pub renominates : Bool
   pub ahead_turn : Bool
 
@@ -199,8 +198,8 @@ answered-same None now p q same = refl
 answered-same (Some c) now p q same = ap (λ had. option_map_or (λ at. nat_lt now (later at c.timeout.0)) had true) same
 
 -- as long as the pair with the same responses
-pub answered-on : (t u : StunTiming) (now : ℕ) (p q : PairRecord) → u ≡ t → q.consented ≡ p.consented → due.stays_answered t.consent now p ≡ true → due.stays_answered u.consent now q ≡ true
-answered-on t u now p q timing same is = answered-same u.consent now p q same ∙ (ap (λ (z : StunTiming). due.stays_answered z.consent now p) timing ∙ is)
+pub answered-on : (t u : StunTiming) (now : ℕ) (p q : PairRecord) → u ≡ t → q.consented ≡ p.consented → due.stays_answered (consent_of t) now p ≡ true → due.stays_answered (consent_of u) now q ≡ true
+answered-on t u now p q timing same is = answered-same (consent_of u) now p q same ∙ (ap (λ (z : StunTiming). due.stays_answered (consent_of z) now p) timing ∙ is)
 
 pub consent-same : (o : Option Consent) (now : ℕ) (p q : PairRecord) → q.consented ≡ p.consented → q.last_request ≡ p.last_request → due.has_consent o now q ≡ due.has_consent o now p
 consent-same None now p q same heard = refl
@@ -218,10 +217,10 @@ answered-invalid o now p had invalid = from p.consented refl where
     never (Some c) = refl
   from (Some at) is = (let no : true ≡ false = sym (had (ap is_some is)) ∙ invalid in absurd (cc))
 
-pub stays-young : (lite : Bool) (now : ℕ) (t : StunTiming) (p : PairRecord) → lite ≡ false → due.stays_answered t.consent now p ≡ true → nat_lt (unanswered_count p.checks) t.max_retransmits ≡ true → not (due.is_pair_expired lite now t p) ≡ true
+pub stays-young : (lite : Bool) (now : ℕ) (t : StunTiming) (p : PairRecord) → lite ≡ false → due.stays_answered (consent_of t) now p ≡ true → nat_lt (unanswered_count p.checks) t.max_retransmits ≡ true → not (due.is_pair_expired lite now t p) ≡ true
 stays-young true now t p full answered young = absurd (cc)
 stays-young false now t p full answered young =
-    ap (λ b. not (not b)) (ap (λ b. b && due.is_possible now t p) (answered-consents t.consent now p answered) ∙ possible (due.has_early_checks t.early now t p) (due.is_heard now p) (nat_lt (length p.checks) t.max_retransmits) (nat_lt (unanswered_count p.checks) t.max_retransmits) (due.is_in_time now t p.checks) young)
+    ap (λ b. not (not b)) (ap (λ b. b && due.is_possible now t p) (answered-consents (consent_of t) now p answered) ∙ possible (due.has_early_checks now t p) (due.is_heard now p) (nat_lt (length p.checks) t.max_retransmits) (nat_lt (unanswered_count p.checks) t.max_retransmits) (due.is_in_time now t p.checks) young)
 
 module _ {H P : Type 0} where
   -- the time of the last `handle_timeout` call
@@ -239,14 +238,13 @@ module _ {H P : Type 0} where
     last_time = a.last_time;
     controlling = a.controlling;
     next_number = a.next_number;
-    rules = a.rules;
     renominates = a.renominates;
     ahead_turn = a.ahead_turn;
   }
 
   -- whether nominations are sent at once depends on it, pairs aside
-  pub turns-by : (x : Base) (a : AgentRecord H P) → base_of a ≡ x → (x.controlling && (x.renominates && x.rules.numbered_nominations)) ≡ false → ChecksInTurn a
-  turns-by x a same turn = ap (λ (y : Base). y.controlling && (y.renominates && y.rules.numbered_nominations)) same ∙ turn
+  pub turns-by : (x : Base) (a : AgentRecord H P) → base_of a ≡ x → (x.controlling && (x.renominates && is_modern x.timing)) ≡ false → ChecksInTurn a
+  turns-by x a same turn = ap (λ (y : Base). y.controlling && (y.renominates && is_modern y.timing)) same ∙ turn
 
   abbrev pub Thins : ℕ → AgentRecord H P → AgentRecord H P → Type 0
   Thins by old new = (base_of new ≡ base_of old) × Thinned by old.pairs new.pairs
@@ -293,7 +291,7 @@ module _ {H P : Type 0} where
         ))
 
   pub gives-up-has : (now : ℕ) (old new : AgentRecord H P) (path : Option Path) → old.lite ≡ false → RemovesExpired now old path new → (p : PairRecord) → Has old.pairs p
-      → due.stays_answered old.timing.consent now p ≡ true → nat_lt (unanswered_count p.checks) old.timing.max_retransmits ≡ true → (q : PairRecord) × Has new.pairs q × Alike p q
+      → due.stays_answered (consent_of old.timing) now p ≡ true → nat_lt (unanswered_count p.checks) old.timing.max_retransmits ≡ true → (q : PairRecord) × Has new.pairs q × Alike p q
   gives-up-has now old new path full h p has answered young = either (list_any (is_expired now old) old.pairs) h
       (λ _ k. (
       let there : Has (expired_gone now old).pairs p = Has-kept (λ q. not (is_expired now old q)) old.pairs p has (stays-young old.lite now old.timing p full answered young) in
@@ -304,11 +302,11 @@ module _ {H P : Type 0} where
   -- ---- consent
 
   abbrev pub answered_at : AgentRecord H P → PairRecord → ℕ → Bool
-  answered_at a p m = due.stays_answered a.timing.consent m p
+  answered_at a p m = due.stays_answered (consent_of a.timing) m p
 
   -- a pair that is not valid never got a response
   pub answered-if : (a : AgentRecord H P) (p : PairRecord) (m : ℕ) → IsSound a → Has a.pairs p → IsLasting m a p → answered_at a p m ≡ true
   answered-if a p m sound has lasting = by (is_valid p) refl where
     by : (b : Bool) → is_valid p ≡ b → answered_at a p m ≡ true
     by true is = lasting (search is)
-    by false is = answered-invalid a.timing.consent m p (sound.consented p has) is
+    by false is = answered-invalid (consent_of a.timing) m p (sound.consented p has) is

@@ -12,13 +12,12 @@ use Rattle.is_pair.specs.Checks.{Check, last_check, unanswered_count}
 use Rattle.is_pair.specs.States.{is_nominating}
 use Rattle.is_pair.specs.declared.pair.states.NominationState.{NominationState}
 use Rattle.is_pair.specs.declared.pair.states.NominationState.TheVariants.{None as Unnominated, Nominated, Attempt, Success}
-use Rattle.is_pair.specs.Due.{computed_due_time, delay_with, due_time_of, is_triggered, moved_up, next_due_time, triggered, usual_delay}
+use Rattle.is_pair.specs.Due.{computed_due_time, delay_of, due_time_of, is_triggered, moved_up, next_due_time, triggered, usual_delay}
 use Rattle.is_pair.specs.Multiset.{is_numbered, change_at, passes_at, is_valid_at}
 use Rattle.is_stun.specs.declared.header.Class.{Class}
 use Rattle.is_stun.specs.declared.header.Class.TheVariants as class
 use Rattle.is_stun.specs.declared.timing.StunTiming.{StunTiming}
-use Rattle.is_stun.specs.declared.timing.EarlyRto.{EarlyRto}
-use Rattle.is_stun.specs.Timing.{early_delay, timeout_of}
+use Rattle.is_stun.specs.Timing.{early_delay, timeout_of, is_modern}
 use Rattle.is_stun.specs.Message.{Message}
 use Rattle.is_rules.specs.declared.credentials.IceCreds.{IceCreds}
 use Rattle.is_rules.specs.declared.places.RemotePlace.{RemotePlace}
@@ -27,7 +26,6 @@ use Rattle.is_rules.specs.declared.roles.Conflict.{Conflict}
 use Rattle.is_rules.specs.declared.roles.Conflict.TheVariants.{Absent, Send487, SwitchRole}
 use Rattle.is_rules.specs.declared.emitted.Path.{Path}
 use Rattle.is_rules.specs.declared.emitted.Emitted.{Emitted}
-use Rattle.is_rules.specs.declared.rules.Rules.{Rules}
 use Rattle.is_rules.specs.Request.{RequestRecord, request_in}
 use Rattle.is_rules.specs.Places.{local_place}
 use Rattle.is_rules.specs.Limit.{IsSenderPlace}
@@ -65,9 +63,8 @@ pub record CheckedAlike (p q : PairRecord) : Type 0 where
   pub answers : q.answers ≡ p.answers
   pub nomination : q.nomination ≡ p.nomination
 
-delay-same : (e : Option EarlyRto) (now : ℕ) (t : StunTiming) (p q : PairRecord) → CheckedAlike p q → delay_with e now t q ≡ delay_with e now t p
-delay-same None now t p q alike = ap (λ cs. usual_delay now t cs) alike.checks
-delay-same (Some e) now t p q alike =
+delay-same : (now : ℕ) (t : StunTiming) (p q : PairRecord) → CheckedAlike p q → delay_of now t q ≡ delay_of now t p
+delay-same now t p q alike =
     ap (λ n. by n q.nomination q.checks q.checks_sent q.first_sent) alike.answers
     ∙ ap (λ s. by p.answers s q.checks q.checks_sent q.first_sent) alike.nomination
     ∙ ap (λ cs. by p.answers p.nomination cs q.checks_sent q.first_sent) alike.checks
@@ -75,14 +72,14 @@ delay-same (Some e) now t p q alike =
     ∙ ap (λ at. by p.answers p.nomination p.checks p.checks_sent at) alike.first where
       by : ℕ → NominationState → List Check → ℕ → Option ℕ → ℕ
       by n s cs sent first =
-          if (if n == 0 then option_map_or (λ at. nat_lt now (later at (timeout_of t))) first false else is_nominating s && nat_lt (unanswered_count cs) t.max_retransmits)
-          then early_delay e (if n == 0 then sent else unanswered_count cs)
+          if is_modern t && (if n == 0 then option_map_or (λ at. nat_lt now (later at (timeout_of t))) first false else is_nominating s && nat_lt (unanswered_count cs) t.max_retransmits)
+          then early_delay (if n == 0 then sent else unanswered_count cs)
           else usual_delay now t cs
 
 next-same : (now : ℕ) (t : StunTiming) (p q : PairRecord) → CheckedAlike p q → next_due_time now t q ≡ next_due_time now t p
 next-same now t p q alike =
-    ap (λ delay. option_map_or (λ (c : Check). later c.sent delay) (last_check q.checks) now) (delay-same t.early now t p q alike)
-    ∙ ap (λ cs. option_map_or (λ (c : Check). later c.sent (delay_with t.early now t p)) (last_check cs) now) alike.checks
+    ap (λ delay. option_map_or (λ (c : Check). later c.sent delay) (last_check q.checks) now) (delay-same now t p q alike)
+    ∙ ap (λ cs. option_map_or (λ (c : Check). later c.sent (delay_of now t p)) (last_check cs) now) alike.checks
 
 -- it is computed from these only
 computed-same : (s : NominationState) (now : ℕ) (t : StunTiming) (p q : PairRecord) → CheckedAlike p q → computed_due_time s now t q ≡ computed_due_time s now t p
@@ -250,9 +247,8 @@ moved-due : (now to : ℕ) (t : StunTiming) (p : PairRecord)
 moved-due now to t p =
     ap (λ n. unwrap_or (option_map (min to) p.due) (min n (later now t.max_rto.0))) (computed-same p.nomination now t p (moved_up to p) (record { checks = refl; sent = refl; first = refl; answers = refl; nomination = refl }))
 
-triggered-alike : (by at to : ℕ) (t : StunTiming) (most : Option ℕ) (p : PairRecord) → by < to → DueAlike by at t p (triggered most to p)
-triggered-alike by at to t None p late = due-same by at t p
-triggered-alike by at to t (Some most) p late = moved (is_triggered most p) where
+triggered-alike : (by at to : ℕ) (t : StunTiming) (modern : Bool) (p : PairRecord) → by < to → DueAlike by at t p (triggered modern to p)
+triggered-alike by at to t modern p late = moved (modern && is_triggered p) where
   moved : (b : Bool) → DueAlike by at t p (if b then moved_up to p else p)
   moved true = record {
     matches = record { number = refl; local = refl; remote = refl; valid = refl };
@@ -262,26 +258,25 @@ triggered-alike by at to t (Some most) p late = moved (is_triggered most p) wher
   }
   moved false = due-same by at t p
 
-triggered-matches : (most : Option ℕ) (to : ℕ) (p : PairRecord) → Matches p (triggered most to p)
-triggered-matches None to p = record { number = refl; local = refl; remote = refl; valid = refl }
-triggered-matches (Some most) to p = moved (is_triggered most p) where
+triggered-matches : (modern : Bool) (to : ℕ) (p : PairRecord) → Matches p (triggered modern to p)
+triggered-matches modern to p = moved (modern && is_triggered p) where
   moved : (b : Bool) → Matches p (if b then moved_up to p else p)
   moved true = record { number = refl; local = refl; remote = refl; valid = refl }
   moved false = record { number = refl; local = refl; remote = refl; valid = refl }
 
 -- a request leaves the pair due by that time if it was, while the agent is controlling and not ICE-lite
-module _ (to : ℕ) (n : ℕ) (q : RequestRecord) (most : Option ℕ) where
-  served-matches : (c l : Bool) (p : PairRecord) → c ≡ true → l ≡ false → Matches p (change_at n (λ x. served c l q (triggered most to x)) p)
+module _ (to : ℕ) (n : ℕ) (q : RequestRecord) (modern : Bool) where
+  served-matches : (c l : Bool) (p : PairRecord) → c ≡ true → l ≡ false → Matches p (change_at n (λ x. served c l q (triggered modern to x)) p)
   served-matches true false p is full = numbered (is_numbered n p) where
-    numbered : (b : Bool) → Matches p (if b then served true false q (triggered most to p) else p)
+    numbered : (b : Bool) → Matches p (if b then served true false q (triggered modern to p) else p)
     numbered true =
-        subst (λ (x : PairRecord). Matches p x) (sym (unnumbered-pair q.nomination (with_request q.time (triggered most to p))))
-        (matches-on p (triggered most to p) (with_request q.time (triggered most to p)) (triggered-matches most to p) (record { number = refl; local = refl; remote = refl; valid = refl }))
+        subst (λ (x : PairRecord). Matches p x) (sym (unnumbered-pair q.nomination (with_request q.time (triggered modern to p))))
+        (matches-on p (triggered modern to p) (with_request q.time (triggered modern to p)) (triggered-matches modern to p) (record { number = refl; local = refl; remote = refl; valid = refl }))
     numbered false = record { number = refl; local = refl; remote = refl; valid = refl }
   served-matches true true p is full = absurd (cc)
   served-matches false l p is full = absurd (cc)
 
-  served-alike : (by at : ℕ) (t : StunTiming) (c l : Bool) (p : PairRecord) → c ≡ true → l ≡ false → by < to → DueAlike by at t p (change_at n (λ x. served c l q (triggered most to x)) p)
+  served-alike : (by at : ℕ) (t : StunTiming) (c l : Bool) (p : PairRecord) → c ≡ true → l ≡ false → by < to → DueAlike by at t p (change_at n (λ x. served c l q (triggered modern to x)) p)
   served-alike by at t true false p is full late = numbered (is_numbered n p) where
     recorded-due : (m : ℕ) (x : PairRecord) → due_time_of m t (with_request q.time x) ≡ due_time_of m t x
     recorded-due m x = ap (λ k. unwrap_or x.due (min k (later m t.max_rto.0))) (computed-same x.nomination m t x (with_request q.time x) (record { checks = refl; sent = refl; first = refl; answers = refl; nomination = refl }))
@@ -297,8 +292,8 @@ module _ (to : ℕ) (n : ℕ) (q : RequestRecord) (most : Option ℕ) where
     recorded : (x : PairRecord) → DueAlike by at t x (served true false q x)
     recorded x = subst (λ (y : PairRecord). DueAlike by at t x y) (sym (unnumbered-pair q.nomination (with_request q.time x))) (recorded-alike x)
 
-    numbered : (b : Bool) → DueAlike by at t p (if b then served true false q (triggered most to p) else p)
-    numbered true = due-on by at t p (triggered most to p) (served true false q (triggered most to p)) (triggered-alike by at to t most p late) (recorded (triggered most to p))
+    numbered : (b : Bool) → DueAlike by at t p (if b then served true false q (triggered modern to p) else p)
+    numbered true = due-on by at t p (triggered modern to p) (served true false q (triggered modern to p)) (triggered-alike by at to t modern p late) (recorded (triggered modern to p))
     numbered false = due-same by at t p
   served-alike by at t true true p is full late = absurd (cc)
   served-alike by at t false l p is full late = absurd (cc)
@@ -325,7 +320,6 @@ pub record Core : Type 0 where
   pub queue : List RequestRecord
   pub last_time : Option ℕ
   pub controlling : Bool
-  pub rules : Rules
   pub renominates : Bool
   pub ahead_turn : Bool
 
@@ -343,7 +337,6 @@ module _ {H P : Type 0} where
     queue = a.queue;
     last_time = a.last_time;
     controlling = a.controlling;
-    rules = a.rules;
     renominates = a.renominates;
     ahead_turn = a.ahead_turn;
   }
@@ -374,8 +367,8 @@ module _ {H P : Type 0} where
             refl,
             refl,
             spares-map by (last_time_of s) at s.timing s.next_number (change_at number (after_request q s)) s.pairs
-                (λ p. served-matches (trigger_time q s) number (as_taken (numbers s) q) s.rules.triggered_checks s.controlling s.lite p role full)
-                (λ late p. served-alike (trigger_time q s) number (as_taken (numbers s) q) s.rules.triggered_checks by at s.timing s.controlling s.lite p role full (omega (arith, late))),
+                (λ p. served-matches (trigger_time q s) number (as_taken (numbers s) q) (is_modern s.timing) s.controlling s.lite p role full)
+                (λ late p. served-alike (trigger_time q s) number (as_taken (numbers s) q) (is_modern s.timing) by at s.timing s.controlling s.lite p role full (omega (arith, late))),
           )
 
       takes : (l r : ℕ) (number : Option ℕ) (s new : AgentRecord H P) (emitted : Emitted) → s.controlling ≡ true → s.lite ≡ false → NoneValid s.pairs → FindsOrAddsPair mac q l r number s emitted new → Rests s new

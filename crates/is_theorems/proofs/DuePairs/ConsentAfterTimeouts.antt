@@ -11,6 +11,7 @@ use Rattle.is_pair.specs.Multiset.{change_at, is_numbered}
 use Rattle.is_pair.specs.Pairs.{PairRecord, checked, is_recent}
 use Rattle.is_stun.specs.declared.timing.Consent.{Consent}
 use Rattle.is_stun.specs.declared.timing.StunTiming.{StunTiming}
+use Rattle.is_stun.specs.Timing.{consent_of}
 use Rattle.is_rules.specs.declared.credentials.IceCreds.{IceCreds}
 use Rattle.is_rules.specs.declared.emitted.Issued.{Issued}
 use Rattle.is_rules.specs.declared.emitted.Path.{Path}
@@ -28,9 +29,9 @@ use Rattle.is_theorems.proofs.BasicLemmas.PairsInTurn.{by-begins, sent-pairs, se
 
 -- ---- one pair
 
-kept-consents : (lite : Bool) (now : ℕ) (t : StunTiming) (p : PairRecord) → lite ≡ false → not (is_pair_expired lite now t p) ≡ true → has_consent t.consent now p ≡ true
+kept-consents : (lite : Bool) (now : ℕ) (t : StunTiming) (p : PairRecord) → lite ≡ false → not (is_pair_expired lite now t p) ≡ true → has_consent (consent_of t) now p ≡ true
 kept-consents true now t p full is = absurd (cc)
-kept-consents false now t p full is = left (has_consent t.consent now p) (is_possible now t p) is where
+kept-consents false now t p full is = left (has_consent (consent_of t) now p) (is_possible now t p) is where
   left : (a b : Bool) → not (not (a && b)) ≡ true → a ≡ true
   left true b h = refl
   left false b h = h
@@ -94,12 +95,12 @@ module _ {H P : Type 0} where
   -- ---- removed pairs
 
   gives-up-consents : (now : ℕ) (old new : AgentRecord H P) (path : Option Path) → old.lite ≡ false → RemovesExpired now old path new
-      → (q : PairRecord) → Has new.pairs q → has_consent old.timing.consent now q ≡ true
+      → (q : PairRecord) → Has new.pairs q → has_consent (consent_of old.timing) now q ≡ true
   gives-up-consents now old new path full h = either (list_any (is_expired now old) old.pairs) h
       (λ _ k q has.
       (let there : Has k.0.pairs q = subst (λ (a : AgentRecord H P). Has a.pairs q) k.2 has in
       let o = (nominates-thins 0 (expired_gone now old) k.0 path k.1).1.back q there in
-      consent-same old.timing.consent now o.0 q o.2.consented o.2.heard
+      consent-same (consent_of old.timing) now o.0 q o.2.consented o.2.heard
       ∙ kept-consents old.lite now old.timing o.0 full (passed (λ p. not (is_expired now old p)) old.pairs o.0 o.1)))
       (λ none k q has.
       (let there : Has old.pairs q = subst (λ (a : AgentRecord H P). Has a.pairs q) k.1 has in
@@ -150,6 +151,6 @@ module _ {H P : Type 0} where
               (n.0, n.1, record { number = o.2.number ∙ n.2.number; consented = o.2.consented ∙ n.2.consented; heard = o.2.heard ∙ n.2.heard })))
               c.1,
           λ q has. (let o = c.1 q has in
-              consent-same new.timing.consent now o.0 q o.2.consented o.2.heard
-              ∙ (ap (λ (z : StunTiming). has_consent z.consent now o.0) timing ∙ gives-up-consents now named kept second named_full giving o.0 o.1)),
+              consent-same (consent_of new.timing) now o.0 q o.2.consented o.2.heard
+              ∙ (ap (λ (z : StunTiming). has_consent (consent_of z) now o.0) timing ∙ gives-up-consents now named kept second named_full giving o.0 o.1)),
         )

@@ -16,6 +16,7 @@ use Rattle.is_pair.specs.Due.{asked, computed_due_time, due_time_of, is_due, Goe
 use Rattle.is_pair.specs.Multiset.{is_numbered, change_at, change_pair}
 use Rattle.is_stun.specs.declared.header.Class.TheVariants as class
 use Rattle.is_stun.specs.declared.timing.StunTiming.{StunTiming}
+use Rattle.is_stun.specs.Timing.{is_modern}
 use Rattle.is_rules.specs.declared.credentials.IceCreds.{IceCreds}
 use Rattle.is_rules.specs.declared.emitted.Issued.{Issued}
 use Rattle.is_rules.specs.declared.emitted.Path.{Path}
@@ -23,7 +24,7 @@ use Rattle.is_rules.specs.declared.emitted.Emitted.{Emitted}
 use Rattle.is_rules.specs.Emitted.{issued_as}
 use Rattle.is_rules.specs.Agent.{AgentRecord}
 use Rattle.is_rules.specs.Sending.{path_of}
-use Rattle.is_rules.specs.Checking.{goes_ahead, all_asked, all_heard, are_kinds_in_turn, check_sent, has_first, is_ahead_turn, IsNextToCheck, ChecksTop, ChecksNext, MayCheck}
+use Rattle.is_rules.specs.Checking.{all_asked, all_heard, are_kinds_in_turn, check_sent, has_first, is_ahead_turn, IsNextToCheck, ChecksTop, ChecksNext, MayCheck}
 use Rattle.is_rules.specs.Timeouts.{at_timeout, MaintainsPairs, RemovesExpired}
 use Rattle.is_theorems.proofs.RuleEffects.ChangedPairs.{Has-map}
 use Rattle.is_theorems.proofs.CallEffects.ServedRequests.{Has-mapped}
@@ -181,7 +182,7 @@ module _ {H P : Type 0} where
     abbrev pub WaitsOn : Type 0 → ℕ → ℕ → ℕ → AgentRecord H P → AgentRecord H P → PairRecord → Type 0
     WaitsOn InTurn now by n old new p =
         (q : PairRecord) × Has new.pairs q × Matches p q × (q.checks ≡ p.checks) × ((at : ℕ) → due_time_of at old.timing q ≤ by)
-        × (InTurn → IsPaced old.timing → now < MAX → Falls (goes_ahead old.rules) old.ahead_turn new.ahead_turn n (length (due_by by now old.timing new.pairs)))
+        × (InTurn → IsPaced old.timing → now < MAX → Falls (is_modern old.timing) old.ahead_turn new.ahead_turn n (length (due_by by now old.timing new.pairs)))
 
     -- a pair is checked: this one, or one before it, or another one that goes ahead
     abbrev pub Checked : ℕ → ℕ → ℕ → AgentRecord H P → Option Issued → AgentRecord H P → PairRecord → Type 0
@@ -201,7 +202,7 @@ module _ {H P : Type 0} where
           → new ≡ check_sent mac now peer q id (all_asked now old) → (o : PairRecord) → Has old.pairs o → o.number ≡ q.number
           → (b : Bool) → is_numbered q.number (asked now old.timing p) ≡ b
           → (NoneAtCheck now old → IsPaced old.timing → now < MAX
-          → Falls (goes_ahead old.rules) old.ahead_turn new.ahead_turn n
+          → Falls (is_modern old.timing) old.ahead_turn new.ahead_turn n
           (length (due_by by now old.timing (change_pair q.number (checked now old.timing old.controlling id) (map (asked now old.timing) old.pairs)))))
           → (o ≡ p) ⊎ WaitsOn (NoneAtCheck now old) now by n old new p
       by-number new s t issued peer q id made o there same true is fewer =
@@ -218,7 +219,7 @@ module _ {H P : Type 0} where
             record { number = refl; local = refl; remote = refl; valid = refl },
             refl,
             (λ at. own-due),
-            (λ turn paced early. subst (λ ps. Falls (goes_ahead old.rules) old.ahead_turn new.ahead_turn n (length (due_by by now old.timing ps)))
+            (λ turn paced early. subst (λ ps. Falls (is_modern old.timing) old.ahead_turn new.ahead_turn n (length (due_by by now old.timing ps)))
                 (sym (pairs-checked mac now peer q id (all_asked now old) new turn made)) (fewer turn paced early)),
           )
 
@@ -238,10 +239,10 @@ module _ {H P : Type 0} where
                 (λ turn paced early. fewer there turn paced early (is_ahead_turn now (all_asked now old)) refl),
           ) where
             fewer : Has (map (asked now old.timing) old.pairs) q → NoneAtCheck now old → IsPaced old.timing → now < MAX → (b : Bool) → is_ahead_turn now (all_asked now old) ≡ b
-                → Falls (goes_ahead old.rules) old.ahead_turn new.ahead_turn n
+                → Falls (is_modern old.timing) old.ahead_turn new.ahead_turn n
                 (length (due_by by now old.timing (change_pair q.number (checked now old.timing old.controlling id) (map (asked now old.timing) old.pairs))))
             fewer there calm paced early true on =
-                let turn = is-turn (goes_ahead old.rules) old.ahead_turn (are_kinds_in_turn (all_asked now old) || has_first now (all_asked now old)) on in
+                let turn = is-turn (is_modern old.timing) old.ahead_turn (are_kinds_in_turn (all_asked now old) || has_first now (all_asked now old)) on in
                 let le = no-more-due now by old.timing old.controlling id paced early from q.number (map (asked now old.timing) old.pairs) in
                 let counted = count-asked in
                 inr (omega (arith, le, counted), turn.0, turn.1, ap (λ (a : AgentRecord H P). a.ahead_turn) made ∙ ap not on)
@@ -325,10 +326,10 @@ module _ {H P : Type 0} where
                   | inr (r, r_there, matches, checks, r_due, fewer) ↦
                       (let counted = c.1.fewer in
                       let fewer_old : ChecksInTurn old → IsPaced kept.timing → now < MAX
-                      → Falls (goes_ahead old.rules) old.ahead_turn new.ahead_turn (length (filter (is_fixed_by by) old.pairs)) (length (due_by by now kept.timing new.pairs)) =
-                      λ turn paced early. falls-from (goes_ahead kept.rules) (goes_ahead old.rules) kept.ahead_turn old.ahead_turn new.ahead_turn
+                      → Falls (is_modern old.timing) old.ahead_turn new.ahead_turn (length (filter (is_fixed_by by) old.pairs)) (length (due_by by now kept.timing new.pairs)) =
+                      λ turn paced early. falls-from (is_modern kept.timing) (is_modern old.timing) kept.ahead_turn old.ahead_turn new.ahead_turn
                       (length (filter (is_fixed_by by) kept.pairs)) (length (filter (is_fixed_by by) old.pairs)) (length (due_by by now kept.timing new.pairs))
-                      (ap (λ (x : Base). goes_ahead x.rules) (sym c.0)) (ap (λ (x : Base). x.ahead_turn) (sym c.0)) counted (fewer (none-at-once now (all_asked now kept) (turns-by (agent_base (at_timeout now old)) kept c.0 turn)) paced early) in
+                      (ap (λ (x : Base). is_modern x.timing) (sym c.0)) (ap (λ (x : Base). x.ahead_turn) (sym c.0)) counted (fewer (none-at-once now (all_asked now kept) (turns-by (agent_base (at_timeout now old)) kept c.0 turn)) paced early) in
                       inr (
                         r,
                         r_there,
@@ -336,7 +337,7 @@ module _ {H P : Type 0} where
                         checks ∙ alike.checks,
                         (λ at. subst (λ (x : StunTiming). due_time_of at x r ≤ by) timing (r_due at)),
                         subst (λ (x : StunTiming). ChecksInTurn old → IsPaced x → now < MAX
-                            → Falls (goes_ahead old.rules) old.ahead_turn new.ahead_turn (length (filter (is_fixed_by by) old.pairs)) (length (due_by by now x new.pairs))) timing fewer_old,
+                            → Falls (is_modern old.timing) old.ahead_turn new.ahead_turn (length (filter (is_fixed_by by) old.pairs)) (length (due_by by now x new.pairs))) timing fewer_old,
                       ))
                 ],
               )

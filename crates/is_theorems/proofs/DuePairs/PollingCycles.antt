@@ -12,13 +12,13 @@ use Rattle.is_pair.specs.Due.{asked, consent_end, due_time_of, has_consent, call
 use Rattle.is_stun.specs.declared.header.Class.TheVariants as class
 use Rattle.is_stun.specs.declared.timing.Consent.{Consent}
 use Rattle.is_stun.specs.declared.timing.StunTiming.{StunTiming}
+use Rattle.is_stun.specs.Timing.{is_modern, consent_of}
 use Rattle.is_rules.specs.declared.credentials.IceCreds.{IceCreds}
 use Rattle.is_rules.specs.declared.emitted.Emitted.{Emitted}
 use Rattle.is_rules.specs.Emitted.{issued_as}
 use Rattle.is_rules.specs.Request.{RequestRecord}
 use Rattle.is_rules.specs.Agent.{AgentRecord}
-use Rattle.is_rules.specs.Checking.{all_asked, goes_ahead}
-use Rattle.is_rules.specs.declared.rules.Rules.{Rules}
+use Rattle.is_rules.specs.Checking.{all_asked}
 use Rattle.is_rules.specs.Sending.{path_of}
 use Rattle.is_rules.specs.Queue.{is_outdated, queue_left, next_request, first_taken, request_at}
 use Rattle.is_rules.specs.Polls.{PollsTimeout, NextTimeoutFrom, soon, earliest_call}
@@ -126,7 +126,7 @@ module _ {H P : Type 0} where
 
     pub turn-fits : (old new : AgentRecord H P) (at now : ℕ) (emitted : Emitted) → Fits at old → Turn mac old now emitted new
         → Fits now new × Follows old.pairs new.pairs × (new.timing ≡ old.timing) × (new.local ≡ old.local) × (new.remote ≡ old.remote)
-        × (new.controlling ≡ old.controlling) × (new.next_number ≡ old.next_number) × (new.rules ≡ old.rules) × (ChecksInTurn old → ChecksInTurn new)
+        × (new.controlling ≡ old.controlling) × (new.next_number ≡ old.next_number) × (is_modern new.timing ≡ is_modern old.timing) × (ChecksInTurn old → ChecksInTurn new)
     turn-fits old new at now emitted f turn =
         let a = asks-follow at turn.deadline old turn.asked f.last turn.polled in
         let queue : turn.asked.queue ≡ [] = ap (λ (x : Base). x.queue) a.0 ∙ f.idle.queue in
@@ -157,10 +157,10 @@ module _ {H P : Type 0} where
           ap (λ (x : Base). x.remote) taken ∙ (ap (λ (x : Base). x.remote) m.0 ∙ ap (λ (x : Base). x.remote) a.0),
           ap (λ (x : Base). x.controlling) taken ∙ (ap (λ (x : Base). x.controlling) m.0 ∙ ap (λ (x : Base). x.controlling) a.0),
           ap (λ (x : Base). x.next_number) taken ∙ (ap (λ (x : Base). x.next_number) m.0 ∙ ap (λ (x : Base). x.next_number) a.0),
-          ap (λ (x : Base). x.rules) taken ∙ (ap (λ (x : Base). x.rules) m.0 ∙ ap (λ (x : Base). x.rules) a.0),
-          (λ in_turn. ap (λ (x : Base). x.controlling && (x.renominates && x.rules.numbered_nominations)) taken
-              ∙ (ap (λ (x : Base). x.controlling && (x.renominates && x.rules.numbered_nominations)) m.0
-              ∙ (ap (λ (x : Base). x.controlling && (x.renominates && x.rules.numbered_nominations)) a.0 ∙ in_turn))),
+          ap (λ (x : Base). is_modern x.timing) taken ∙ (ap (λ (x : Base). is_modern x.timing) m.0 ∙ ap (λ (x : Base). is_modern x.timing) a.0),
+          (λ in_turn. ap (λ (x : Base). x.controlling && (x.renominates && is_modern x.timing)) taken
+              ∙ (ap (λ (x : Base). x.controlling && (x.renominates && is_modern x.timing)) m.0
+              ∙ (ap (λ (x : Base). x.controlling && (x.renominates && is_modern x.timing)) a.0 ∙ in_turn))),
         )
 
     -- a pair that is due still waits, and one fewer goes before it, or a check went ahead
@@ -168,7 +168,7 @@ module _ {H P : Type 0} where
     StillWaits at now by old new p =
         (q : PairRecord) × Has new.pairs q × Matches p q × (q.checks ≡ p.checks) × (due_time_of now new.timing q ≤ by)
         × (ChecksInTurn old → IsPaced old.timing → now < MAX
-        → Falls (goes_ahead old.rules) old.ahead_turn new.ahead_turn (length (due_by by at old.timing old.pairs)) (length (due_by by now new.timing new.pairs)))
+        → Falls (is_modern old.timing) old.ahead_turn new.ahead_turn (length (due_by by at old.timing old.pairs)) (length (due_by by now new.timing new.pairs)))
 
     abbrev pub Does : ℕ → ℕ → ℕ → AgentRecord H P → Emitted → AgentRecord H P → PairRecord → Type 0
     Does at now by old emitted new p =
@@ -205,8 +205,8 @@ module _ {H P : Type 0} where
                     | inl same ↦ inl (ap (λ (y : PairRecord). y.number) x.2 ∙ ap (λ (y : PairRecord). y.number) same)
                     | inr (q, q_there, matches, checks, q_due, fewer) ↦
                         (let fewer_old : ChecksInTurn old → IsPaced old.timing → now < MAX
-                        → Falls (goes_ahead old.rules) old.ahead_turn new.ahead_turn (length (due_by by at old.timing old.pairs)) (length (due_by by now old.timing new.pairs)) =
-                        λ turn paced early. falls-from (goes_ahead old.rules) (goes_ahead old.rules) old.ahead_turn old.ahead_turn new.ahead_turn
+                        → Falls (is_modern old.timing) old.ahead_turn new.ahead_turn (length (due_by by at old.timing old.pairs)) (length (due_by by now old.timing new.pairs)) =
+                        λ turn paced early. falls-from (is_modern old.timing) (is_modern old.timing) old.ahead_turn old.ahead_turn new.ahead_turn
                         (length (filter (is_fixed_by by) (map (asked at old.timing) old.pairs))) (length (due_by by at old.timing old.pairs))
                         (length (due_by by now old.timing new.pairs)) refl refl (counted at by old) (fewer turn paced early) in
                         inr (
@@ -216,7 +216,7 @@ module _ {H P : Type 0} where
                           checks,
                           subst (λ (y : StunTiming). due_time_of now y q ≤ by) (sym timing) (q_due now),
                           subst (λ (y : StunTiming). ChecksInTurn old → IsPaced old.timing → now < MAX
-                              → Falls (goes_ahead old.rules) old.ahead_turn new.ahead_turn (length (due_by by at old.timing old.pairs)) (length (due_by by now y new.pairs)))
+                              → Falls (is_modern old.timing) old.ahead_turn new.ahead_turn (length (due_by by at old.timing old.pairs)) (length (due_by by now y new.pairs)))
                               (sym timing) fewer_old,
                         ))
                   ],
@@ -245,11 +245,11 @@ module _ {H P : Type 0} where
 
     starves-not : (turns : List (ℕ × Emitted)) (first last : AgentRecord H P) (p : PairRecord) (at by : ℕ) → Fits at first → ChecksInTurn first → IsPaced first.timing → Has first.pairs p
         → due_time_of at first.timing p ≤ by → ((x : ℕ × Emitted) → Has turns x → (by ≤ x.0) × (x.0 < MAX)) → Turns mac turns first last
-        → calls_left (goes_ahead first.rules) first.ahead_turn (length (due_by by at first.timing first.pairs)) ≤ length turns + 1 → Reached turns first last p
+        → calls_left (is_modern first.timing) first.ahead_turn (length (due_by by at first.timing first.pairs)) ≤ length turns + 1 → Reached turns first last p
     starves-not [] first last p at by f in_turn paced has due timeouts is enough =
         let some : 0 < length (due_by by at first.timing first.pairs) = some-pass (is_due_by by at first.timing) first.pairs p has (le-is (due_time_of at first.timing p) by due) in
-        absurd (none-left-over (calls_left (goes_ahead first.rules) first.ahead_turn (length (due_by by at first.timing first.pairs)))
-        (calls-some (goes_ahead first.rules) first.ahead_turn (length (due_by by at first.timing first.pairs)) some) enough) where
+        absurd (none-left-over (calls_left (is_modern first.timing) first.ahead_turn (length (due_by by at first.timing first.pairs)))
+        (calls-some (is_modern first.timing) first.ahead_turn (length (due_by by at first.timing first.pairs)) some) enough) where
           none-left-over : (n : ℕ) → 2 ≤ n → n ≤ 0 + 1 → ⊥
           none-left-over n some enough = omega (arith, some, enough)
     starves-not (x ∷ rest) first last p at by f in_turn paced has due timeouts (mid, turn, more) enough =
@@ -262,11 +262,11 @@ module _ {H P : Type 0} where
               inl (x, inl refl, subst (λ (y : PairRecord). ChecksOn first x.1 y) one out))
           | inr (o, there, out, inr (q, q_there, matches, checks, q_due, fewer)) ↦
               onward matches (starves-not rest mid last q x.0 by k.0 (k.8 in_turn) (subst (λ (t : StunTiming). IsPaced t) (sym k.2) paced) q_there q_due (λ y has_y. timeouts y (inr has_y)) more
-              (one-call (calls_left (goes_ahead mid.rules) mid.ahead_turn (length (due_by by x.0 mid.timing mid.pairs)))
-              (calls_left (goes_ahead first.rules) first.ahead_turn (length (due_by by at first.timing first.pairs))) (length rest)
-              (subst (λ (r : Rules). calls_left (goes_ahead r) mid.ahead_turn (length (due_by by x.0 mid.timing mid.pairs)) + 1
-              ≤ calls_left (goes_ahead first.rules) first.ahead_turn (length (due_by by at first.timing first.pairs))) (sym k.7)
-              (calls-fall (goes_ahead first.rules) first.ahead_turn mid.ahead_turn (length (due_by by at first.timing first.pairs)) (length (due_by by x.0 mid.timing mid.pairs))
+              (one-call (calls_left (is_modern mid.timing) mid.ahead_turn (length (due_by by x.0 mid.timing mid.pairs)))
+              (calls_left (is_modern first.timing) first.ahead_turn (length (due_by by at first.timing first.pairs))) (length rest)
+              (subst (λ (r : Bool). calls_left r mid.ahead_turn (length (due_by by x.0 mid.timing mid.pairs)) + 1
+              ≤ calls_left (is_modern first.timing) first.ahead_turn (length (due_by by at first.timing first.pairs))) (sym k.7)
+              (calls-fall (is_modern first.timing) first.ahead_turn mid.ahead_turn (length (due_by by at first.timing first.pairs)) (length (due_by by x.0 mid.timing mid.pairs))
               (fewer in_turn paced times_of_call.1))) enough))
               (same-path first mid p q k.3 k.4 matches)
         ] where
@@ -320,7 +320,7 @@ module _ {H P : Type 0} where
             let p = least-is (call_time_of at old.timing) MAX deadline old.pairs low early in
             let m : TimesOut mac now (record old { pairs = map (asked at old.timing) old.pairs }) s (Ok tt) emitted new t =
             subst (λ (x : AgentRecord H P). TimesOut mac now x s (Ok tt) emitted new t) a.1 h in
-            elim (woken old.timing.consent refl p.0 p.2) [
+            elim (woken (consent_of old.timing) refl p.0 p.2) [
               | inl due ↦ use_of p.0 p.1 (asked-moves old new s t at now now emitted (distinct-sound old sound) checking none (omega arith) p.0 p.1 (omega (arith, due, kept)) m)
               | inr (c, is_c, ended) ↦ inl (p.0, p.1, inr (ended-goes c is_c p.0 p.1 ended m))
             ] where
@@ -328,8 +328,8 @@ module _ {H P : Type 0} where
               below x y e = omega (arith, e)
 
               -- the pair is due, or its consent ends
-              woken : (o : Option Consent) → old.timing.consent ≡ o → (p : PairRecord) → call_time_of at old.timing p ≤ deadline
-                  → (due_time_of at old.timing p ≤ deadline) ⊎ ((c : Consent) × (old.timing.consent ≡ Some c) × (consent_end c p ≤ deadline))
+              woken : (o : Option Consent) → consent_of old.timing ≡ o → (p : PairRecord) → call_time_of at old.timing p ≤ deadline
+                  → (due_time_of at old.timing p ≤ deadline) ⊎ ((c : Consent) × (consent_of old.timing ≡ Some c) × (consent_end c p ≤ deadline))
               woken None is p le = inl (subst (λ (o : Option Consent). call_time_with o at old.timing p ≤ deadline) is le)
               woken (Some c) is p le = elim (least-of (due_time_of at old.timing p) (consent_end c p) (subst (λ (o : Option Consent). call_time_with o at old.timing p ≤ deadline) is le)) [
                 | inl due ↦ inl due
@@ -342,7 +342,7 @@ module _ {H P : Type 0} where
                   by false is = inr (let over : deadline < x = le-over x deadline is in omega (arith, le, over))
 
               -- then the call removes it
-              ended-goes : (c : Consent) → old.timing.consent ≡ Some c → (p : PairRecord) → Has old.pairs p → consent_end c p ≤ deadline
+              ended-goes : (c : Consent) → consent_of old.timing ≡ Some c → (p : PairRecord) → Has old.pairs p → consent_end c p ≤ deadline
                   → TimesOut mac now (record old { pairs = map (asked at old.timing) old.pairs }) s (Ok tt) emitted new t → IsGone p.number new.pairs
               ended-goes c is_c p has ended m q there same =
                   let asking : AgentRecord H P = record old { pairs = map (asked at old.timing) old.pairs } in
@@ -350,11 +350,11 @@ module _ {H P : Type 0} where
                   let o = k.1 q there in
                   let was = Has-map (asked at old.timing) old.pairs o.0 o.1 in
                   let one : was.0 ≡ p = distinct-sound old sound was.0 p was.1 has (ap (λ (x : PairRecord). x.number) was.2 ∙ (sym o.2.number ∙ same)) in
-                  let has_it : has_consent old.timing.consent now q ≡ true = ap (λ (x : StunTiming). has_consent x.consent now q) (sym k.0) ∙ k.2 q there in
+                  let has_it : has_consent (consent_of old.timing) now q ≡ true = ap (λ (x : StunTiming). has_consent (consent_of x) now q) (sym k.0) ∙ k.2 q there in
                   let asked_it : has_consent (Some c) now (asked at old.timing p) ≡ false = consent-ended c (asked at old.timing p) deadline now ended early kept in
                   let same_pair : asked at old.timing p ≡ o.0 = ap (asked at old.timing) (sym one) ∙ was.2 in
                   let no : true ≡ false =
-                  sym has_it ∙ (consent-same old.timing.consent now o.0 q o.2.consented o.2.heard
+                  sym has_it ∙ (consent-same (consent_of old.timing) now o.0 q o.2.consented o.2.heard
                   ∙ (ap (λ (r : Option Consent). has_consent r now o.0) is_c ∙ (ap (λ (x : PairRecord). has_consent (Some c) now x) (sym same_pair) ∙ asked_it))) in
                   cc
 
@@ -408,4 +408,4 @@ module _ {H P : Type 0} where
         })
         in_turn waits.paced waits.there (let due = waits.due in omega (arith, due))
         (λ x has. (let from = (timeouts x has).0 in let early = (timeouts x has).1 in (omega (arith, from), omega (arith, early)))) turning
-        (calls-from (goes_ahead first.rules) first.ahead_turn (length (due_by by at first.timing first.pairs)) (length turns) (omega (arith, enough)))
+        (calls-from (is_modern first.timing) first.ahead_turn (length (due_by by at first.timing first.pairs)) (length turns) (omega (arith, enough)))

@@ -17,17 +17,17 @@ use Rattle.is_pair.proofs.DueTimes.CountOfDuePairs.{no-more, no-more-pass, some-
 use Rattle.is_pair.proofs.DueTimes.LaterAfterCheck.{checked-later}
 use Rattle.is_stun.specs.declared.header.Class.TheVariants as class
 use Rattle.is_stun.specs.declared.timing.StunTiming.{StunTiming}
+use Rattle.is_stun.specs.Timing.{is_modern}
 use Rattle.is_rules.specs.declared.credentials.IceCreds.{IceCreds}
 use Rattle.is_rules.specs.declared.event.IceAgentEvent.{IceAgentEvent}
 use Rattle.is_rules.specs.declared.emitted.Issued.{Issued}
 use Rattle.is_rules.specs.declared.emitted.Path.{Path}
 use Rattle.is_rules.specs.declared.emitted.Emitted.{Emitted}
-use Rattle.is_rules.specs.declared.rules.Rules.{Rules}
 use Rattle.is_rules.specs.Emitted.{issued_as}
 use Rattle.is_rules.specs.Agent.{AgentRecord}
 use Rattle.is_rules.specs.Sending.{path_of}
 use Rattle.is_rules.specs.Nominating.{nominates_at_once}
-use Rattle.is_rules.specs.Checking.{goes_ahead, all_asked, ChecksTop, MayCheck}
+use Rattle.is_rules.specs.Checking.{all_asked, ChecksTop, MayCheck}
 use Rattle.is_rules.specs.Timeouts.{timeout_begun, at_timeout, is_expired, expired_gone, RemovesExpired, MaintainsPairs}
 use Rattle.is_rules.specs.States.{evaluated}
 use Rattle.is_rules.specs.Sound.{IsSound}
@@ -186,10 +186,10 @@ module _ {H P : Type 0} where
                     checks,
                     (λ at. subst (λ (x : StunTiming). due_time_of at x r ≤ by) timing (r_due at)),
                     subst (λ (x : StunTiming). NoneAtOnce now old → IsPaced x → now < MAX
-                        → Falls (goes_ahead old.rules) old.ahead_turn new.ahead_turn (length (due_by by now old.timing old.pairs)) (length (due_by by now x new.pairs))) timing
-                        (λ turn is_paced is_early. falls-from (goes_ahead kept.rules) (goes_ahead old.rules) kept.ahead_turn old.ahead_turn new.ahead_turn
+                        → Falls (is_modern old.timing) old.ahead_turn new.ahead_turn (length (due_by by now old.timing old.pairs)) (length (due_by by now x new.pairs))) timing
+                        (λ turn is_paced is_early. falls-from (is_modern kept.timing) (is_modern old.timing) kept.ahead_turn old.ahead_turn new.ahead_turn
                         (length (due_by by now old.timing old.pairs)) (length (due_by by now old.timing old.pairs)) (length (due_by by now kept.timing new.pairs))
-                        (ap (λ (x : Base). goes_ahead x.rules) (sym base)) (ap (λ (x : Base). x.ahead_turn) (sym base)) (omega arith) (fewer (none-now turn) is_paced is_early)),
+                        (ap (λ (x : Base). is_modern x.timing) (sym base)) (ap (λ (x : Base). x.ahead_turn) (sym base)) (omega arith) (fewer (none-now turn) is_paced is_early)),
                   ))
             ],
           )
@@ -231,7 +231,7 @@ module _ {H P : Type 0} where
     pub due : due_time_of now a.timing pair ≤ by
     pub placed : pair.remote < length a.remote
     pub on : path_of a pair ≡ path
-    pub count : calls_left (goes_ahead a.rules) a.ahead_turn (length (due_by by now a.timing a.pairs)) + k ≤ n
+    pub count : calls_left (is_modern a.timing) a.ahead_turn (length (due_by by now a.timing a.pairs)) + k ≤ n
 
   -- the same after a `handle_timeout` call, whenever the due time is computed
   pub record Waits (by n : ℕ) (path : Path) (at k : ℕ) (a : AgentRecord H P) : Type 0 where
@@ -245,7 +245,7 @@ module _ {H P : Type 0} where
     pub held : Held by at a.timing a.pairs
     pub placed : pair.remote < length a.remote
     pub on : path_of a pair ≡ path
-    pub count : calls_left (goes_ahead a.rules) a.ahead_turn (length (due_by by at a.timing a.pairs)) + k ≤ n
+    pub count : calls_left (is_modern a.timing) a.ahead_turn (length (due_by by at a.timing a.pairs)) + k ≤ n
 
   pub persists : (by n : ℕ) (path : Path) (at k now : ℕ) (a : AgentRecord H P) → by < now → Waits by n path at k a → Persists by n path now k a
   persists by n path at k now a late w = record {
@@ -259,21 +259,21 @@ module _ {H P : Type 0} where
     on = w.on;
     count = (let less = no-more-pass (is_due_by by at a.timing) (is_due_by by now a.timing) a.pairs
         (λ q has is. le-is (due_time_of at a.timing q) by (w.held q has now late (le-from (due_time_of now a.timing q) by is))) in
-        calls-kept (goes_ahead a.rules) a.ahead_turn (length (due_by by at a.timing a.pairs)) (length (due_by by now a.timing a.pairs)) k n less w.count);
+        calls-kept (is_modern a.timing) a.ahead_turn (length (due_by by at a.timing a.pairs)) (length (due_by by now a.timing a.pairs)) k n less w.count);
   }
 
   -- once all rounds are over, no pair waits
   pub never : (by n : ℕ) (path : Path) (at k : ℕ) (a : AgentRecord H P) → by < at → Waits by n path at k a → n ≤ k + 1 → ⊥
   never by n path at k a following w enough =
       let some : 0 < length (due_by by at a.timing a.pairs) = some-pass (is_due_by by at a.timing) a.pairs w.pair w.there (le-is (due_time_of at a.timing w.pair) by (w.due at following)) in
-      over (calls_left (goes_ahead a.rules) a.ahead_turn (length (due_by by at a.timing a.pairs)))
-      (calls-some (goes_ahead a.rules) a.ahead_turn (length (due_by by at a.timing a.pairs)) some) w.count enough where
+      over (calls_left (is_modern a.timing) a.ahead_turn (length (due_by by at a.timing a.pairs)))
+      (calls-some (is_modern a.timing) a.ahead_turn (length (due_by by at a.timing a.pairs)) some) w.count enough where
         over : (left : ℕ) → 2 ≤ left → left + k ≤ n → n ≤ k + 1 → ⊥
         over left some counted enough = omega (arith, some, counted, enough)
 
   module _ (mac : H → List ℕ → List ℕ → List ℕ) (answers : P → CandidateRecord → ℕ → ℕ → Type 0) where
     pub begins : (now by : ℕ) (a : AgentRecord H P) (p : PairRecord) → IsSound a → a.controlling ≡ true → Awaits now by a p → IsUnanswered a p
-        → Persists by (calls_left (goes_ahead a.rules) a.ahead_turn (length (due_by by now a.timing a.pairs))) (path_of a p) now 0 a
+        → Persists by (calls_left (is_modern a.timing) a.ahead_turn (length (due_by by now a.timing a.pairs))) (path_of a p) now 0 a
     begins now by a p sound role waits unanswered = record {
       calm = record {
         sound = sound;
@@ -292,7 +292,7 @@ module _ {H P : Type 0} where
       due = (let due = waits.due in omega (arith, due));
       placed = (sound.placed p waits.there).1;
       on = refl;
-      count = none-over (calls_left (goes_ahead a.rules) a.ahead_turn (length (due_by by now a.timing a.pairs)));
+      count = none-over (calls_left (is_modern a.timing) a.ahead_turn (length (due_by by now a.timing a.pairs)));
     }
 
     pub asked-sound : (old new : AgentRecord H P) (deadline : Option ℕ) → IsSound old → PollsTimeout old deadline new → IsSound new
@@ -311,7 +311,7 @@ module _ {H P : Type 0} where
       pub timing : new.timing ≡ old.timing
       pub local : new.local ≡ old.local
       pub remote : new.remote ≡ old.remote
-      pub rules : new.rules ≡ old.rules
+      pub rules : is_modern new.timing ≡ is_modern old.timing
 
     pub passed : (now : ℕ) (emitted : Emitted) (old new : AgentRecord H P) → Calm old → Passes mac old now emitted new → Passed now old new
     passed now emitted old new calm pass =
@@ -346,7 +346,7 @@ module _ {H P : Type 0} where
           timing = ap (λ (x : Base). x.timing) taken ∙ ap (λ (x : Base). x.timing) m.0;
           local = ap (λ (x : Base). x.local) taken ∙ ap (λ (x : Base). x.local) m.0;
           remote = ap (λ (x : Base). x.remote) taken ∙ ap (λ (x : Base). x.remote) m.0;
-          rules = ap (λ (x : Base). x.rules) taken ∙ ap (λ (x : Base). x.rules) m.0;
+          rules = ap (λ (x : Base). is_modern x.timing) taken ∙ ap (λ (x : Base). is_modern x.timing) m.0;
         }
 
     -- a check is sent on the path, or the pair still waits, with one fewer before it, or after a check that went ahead
@@ -365,10 +365,10 @@ module _ {H P : Type 0} where
           by-check x (o, there, (id, out), inl one) held =
               inl (id, out ∙ ap (λ p. Some (issued_as p class.Request id)) (ap (λ (y : PairRecord). path_of old y) one ∙ st.on))
           by-check x (o, there, out, inr (q, q_there, matches, checks, q_due, fewer)) held =
-              let falls : Falls (goes_ahead old.rules) old.ahead_turn new.ahead_turn (length (due_by by now old.timing old.pairs)) (length (due_by by now old.timing new.pairs)) =
-              subst (λ (b : Bool). Falls (goes_ahead old.rules) old.ahead_turn b (length (due_by by now old.timing old.pairs)) (length (due_by by now old.timing new.pairs)))
+              let falls : Falls (is_modern old.timing) old.ahead_turn new.ahead_turn (length (due_by by now old.timing old.pairs)) (length (due_by by now old.timing new.pairs)) =
+              subst (λ (b : Bool). Falls (is_modern old.timing) old.ahead_turn b (length (due_by by now old.timing old.pairs)) (length (due_by by now old.timing new.pairs)))
               (sym (ap (λ (a : AgentRecord H P). a.ahead_turn) pass.taken))
-              (subst (λ ps. Falls (goes_ahead old.rules) old.ahead_turn pass.after.ahead_turn (length (due_by by now old.timing old.pairs)) (length (due_by by now old.timing ps)))
+              (subst (λ ps. Falls (is_modern old.timing) old.ahead_turn pass.after.ahead_turn (length (due_by by now old.timing old.pairs)) (length (due_by by now old.timing ps)))
               (sym pairs) (fewer (none-at-check mac now (timeout_begun now old) st.calm.invalid st.calm.quiet) st.paced early)) in
               inr (record {
                 calm = x.calm;
@@ -382,7 +382,7 @@ module _ {H P : Type 0} where
                 held = subst (λ (t : StunTiming). Held by now t new.pairs) (sym x.timing) held;
                 placed = subst (λ (cs : List CandidateRecord). q.remote < length cs) (sym x.remote) (subst (λ j. j < length old.remote) (sym matches.remote) st.placed);
                 on = same-path old new st.pair q x.local x.remote matches ∙ st.on;
-                count = subst (λ (t : StunTiming). calls_left (goes_ahead new.rules) new.ahead_turn (length (due_by by now t new.pairs)) + suc k ≤ n) (sym x.timing)
-                    (subst (λ (r : Rules). calls_left (goes_ahead r) new.ahead_turn (length (due_by by now old.timing new.pairs)) + suc k ≤ n) (sym x.rules)
-                    (calls-go-on (goes_ahead old.rules) old.ahead_turn new.ahead_turn (length (due_by by now old.timing old.pairs)) (length (due_by by now old.timing new.pairs)) k n falls st.count));
+                count = subst (λ (t : StunTiming). calls_left (is_modern new.timing) new.ahead_turn (length (due_by by now t new.pairs)) + suc k ≤ n) (sym x.timing)
+                    (subst (λ (r : Bool). calls_left r new.ahead_turn (length (due_by by now old.timing new.pairs)) + suc k ≤ n) (sym x.rules)
+                    (calls-go-on (is_modern old.timing) old.ahead_turn new.ahead_turn (length (due_by by now old.timing old.pairs)) (length (due_by by now old.timing new.pairs)) k n falls st.count));
               })

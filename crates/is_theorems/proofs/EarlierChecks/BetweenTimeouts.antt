@@ -22,7 +22,6 @@ use Rattle.is_rules.specs.declared.roles.Conflict.{Conflict}
 use Rattle.is_rules.specs.declared.roles.Conflict.TheVariants.{Absent, Send487, SwitchRole}
 use Rattle.is_rules.specs.declared.emitted.Path.{Path}
 use Rattle.is_rules.specs.declared.emitted.Emitted.{Emitted}
-use Rattle.is_rules.specs.declared.rules.Rules.{Rules}
 use Rattle.is_rules.specs.Forming.{formed, with_pair, priority_between}
 use Rattle.is_rules.specs.Nominating.{nominated_by_self, Nominates, followed, remains, selection_of, numbers}
 use Rattle.is_rules.specs.Places.{local_place}
@@ -33,6 +32,7 @@ use Rattle.is_rules.specs.Serving.{after_request, served, selects_at_requests, t
 use Rattle.is_rules.specs.States.{evaluated}
 use Rattle.is_rules.specs.Steps.{Entry, Flag, Receives}
 use Rattle.is_stun.specs.Reading.{Reads}
+use Rattle.is_stun.specs.Timing.{is_modern}
 use Rattle.is_theorems.proofs.BasicLemmas.EqualAddresses.{both}
 use Rattle.is_theorems.proofs.CallEffects.ChecksAndResponses.{Has-get}
 use Rattle.is_theorems.proofs.RuleEffects.UnchangedSettings.{either}
@@ -48,7 +48,6 @@ pub record Ground : Type 0 where
   pub timing : StunTiming
   pub queue : List RequestRecord
   pub last_time : Option ℕ
-  pub rules : Rules
   pub ahead_turn : Bool
   pub next_kind : ℕ
 
@@ -60,7 +59,6 @@ module _ {H P : Type 0} where
     timing = a.timing;
     queue = a.queue;
     last_time = a.last_time;
-    rules = a.rules;
     ahead_turn = a.ahead_turn;
     next_kind = a.next_kind;
   }
@@ -158,8 +156,8 @@ module _ {H P : Type 0} where
             (λ _ k. goes-same (pair_served q number s) mid k.1)) in (k.0, k.1)) made where
               request-moves : (p : PairRecord) → MovedUp by (last_time_of s) p (after_request q s p)
               request-moves p =
-                  let first : PairRecord = triggered s.rules.triggered_checks (trigger_time q s) p in
-                  triggered-mild by (last_time_of s) (trigger_time q s) s.rules.triggered_checks p (served s.controlling s.lite (as_taken (numbers s) q) first) (omega arith)
+                  let first : PairRecord = triggered (is_modern s.timing) (trigger_time q s) p in
+                  triggered-mild by (last_time_of s) (trigger_time q s) (is_modern s.timing) p (served s.controlling s.lite (as_taken (numbers s) q) first) (omega arith)
                   (served-mild s.controlling s.lite (as_taken (numbers s) q) first)
 
         takes : (l r : ℕ) (number : Option ℕ) (s new : AgentRecord H P) (emitted : Emitted) → FindsOrAddsPair mac q l r number s emitted new → Goes s new

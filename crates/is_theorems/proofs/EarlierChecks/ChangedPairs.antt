@@ -119,9 +119,8 @@ moved-fixed to d None le is = absurd (cc)
 moved-fixed to d (Some e) le is = let same : e ≡ d = ap (λ o. unwrap_or o 0) is in ap Some (omega (arith, same, le))
 
 -- a request may move the pair up before it is served
-pub triggered-mild : (by at to : ℕ) (most : Option ℕ) (p q : PairRecord) → at ≤ to → Mild (triggered most to p) q → MovedUp by at p q
-triggered-mild by at to None p q late m = moved-mild by at p q m
-triggered-mild by at to (Some most) p q late m = moves (is_triggered most p) m where
+pub triggered-mild : (by at to : ℕ) (modern : Bool) (p q : PairRecord) → at ≤ to → Mild (triggered modern to p) q → MovedUp by at p q
+triggered-mild by at to modern p q late m = moves (modern && is_triggered p) m where
   moves : (b : Bool) → Mild (if b then moved_up to p else p) q → MovedUp by at p q
   moves false m = moved-mild by at p q m
   moves true m = record {

@@ -11,6 +11,7 @@ use Rattle.is_pair.specs.Due.{asked, due_time_of, is_due, stays_answered}
 use Rattle.is_pair.specs.Pairs.{PairRecord, is_valid, is_nominated, checked}
 use Rattle.is_stun.specs.declared.header.Class.TheVariants as class
 use Rattle.is_stun.specs.declared.timing.StunTiming.{StunTiming}
+use Rattle.is_stun.specs.Timing.{consent_of}
 use Rattle.is_rules.specs.Agent.{AgentRecord}
 use Rattle.is_rules.specs.Checking.{all_asked, IsNextToCheck, ChecksTop, MayCheck}
 use Rattle.is_rules.specs.declared.credentials.IceCreds.{IceCreds}
@@ -95,7 +96,7 @@ module _ (now by : ℕ) (begun : by ≤ now) where
             still false is there = there
 
     given-ready : (old new : AgentRecord H P) (path : Option Path) → RemovesExpired now old path new → old.lite ≡ false → Distinct old.pairs → (p : PairRecord) → Has old.pairs p
-        → stays_answered old.timing.consent now p ≡ true → nat_lt (unanswered_count p.checks) old.timing.max_retransmits ≡ true → Ready old.timing p
+        → stays_answered (consent_of old.timing) now p ≡ true → nat_lt (unanswered_count p.checks) old.timing.max_retransmits ≡ true → Ready old.timing p
         → (q : PairRecord) × Has new.pairs q × Alike p q × Ready old.timing q
     given-ready old new path h full distinct p has answered young ready = either (list_any (is_expired now old) old.pairs) h
         (λ _ k. (
@@ -160,7 +161,7 @@ module _ (now by : ℕ) (begun : by ≤ now) where
 
       pub timeout-goes : (old new : AgentRecord H P) (s u : Stream) (emitted : Emitted) → is_some old.remote_creds ≡ true → old.lite ≡ false
           → Distinct old.pairs → (p : PairRecord) → Has old.pairs p
-          → stays_answered old.timing.consent now p ≡ true → nat_lt (unanswered_count p.checks) old.timing.max_retransmits ≡ true → Ready old.timing p
+          → stays_answered (consent_of old.timing) now p ≡ true → nat_lt (unanswered_count p.checks) old.timing.max_retransmits ≡ true → Ready old.timing p
           → MaintainsPairs mac now old s emitted new u → ChecksOn old emitted p ⊎ WaitsOn old new p
       timeout-goes old new s u emitted known full distinct p has answered young ready (first, second, issued, named, kept, nominating, giving, checking, is) =
           let a = nominates-thins 0 (at_timeout now old) named first nominating in

@@ -15,8 +15,9 @@ use Rattle.is_pair.specs.Pairs.{PairRecord, is_valid, is_nominated, checked, ren
 use Rattle.is_pair.specs.States.{nomination_once_sent}
 use Rattle.is_stun.specs.declared.header.Class.TheVariants as class
 use Rattle.is_stun.specs.declared.timing.StunTiming.{StunTiming}
+use Rattle.is_stun.specs.Timing.{is_modern, consent_of}
 use Rattle.is_rules.specs.Agent.{AgentRecord}
-use Rattle.is_rules.specs.Checking.{goes_ahead, all_asked, are_kinds_in_turn, has_first, is_ahead_turn, IsNextToCheck, ChecksTop, MayCheck}
+use Rattle.is_rules.specs.Checking.{all_asked, are_kinds_in_turn, has_first, is_ahead_turn, IsNextToCheck, ChecksTop, MayCheck}
 use Rattle.is_rules.specs.declared.credentials.IceCreds.{IceCreds}
 use Rattle.is_rules.specs.declared.emitted.Issued.{Issued}
 use Rattle.is_rules.specs.declared.emitted.Path.{Path}
@@ -167,7 +168,7 @@ module _ (now by : ℕ) (late : by < now) (early : now < MAX) where
             still false is there = there
 
     given-ready : (old new : AgentRecord H P) (path : Option Path) → RemovesExpired now old path new → old.lite ≡ false → Distinct old.pairs → (p : PairRecord) → Has old.pairs p
-        → stays_answered old.timing.consent now p ≡ true → nat_lt (unanswered_count p.checks) old.timing.max_retransmits ≡ true → Ready old.timing p
+        → stays_answered (consent_of old.timing) now p ≡ true → nat_lt (unanswered_count p.checks) old.timing.max_retransmits ≡ true → Ready old.timing p
         → (q : PairRecord) × Has new.pairs q × Alike p q × Ready old.timing q
     given-ready old new path h full distinct p has answered young ready = either (list_any (is_expired now old) old.pairs) h
         (λ _ k. (
@@ -197,7 +198,7 @@ module _ (now by : ℕ) (late : by < now) (early : now < MAX) where
     abbrev pub WaitsOn : Type 0 → AgentRecord H P → AgentRecord H P → PairRecord → Type 0
     WaitsOn InTurn old new p =
         (d : ℕ) × (d ≤ by) × Fixed p.number d (kept_of p) new.pairs × ((w : Measure) → leads w by new.pairs ≤ leads w by old.pairs)
-        × (InTurn → Falls (goes_ahead old.rules) old.ahead_turn new.ahead_turn (leads (all-but p.number) by old.pairs) (leads (all-but p.number) by new.pairs))
+        × (InTurn → Falls (is_modern old.timing) old.ahead_turn new.ahead_turn (leads (all-but p.number) by old.pairs) (leads (all-but p.number) by new.pairs))
 
     -- the check goes ahead, or the pair is due by the time
     abbrev Chosen : AgentRecord H P → PairRecord → Type 0
@@ -268,10 +269,10 @@ module _ (now by : ℕ) (late : by < now) (early : now < MAX) where
                       subst (λ ps. leads (all-but p.number) by ps < leads (all-but p.number) by old.pairs) (sym made) (omega (arith, a))
 
                   falls : new.pairs ≡ change_pair q.number (checked now old.timing old.controlling id) (map (asked now old.timing) old.pairs) → Chosen old q
-                      → Falls (goes_ahead old.rules) old.ahead_turn new.ahead_turn (leads (all-but p.number) by old.pairs) (leads (all-but p.number) by new.pairs)
+                      → Falls (is_modern old.timing) old.ahead_turn new.ahead_turn (leads (all-but p.number) by old.pairs) (leads (all-but p.number) by new.pairs)
                   falls made which = elim which [
                     | inl on ↦
-                        (let turn = is-turn (goes_ahead old.rules) old.ahead_turn (are_kinds_in_turn (all_asked now old) || has_first now (all_asked now old)) on in
+                        (let turn = is-turn (is_modern old.timing) old.ahead_turn (are_kinds_in_turn (all_asked now old) || has_first now (all_asked now old)) on in
                         inr (no-more (all-but p.number), turn.0, turn.1, turned ∙ ap not on))
                     | inr q_due ↦ inl (one-fewer made q_due)
                   ]
@@ -296,7 +297,7 @@ module _ (now by : ℕ) (late : by < now) (early : now < MAX) where
 
       pub timeout-goes : (old new : AgentRecord H P) (s u : Stream) (emitted : Emitted) → is_some old.remote_creds ≡ true → old.lite ≡ false
           → Distinct old.pairs → 0 < old.timing.max_retransmits → (p : PairRecord) → Has old.pairs p
-          → stays_answered old.timing.consent now p ≡ true → nat_lt (unanswered_count p.checks) old.timing.max_retransmits ≡ true → Ready old.timing p
+          → stays_answered (consent_of old.timing) now p ≡ true → nat_lt (unanswered_count p.checks) old.timing.max_retransmits ≡ true → Ready old.timing p
           → (h : MaintainsPairs mac now old s emitted new u) → ChecksOn old emitted p ⊎ WaitsOn (NoneAtCheck now h.4) old new p
       timeout-goes old new s u emitted known full distinct some p has answered young ready (first, second, issued, named, kept, nominating, giving, checking, is) =
           let a = nominates-thins 0 (at_timeout now old) named first nominating in
@@ -324,16 +325,16 @@ module _ (now by : ℕ) (late : by < now) (early : now < MAX) where
                       (record { number = alike.number; local = alike.local; remote = alike.remote; valid = alike.valid }))),
                 )
             | inr (d, due, fixed, fewer, falls) ↦
-                (let falls_for : NoneAtCheck now kept → Falls (goes_ahead kept.rules) kept.ahead_turn new.ahead_turn (leads (all-but p.number) by kept.pairs) (leads (all-but p.number) by new.pairs) =
-                λ turn. subst (λ k. Falls (goes_ahead kept.rules) kept.ahead_turn new.ahead_turn (leads (all-but k) by kept.pairs) (leads (all-but k) by new.pairs)) alike.number
+                (let falls_for : NoneAtCheck now kept → Falls (is_modern kept.timing) kept.ahead_turn new.ahead_turn (leads (all-but p.number) by kept.pairs) (leads (all-but p.number) by new.pairs) =
+                λ turn. subst (λ k. Falls (is_modern kept.timing) kept.ahead_turn new.ahead_turn (leads (all-but k) by kept.pairs) (leads (all-but k) by new.pairs)) alike.number
                 (falls turn) in
                 inr (
                   d,
                   due,
                   subst (λ k. Fixed p.number d k new.pairs) (alike-kept p y.0 alike) (subst (λ k. Fixed k d (kept_of y.0) new.pairs) alike.number fixed),
                   λ w. (let few = fewer w in let l = lessened w in omega (arith, few, l)),
-                  λ turn. falls-from (goes_ahead kept.rules) (goes_ahead old.rules) kept.ahead_turn old.ahead_turn new.ahead_turn
+                  λ turn. falls-from (is_modern kept.timing) (is_modern old.timing) kept.ahead_turn old.ahead_turn new.ahead_turn
                       (leads (all-but p.number) by kept.pairs) (leads (all-but p.number) by old.pairs) (leads (all-but p.number) by new.pairs)
-                      (ap (λ (z : Base). goes_ahead z.rules) (sym base)) (ap (λ (z : Base). z.ahead_turn) (sym base)) (lessened (all-but p.number)) (falls_for turn),
+                      (ap (λ (z : Base). is_modern z.timing) (sym base)) (ap (λ (z : Base). z.ahead_turn) (sym base)) (lessened (all-but p.number)) (falls_for turn),
                 ))
           ]

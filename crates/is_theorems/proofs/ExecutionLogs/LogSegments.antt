@@ -10,6 +10,7 @@ use Rattle.is_candidate.specs.Candidates.{CandidateRecord}
 use Rattle.is_pair.specs.Due.{asked}
 use Rattle.is_pair.specs.Pairs.{PairRecord}
 use Rattle.is_stun.specs.declared.timing.StunTiming.{StunTiming}
+use Rattle.is_stun.specs.Timing.{is_modern}
 use Rattle.is_rules.specs.declared.event.IceAgentEvent.{IceAgentEvent}
 use Rattle.is_rules.specs.declared.emitted.Emitted.{Emitted}
 use Rattle.is_rules.specs.Agent.{AgentRecord}
@@ -81,12 +82,12 @@ module _ {H P : Type 0} where
     by None (nothing, is) = (nothing, ap (λ (a : AgentRecord H P). with_events fs a) is)
     by (Some last) k =
         in-both (is_waiting start) k
-        (λ w. (w.0, in-both (is_some start.rules.triggered_checks) w.1 (λ made. ap (λ (a : AgentRecord H P). with_events fs a) made) (λ made. ap (λ (a : AgentRecord H P). with_events fs a) made)))
+        (λ w. (w.0, in-both (is_modern start.timing) w.1 (λ made. ap (λ (a : AgentRecord H P). with_events fs a) made) (λ made. ap (λ (a : AgentRecord H P). with_events fs a) made)))
         (λ i. in-both (is_idle start) i (λ l. (l.0, ap (λ (a : AgentRecord H P). with_events fs a) l.1)) (λ l. (l.0, ap (λ (a : AgentRecord H P). with_events fs a) l.1)))
 
   -- it fixes the due times, or leaves the agent unchanged
   abbrev is_fixing : AgentRecord H P → Bool
-  is_fixing a = if is_waiting a then is_some a.rules.triggered_checks else not (is_idle a)
+  is_fixing a = if is_waiting a then is_modern a.timing else not (is_idle a)
 
   abbrev Fixes : ℕ → AgentRecord H P → AgentRecord H P → Type 0
   Fixes at old new = ((new ≡ old) × (is_fixing old ≡ false)) ⊎ ((new ≡ all_fixed at old) × (is_fixing old ≡ true))
@@ -94,17 +95,17 @@ module _ {H P : Type 0} where
   fixes : (at : ℕ) (old new : AgentRecord H P) (deadline : Option ℕ) → NextTimeoutFrom (Some at) old deadline new → Fixes at old new
   fixes at old new None k = absurd k
   fixes at old new (Some deadline) k = either (is_waiting old) k
-      (λ waits w. either (is_some old.rules.triggered_checks) w.1
+      (λ waits w. either (is_modern old.timing) w.1
       (λ on made. inr (made, waiting waits ∙ on))
       (λ off made. inl (made, waiting waits ∙ off)))
       (λ free i. either (is_idle old) i
       (λ idle l. inl (l.1, unwaiting free ∙ ap not idle))
       (λ busy l. inr (l.1, unwaiting free ∙ ap not busy))) where
-        waiting : is_waiting old ≡ true → is_fixing old ≡ is_some old.rules.triggered_checks
-        waiting waits = ap (λ b. if b then is_some old.rules.triggered_checks else not (is_idle old)) waits
+        waiting : is_waiting old ≡ true → is_fixing old ≡ is_modern old.timing
+        waiting waits = ap (λ b. if b then is_modern old.timing else not (is_idle old)) waits
 
         unwaiting : is_waiting old ≡ false → is_fixing old ≡ not (is_idle old)
-        unwaiting free = ap (λ b. if b then is_some old.rules.triggered_checks else not (is_idle old)) free
+        unwaiting free = ap (λ b. if b then is_modern old.timing else not (is_idle old)) free
 
   -- called again, it changes nothing
   timeouts-twice : (start old new : AgentRecord H P) (deadline : ℕ) (again : Option ℕ) → PollsTimeout start (Some deadline) old → PollsTimeout old again new → new ≡ old

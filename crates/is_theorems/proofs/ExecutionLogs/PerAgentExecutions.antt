@@ -23,7 +23,7 @@ use Rattle.is_rules.specs.Request.{RequestRecord}
 use Rattle.is_theorems.specs.Rounds.{LoggedRound, entries_of, began_at, BringsSuccess, IsRound, RunsOn, IsControllingIn}
 use Rattle.is_theorems.specs.Runs.{Run}
 use Rattle.is_rules.specs.Sending.{path_of}
-use Rattle.is_rules.specs.Steps.{Call, SetMtu, SetControlTieBreaker, SetMaxCandidatePairs, SetMaxDiscovered, SetIceLite, SetRenomination, SetRules, SetTimingAdvance, SetInitialStunRto, SetMaxStunRto, SetMaxStunRetransmits, SetLiteTimeout, SetLocalPreference, SetControlling, SetLocalCredentials, SetRemoteCredentials, SkipPairIds, AddLocalCandidate, AddRemoteCandidate, InvalidateCandidate, RestartIce, RecreateCandidatePairs, ReceivePacket, HandleTimeout, PollTransmit, PollTimeout, PollEvent, NotCalled, Entry, quiet, Becomes, Step}
+use Rattle.is_rules.specs.Steps.{Call, SetMtu, SetControlTieBreaker, SetMaxCandidatePairs, SetMaxDiscovered, SetIceLite, SetRenomination, SetConsent, SetProfile, SetTimingAdvance, SetInitialStunRto, SetMaxStunRto, SetMaxStunRetransmits, SetLiteTimeout, SetLocalPreference, SetControlling, SetLocalCredentials, SetRemoteCredentials, SkipPairIds, AddLocalCandidate, AddRemoteCandidate, InvalidateCandidate, RestartIce, RecreateCandidatePairs, ReceivePacket, HandleTimeout, PollTransmit, PollTimeout, PollEvent, NotCalled, Entry, quiet, Becomes, Step}
 use Rattle.is_rules.specs.Settings.{with_retransmits}
 use Rattle.is_rules.specs.Timeouts.{at_request, timeout_begun, MaintainsPairs, ServesQueued, TimesOut}
 use Rattle.is_theorems.proofs.PollingRounds.AnsweredRoundsInLogs.{answered-rounds-announce}
@@ -192,7 +192,8 @@ module _ {H P : Type 0} (mac : H → List ℕ → List ℕ → List ℕ) (answer
   recomputed (SetMaxDiscovered n) e old new s t u (is, made, drawn) = (u, (is, made, refl))
   recomputed (SetIceLite lite) e old new s t u (is, made, drawn) = (u, (is, made, refl))
   recomputed (SetRenomination on) e old new s t u (is, made, drawn) = (u, (is, made, refl))
-  recomputed (SetRules rules) e old new s t u (is, made, drawn) = (u, (is, made, refl))
+  recomputed (SetProfile profile) e old new s t u (is, made, drawn) = (u, (is, made, refl))
+  recomputed (SetConsent consent) e old new s t u (is, made, drawn) = (u, (is, made, refl))
   recomputed (SetTimingAdvance by) e old new s t u (is, made, drawn) = (u, (is, made, refl))
   recomputed (SetInitialStunRto rto) e old new s t u (is, made, drawn) = (u, (is, made, refl))
   recomputed (SetMaxStunRto rto) e old new s t u (is, made, drawn) = (u, (is, made, refl))

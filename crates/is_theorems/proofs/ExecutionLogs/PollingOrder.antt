@@ -43,7 +43,7 @@ use Rattle.is_rules.specs.Accepting.{Takes, discovered_emitted, is_passed_over, 
 use Rattle.is_rules.specs.Checking.{all_asked, MayCheck, ChecksTop}
 use Rattle.is_rules.specs.Settling.{settled, loses_selected, Reselects}
 use Rattle.is_rules.specs.Timeouts.{at_request, timeout_begun, start_emitted, at_timeout, is_expired, expired_gone, RemovesExpired, MaintainsPairs, ServesQueued, TimesOut}
-use Rattle.is_rules.specs.Steps.{Call, SetMtu, SetControlTieBreaker, SetMaxCandidatePairs, SetMaxDiscovered, SetIceLite, SetRenomination, SetRules, SetTimingAdvance, SetInitialStunRto, SetMaxStunRto, SetMaxStunRetransmits, SetLiteTimeout, SetLocalPreference, SetControlling, SetLocalCredentials, SetRemoteCredentials, SkipPairIds, AddLocalCandidate, AddRemoteCandidate, InvalidateCandidate, RestartIce, RecreateCandidatePairs, ReceivePacket, HandleTimeout, PollTransmit, PollTimeout, PollEvent, Done, NotCalled, Entry, quiet, Becomes, Receives, Step}
+use Rattle.is_rules.specs.Steps.{Call, SetMtu, SetControlTieBreaker, SetMaxCandidatePairs, SetMaxDiscovered, SetIceLite, SetRenomination, SetConsent, SetProfile, SetTimingAdvance, SetInitialStunRto, SetMaxStunRto, SetMaxStunRetransmits, SetLiteTimeout, SetLocalPreference, SetControlling, SetLocalCredentials, SetRemoteCredentials, SkipPairIds, AddLocalCandidate, AddRemoteCandidate, InvalidateCandidate, RestartIce, RecreateCandidatePairs, ReceivePacket, HandleTimeout, PollTransmit, PollTimeout, PollEvent, Done, NotCalled, Entry, quiet, Becomes, Receives, Step}
 use Rattle.is_theorems.specs.Reporting.{Extends, Begins, Reports, QueuesTheorem}
 use Rattle.is_theorems.proofs.RuleEffects.Reselection.{by-reselecting}
 use Rattle.is_theorems.proofs.RuleEffects.UnchangedSettings.{either}
@@ -282,7 +282,8 @@ module _ {H P : Type 0} where
     reports (SetMaxDiscovered n) h = becomes _ refl h
     reports (SetIceLite lite) h = becomes _ refl h
     reports (SetRenomination on) h = becomes _ refl h
-    reports (SetRules rules) h = becomes _ refl h
+    reports (SetProfile profile) h = becomes _ refl h
+    reports (SetConsent consent) h = becomes _ refl h
     reports (SetTimingAdvance by) h = becomes _ refl h
     reports (SetInitialStunRto rto) h = becomes (with_rtos rto old.timing.max_rto.0 old) refl h
     reports (SetMaxStunRto rto) h = becomes (with_rtos old.timing.initial_rto.0 rto old) refl h

@@ -7,6 +7,7 @@ use Rattle.is_pair.specs.Pairs.{PairRecord, is_valid, is_nominated}
 use Rattle.is_pair.specs.Checks.{Check}
 use Rattle.is_stun.specs.Message.{Message}
 use Rattle.is_stun.specs.Integrity.{IsSignedBy}
+use Rattle.is_stun.specs.Timing.{is_modern, is_modern_profile}
 use Rattle.is_rules.specs.declared.emitted.Path.{Path}
 use Rattle.is_rules.specs.Request.{RequestRecord, request_in}
 use Rattle.is_rules.specs.Emitted.{reversed}
@@ -53,13 +54,13 @@ renomination_set (SetMaxStunRetransmits limit) answer s = by (is_done answer) wh
 renomination_set _ answer s = refl
 
 pub numbering_set : {P : Type 0} (call : Call P) (answer : Answer) (s : SettingsRecord P)
-    → (settings_after call answer s).rules.numbered_nominations ≡ numbering_set_by call s.rules.numbered_nominations
+    → is_modern_profile (settings_after call answer s).profile ≡ numbering_set_by call (is_modern_profile s.profile)
 numbering_set (SetMtu mtu warn) answer s = by (is_done answer) where
-  by : (b : Bool) → (if b then record s { mtu = mtu; mtu_warn = warn } else s).rules.numbered_nominations ≡ s.rules.numbered_nominations
+  by : (b : Bool) → is_modern_profile (if b then record s { mtu = mtu; mtu_warn = warn } else s).profile ≡ is_modern_profile s.profile
   by true = refl
   by false = refl
 numbering_set (SetMaxStunRetransmits limit) answer s = by (is_done answer) where
-  by : (b : Bool) → (if b then record s { max_retransmits = limit } else s).rules.numbered_nominations ≡ s.rules.numbered_nominations
+  by : (b : Bool) → is_modern_profile (if b then record s { max_retransmits = limit } else s).profile ≡ is_modern_profile s.profile
   by true = refl
   by false = refl
 numbering_set _ answer s = refl
@@ -86,8 +87,8 @@ module _ {H P : Type 0} where
   renominates-next call answer old new is = ap (λ (s : SettingsRecord P). s.renominates) is ∙ renomination_set call answer (settings_of old)
 
   numbering-next : (call : Call P) (answer : Answer) (old new : AgentRecord H P) → settings_of new ≡ settings_after call answer (settings_of old)
-      → new.rules.numbered_nominations ≡ numbering_set_by call old.rules.numbered_nominations
-  numbering-next call answer old new is = ap (λ (s : SettingsRecord P). s.rules.numbered_nominations) is ∙ numbering_set call answer (settings_of old)
+      → is_modern new.timing ≡ numbering_set_by call (is_modern old.timing)
+  numbering-next call answer old new is = ap (λ (s : SettingsRecord P). is_modern_profile s.profile) is ∙ numbering_set call answer (settings_of old)
 
 module _ {H P : Type 0} (mac : H → List ℕ → List ℕ → List ℕ) (answers : P → CandidateRecord → ℕ → ℕ → Type 0) (law : PathTheorem {H = H} {P = P} mac answers) where
   -- what the abstract state implies about the log
@@ -99,7 +100,7 @@ module _ {H P : Type 0} (mac : H → List ℕ → List ℕ → List ℕ) (answer
     pub sent : (path : Path) (id : List ℕ) (controlling : Bool) → IsKept a path id controlling → IsSent log path id
     pub valid : NeverLite log → (path : Path) → IsValidOn a path → Answered mac provider log path
     pub renominates_is : a.renominates ≡ renominates_of log
-    pub numbering_is : a.rules.numbered_nominations ≡ numbering_of log
+    pub numbering_is : is_modern a.timing ≡ numbering_of log
     pub queued : (numbered : Bool) (q : RequestRecord) → Has a.queue q → (as_taken numbered q).use_candidate ≡ true → AskedBy numbered log (reversed q.path)
     -- `selected_pair` names the pair that was selected last
     pub named : IsNamed (last_selected log) a
@@ -144,7 +145,7 @@ module _ {H P : Type 0} (mac : H → List ℕ → List ℕ → List ℕ) (answer
         inl (subst (λ (y : RequestRecord). AsksAt numbered x (reversed y.path)) (sym is) (at, by, m, brings, (f.accepted at by m brings).0, request, asked, search))
 
     numbers_is : numbers old ≡ has_numbers before
-    numbers_is = ap (λ b. b && old.rules.numbered_nominations) h.renominates_is ∙ ap (λ b. renominates_of before && b) h.numbering_is
+    numbers_is = ap (λ b. b && is_modern old.timing) h.renominates_is ∙ ap (λ b. renominates_of before && b) h.numbering_is
 
     asked_now : (path : Path) → IsNominatedByPeer old x.call x.entry path → NominatedByPeer (x ∷ before) path
     asked_now path (q, serving, uses, on) =

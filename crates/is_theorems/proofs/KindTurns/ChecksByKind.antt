@@ -14,6 +14,7 @@ use Rattle.is_pair.specs.Multiset.{is_named_by, change_pair}
 use Rattle.is_pair.specs.Pairs.{PairRecord, checked}
 use Rattle.is_stun.specs.declared.header.Class.TheVariants as class
 use Rattle.is_stun.specs.declared.timing.StunTiming.{StunTiming}
+use Rattle.is_stun.specs.Timing.{is_modern}
 use Rattle.is_rules.specs.Agent.{AgentRecord}
 use Rattle.is_rules.specs.Checking.{all_asked, are_kinds_in_turn, has_first, is_ahead_turn, next_kind_after, precedence, ChecksTop, IsNextToCheck, MayCheck}
 use Rattle.is_rules.specs.declared.credentials.IceCreds.{IceCreds}
@@ -21,7 +22,6 @@ use Rattle.is_rules.specs.declared.emitted.Emitted.{Emitted}
 use Rattle.is_rules.specs.declared.emitted.Issued.{Issued}
 use Rattle.is_rules.specs.declared.emitted.Path.{Path}
 use Rattle.is_rules.specs.declared.kinds.Precedence.{Precedence}
-use Rattle.is_rules.specs.declared.rules.Rules.{Rules}
 use Rattle.is_rules.specs.Emitted.{issued_as}
 use Rattle.is_rules.specs.Kinds.{goes_first, is_brought, kind_of, turn_of, IsNextAhead, KINDS, TurnsBefore}
 use Rattle.is_rules.specs.Nominating.{followed, nominates_at_once, numbers, pair_selected, remains, selection_of, Nominates}
@@ -79,7 +79,6 @@ none-named false o p none = refl
 pub record TurnView : Type 0 where
   pub local : List CandidateRecord
   pub remote : List CandidateRecord
-  pub rules : Rules
   pub timing : StunTiming
   pub selected_pair : Option ℕ
   pub next_kind : ℕ
@@ -88,7 +87,7 @@ pub record TurnView : Type 0 where
   pub remote_creds : Option IceCreds
 
 abbrev pub precedence_by : TurnView → Precedence
-precedence_by v = record { selected = if v.rules.selected_first then v.selected_pair else None; urgent = is_some v.rules.triggered_checks }
+precedence_by v = record { selected = if is_modern v.timing then v.selected_pair else None; urgent = is_modern v.timing }
 
 abbrev pub kind_by : TurnView → PairRecord → ℕ
 kind_by v p = kind_of v.local v.remote p
@@ -121,11 +120,11 @@ all-on : (a b c d : Bool) → a ≡ true → d ≡ true → ((a || b || c) ≡ t
 all-on true b c d on is = (refl, is)
 all-on false b c d on is = absurd (cc)
 
-turn-is : (rule other more ahead kinds first : Bool) → rule ≡ true → kinds ≡ true → ((rule || other || more) && ahead && (kinds || first)) ≡ ahead
-turn-is true other more true true first on kinds_on = refl
-turn-is true other more false kinds first on kinds_on = refl
-turn-is true other more true false first on kinds_on = absurd (cc)
-turn-is false other more ahead kinds first on kinds_on = absurd (cc)
+turn-is : (modern ahead kinds first : Bool) → modern ≡ true → kinds ≡ true → (modern && ahead && (kinds || first)) ≡ ahead
+turn-is true true true first on kinds_on = refl
+turn-is true false kinds first on kinds_on = refl
+turn-is true true false first on kinds_on = absurd (cc)
+turn-is false ahead kinds first on kinds_on = absurd (cc)
 
 both-first : (a b : Bool) → (a && b) ≡ true → a ≡ true
 both-first true b is = refl
@@ -136,7 +135,6 @@ module _ {H P : Type 0} where
   view_of a = record {
     local = a.local;
     remote = a.remote;
-    rules = a.rules;
     timing = a.timing;
     selected_pair = a.selected_pair;
     next_kind = a.next_kind;
@@ -157,8 +155,7 @@ module _ {H P : Type 0} where
   -- while kinds take turns, each second check goes ahead
   ahead-is : (now : ℕ) (a : AgentRecord H P) → are_kinds_in_turn a ≡ true → is_ahead_turn now a ≡ a.ahead_turn
   ahead-is now a turns =
-      turn-is a.rules.kinds_in_turn (is_some a.rules.triggered_checks) a.rules.selected_first a.ahead_turn (are_kinds_in_turn a) (has_first now a)
-      (both-first a.rules.kinds_in_turn _ turns) turns
+      turn-is (is_modern a.timing) a.ahead_turn (are_kinds_in_turn a) (has_first now a) (both-first (is_modern a.timing) _ turns) turns
 
   -- ---- the check
 
@@ -218,7 +215,7 @@ module _ {H P : Type 0} where
               → Precedes (view_of old) now p o
           precedes o h = elim (placed (is_named_by (precedence old).selected o) (is_named_by (precedence old).selected p) ((precedence old).urgent && is_urgent o) ((precedence old).urgent && is_urgent p)
               (is_brought old.remote o) (is_brought old.remote p) (turn_of old.next_kind (kind_in old o)) (turn_of old.next_kind (kind_in old p)) (GoesBefore now old.timing o p)
-              (none-named old.rules.selected_first old.selected_pair o none) (none-named old.rules.selected_first old.selected_pair p none) h) [
+              (none-named (is_modern old.timing) old.selected_pair o none) (none-named (is_modern old.timing) old.selected_pair p none) h) [
                 | inl first ↦ inl (or-second (is_named_by (precedence old).selected o) ((precedence old).urgent && is_urgent o) first)
                 | inr (inl (same, before)) ↦ inr (inl (same-kind old.next_kind (kind_in old o) (kind_in old p) (kind-in-range old o) kind_p same, before))
                 | inr (inr less) ↦ inr (inr less)

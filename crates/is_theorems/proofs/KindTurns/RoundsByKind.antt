@@ -11,8 +11,9 @@ use Rattle.is_pair.specs.Pairs.{PairRecord, is_valid}
 use Rattle.is_pair.specs.States.{is_nominating}
 use Rattle.is_pair.specs.declared.pair.states.NominationState.TheVariants.{Nominated}
 use Rattle.is_stun.specs.declared.header.Class.TheVariants as class
+use Rattle.is_stun.specs.Timing.{is_modern}
 use Rattle.is_rules.specs.Agent.{AgentRecord}
-use Rattle.is_rules.specs.Checking.{all_asked, goes_ahead, precedence}
+use Rattle.is_rules.specs.Checking.{all_asked, precedence}
 use Rattle.is_rules.specs.declared.emitted.Path.{Path}
 use Rattle.is_rules.specs.declared.kinds.Precedence.{Precedence}
 use Rattle.is_rules.specs.Emitted.{issued_as}
@@ -370,7 +371,7 @@ module _ {H P : Type 0} (mac : H → List ℕ → List ℕ → List ℕ) (answer
     -- how far the turns went in all rounds
     abbrev pub WentInAll : Type 0
     WentInAll =
-        Went w kinds (kind_in start p) p.number by (path_of start p) (answered_at start p) (goes_ahead start.rules) (total_at by start p) start.next_number first s fresh before start found.at found.led
+        Went w kinds (kind_in start p) p.number by (path_of start p) (answered_at start p) (is_modern start.timing) (total_at by start p) start.next_number first s fresh before start found.at found.led
         wait.at (begins by start p rounds wait) (length rounds) (entries_of rounds) last last found.following found.run
 
     pub reached-or-went : AtTimeoutsIn mac answers (InTurn w kinds (kind_in start p) p.number) before start found.at (entries_of rounds) last found.following found.run
@@ -379,18 +380,18 @@ module _ {H P : Type 0} (mac : H → List ℕ → List ℕ → List ℕ) (answer
         ⊎ (IsEndedIn mac answers before start found.at (entries_of rounds) last found.following found.run (path_of start p) ⊎ WentInAll))
     reached-or-went turns =
         by-rounds rounds last found.following found.run wait.began
-        (rounds-turn w kinds (kind_in start p) p.number by (path_of start p) (answered_at start p) (goes_ahead start.rules) (total_at by start p) start.next_number first s fresh before start found.at found.led
+        (rounds-turn w kinds (kind_in start p) p.number by (path_of start p) (answered_at start p) (is_modern start.timing) (total_at by start p) start.next_number first s fresh before start found.at found.led
         wait.at (begins by start p rounds wait) rounds last found.following
         (inr wait.began) wait.passing (λ r has. lasts-at mac answers first s log fresh before start last (entries_of rounds) p found wait.line.there r.now (search (wait.lasting r has))) found.run turns) where
           by-rounds : (rs : List (LoggedRound P)) (a : AgentRecord H P) (t : Stream) (run : RunsOn mac answers before start found.at (entries_of rs) a t) → began_at rs ≡ Some wait.at
               → (ChecksIn rs (path_of start p) ⊎ IsAnsweredIn (entries_of rs) (path_of start p))
               ⊎ (IsEndedIn mac answers before start found.at (entries_of rs) a t run (path_of start p)
-              ⊎ After w kinds (kind_in start p) p.number by (path_of start p) (answered_at start p) (goes_ahead start.rules) (total_at by start p) start.next_number first s fresh before start found.at
+              ⊎ After w kinds (kind_in start p) p.number by (path_of start p) (answered_at start p) (is_modern start.timing) (total_at by start p) start.next_number first s fresh before start found.at
               found.led wait.at (begins by start p rounds wait) rs a t run)
               → ChecksIn rs (path_of start p)
               ⊎ (IsAnsweredIn (entries_of rs) (path_of start p)
               ⊎ (IsEndedIn mac answers before start found.at (entries_of rs) a t run (path_of start p)
-              ⊎ Went w kinds (kind_in start p) p.number by (path_of start p) (answered_at start p) (goes_ahead start.rules) (total_at by start p) start.next_number first s fresh before start found.at
+              ⊎ Went w kinds (kind_in start p) p.number by (path_of start p) (answered_at start p) (is_modern start.timing) (total_at by start p) start.next_number first s fresh before start found.at
               found.led wait.at (begins by start p rounds wait) (length rs) (entries_of rs) a a t run))
           by-rounds rs a t run began (inl (inl checks)) = inl checks
           by-rounds rs a t run began (inl (inr answered)) = inr (inl answered)

@@ -2,6 +2,7 @@
 use Rattle.std.proofs.Common.{◌≡◌, ℕ, suc, ◌+◌, zero, ◌&&◌, Bool, true, false, not, List, [], ◌∷◌, ◌++◌, Option, Some, None, is_some, inl, inr, ◌⊎◌, refl, ap, subst, arith}
 use Rattle.rand_core.specs.Stream.{Stream}
 use Rattle.is_proto.specs.Lists.{Has}
+use Rattle.is_stun.specs.Timing.{is_modern}
 use Rattle.is_candidate.specs.Candidates.{CandidateRecord}
 use Rattle.is_pair.specs.Pairs.{PairRecord}
 use Rattle.is_rules.specs.Agent.{AgentRecord}
@@ -21,7 +22,7 @@ pub record InTurn {H P : Type 0} (w : Measure) (kinds : List ℕ) (kind number :
   pub listed : (q : PairRecord) → Has old.pairs q → Has kinds (kind_in old q)
   pub keeps : (q : PairRecord) → Has old.pairs q → q.number ≡ number → kind_in old q ≡ kind
   pub counted : (q : PairRecord) → Has old.pairs q → kind_in old q ≡ kind → (q.number ≡ number → ⊥) → w.skips q.number ≡ false
-  pub counts : (w.both ≡ true) ⊎ (is_some old.rules.triggered_checks ≡ true)
+  pub counts : (w.both ≡ true) ⊎ (is_modern old.timing ≡ true)
 
 both-hold : (a b : Bool) → a ≡ true → b ≡ false → (a && not b) ≡ true
 both-hold true true on off = absurd (cc)
@@ -30,10 +31,10 @@ both-hold false b on off = absurd (cc)
 
 -- unless the agent has a path, they do
 pub in-turn : {H P : Type 0} (w : Measure) (kinds : List ℕ) (kind number : ℕ) (old new : AgentRecord H P)
-    → ((q : PairRecord) → Has old.pairs q → kind_in old q ≡ kind → (q.number ≡ number → ⊥) → w.skips q.number ≡ false) → (w.both ≡ true) ⊎ (is_some old.rules.triggered_checks ≡ true)
+    → ((q : PairRecord) → Has old.pairs q → kind_in old q ≡ kind → (q.number ≡ number → ⊥) → w.skips q.number ≡ false) → (w.both ≡ true) ⊎ (is_modern old.timing ≡ true)
     → is_connected new.state ≡ false → new.selected_pair ≡ None → TakesTurns kinds kind number old new → InTurn w kinds kind number old new
 in-turn w kinds kind number old new counted counts off none t = record {
-  turns = both-hold new.rules.kinds_in_turn (is_connected new.state) (search (t.rule)) off;
+  turns = both-hold (is_modern new.timing) (is_connected new.state) (search (t.rule)) off;
   unselected = none;
   listed = λ q has. search (t.listed q has);
   keeps = λ q has is. search (t.keeps q has is);

@@ -12,6 +12,7 @@ use Rattle.is_pair.specs.Pairs.{PairRecord, is_valid}
 use Rattle.is_pair.specs.Multiset.{change_at, is_valid_at, passes_at, IsPairBetween}
 use Rattle.is_stun.specs.declared.header.Class.TheVariants as class
 use Rattle.is_stun.specs.Message.{Message}
+use Rattle.is_stun.specs.Timing.{is_modern}
 use Rattle.is_rules.specs.declared.credentials.IceCreds.{IceCreds}
 use Rattle.is_rules.specs.declared.emitted.Issued.{Issued}
 use Rattle.is_rules.specs.declared.emitted.Path.{Path}
@@ -76,7 +77,7 @@ module _ {H P : Type 0} where
   -- a state while the request is served: the pairs that were valid before it are
   record WhileServing (old s : AgentRecord H P) : Type 0 where
     pub fit : FitOf s
-    pub at_once : s.rules.selects_at_once ≡ true
+    pub at_once : is_modern s.timing ≡ true
     pub keeps : (q : PairRecord) → Has old.pairs q → is_valid q ≡ true → HasValid q.number s.pairs
 
   module _ (mac : H → List ℕ → List ℕ → List ℕ) (q : RequestRecord) (old : AgentRecord H P) (issued : Issued) (success : issued.class ≡ class.Success) where
@@ -185,7 +186,7 @@ module _ {H P : Type 0} where
         (λ _ k. here_top (local_place s.local q) s new emitted refl within state k)
 
   module _ (mac : H → List ℕ → List ℕ → List ℕ) (answers : P → CandidateRecord → ℕ → ℕ → Type 0) (old new : AgentRecord H P) (s t : Stream) (e : Entry) (sound : IsSound old)
-      (issued : Issued) (success : issued.class ≡ class.Success) (at_once : old.rules.selects_at_once ≡ true) where
+      (issued : Issued) (success : issued.class ≡ class.Success) (at_once : is_modern old.timing ≡ true) where
     within : (q : RequestRecord) (l : ℕ) → local_place old.local q ≡ Some l → l < length old.local
     within q l is = (reached old.local q l sound.based is).0
 
@@ -260,7 +261,7 @@ module _ {H P : Type 0} where
       effect : PathEffect mac mid x.call x.entry after
       effect = (path_theorem mac answers mid after point.at point.following x.call x.entry sound_mid point.given point.step).0
 
-      selects : (issued : Issued) → x.entry.emitted.issued ≡ Some issued → issued.class ≡ class.Success → mid.rules.selects_at_once ≡ true
+      selects : (issued : Issued) → x.entry.emitted.issued ≡ Some issued → issued.class ≡ class.Success → is_modern mid.timing ≡ true
           → WereValidOn mid after issued.path → (p : PairRecord) → Has after.pairs p → is_eligible after.controlling p ≡ true → IsTopPath mac answers (x ∷ before) after
       selects issued out success at_once were p has able =
           let k = effect.replied issued out success in
@@ -268,7 +269,7 @@ module _ {H P : Type 0} where
           let named = (holds mac answers (path_theorem mac answers) first s fresh (x ∷ before) after point.following (run_to mac answers first s log before mid x after point)).named in
           names-best after (last_selected (x ∷ before)) p has able named top
 
-      selects_nominated : (path : Path) → IsAskedOn mid x after path → mid.rules.selects_at_once ≡ true → WereValidOn mid after path → IsTopPath mac answers (x ∷ before) after
+      selects_nominated : (path : Path) → IsAskedOn mid x after path → is_modern mid.timing ≡ true → WereValidOn mid after path → IsTopPath mac answers (x ∷ before) after
       selects_nominated path asked at_once were =
           let k = nominated-on mac answers mid after x path effect asked in
           let was = were k.0 k.1 k.3 in
@@ -278,10 +279,10 @@ module _ {H P : Type 0} where
 
     pub requests_select : RequestsSelect {H = H} mac answers
     requests_select first s log fresh before mid after x point issued out success rule were p has is =
-        let at_once : mid.rules.selects_at_once ≡ true = search rule in
+        let at_once : is_modern mid.timing ≡ true = search rule in
         selects first s fresh log before mid after x point issued out success at_once were p has is
 
     pub nominations_select_at_once : NominationsSelectAtOnce {H = H} mac answers
     nominations_select_at_once first s log fresh before mid after x point path asked rule were =
-        let at_once : mid.rules.selects_at_once ≡ true = search rule in
+        let at_once : is_modern mid.timing ≡ true = search rule in
         selects_nominated first s fresh log before mid after x point path asked at_once were

@@ -3,6 +3,7 @@ use Rattle.std.proofs.Common.{◌≡◌, ℕ, true, false, List, [], ◌∷◌, 
 use Rattle.is_candidate.specs.Candidates.{CandidateRecord}
 use Rattle.is_pair.specs.Pairs.{PairRecord, is_nominated, is_valid}
 use Rattle.is_stun.specs.declared.header.Class.TheVariants as class
+use Rattle.is_stun.specs.Timing.{is_modern}
 use Rattle.is_rules.specs.Agent.{AgentRecord}
 use Rattle.is_rules.specs.declared.emitted.Path.{Path}
 use Rattle.is_rules.specs.Effects.{PathEffect}
@@ -48,7 +49,7 @@ module _ {H P : Type 0} (mac : H → List ℕ → List ℕ → List ℕ) (answer
         names-best last (selected_along None (before ++ (xs ++ (call, e) ∷ []))) n.0 n.1 (nominated-eligible last.controlling n.0 valid n.2) named top
 
     -- the response was received before, and the nomination is accepted
-    serves : IsNamed (selected_along None (before ++ (xs ++ (call, e) ∷ []))) last → near.rules.selects_at_once ≡ true → AcceptsNomination near call e path → Marked path is_valid near → Selected ⊎ Ends answers near call e path
+    serves : IsNamed (selected_along None (before ++ (xs ++ (call, e) ∷ []))) last → is_modern near.timing ≡ true → AcceptsNomination near call e path → Marked path is_valid near → Selected ⊎ Ends answers near call e path
     serves named at_once asked (v, has, valid, uses) = elim (pairs-stay mac answers near last c.drawn c.left call e v sound c.given c.step has) [
       | inr ends ↦ inr (v, has, uses, ends)
       | inl k ↦ inl (completes k)
@@ -85,7 +86,7 @@ module _ {H P : Type 0} (mac : H → List ℕ → List ℕ → List ℕ) (answer
       let named = names-from mac answers (before ++ (xs ++ (call, e) ∷ [])) first last sound_first (ap (λ (a : AgentRecord H P). a.pairs) fresh.2) whole in
       elim c.arrives [
         | inl k ↦
-            (let at_once : near.rules.selects_at_once ≡ true = search k.0 in
+            (let at_once : is_modern near.timing ≡ true = search k.0 in
             let asked : AcceptsNomination near call e path = search k.2 in
             elim (answered mac answers path xs start near sound_start c.course k.1.0 k.1.1 k.1.2) [
               | inr ends ↦ inr (inl ends)

@@ -3,6 +3,7 @@
 use Rattle.std.proofs.Common.{◌≡◌, ℕ, ◌+◌, ◌*◌, ◌≤◌, Bool, true, false, List, [], ◌∷◌, ◌++◌, length, inl, inr, ◌⊎◌, refl, ap, sym, ◌∙◌, subst, arith, append_assoc}
 use Rattle.rand_core.specs.Stream.{Stream}
 use Rattle.is_proto.specs.Lists.{Has}
+use Rattle.is_stun.specs.Timing.{is_modern}
 use Rattle.is_candidate.specs.Candidates.{CandidateRecord}
 use Rattle.is_pair.specs.Pairs.{PairRecord, is_valid}
 use Rattle.is_rules.specs.declared.emitted.Path.{Path}
@@ -136,7 +137,7 @@ module _ {H P : Type 0} (mac : H → List ℕ → List ℕ → List ℕ) (answer
           line = lined-unanswered at by start p waits unanswered;
           passing = passing;
           lasting = λ r has. lasts r.now;
-          enough = subst (λ n. checks_for start.rules n ≤ length rounds + 1 + checks_for start.rules start.next_number) (none-more (2 * length start.pairs + last.next_number)) (omega (arith, many));
+          enough = subst (λ n. checks_for (is_modern start.timing) n ≤ length rounds + 1 + checks_for (is_modern start.timing) start.next_number) (none-more (2 * length start.pairs + last.next_number)) (omega (arith, many));
         }) (paid-none mac answers (entries_of rounds)) (quiet-at first s part.at before start p at by fresh part.led (starts-controlling mac answers before start last part.at part.following (entries_of rounds) part.run role) waits unanswered)) [
           | inl (x, has, success) ↦ inl (selects (x, has, success))
           | inr (inl (r, id, has, out)) ↦ inl (let x = answered r has id out in selects (x.0, in_entries rounds r x.0 has x.1, x.2))

@@ -9,6 +9,7 @@ use Rattle.is_rules.specs.Nominating.{numbers}
 use Rattle.is_theorems.specs.Asked.{IsAnsweredOn, IsAnsweredIn}
 use Rattle.is_theorems.specs.AskedCourses.{Ends, EndsAlong}
 use Rattle.is_proto.specs.Times.{MAX}
+use Rattle.is_stun.specs.Timing.{is_modern}
 use Rattle.is_pair.specs.Pairs.{PairRecord}
 use Rattle.is_theorems.specs.Courses.{CourseRound}
 use Rattle.is_theorems.specs.Exchange.{Course}
@@ -191,7 +192,7 @@ module _ {H P : Type 0} (mac : H → List ℕ → List ℕ → List ℕ) (answer
     open-unless : (first start last : AgentRecord H P) (xs : List (Call P × Entry)) (r : CourseRound P) (rounds : List (CourseRound P)) (p : PairRecord) (by most : ℕ)
         → IsFresh first → Course mac answers xs first start → Lined r.now by start p → Stays start → (run : PassRounds mac answers (r ∷ rounds) start last)
         → ((x : CourseRound P) → Has (r ∷ rounds) x → IsOpenRound by x) → ((x : CourseRound P) → Has (r ∷ rounds) x → IsLasting x.now start p)
-        → checks_for start.rules (2 * length start.pairs + last.next_number + most) ≤ length (r ∷ rounds) + 1 + checks_for start.rules start.next_number
+        → checks_for (is_modern start.timing) (2 * length start.pairs + last.next_number + most) ≤ length (r ∷ rounds) + 1 + checks_for (is_modern start.timing) start.next_number
         → owes start + paid_among pays (r ∷ rounds) ≤ most → OffAmong Off (r ∷ rounds) ⊎ IsReached mac answers (r ∷ rounds) start last run (path_of start p)
     open-unless first start last xs r rounds p by most fresh course line stays chain are lasting enough within =
         let before : List (Logged P) = pushed [] xs in

@@ -14,7 +14,6 @@ use Rattle.is_stun.specs.declared.timing.StunTiming.{StunTiming}
 use Rattle.is_rules.specs.declared.emitted.Path.{Path}
 use Rattle.is_rules.specs.Emitted.{issued_as}
 use Rattle.is_rules.specs.Agent.{AgentRecord}
-use Rattle.is_rules.specs.Checking.{goes_ahead}
 use Rattle.is_rules.specs.Sending.{path_of}
 use Rattle.is_rules.specs.Sound.{IsSound}
 use Rattle.is_rules.specs.Polls.{PollsTimeout, NextTimeoutFrom, NextTimeouts}
@@ -22,6 +21,7 @@ use Rattle.is_rules.specs.Steps.{ReceivePacket, Step}
 use Rattle.is_rules.specs.declared.event.IceAgentEvent.{IceAgentEvent}
 use Rattle.is_theorems.proofs.CallEffects.PathAndTradeEffects.{path_theorem}
 use Rattle.rand_core.specs.Stream.{Stream}
+use Rattle.is_stun.specs.Timing.{is_modern}
 use Rattle.is_theorems.proofs.CallEffects.AddedCandidates.{by_deadline}
 use Rattle.is_pair.specs.Turns.{IsPaced, due_by}
 use Rattle.is_theorems.specs.Progress.{Passes, MayBeAsked, Arrival, HasSuccess, Round, IsSuccess, MatchesTop, ArriveInTurn, Rounds, SelectsAfter, RoundSelects, AnsweredSelect}
@@ -82,9 +82,9 @@ module _ {H P : Type 0} where
             held = subst (λ (t : StunTiming). Held by at t new.pairs) (sym timing) (spares.held late w.held);
             placed = subst (λ r. r < length new.remote) (sym x.2.matches.remote) g.1;
             on = grown-path old new w.pair x.0 (ap (λ (c : Core). c.local) core) (ap (λ r. candidate_at new.remote r) x.2.matches.remote ∙ g.0) x.2.matches.local ∙ w.on;
-            count = subst (λ (t : StunTiming). calls_left (goes_ahead new.rules) new.ahead_turn (length (due_by by at t new.pairs)) + k ≤ n) (sym timing)
-                (subst (λ (c : Core). calls_left (goes_ahead c.rules) c.ahead_turn (length (due_by by at old.timing new.pairs)) + k ≤ n) (sym core)
-                (calls-kept (goes_ahead old.rules) old.ahead_turn (length (due_by by at old.timing old.pairs)) (length (due_by by at old.timing new.pairs)) k n (spares.count late) w.count));
+            count = subst (λ (t : StunTiming). calls_left (is_modern new.timing) new.ahead_turn (length (due_by by at t new.pairs)) + k ≤ n) (sym timing)
+                (subst (λ (c : Core). calls_left (is_modern c.timing) c.ahead_turn (length (due_by by at old.timing new.pairs)) + k ≤ n) (sym core)
+                (calls-kept (is_modern old.timing) old.ahead_turn (length (due_by by at old.timing old.pairs)) (length (due_by by at old.timing new.pairs)) k n (spares.count late) w.count));
           } where
             due_still : (m : ℕ) → by < m → (q : PairRecord) → DueAlike by at old.timing w.pair q → due_time_of m old.timing q ≤ by
             due_still m above q a = a.stays m (w.due m above) (w.due at following)
@@ -195,9 +195,9 @@ module _ {H P : Type 0} where
 
     pub answered-announce : AnsweredSelect mac answers
     answered-announce first last r rounds p by sound role waits unanswered timeouts rounding echoes enough =
-        met-in by (calls_left (goes_ahead first.rules) first.ahead_turn (length (due_by by r.now first.timing first.pairs))) (path_of first p) 0 r rounds first last (begins mac answers r.now by first p sound role waits unanswered)
+        met-in by (calls_left (is_modern first.timing) first.ahead_turn (length (due_by by r.now first.timing first.pairs))) (path_of first p) 0 r rounds first last (begins mac answers r.now by first p sound role waits unanswered)
         (λ x has. (let late = (timeouts x has).0 in let early = (timeouts x has).1 in (omega (arith, late), omega (arith, early)))) rounding echoes
-        (at-first (calls_left (goes_ahead first.rules) first.ahead_turn (length (due_by by r.now first.timing first.pairs))) (length (r ∷ rounds))
-        (calls-from (goes_ahead first.rules) first.ahead_turn (length (due_by by r.now first.timing first.pairs)) (length (r ∷ rounds)) (omega (arith, enough)))) where
+        (at-first (calls_left (is_modern first.timing) first.ahead_turn (length (due_by by r.now first.timing first.pairs))) (length (r ∷ rounds))
+        (calls-from (is_modern first.timing) first.ahead_turn (length (due_by by r.now first.timing first.pairs)) (length (r ∷ rounds)) (omega (arith, enough)))) where
           at-first : (n k : ℕ) → n ≤ k + 1 → n ≤ 0 + k + 1
           at-first n k enough = omega (arith, enough)

@@ -4,11 +4,11 @@ use Rattle.std.proofs.Common.{◌≡◌, ℕ, ◌+◌, ◌<◌, ◌≤◌, true,
 use Rattle.rand_core.specs.Stream.{Stream}
 use Rattle.is_proto.specs.Lists.{Has}
 use Rattle.is_proto.specs.Times.{MAX}
+use Rattle.is_stun.specs.Timing.{is_modern}
 use Rattle.is_candidate.specs.Candidates.{CandidateRecord}
 use Rattle.is_pair.specs.Turns.{due_by}
 use Rattle.is_rules.specs.declared.emitted.Path.{Path}
 use Rattle.is_rules.specs.Agent.{AgentRecord}
-use Rattle.is_rules.specs.Checking.{goes_ahead}
 use Rattle.is_rules.specs.Sending.{path_of}
 use Rattle.is_rules.specs.Steps.{Call, Entry, ReceivePacket, HandleTimeout, PollTransmit, PollTimeout, PollEvent, Step}
 use Rattle.is_rules.specs.Sound.{IsSound, GivesBased}
@@ -225,17 +225,17 @@ module _ {H P : Type 0} where
         let begin = begins mac answers at by start p sound
         (starts-controlling mac answers before start last part.at part.following (entries_of rounds) part.run role) waiting unanswered in
         by-rounds rounds began are
-        (calls-from (goes_ahead start.rules) start.ahead_turn (length (due_by by at start.timing start.pairs)) (length rounds) (omega (arith, enough)))
+        (calls-from (is_modern start.timing) start.ahead_turn (length (due_by by at start.timing start.pairs)) (length rounds) (omega (arith, enough)))
         (rounds-go first s log fresh before start part.at part.led (entries_of rounds) by
-        (calls_left (goes_ahead start.rules) start.ahead_turn (length (due_by by at start.timing start.pairs))) at (path_of start p) begin
+        (calls_left (is_modern start.timing) start.ahead_turn (length (due_by by at start.timing start.pairs))) at (path_of start p) begin
         rounds last part.following part.rest part.split (λ x has. has) (inr began) are part.run role) where
           by-rounds : (rs : List (LoggedRound P)) → began_at rs ≡ Some at → ((r : LoggedRound P) → Has rs r → IsRound by (path_of start p) r)
-              → calls_left (goes_ahead start.rules) start.ahead_turn (length (due_by by at start.timing start.pairs)) ≤ length rs + 1
+              → calls_left (is_modern start.timing) start.ahead_turn (length (due_by by at start.timing start.pairs)) ≤ length rs + 1
               → SegmentSelects mac answers first s log (entries_of rounds)
-              ⊎ WaitsAfter start by (calls_left (goes_ahead start.rules) start.ahead_turn (length (due_by by at start.timing start.pairs))) (path_of start p) rs last
+              ⊎ WaitsAfter start by (calls_left (is_modern start.timing) start.ahead_turn (length (due_by by at start.timing start.pairs))) (path_of start p) rs last
               → SegmentSelects mac answers first s log (entries_of rounds)
           by-rounds rs none are enough (inl selected_paths) = selected_paths
           by-rounds [] none are enough (inr w) = absurd (cc)
           by-rounds (r ∷ older) began are enough (inr w) =
-              absurd (never by (calls_left (goes_ahead start.rules) start.ahead_turn (length (due_by by at start.timing start.pairs))) (path_of start p) r.now (length (r ∷ older)) last
+              absurd (never by (calls_left (is_modern start.timing) start.ahead_turn (length (due_by by at start.timing start.pairs))) (path_of start p) r.now (length (r ∷ older)) last
               (falls-late by (path_of start p) r (are r (inl refl))) w enough)

@@ -12,8 +12,9 @@ use Rattle.is_pair.specs.Due.{asked, stays_answered}
 use Rattle.is_pair.specs.Pairs.{PairRecord}
 use Rattle.is_stun.specs.declared.header.Class.TheVariants as class
 use Rattle.is_stun.specs.declared.timing.StunTiming.{StunTiming}
+use Rattle.is_stun.specs.Timing.{is_modern, consent_of}
 use Rattle.is_rules.specs.Agent.{AgentRecord}
-use Rattle.is_rules.specs.Checking.{all_asked, goes_ahead}
+use Rattle.is_rules.specs.Checking.{all_asked}
 use Rattle.is_rules.specs.Nominating.{nominates_at_once, numbers}
 use Rattle.is_theorems.specs.Asked.{IsAnsweredOn, IsAnsweredIn, MayEndIn}
 use Rattle.is_theorems.specs.AskedCourses.{Ends}
@@ -132,11 +133,11 @@ module _ {H P : Type 0} where
     pub number : pair.number ≡ n
     pub on : path_of a pair ≡ path
     pub young : nat_lt (unanswered_count pair.checks) a.timing.max_retransmits ≡ true
-    pub lasts : (m : ℕ) → keeps m ≡ true → stays_answered a.timing.consent m pair ≡ true
+    pub lasts : (m : ℕ) → keeps m ≡ true → stays_answered (consent_of a.timing) m pair ≡ true
     pub late : by < now
     pub early : now < MAX
     pub ready : Ready now by late early a.timing pair
-    pub rules : goes_ahead a.rules ≡ ahead
+    pub rules : is_modern a.timing ≡ ahead
     pub count : calls_left ahead a.ahead_turn (leads (all-but n) by a.pairs) + k + times ahead (base + owes a) ≤ total + times ahead (a.next_number + spent)
 
   -- after it
@@ -149,11 +150,11 @@ module _ {H P : Type 0} where
     pub number : pair.number ≡ n
     pub on : path_of a pair ≡ path
     pub young : nat_lt (unanswered_count pair.checks) a.timing.max_retransmits ≡ true
-    pub lasts : (m : ℕ) → keeps m ≡ true → stays_answered a.timing.consent m pair ≡ true
+    pub lasts : (m : ℕ) → keeps m ≡ true → stays_answered (consent_of a.timing) m pair ≡ true
     pub timeout : ℕ
     pub before : timeout ≤ by
     pub due : pair.due ≡ Some timeout
-    pub rules : goes_ahead a.rules ≡ ahead
+    pub rules : is_modern a.timing ≡ ahead
     pub count : calls_left ahead a.ahead_turn (leads (all-but n) by a.pairs) + k + times ahead (base + owes a) ≤ total + times ahead (a.next_number + spent)
 
   pub persists : (by n : ℕ) (path : Path) (keeps : ℕ → Bool) (ahead : Bool) (owes : AgentRecord H P → ℕ) (total base at k spent now : ℕ) (a : AgentRecord H P) → by < now → now < MAX → Waits by n path keeps ahead owes total base at k spent a
@@ -201,7 +202,7 @@ module _ {H P : Type 0} where
           timeout = w.timeout;
           before = w.before;
           due = f.3;
-          rules = ap (λ (g : Ground). goes_ahead g.rules) ground ∙ w.rules;
+          rules = ap (λ (g : Ground). is_modern g.timing) ground ∙ w.rules;
           count = subst (λ b. calls_left ahead b (leads (all-but n) by new.pairs) + k + times ahead (base + owes new) ≤ total + times ahead (new.next_number + (pays e + spent)))
               (sym (ap (λ (g : Ground). g.ahead_turn) ground))
               (calls-added ahead old.ahead_turn (leads (all-but n) by old.pairs) (leads (all-but n) by new.pairs) (old.next_number + spent) (new.next_number + (pays e + spent)) k (base + owes old) (base + owes new) total
@@ -317,7 +318,7 @@ module _ {H P : Type 0} where
               let fewer_for : leads (all-but n) by new.pairs ≤ leads (all-but n) by old.pairs = fewer (all-but n) in
               let falls_for : nominates_at_once (all_asked now p.4) ≡ false → Falls ahead old.ahead_turn new.ahead_turn (leads (all-but n) by old.pairs) (leads (all-but n) by new.pairs) =
               λ in_turn. subst (λ b. Falls b old.ahead_turn new.ahead_turn (leads (all-but n) by old.pairs) (leads (all-but n) by new.pairs)) st.rules
-              (subst (λ i. Falls (goes_ahead old.rules) old.ahead_turn new.ahead_turn (leads (all-but i) by old.pairs) (leads (all-but i) by new.pairs)) st.number (falls in_turn)) in
+              (subst (λ i. Falls (is_modern old.timing) old.ahead_turn new.ahead_turn (leads (all-but i) by old.pairs) (leads (all-but i) by new.pairs)) st.number (falls in_turn)) in
               inr (record {
                 checking = record {
                   full = ap (λ (b : Base). b.lite) m.0 ∙ st.checking.full;
@@ -334,7 +335,7 @@ module _ {H P : Type 0} where
                 timeout = d;
                 before = before;
                 due = due;
-                rules = ap (λ (b : Base). goes_ahead b.rules) m.0 ∙ st.rules;
+                rules = ap (λ (b : Base). is_modern b.timing) m.0 ∙ st.rules;
                 count = counted-on next fewer_for (nominates_at_once (all_asked now p.4)) falls_for (λ due. at_once p due);
               }))
         ] where
@@ -458,11 +459,11 @@ module _ {H P : Type 0} where
         → Sufficing by most start rounds last p → owes start + paid pays (entries_of rounds) ≤ most → Keeps start → OffIn Off (entries_of rounds) ⊎ IsReachedIn mac answers rounds found (path_of start p)
     reached-unless Keeps Off owes pays turns first s log fresh before start last rounds p by most found f within start-keeps =
         by-rounds (IsEndedIn mac answers before start found.at (entries_of rounds) last found.following found.run (path_of start p)) rounds f.began (omega (arith, within)) (let enough = f.enough in omega (arith, enough))
-        (rounds-go mac answers by p.number (path_of start p) (answered_at start p) (goes_ahead start.rules) owes pays total start.next_number Keeps Off turns first s fresh before start found.at found.led f.at start-keeps begin rounds last found.following (inr f.began) f.passing (λ r has. lasts-at first s log fresh before start last (entries_of rounds) p found f.line.there r.now (search (f.lasting r has))) found.run) where
+        (rounds-go mac answers by p.number (path_of start p) (answered_at start p) (is_modern start.timing) owes pays total start.next_number Keeps Off turns first s fresh before start found.at found.led f.at start-keeps begin rounds last found.following (inr f.began) f.passing (λ r has. lasts-at first s log fresh before start last (entries_of rounds) p found f.line.there r.now (search (f.lasting r has))) found.run) where
           total : ℕ
-          total = calls_left (goes_ahead start.rules) start.ahead_turn (leads (all-but p.number) by start.pairs) + times (goes_ahead start.rules) (owes start)
+          total = calls_left (is_modern start.timing) start.ahead_turn (leads (all-but p.number) by start.pairs) + times (is_modern start.timing) (owes start)
 
-          begin : (late : by < f.at) (early : f.at < MAX) → Persists by p.number (path_of start p) (answered_at start p) (goes_ahead start.rules) owes total start.next_number f.at 0 0 start
+          begin : (late : by < f.at) (early : f.at < MAX) → Persists by p.number (path_of start p) (answered_at start p) (is_modern start.timing) owes total start.next_number f.at 0 0 start
           begin late early = record {
             checking = f.line.checking;
             queue = f.line.queue;
@@ -476,16 +477,16 @@ module _ {H P : Type 0} where
             early = early;
             ready = (let due = f.line.due in omega (arith, due), f.line.settled);
             rules = refl;
-            count = at-first (goes_ahead start.rules) (calls_left (goes_ahead start.rules) start.ahead_turn (leads (all-but p.number) by start.pairs)) start.next_number (owes start);
+            count = at-first (is_modern start.timing) (calls_left (is_modern start.timing) start.ahead_turn (leads (all-but p.number) by start.pairs)) start.next_number (owes start);
           } where
             at-first : (ahead : Bool) (x i j : ℕ) → x + 0 + times ahead (i + j) ≤ x + times ahead j + times ahead (i + 0)
             at-first true x i j = omega arith
             at-first false x i j = omega arith
 
           by-rounds : (Gone : Type 0) (rs : List (LoggedRound P)) → began_at rs ≡ Some f.at
-              → owes start + paid pays (entries_of rs) ≤ most → times (goes_ahead start.rules) (2 * length start.pairs + last.next_number + most) ≤ length rs + 1 + times (goes_ahead start.rules) start.next_number
-              → OffIn Off (entries_of rs) ⊎ (Reached mac answers by p.number (path_of start p) (answered_at start p) (goes_ahead start.rules) owes pays total start.next_number rs
-              ⊎ (Gone ⊎ WaitsAfter mac answers by p.number (path_of start p) (answered_at start p) (goes_ahead start.rules) owes pays total start.next_number Keeps Off turns first s fresh before start found.at found.led f.at start-keeps begin rs last))
+              → owes start + paid pays (entries_of rs) ≤ most → times (is_modern start.timing) (2 * length start.pairs + last.next_number + most) ≤ length rs + 1 + times (is_modern start.timing) start.next_number
+              → OffIn Off (entries_of rs) ⊎ (Reached mac answers by p.number (path_of start p) (answered_at start p) (is_modern start.timing) owes pays total start.next_number rs
+              ⊎ (Gone ⊎ WaitsAfter mac answers by p.number (path_of start p) (answered_at start p) (is_modern start.timing) owes pays total start.next_number Keeps Off turns first s fresh before start found.at found.led f.at start-keeps begin rs last))
               → OffIn Off (entries_of rs) ⊎ (ChecksIn rs (path_of start p) ⊎ (IsAnsweredIn (entries_of rs) (path_of start p) ⊎ Gone))
           by-rounds Gone rs none within enough (inl off) = inl off
           by-rounds Gone rs none within enough (inr (inl (inl checks))) = inr (inl checks)
@@ -493,7 +494,7 @@ module _ {H P : Type 0} where
           by-rounds Gone rs none within enough (inr (inr (inl gone))) = inr (inr (inr gone))
           by-rounds Gone [] none within enough (inr (inr (inr w))) = absurd (cc)
           by-rounds Gone (r ∷ older) began within enough (inr (inr (inr w))) =
-              absurd (calls-over (goes_ahead start.rules) start.ahead_turn last.ahead_turn (leads (all-but p.number) by start.pairs) (leads (all-but p.number) by last.pairs) (length start.pairs) start.next_number last.next_number
+              absurd (calls-over (is_modern start.timing) start.ahead_turn last.ahead_turn (leads (all-but p.number) by start.pairs) (leads (all-but p.number) by last.pairs) (length start.pairs) start.next_number last.next_number
               (length (r ∷ older)) (owes start) (paid pays (entries_of (r ∷ older))) (owes last) most w.count within (leads-others by start.pairs p f.line.there) enough)
 
     pub pairs-are-reached : PairsAreReached {H = H} {P = P} mac answers

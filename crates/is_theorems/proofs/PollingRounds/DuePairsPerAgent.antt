@@ -8,6 +8,7 @@ use Rattle.is_candidate.specs.Candidates.{CandidateRecord}
 use Rattle.is_pair.specs.Pairs.{PairRecord}
 use Rattle.is_stun.specs.declared.header.Class.{Class}
 use Rattle.is_stun.specs.declared.header.Class.TheVariants as class
+use Rattle.is_stun.specs.Timing.{is_modern}
 use Rattle.is_rules.specs.declared.emitted.Issued.{Issued}
 use Rattle.is_rules.specs.declared.emitted.Path.{Path}
 use Rattle.is_rules.specs.Agent.{AgentRecord}
@@ -211,7 +212,7 @@ module _ {H P : Type 0} (mac : H → List ℕ → List ℕ → List ℕ) (answer
         line = line;
         passing = are_all (λ x. IsPassing by x) before [] (r ∷ rounds) (λ x none. absurd none) (λ front x has. is_passing by front x (are x has));
         lasting = are_all (λ x. IsLasting x.now start p) before [] (r ∷ rounds) (λ x none. absurd none) (λ front x has. lasting x has);
-        enough = subst (λ k. checks_for start.rules (2 * length start.pairs + last.next_number + nominations_ahead start k) ≤ length all + 1 + checks_for start.rules start.next_number)
+        enough = subst (λ k. checks_for (is_modern start.timing) (2 * length start.pairs + last.next_number + nominations_ahead start k) ≤ length all + 1 + checks_for (is_modern start.timing) start.next_number)
             (sym (selections-same before (r ∷ rounds))) (omega (arith, many, enough));
       })) [
         | inl checks ↦ elim (checks_among before [] (r ∷ rounds) (path_of start p) checks) [

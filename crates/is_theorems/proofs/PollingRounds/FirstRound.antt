@@ -12,8 +12,8 @@ use Rattle.is_pair.specs.Due.{asked, due_time_of, stays_answered}
 use Rattle.is_pair.specs.Pairs.{PairRecord}
 use Rattle.is_stun.specs.declared.header.Class.TheVariants as class
 use Rattle.is_stun.specs.declared.timing.StunTiming.{StunTiming}
+use Rattle.is_stun.specs.Timing.{is_modern, consent_of}
 use Rattle.is_rules.specs.Agent.{AgentRecord}
-use Rattle.is_rules.specs.Checking.{goes_ahead}
 use Rattle.is_rules.specs.Nominating.{numbers}
 use Rattle.is_theorems.specs.Asked.{IsAnsweredIn}
 use Rattle.is_theorems.specs.AskedCourses.{AcceptsSuccessOn, Ends}
@@ -113,7 +113,7 @@ module _ {H P : Type 0} where
     pub number : pair.number ≡ n
     pub on : path_of a pair ≡ path
     pub young : nat_lt (unanswered_count pair.checks) a.timing.max_retransmits ≡ true
-    pub lasts : (m : ℕ) → keeps m ≡ true → stays_answered a.timing.consent m pair ≡ true
+    pub lasts : (m : ℕ) → keeps m ≡ true → stays_answered (consent_of a.timing) m pair ≡ true
     pub timeout : ℕ
     pub before : timeout ≤ by
     pub due : pair.due ≡ Some timeout
@@ -341,12 +341,12 @@ module _ {H P : Type 0} where
             from-second : (rounds : List (LoggedRound P)) → (found : Part mac answers first s log (entries_of (r ∷ []) ++ before) second (entries_of rounds) last)
                 → Waits by p.number (path_of start p) (answered_at start p) r.now second → Then second → ((x : LoggedRound P) → Has rounds x → IsPassing by x)
                 → ((x : LoggedRound P) → Has rounds x → answered_at start p x.now ≡ true)
-                → then_owes second + paid then_pays (entries_of rounds) ≤ most → times (goes_ahead second.rules) (2 * length second.pairs + last.next_number + most) ≤ length rounds + 1 + times (goes_ahead second.rules) second.next_number
+                → then_owes second + paid then_pays (entries_of rounds) ≤ most → times (is_modern second.timing) (2 * length second.pairs + last.next_number + most) ≤ length rounds + 1 + times (is_modern second.timing) second.next_number
                 → OffIn Off (entries_of rounds) ⊎ IsReachedIn mac answers rounds found (path_of start p)
             from-second [] found v still passing lasting within enough =
                 let some = some-there second.pairs v.pair v.there in
                 let same : last.next_number ≡ second.next_number = ap (λ (a : AgentRecord H P). a.next_number) found.run.0 in
-                absurd (none-suffices (goes_ahead second.rules) (length second.pairs) second.next_number last.next_number most some same enough)
+                absurd (none-suffices (is_modern second.timing) (length second.pairs) second.next_number last.next_number most some same enough)
             from-second (x ∷ older) found v still passing lasting within enough =
                 let began = oldest x older in
                 let due : due_time_of began.0 second.timing v.pair ≡ v.timeout = due-at began.0 v.timeout second.timing v.pair v.due in

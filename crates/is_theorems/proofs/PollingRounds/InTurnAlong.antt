@@ -3,6 +3,7 @@
 use Rattle.std.proofs.Common.{◌≡◌, ℕ, ◌+◌, ◌*◌, ◌<◌, ◌≤◌, Bool, true, false, List, [], ◌∷◌, ◌++◌, length, Some, is_some, inl, inr, ◌⊎◌, refl, ap, sym, ◌∙◌, subst, arith}
 use Rattle.rand_core.specs.Stream.{Stream}
 use Rattle.is_proto.specs.Lists.{Has}
+use Rattle.is_stun.specs.Timing.{is_modern}
 use Rattle.is_candidate.specs.Candidates.{CandidateRecord}
 use Rattle.is_pair.specs.Checks.{unanswered_count}
 use Rattle.is_pair.specs.Due.{due_time_of}
@@ -85,7 +86,7 @@ module _ {H P : Type 0} where
     pub line : Lined at by start p
     pub passing : (r : LoggedRound P) → Has rounds r → IsPassing by r
     pub lasting : (r : LoggedRound P) → Has rounds r → IsLasting r.now start p
-    pub enough : checks_for start.rules (2 * length start.pairs + last.next_number + ahead) ≤ length rounds + 1 + checks_for start.rules start.next_number
+    pub enough : checks_for (is_modern start.timing) (2 * length start.pairs + last.next_number + ahead) ≤ length rounds + 1 + checks_for (is_modern start.timing) start.next_number
 
   pub sufficing : (by : ℕ) (start : AgentRecord H P) (rounds : List (LoggedRound P)) (last : AgentRecord H P) (p : PairRecord) → Suffice by start rounds last p
       → Sufficing by (nominations_ahead start (selection_count (entries_of rounds))) start rounds last p

@@ -1,7 +1,7 @@
 -- With limits on pairs and on what packets bring, a bound on the rounds before a pair that is due is checked.
 use Rattle.std.proofs.Common.{◌≡◌, ℕ, ◌+◌, ◌*◌, ◌≤◌, List, ◌++◌, length, sym, ◌∙◌, arith, append_assoc}
+use Rattle.is_stun.specs.Timing.{is_modern}
 use Rattle.is_candidate.specs.Candidates.{CandidateRecord}
-use Rattle.is_rules.specs.Checking.{goes_ahead}
 use Rattle.is_theorems.specs.BoundedRounds.{LimitsReach}
 use Rattle.is_theorems.specs.Bounds.{gathered_count, pair_bound, signal_count}
 use Rattle.is_theorems.specs.Reached.{PairsAreReached, nominations_ahead, selection_count}
@@ -26,9 +26,9 @@ module _ {H P : Type 0} (mac : H → List ℕ → List ℕ → List ℕ) (answer
         lasting = enough.lasting;
         enough = (let all = enough.enough in
             let ahead : ℕ = nominations_ahead start (selection_count (entries_of rounds)) in
-            let needed : times (goes_ahead start.rules) (2 * pair_bound limit most (gathered_count before) (signal_count before) + last.next_number + ahead)
-            ≤ length rounds + 1 + times (goes_ahead start.rules) start.next_number = omega (arith, all) in
-            let fewer = times-kept (goes_ahead start.rules) (2 * pair_bound limit most (gathered_count before) (signal_count before) + last.next_number + ahead)
-            (2 * length start.pairs + last.next_number + ahead) (length rounds + 1 + times (goes_ahead start.rules) start.next_number) (omega (arith, pairs)) needed in
+            let needed : times (is_modern start.timing) (2 * pair_bound limit most (gathered_count before) (signal_count before) + last.next_number + ahead)
+            ≤ length rounds + 1 + times (is_modern start.timing) start.next_number = omega (arith, all) in
+            let fewer = times-kept (is_modern start.timing) (2 * pair_bound limit most (gathered_count before) (signal_count before) + last.next_number + ahead)
+            (2 * length start.pairs + last.next_number + ahead) (length rounds + 1 + times (is_modern start.timing) start.next_number) (omega (arith, pairs)) needed in
             omega (arith, fewer));
       })

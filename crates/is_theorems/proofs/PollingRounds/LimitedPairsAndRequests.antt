@@ -4,10 +4,10 @@ use Rattle.std.proofs.Math.Nat.{add-mul, le_of_mul-le-mul_right, mul-le-mul_righ
 use Rattle.std.proofs.lemmas.List.Sums.{sum_by-append, sum_by-cons}
 use Rattle.rand_core.specs.Stream.{Stream}
 use Rattle.is_proto.specs.Lists.{Has}
+use Rattle.is_stun.specs.Timing.{is_modern}
 use Rattle.is_candidate.specs.Candidates.{CandidateRecord}
 use Rattle.is_pair.specs.Pairs.{PairRecord}
 use Rattle.is_rules.specs.Agent.{AgentRecord}
-use Rattle.is_rules.specs.Checking.{goes_ahead}
 use Rattle.is_theorems.specs.Bounds.{FormsFew, IsLimited, gathered_count, is_gathered, is_signal, pair_bound, signal_count}
 use Rattle.is_theorems.specs.Logs.{Logged}
 use Rattle.is_theorems.specs.Reached.{IsEndedIn, PairsAreReached, is_in_round, nominations_ahead, selection_count}
@@ -155,16 +155,16 @@ module _ {H P : Type 0} (mac : H → List ℕ → List ℕ → List ℕ) (answer
   pub suffice-steady : (first : AgentRecord H P) (s : Stream) (log : List (Logged P)) → IsFresh first → (before part : List (Logged P)) (start last : AgentRecord H P)
       → (found : Part mac answers first s log before start part last) → start.lite ≡ false → AreSteady part → ConsentLastsIn mac answers before start found.at part last found.following found.run
       → (pairs bound sent rounds : ℕ) → length start.pairs ≤ pairs → length last.pairs ≤ bound → timeout_count part ≤ rounds
-      → times (goes_ahead start.rules) (2 * pairs + bound + sent) * start.timing.max_retransmits + times (goes_ahead start.rules) rounds ≤ (rounds + 1) * start.timing.max_retransmits
-      → times (goes_ahead start.rules) (2 * length start.pairs + last.next_number + sent) ≤ rounds + 1 + times (goes_ahead start.rules) start.next_number
+      → times (is_modern start.timing) (2 * pairs + bound + sent) * start.timing.max_retransmits + times (is_modern start.timing) rounds ≤ (rounds + 1) * start.timing.max_retransmits
+      → times (is_modern start.timing) (2 * length start.pairs + last.next_number + sent) ≤ rounds + 1 + times (is_modern start.timing) start.next_number
   suffice-steady first s log fresh before part start last found full steady consents pairs bound sent rounds few few_last timeouts enough =
       let added = requests-add-few mac answers first s log fresh before part start last found full steady consents in
       let sound : IsSound start = runs_sound mac answers (path_theorem mac answers) first start s found.at before fresh found.led in
-      let fit : times (goes_ahead start.rules) (2 * pairs + last.next_number + sent) ≤ rounds + 1 + times (goes_ahead start.rules) start.next_number =
-      enough-rounds-in-turn (goes_ahead start.rules) pairs (length last.pairs) start.next_number last.next_number rounds
+      let fit : times (is_modern start.timing) (2 * pairs + last.next_number + sent) ≤ rounds + 1 + times (is_modern start.timing) start.next_number =
+      enough-rounds-in-turn (is_modern start.timing) pairs (length last.pairs) start.next_number last.next_number rounds
       bound sent start.timing.max_retransmits (omega (arith, few_last)) sound.checks (omega (arith, added, timeouts)) (omega (arith, enough)) in
-      let fewer = times-kept (goes_ahead start.rules) (2 * pairs + last.next_number + sent) (2 * length start.pairs + last.next_number + sent)
-      (rounds + 1 + times (goes_ahead start.rules) start.next_number) (omega (arith, few)) fit in
+      let fewer = times-kept (is_modern start.timing) (2 * pairs + last.next_number + sent) (2 * length start.pairs + last.next_number + sent)
+      (rounds + 1 + times (is_modern start.timing) start.next_number) (omega (arith, few)) fit in
       omega (arith, fewer)
 
   -- ---- the theorem
@@ -180,7 +180,7 @@ module _ {H P : Type 0} (mac : H → List ℕ → List ℕ → List ℕ) (answer
         now = few-pairs most limit first s log fresh limited few part.rest (entries_of rounds) before last part.following part.split f.steady
             (run-on mac answers first start last s part.at part.following before (entries_of rounds) part.led part.run)
 
-        enough : times (goes_ahead start.rules) (2 * length start.pairs + last.next_number + nominations_ahead start (selection_count (entries_of rounds))) ≤ length rounds + 1 + times (goes_ahead start.rules) start.next_number
+        enough : times (is_modern start.timing) (2 * length start.pairs + last.next_number + nominations_ahead start (selection_count (entries_of rounds))) ≤ length rounds + 1 + times (is_modern start.timing) start.next_number
         enough =
             let all = f.enough in
             suffice-steady first s log fresh before (entries_of rounds) start last part f.line.checking.full f.steady consents

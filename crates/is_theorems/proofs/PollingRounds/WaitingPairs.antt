@@ -2,10 +2,10 @@
 use Rattle.std.proofs.Common.{◌≡◌, ℕ, ◌+◌, ◌<◌, ◌≤◌, Bool, true, false, List, nat_lt, refl, arith}
 use Rattle.std.proofs.lemmas.Bool.Decides.{nat_tests}
 use Rattle.is_proto.specs.Times.{MAX}
+use Rattle.is_stun.specs.Timing.{is_modern}
 use Rattle.is_pair.specs.Checks.{unanswered_count}
 use Rattle.is_pair.specs.Pairs.{PairRecord}
 use Rattle.is_rules.specs.Agent.{AgentRecord}
-use Rattle.is_rules.specs.Checking.{goes_ahead}
 use Rattle.is_rules.specs.Sending.{path_of}
 use Rattle.is_theorems.specs.KindsInTurn.{WaitsInRounds}
 use Rattle.is_theorems.specs.Rounds.{LoggedRound}
@@ -20,10 +20,10 @@ lt-is n m h = grind (arith, nat_tests, h)
 module _ {H P : Type 0} where
   module _ (by : ℕ) (start : AgentRecord H P) (p : PairRecord) where
     abbrev pub total_at : ℕ
-    total_at = calls_left (goes_ahead start.rules) start.ahead_turn (leads (all-but p.number) by start.pairs) + times (goes_ahead start.rules) 0
+    total_at = calls_left (is_modern start.timing) start.ahead_turn (leads (all-but p.number) by start.pairs) + times (is_modern start.timing) 0
 
     pub begins : (rounds : List (LoggedRound P)) (w : WaitsInRounds by start rounds p) (late : by < w.at) (early : w.at < MAX)
-        → Persists by p.number (path_of start p) (answered_at start p) (goes_ahead start.rules) (λ _. 0) total_at start.next_number w.at 0 0 start
+        → Persists by p.number (path_of start p) (answered_at start p) (is_modern start.timing) (λ _. 0) total_at start.next_number w.at 0 0 start
     begins rounds w late early = record {
       checking = w.line.checking;
       queue = w.line.queue;
@@ -37,7 +37,7 @@ module _ {H P : Type 0} where
       early = early;
       ready = (let due = w.line.due in omega (arith, due), w.line.settled);
       rules = refl;
-      count = at-first (goes_ahead start.rules) (calls_left (goes_ahead start.rules) start.ahead_turn (leads (all-but p.number) by start.pairs)) start.next_number;
+      count = at-first (is_modern start.timing) (calls_left (is_modern start.timing) start.ahead_turn (leads (all-but p.number) by start.pairs)) start.next_number;
     } where
       at-first : (ahead : Bool) (x i : ℕ) → x + 0 + times ahead (i + 0) ≤ x + times ahead 0 + times ahead (i + 0)
       at-first true x i = omega arith

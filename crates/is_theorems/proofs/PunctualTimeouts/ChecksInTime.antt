@@ -12,9 +12,9 @@ use Rattle.is_pair.specs.Pairs.{PairRecord}
 use Rattle.is_pair.specs.Turns.{IsPaced}
 use Rattle.is_pair.proofs.ConsentTimes.EndOfConsent.{calls-when-due}
 use Rattle.is_stun.specs.declared.timing.StunTiming.{StunTiming}
+use Rattle.is_stun.specs.Timing.{is_modern}
 use Rattle.is_rules.specs.declared.emitted.Path.{Path}
 use Rattle.is_rules.specs.Agent.{AgentRecord}
-use Rattle.is_rules.specs.Checking.{goes_ahead}
 use Rattle.is_theorems.specs.AskedCourses.{Ends, EndsAlong, IsAnsweredAlong, SuccessesSelect}
 use Rattle.is_theorems.specs.Courses.{ControlsAlong, CourseRound, CourseRounds}
 use Rattle.is_theorems.specs.Exchange.{AreBetween, Course}
@@ -337,11 +337,11 @@ module _ {H P : Type 0} where
     suffices-earlier : (by now many : ℕ) (first second end last : AgentRecord H P) (all_most all_more most more : ℕ) → end.next_number ≤ last.next_number → all_most ≤ all_more → most ≤ more
         → Suffices by now first second last many all_more more → Suffices by now first second end many all_most most
     suffices-earlier by now many first second end last all_most all_more most more fewer all_le le (inl (late, enough)) =
-        let k = suffices-for (goes_ahead first.rules) (length first.pairs) end.next_number last.next_number first.next_number all_most all_more (many + 2) (omega (arith, fewer)) (omega (arith, all_le)) (omega (arith, enough)) in
+        let k = suffices-for (is_modern first.timing) (length first.pairs) end.next_number last.next_number first.next_number all_most all_more (many + 2) (omega (arith, fewer)) (omega (arith, all_le)) (omega (arith, enough)) in
         inl (omega (arith, late), omega (arith, k))
     suffices-earlier by now many first second end last all_most all_more most more fewer all_le le (inr (inl few)) = inr (inl (omega (arith, few)))
     suffices-earlier by now many first second end last all_most all_more most more fewer all_le le (inr (inr enough)) =
-        let k = suffices-for (goes_ahead second.rules) (length second.pairs) end.next_number last.next_number second.next_number most more (many + 1) (omega (arith, fewer)) (omega (arith, le)) (omega (arith, enough)) in
+        let k = suffices-for (is_modern second.timing) (length second.pairs) end.next_number last.next_number second.next_number most more (many + 1) (omega (arith, fewer)) (omega (arith, le)) (omega (arith, enough)) in
         inr (inr (omega (arith, k)))
 
     -- all of them

@@ -3,6 +3,7 @@ use Rattle.std.proofs.Common.{◌≡◌, ℕ, ◌+◌, ◌*◌, ◌<◌, ◌≤�
 use Rattle.rand_core.specs.Stream.{Stream}
 use Rattle.is_proto.specs.Lists.{Has}
 use Rattle.is_proto.specs.Times.{MAX}
+use Rattle.is_stun.specs.Timing.{is_modern}
 use Rattle.is_candidate.specs.Candidates.{CandidateRecord}
 use Rattle.is_pair.specs.Pairs.{PairRecord}
 use Rattle.is_rules.specs.declared.emitted.Path.{Path}
@@ -95,13 +96,13 @@ module _ {H P : Type 0} where
   suffice : (by many : ℕ) (start second last : AgentRecord H P) (r : LoggedRound P) (later : List (LoggedRound P)) → LoggedRoundsSuffice by start second last r later many
       → RoundsSuffice by start second last (round_from r) (rounds_onto later []) many
   suffice by many start second last r later enough = by-case enough where
-    all : checks_for start.rules (2 * length start.pairs + last.next_number + nominations_ahead start (selections_among (course_of r later)))
-        ≡ checks_for start.rules (2 * length start.pairs + last.next_number + nominations_ahead start (selection_count (all_entries r later)))
-    all = ap (λ n. checks_for start.rules (2 * length start.pairs + last.next_number + nominations_ahead start n)) (selections-all r later)
+    all : checks_for (is_modern start.timing) (2 * length start.pairs + last.next_number + nominations_ahead start (selections_among (course_of r later)))
+        ≡ checks_for (is_modern start.timing) (2 * length start.pairs + last.next_number + nominations_ahead start (selection_count (all_entries r later)))
+    all = ap (λ n. checks_for (is_modern start.timing) (2 * length start.pairs + last.next_number + nominations_ahead start n)) (selections-all r later)
 
-    rest : checks_for second.rules (2 * length second.pairs + last.next_number + nominations_ahead second (selections_among (rounds_onto later [])))
-        ≡ checks_for second.rules (2 * length second.pairs + last.next_number + nominations_ahead second (selection_count (entries_of later)))
-    rest = ap (λ n. checks_for second.rules (2 * length second.pairs + last.next_number + nominations_ahead second n)) (selections-onto later)
+    rest : checks_for (is_modern second.timing) (2 * length second.pairs + last.next_number + nominations_ahead second (selections_among (rounds_onto later [])))
+        ≡ checks_for (is_modern second.timing) (2 * length second.pairs + last.next_number + nominations_ahead second (selection_count (entries_of later)))
+    rest = ap (λ n. checks_for (is_modern second.timing) (2 * length second.pairs + last.next_number + nominations_ahead second n)) (selections-onto later)
 
     by-case : LoggedRoundsSuffice by start second last r later many → RoundsSuffice by start second last (round_from r) (rounds_onto later []) many
     by-case (inl (late, enough)) = inl (omega (arith, late), omega (arith, enough, all))

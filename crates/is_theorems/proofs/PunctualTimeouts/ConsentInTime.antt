@@ -7,6 +7,7 @@ use Rattle.is_candidate.specs.Candidates.{CandidateRecord}
 use Rattle.is_pair.specs.Due.{consent_end, call_time_of, call_time_with}
 use Rattle.is_pair.specs.Pairs.{PairRecord}
 use Rattle.is_stun.specs.declared.timing.Consent.{Consent}
+use Rattle.is_stun.specs.Timing.{consent_of}
 use Rattle.is_pair.proofs.ConsentTimes.EndOfConsent.{calls-at-end}
 use Rattle.is_rules.specs.Agent.{AgentRecord}
 use Rattle.is_rules.specs.declared.emitted.Emitted.{Emitted}
@@ -76,7 +77,7 @@ module _ {H P : Type 0} where
     -- ---- the time that `poll_timeout` returns
 
     pub polled-soon : (pace delay now next deadline : ℕ) (c : Consent) (e : Entry) (old new : AgentRecord H P) (s t : Stream) (p : PairRecord) → old.lite ≡ false → old.last_time ≡ Some now
-        → old.timing.consent ≡ Some c → old.timing_advance ≤ pace → Step mac answers old s PollTimeout e new t → e.answer ≡ NextTimeout (Some deadline) → next ≤ deadline + delay → Has old.pairs p
+        → consent_of old.timing ≡ Some c → old.timing_advance ≤ pace → Step mac answers old s PollTimeout e new t → e.answer ≡ NextTimeout (Some deadline) → next ≤ deadline + delay → Has old.pairs p
         → next ≤ max (consent_end c p) (now + pace) + delay
     polled-soon pace delay now next deadline c e old new s t p full last rule slow (returned, reported, h, drawn) answer close has =
         let same : returned ≡ Some deadline = deadline-is returned (Some deadline) (sym (ap (λ (x : Entry). x.answer) reported) ∙ answer) in
@@ -90,7 +91,7 @@ module _ {H P : Type 0} where
           deadline-is a b h = cc
 
     walk : (pace delay now next : ℕ) (c : Consent) (polled : AgentRecord H P) (p : PairRecord) → Has polled.pairs p → (xs : List (Call P × Entry)) (old new : AgentRecord H P)
-        → old.lite ≡ false → old.last_time ≡ Some now → old.timing.consent ≡ Some c → old.timing_advance ≤ pace → KeepsPace pace xs → AreInRound xs
+        → old.lite ≡ false → old.last_time ≡ Some now → consent_of old.timing ≡ Some c → old.timing_advance ≤ pace → KeepsPace pace xs → AreInRound xs
         → (course : Course mac answers xs old new) → IsPolledIn mac answers delay next polled xs old new course → next ≤ max (consent_end c p) (now + pace) + delay
     walk pace delay now next c polled p has [] old new full last rule slow keeps fits course none = absurd none
     walk pace delay now next c polled p has (x ∷ rest) old new full last rule slow keeps fits (mid, s, t, given, step, more) (inl (here, called, (deadline, answer, close))) =
@@ -99,7 +100,7 @@ module _ {H P : Type 0} where
     walk pace delay now next c polled p has (x ∷ rest) old new full last rule slow keeps fits (mid, s, t, given, step, more) (inr later) =
         let clock = round-clock x.0 x.1 old mid s t (fits x (inl refl)) step in
         walk pace delay now next c polled p has rest mid new
-        (ap (λ (k : Clock). k.lite) clock ∙ full) (ap (λ (k : Clock). k.last_time) clock ∙ last) (ap (λ (k : Clock). k.timing.consent) clock ∙ rule)
+        (ap (λ (k : Clock). k.lite) clock ∙ full) (ap (λ (k : Clock). k.last_time) clock ∙ last) (ap (λ (k : Clock). consent_of k.timing) clock ∙ rule)
         (stays-slow x.0 old.timing_advance mid.timing_advance pace (pacing-is-set mac answers old mid s t x.0 x.1 step) (omega (arith, slow)) (λ by is. keeps x by (inl refl) is))
         (λ y by there. keeps y by (inr there)) (λ y there. fits y (inr there)) more later
 
@@ -122,13 +123,13 @@ module _ {H P : Type 0} where
     consent-ends-in-time answers old first last polled s t emitted xs c p pace delay now next m rule f has =
         let full : old.lite ≡ false = search m.full in
         let none : request_at now old ≡ None = search m.unqueued in
-        let ruled : old.timing.consent ≡ Some c = search rule in
+        let ruled : consent_of old.timing ≡ Some c = search rule in
         let there : Has polled.pairs p = search has in
         let call = maintains mac now (timeout_begun now old) first s t emitted (maintained old first now s t emitted none m.call) in
         let begins = f.begins in
         let in_time =
         walk mac answers pace delay now next c polled p there xs first last
-        (ap (λ (k : Pace). k.clock.lite) call ∙ full) (ap (λ (k : Pace). k.clock.last_time) call) (ap (λ (k : Pace). k.clock.timing.consent) call ∙ ruled) (omega (arith, begins))
+        (ap (λ (k : Pace). k.clock.lite) call ∙ full) (ap (λ (k : Pace). k.clock.last_time) call) (ap (λ (k : Pace). consent_of k.clock.timing) call ∙ ruled) (omega (arith, begins))
         (λ y by among. f.keeps y by among) (λ y among. f.between y among) f.course f.prompt in
         omega (arith, in_time)
 

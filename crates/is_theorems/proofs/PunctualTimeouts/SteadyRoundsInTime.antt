@@ -5,10 +5,10 @@ use Rattle.std.proofs.lemmas.Bool.Decides.{nat_tests}
 use Rattle.std.proofs.lemmas.List.Sums.{sum_by-append, sum_by-cons}
 use Rattle.rand_core.specs.Stream.{Stream}
 use Rattle.is_proto.specs.Lists.{Has}
+use Rattle.is_stun.specs.Timing.{is_modern}
 use Rattle.is_candidate.specs.Candidates.{CandidateRecord}
 use Rattle.is_pair.specs.Pairs.{PairRecord}
 use Rattle.is_rules.specs.Agent.{AgentRecord}
-use Rattle.is_rules.specs.Checking.{goes_ahead}
 use Rattle.is_rules.specs.Nominating.{numbers}
 use Rattle.is_rules.specs.Owed.{one_if}
 use Rattle.is_rules.specs.Sending.{path_of}
@@ -255,20 +255,20 @@ module _ {H P : Type 0} (mac : H → List ℕ → List ℕ → List ℕ) (answer
           let all = suffice-steady mac answers first s log fresh k.before (all_entries k.opening o.oldest) k.start cut.mid cut.front f.line.checking.full steady cut.front_lasts
           (length k.start.pairs) bound sent (many + 1) (omega arith) (few-at (all_entries k.opening o.oldest) cut.mid cut.front steady) all-timeouts (omega (arith, enough)) in
           let fewer = sent-all in
-          let fit = times-kept (goes_ahead k.start.rules) (2 * length k.start.pairs + cut.mid.next_number + sent)
-          (2 * length k.start.pairs + cut.mid.next_number + nominations_ahead k.start (selection_count (all_entries k.opening o.oldest))) (many + 1 + 1 + times (goes_ahead k.start.rules) k.start.next_number)
+          let fit = times-kept (is_modern k.start.timing) (2 * length k.start.pairs + cut.mid.next_number + sent)
+          (2 * length k.start.pairs + cut.mid.next_number + nominations_ahead k.start (selection_count (all_entries k.opening o.oldest))) (many + 1 + 1 + times (is_modern k.start.timing) k.start.next_number)
           (omega (arith, fewer)) (omega (arith, all)) in
           inl (omega (arith, late), omega (arith, fit))
       suffices (inr enough) =
-          let begin : times (goes_ahead k.start.rules) (2 * bound + bound + sent) * k.start.timing.max_retransmits + times (goes_ahead k.start.rules) many ≤ (many + 1) * k.start.timing.max_retransmits = omega (arith, enough) in
-          let second : times (goes_ahead both.mid.rules) (2 * bound + bound + sent) * both.mid.timing.max_retransmits + times (goes_ahead both.mid.rules) many ≤ (many + 1) * both.mid.timing.max_retransmits =
-          subst (λ (h : Held). times (goes_ahead h.rules) (2 * bound + bound + sent) * h.timing.max_retransmits + times (goes_ahead h.rules) many ≤ (many + 1) * h.timing.max_retransmits) (sym held) begin in
+          let begin : times (is_modern k.start.timing) (2 * bound + bound + sent) * k.start.timing.max_retransmits + times (is_modern k.start.timing) many ≤ (many + 1) * k.start.timing.max_retransmits = omega (arith, enough) in
+          let second : times (is_modern both.mid.timing) (2 * bound + bound + sent) * both.mid.timing.max_retransmits + times (is_modern both.mid.timing) many ≤ (many + 1) * both.mid.timing.max_retransmits =
+          subst (λ (h : Held). times (is_modern h.timing) (2 * bound + bound + sent) * h.timing.max_retransmits + times (is_modern h.timing) many ≤ (many + 1) * h.timing.max_retransmits) (sym held) begin in
           let all = suffice-steady mac answers first s log fresh (entries_of (k.opening ∷ []) ++ k.before) (entries_of o.oldest) both.mid cut.mid both.back
           (ap (λ (h : Held). h.lite) held ∙ f.line.checking.full) steady-later both.back_lasts
           bound bound sent many (few-at (entries_of (k.opening ∷ [])) both.mid both.front steady-first) (few-at (all_entries k.opening o.oldest) cut.mid cut.front steady) later-timeouts second in
           let fewer = sent-later in
-          let fit = times-kept (goes_ahead both.mid.rules) (2 * length both.mid.pairs + cut.mid.next_number + sent)
-          (2 * length both.mid.pairs + cut.mid.next_number + nominations_ahead both.mid (selection_count (entries_of o.oldest))) (many + 1 + times (goes_ahead both.mid.rules) both.mid.next_number)
+          let fit = times-kept (is_modern both.mid.timing) (2 * length both.mid.pairs + cut.mid.next_number + sent)
+          (2 * length both.mid.pairs + cut.mid.next_number + nominations_ahead both.mid (selection_count (entries_of o.oldest))) (many + 1 + times (is_modern both.mid.timing) both.mid.next_number)
           (omega (arith, fewer)) (omega (arith, all)) in
           inr (inr (omega (arith, fit)))
 

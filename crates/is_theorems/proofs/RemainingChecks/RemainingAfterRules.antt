@@ -19,6 +19,7 @@ use Rattle.is_stun.specs.declared.header.Class.{Class}
 use Rattle.is_stun.specs.declared.header.Class.TheVariants as class
 use Rattle.is_stun.specs.declared.timing.StunTiming.{StunTiming}
 use Rattle.is_stun.specs.Message.{Message}
+use Rattle.is_stun.specs.Timing.{consent_of}
 use Rattle.is_rules.specs.Accepting.{discovered_emitted, Takes}
 use Rattle.is_rules.specs.Agent.{AgentRecord}
 use Rattle.is_rules.specs.Answers.{is_left_out, is_role_conflict, local_with, mapped_candidate, success_counted, TakesSuccess, LeavesRole, TakesFailure}
@@ -27,7 +28,6 @@ use Rattle.is_rules.specs.declared.credentials.IceCreds.{IceCreds}
 use Rattle.is_rules.specs.declared.places.RemotePlace.{RemotePlace}
 use Rattle.is_rules.specs.declared.places.RemotePlace.TheVariants.{Known, Barred, Unknown, Vacant, Full}
 use Rattle.is_rules.specs.declared.roles.Conflict.{Conflict}
-use Rattle.is_rules.specs.declared.rules.Rules.{Rules}
 use Rattle.is_rules.specs.declared.roles.Conflict.TheVariants.{Absent, Send487, SwitchRole}
 use Rattle.is_rules.specs.declared.emitted.Path.{Path}
 use Rattle.is_rules.specs.declared.emitted.Emitted.{Emitted}
@@ -58,7 +58,6 @@ use Rattle.is_theorems.proofs.BasicLemmas.ServedPairs.{numbered-by}
 pub record Held : Type 0 where
   pub lite : Bool
   pub timing : StunTiming
-  pub rules : Rules
 
 -- one more pair
 one-more : (n m : ℕ) → (n + 1) * m ≡ n * m + m
@@ -96,7 +95,7 @@ request-checks q s p =
 
 module _ {H P : Type 0} where
   abbrev pub held_of : AgentRecord H P → Held
-  held_of a = record { lite = a.lite; timing = a.timing; rules = a.rules }
+  held_of a = record { lite = a.lite; timing = a.timing }
 
   module _ (m : ℕ) where
     -- at most k checks of them are sent, and each added pair has m more
@@ -302,8 +301,8 @@ module _ {H P : Type 0} where
             consents-named : Thins 0 (at_timeout now old) named → HaveConsent now named
             consents-named thins q has =
                 let o = thins.1.back q has in
-                consent-same named.timing.consent now o.0 q o.2.consented o.2.heard
-                ∙ (ap (λ (b : Base). due.has_consent b.timing.consent now o.0) thins.0 ∙ consents o.0 o.1)
+                consent-same (consent_of named.timing) now o.0 q o.2.consented o.2.heard
+                ∙ (ap (λ (b : Base). due.has_consent (consent_of b.timing) now o.0) thins.0 ∙ consents o.0 o.1)
 
       pub times-out-spends : (now : ℕ) (old new : AgentRecord H P) (s t : Stream) (r : Result (Unit {0}) IceError) (emitted : Emitted) → old.lite ≡ false → old.timing.max_retransmits ≡ m → rises old.pairs ≡ true → HaveConsent now old
           → TimesOut mac now old s r emitted new t → Spends 1 old new

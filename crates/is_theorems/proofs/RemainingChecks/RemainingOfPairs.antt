@@ -10,6 +10,7 @@ use Rattle.is_pair.specs.Checks.{Check, answered_at, last_checks, unanswered_cou
 use Rattle.is_pair.specs.Due as due
 use Rattle.is_pair.specs.Pairs.{PairRecord, answered, checked, check_of}
 use Rattle.is_stun.specs.declared.timing.StunTiming.{StunTiming}
+use Rattle.is_stun.specs.Timing.{consent_of}
 use Rattle.is_rules.proofs.PairLists.RisingNumbers.{AreRising}
 use Rattle.is_theorems.proofs.RuleEffects.SelectedPaths.{some_is}
 
@@ -50,12 +51,12 @@ spent-by true false true b u i has is = absurd (cc)
 spent-by true false false true u i has is = absurd (cc)
 spent-by true false false false u i has is = refl
 
-pub all-spent : (lite : Bool) (now : ℕ) (t : StunTiming) (p : PairRecord) → lite ≡ false → due.has_consent t.consent now p ≡ true → not (due.is_pair_expired lite now t p) ≡ false → unspent t.max_retransmits p ≡ 0
+pub all-spent : (lite : Bool) (now : ℕ) (t : StunTiming) (p : PairRecord) → lite ≡ false → due.has_consent (consent_of t) now p ≡ true → not (due.is_pair_expired lite now t p) ≡ false → unspent t.max_retransmits p ≡ 0
 all-spent true now t p full has gone = absurd (cc)
 all-spent false now t p full has gone =
     let many : t.max_retransmits ≤ length p.checks =
     ltb-false (length p.checks) t.max_retransmits
-    (spent-by (due.has_consent t.consent now p) (due.has_early_checks t.early now t p) (due.is_heard now p) (nat_lt (length p.checks) t.max_retransmits) (nat_lt (unanswered_count p.checks) t.max_retransmits) (due.is_in_time now t p.checks) has gone) in
+    (spent-by (due.has_consent (consent_of t) now p) (due.has_early_checks now t p) (due.is_heard now p) (nat_lt (length p.checks) t.max_retransmits) (nat_lt (unanswered_count p.checks) t.max_retransmits) (due.is_in_time now t p.checks) has gone) in
     omega (arith, many)
 
 -- ---- lists of pairs

@@ -14,6 +14,7 @@ use Rattle.is_pair.specs.Multiset.{is_valid_at}
 use Rattle.is_stun.specs.declared.header.Class.{Class}
 use Rattle.is_stun.specs.declared.header.Class.TheVariants as class
 use Rattle.is_stun.specs.Message.{Message}
+use Rattle.is_stun.specs.Timing.{is_modern}
 use Rattle.is_rules.specs.declared.credentials.IceCreds.{IceCreds}
 use Rattle.is_rules.specs.declared.emitted.Path.{Path}
 use Rattle.is_rules.specs.declared.emitted.Emitted.{Emitted}
@@ -88,7 +89,7 @@ module _ {H P : Type 0} where
   -- an agent that goes by numbers follows the first pair in their order
   follows-first : (a : AgentRecord H P) → GoesByNumbers a → followed a ≡ followed_by_number a
   follows-first a goes =
-      let set : a.renominates ≡ true = (both a.renominates a.rules.numbered_nominations goes.numbers).0 in
+      let set : a.renominates ≡ true = (both a.renominates (is_modern a.timing) goes.numbers).0 in
       let controlled : a.controlling ≡ false = search goes.controlled in let seen : a.numbers_seen ≡ true = search goes.seen in
       ap (λ b. if b && not a.controlling then (if numbers a && a.numbers_seen then followed_by_number a else a.last_nominated) else None) set
       ∙ (ap (λ c. if not c then (if numbers a && a.numbers_seen then followed_by_number a else a.last_nominated) else None) controlled

@@ -1,29 +1,29 @@
 -- A request that triggers a check changes only when its pair is due.
-use Rattle.std.proofs.Common.{◌≡◌, ℕ, Bool, true, false, Option, Some, None, min, refl, sym, subst, if◌then◌else◌}
+use Rattle.std.proofs.Common.{◌≡◌, ℕ, ◌&&◌, Bool, true, false, Option, Some, None, min, refl, sym, subst, if◌then◌else◌}
 use Rattle.std.specs.Prelude.{option_map}
+use Rattle.is_stun.specs.Timing.{is_modern}
 use Rattle.is_pair.specs.Pairs.{PairRecord}
 use Rattle.is_pair.specs.Due.{is_triggered, moved_up, triggered}
 use Rattle.is_rules.specs.Agent.{AgentRecord}
 use Rattle.is_rules.specs.Request.{RequestRecord}
 use Rattle.is_rules.specs.Serving.{trigger_time}
 
-pub triggered_is : (most : Option ℕ) (at : ℕ) (p : PairRecord) → (due : Option ℕ) × (triggered most at p ≡ record p { due = due })
-triggered_is None at p = (p.due, refl)
-triggered_is (Some most) at p = by (is_triggered most p) where
+pub triggered_is : (modern : Bool) (at : ℕ) (p : PairRecord) → (due : Option ℕ) × (triggered modern at p ≡ record p { due = due })
+triggered_is modern at p = by (modern && is_triggered p) where
   by : (b : Bool) → (due : Option ℕ) × ((if b then moved_up at p else p) ≡ record p { due = due })
   by true = (option_map (min at) p.due, refl)
   by false = (p.due, refl)
 
 -- what holds of the pair whenever it is due
-pub triggered_holds : (Holds : PairRecord → Type 0) (most : Option ℕ) (at : ℕ) (p : PairRecord)
-    → ((due : Option ℕ) → Holds (record p { due = due })) → Holds (triggered most at p)
-triggered_holds Holds most at p h = let k = triggered_is most at p in subst (λ (x : PairRecord). Holds x) (sym k.1) (h k.0)
+pub triggered_holds : (Holds : PairRecord → Type 0) (modern : Bool) (at : ℕ) (p : PairRecord)
+    → ((due : Option ℕ) → Holds (record p { due = due })) → Holds (triggered modern at p)
+triggered_holds Holds modern at p h = let k = triggered_is modern at p in subst (λ (x : PairRecord). Holds x) (sym k.1) (h k.0)
 
 module _ {H P : Type 0} where
   -- the pair before it records the request
   abbrev pub triggered_by : RequestRecord → AgentRecord H P → PairRecord → PairRecord
-  triggered_by q s p = triggered s.rules.triggered_checks (trigger_time q s) p
+  triggered_by q s p = triggered (is_modern s.timing) (trigger_time q s) p
 
   pub by_trigger : (Holds : PairRecord → Type 0) (q : RequestRecord) (s : AgentRecord H P) (p : PairRecord)
       → ((due : Option ℕ) → Holds (record p { due = due })) → Holds (triggered_by q s p)
-  by_trigger Holds q s p h = triggered_holds Holds s.rules.triggered_checks (trigger_time q s) p h
+  by_trigger Holds q s p h = triggered_holds Holds (is_modern s.timing) (trigger_time q s) p h

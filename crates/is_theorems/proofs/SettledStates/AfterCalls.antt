@@ -1,4 +1,4 @@
--- Each call of a full agent, with the rules: what it does to the state and to the selected pair.
+-- Each call of a full agent with `Modern`: what it does to the state and to the selected pair.
 use Rattle.std.proofs.Common.{◌≡◌, ℕ, ◌==◌, ◌&&◌, Bool, true, false, List, map, Some, Result, Ok, Err, inl, inr, refl, ap, sym, ◌∙◌, subst, if◌then◌else◌}
 use Rattle.rand_core.specs.Stream.{Stream}
 use Rattle.is_proto.specs.declared.error.IceError.{IceError}
@@ -17,9 +17,9 @@ use Rattle.is_rules.specs.Emitted.{nothing_emitted}
 use Rattle.is_rules.specs.Local.{AddsLocal}
 use Rattle.is_rules.specs.Remote.{AddsRemote}
 use Rattle.is_rules.specs.Restarting.{emptied, Recreates, Restarts}
-use Rattle.is_rules.specs.Settings.{numbers_skipped, SetsControlling, SetsMtu, with_lite_timeout, with_retransmits, with_rtos, with_rules}
+use Rattle.is_rules.specs.Settings.{numbers_skipped, SetsControlling, SetsMtu, with_lite_timeout, with_retransmits, with_rtos, with_consent, with_profile}
 use Rattle.is_rules.specs.States.{same_state}
-use Rattle.is_rules.specs.Steps.{Call, SetMtu, SetControlTieBreaker, SetMaxCandidatePairs, SetMaxDiscovered, SetIceLite, SetRenomination, SetRules, SetTimingAdvance, SetInitialStunRto, SetMaxStunRto, SetMaxStunRetransmits, SetLiteTimeout, SetLocalPreference, SetControlling, SetLocalCredentials, SetRemoteCredentials, SkipPairIds, AddLocalCandidate, AddRemoteCandidate, InvalidateCandidate, RestartIce, RecreateCandidatePairs, ReceivePacket, HandleTimeout, PollTransmit, PollTimeout, PollEvent, Flag, added, done, Entry, Step, Becomes, MayDo}
+use Rattle.is_rules.specs.Steps.{Call, SetMtu, SetControlTieBreaker, SetMaxCandidatePairs, SetMaxDiscovered, SetIceLite, SetRenomination, SetConsent, SetProfile, SetTimingAdvance, SetInitialStunRto, SetMaxStunRto, SetMaxStunRetransmits, SetLiteTimeout, SetLocalPreference, SetControlling, SetLocalCredentials, SetRemoteCredentials, SkipPairIds, AddLocalCandidate, AddRemoteCandidate, InvalidateCandidate, RestartIce, RecreateCandidatePairs, ReceivePacket, HandleTimeout, PollTransmit, PollTimeout, PollEvent, Flag, added, done, Entry, Step, Becomes, MayDo}
 use Rattle.is_theorems.proofs.CallEffects.AddedCandidates.{by_waking}
 use Rattle.is_theorems.proofs.CallEffects.FailedCallsAndNewAgents.{mtu_kept, controlling_kept, local_kept, remote_kept, restart_kept, recreation_kept}
 use Rattle.is_theorems.proofs.ConnectedConsent.ConnectedPairs.{HasNominated}
@@ -83,7 +83,8 @@ module _ {H P : Type 0} (mac : H → List ℕ → List ℕ → List ℕ) (answer
     steps (SetMaxDiscovered limit) full may h = becomes (record old { max_discovered = limit }) refl (λ live. live) (λ was. was) h
     steps (SetIceLite lite) full may h = becomes (record old { lite = lite }) refl (λ live. live) (λ was. was) h
     steps (SetRenomination on) full may h = becomes (record old { renominates = on }) refl (λ live. live) (λ was. was) h
-    steps (SetRules rules) full may h = becomes (with_rules rules old) refl (λ live. live) (λ was. was) h
+    steps (SetProfile profile) full may h = becomes (with_profile profile old) refl (λ live. live) (λ was. was) h
+    steps (SetConsent consent) full may h = becomes (with_consent consent old) refl (λ live. live) (λ was. was) h
     steps (SetTimingAdvance by) full may h = becomes (record old { timing_advance = by }) refl (λ live. live) (λ was. was) h
     steps (SetInitialStunRto rto) full may h = becomes (with_rtos rto old.timing.max_rto.0 old) refl
         (unless-back (old.timing.initial_rto.0 == rto && old.timing.max_rto.0 == old.timing.max_rto.0) old.pairs)

@@ -1,4 +1,4 @@
--- A request that is served: if it selects a path, the state is evaluated by the rule.
+-- A request that is served: if it selects a path, the state is evaluated with `Modern`.
 use Rattle.std.proofs.Common.{◌≡◌, ℕ, ◌&&◌, Bool, true, false, not, List, Option, Some, None, is_some, inl, inr, refl, ap, sym, ◌∙◌, subst, if◌then◌else◌}
 use Rattle.std.specs.Prelude.{MatchOption}
 use Rattle.is_proto.specs.Lists.{Has}

@@ -13,6 +13,7 @@ use Rattle.is_pair.specs.Pairs.{heard, PairRecord}
 use Rattle.is_stun.specs.declared.header.Class.{Class}
 use Rattle.is_stun.specs.declared.header.Class.TheVariants as class
 use Rattle.is_stun.specs.Message.{Message}
+use Rattle.is_stun.specs.Timing.{is_modern}
 use Rattle.is_rules.specs.Accepting.{discovered_emitted, HandlesPacket, Takes}
 use Rattle.is_rules.specs.Agent.{AgentRecord}
 use Rattle.is_rules.specs.Answers.{is_role_conflict, LeavesRole, TakesFailure, TakesSuccess}
@@ -178,7 +179,7 @@ module _ {H P : Type 0} where
             ap (λ (b : Bool). is_connected (if b then state_at now named else named.state)) on ∙ evaluated-connects now named named-begun live)) where
               on : settles named ≡ true
               on = settles-named base named first nominating
-                  ∙ (ap (λ (state : IceConnectionState). old.rules.state_after_nomination && not (same_state state New)) (state-is true rules.0) ∙ rules.0)
+                  ∙ (ap (λ (state : IceConnectionState). is_modern old.timing && not (same_state state New)) (state-is true rules.0) ∙ rules.0)
 
       maintains : (new : AgentRecord H P) (s t : Stream) (emitted : Emitted) → MaintainsPairs mac now (timeout_begun now old) s emitted new t → Settles old new
       maintains new s t emitted (first, second, issued, named, kept, nominating, giving, checking, is) =

@@ -1,4 +1,4 @@
--- With the rules, an agent that is never lite is connected if and only if the path that it selected last is that of a pair that is valid
+-- With the profile `Modern`, an agent that is never lite is connected if and only if the path that it selected last is that of a pair that is valid
 -- and nominated.
 use Rattle.std.proofs.Common.{◌≡◌, ℕ, true, false, List, [], ◌∷◌, Option, Some, None, inl, inr, ◌⊎◌, refl, ap, sym, ◌∙◌, subst, if◌then◌else◌}
 use Rattle.std.specs.Option.{option_or}
@@ -7,6 +7,7 @@ use Rattle.is_candidate.specs.Candidates.{CandidateRecord}
 use Rattle.is_pair.specs.Checks.{Check}
 use Rattle.is_pair.specs.Pairs.{is_nominated, is_valid, PairRecord}
 use Rattle.is_stun.specs.declared.header.Class.TheVariants as class
+use Rattle.is_stun.specs.Timing.{is_modern}
 use Rattle.is_rules.specs.Agent.{AgentRecord}
 use Rattle.is_rules.specs.Brought.{IsAnswered, IsKept, IsValidOn}
 use Rattle.is_rules.specs.Connecting.{is_connected}
@@ -23,7 +24,7 @@ use Rattle.is_theorems.specs.AskedCourses.{selected_along}
 use Rattle.is_theorems.specs.ConsentCourses.{AreNeverLite}
 use Rattle.is_theorems.specs.Exchange.{Course}
 use Rattle.is_theorems.specs.Runs.{IsFresh}
-use Rattle.is_theorems.specs.Settled.{HaveRulesAlong, StatesAgree}
+use Rattle.is_theorems.specs.Settled.{IsModernAlong, StatesAgree}
 use Rattle.is_theorems.proofs.BasicLemmas.EqualAddresses.{both}
 use Rattle.is_theorems.proofs.CallEffects.FailedCallsAndNewAgents.{fresh_sound}
 use Rattle.is_theorems.proofs.CallEffects.PathAndTradeEffects.{path_theorem}
@@ -144,15 +145,15 @@ module _ {H P : Type 0} where
     -- ---- executions
 
     along : (xs : List (Call P × Entry)) (old new : AgentRecord H P) (path : Option Path) → IsSound old → IsNamed path old → old.lite ≡ false → AreNeverLite xs
-        → (course : Course mac answers xs old new) → HaveRulesAlong mac answers xs old new course → Agrees old
+        → (course : Course mac answers xs old new) → IsModernAlong mac answers xs old new course → Agrees old
         → Agrees new × IsNamed (selected_along path xs) new
     along [] old new path sound named full never is rules agrees =
         (subst (λ (a : AgentRecord H P). Agrees a) (sym is) agrees, subst (λ (a : AgentRecord H P). IsNamed path a) (sym is) named)
     along (x ∷ rest) old new path sound named full never (mid, s, t, based, step, more) (rules, others) agrees =
         let law = path_theorem mac answers old mid s t x.0 x.1 sound based step in
         let stays : lite_set_by x.0 false ≡ false = search (never x (inl refl)) in
-        let set : (old.state ≡ New) ⊎ ((old.rules.state_after_nomination ≡ true) × (old.rules.selects_at_once ≡ true)) = search rules in
-        let later : HaveRulesAlong mac answers rest mid new more = search others in
+        let set : (old.state ≡ New) ⊎ (is_modern old.timing ≡ true) = search rules in
+        let later : IsModernAlong mac answers rest mid new more = search others in
         let may = may-go-on old set in
         let o = steps mac answers old mid s t x.1 x.0 full may step in
         along rest mid new (option_or (last_of x.1.emitted.selected_paths) (if clears x.0 x.1.answer then None else path)) law.1
@@ -164,7 +165,7 @@ module _ {H P : Type 0} where
     states-agree first last xs new full course given =
         let fresh : IsFresh first = search new in
         let never : AreNeverLite xs = search full in
-        let rules : HaveRulesAlong mac answers xs first last course = search given in
+        let rules : IsModernAlong mac answers xs first last course = search given in
         let sound : IsSound first = subst (λ (a : AgentRecord H P). IsSound a) (sym fresh.2) (fresh_sound H P first.provider fresh.0 fresh.1) in
         let none : first.pairs ≡ [] = ap (λ (a : AgentRecord H P). a.pairs) fresh.2 in
         let state : first.state ≡ New = ap (λ (a : AgentRecord H P). a.state) fresh.2 in

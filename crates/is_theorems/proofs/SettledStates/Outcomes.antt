@@ -2,6 +2,7 @@
 use Rattle.std.proofs.Common.{◌≡◌, ℕ, ◌&&◌, Bool, true, false, not, List, Some, None, inl, inr, ◌⊎◌, refl, ap, sym, ◌∙◌, subst}
 use Rattle.is_stun.specs.declared.header.Class.{Class}
 use Rattle.is_stun.specs.declared.header.Class.TheVariants as class
+use Rattle.is_stun.specs.Timing.{is_modern}
 use Rattle.is_rules.specs.Agent.{AgentRecord}
 use Rattle.is_rules.specs.Connecting.{is_connected}
 use Rattle.is_rules.specs.declared.emitted.Emitted.{Emitted}
@@ -9,7 +10,6 @@ use Rattle.is_rules.specs.declared.emitted.Issued.{Issued}
 use Rattle.is_rules.specs.declared.emitted.Path.{Path}
 use Rattle.is_rules.specs.declared.event.IceConnectionState.{IceConnectionState}
 use Rattle.is_rules.specs.declared.event.IceConnectionState.TheVariants.{New}
-use Rattle.is_rules.specs.declared.rules.Rules.{Rules}
 use Rattle.is_rules.specs.Effects.{last_of}
 use Rattle.is_rules.specs.Emitted.{issued_as, nothing_emitted}
 use Rattle.is_rules.specs.Settling.{settles}
@@ -36,9 +36,9 @@ unsettled true = refl
 unsettled false = refl
 
 module _ {H P : Type 0} where
-  -- the session has begun, and the rules are set
+  -- the session has begun, and the profile is `Modern`
   abbrev pub HasRules : AgentRecord H P → Type 0
-  HasRules a = (settles a ≡ true) × (a.rules.selects_at_once ≡ true)
+  HasRules a = (settles a ≡ true) × (is_modern a.timing ≡ true)
 
   -- or it has not begun
   abbrev pub MayGoOn : AgentRecord H P → Type 0
@@ -46,36 +46,36 @@ module _ {H P : Type 0} where
 
   pub new-unsettled : (a : AgentRecord H P) → a.state ≡ New → settles a ≡ false
   new-unsettled a is =
-      ap (λ (state : IceConnectionState). a.rules.state_after_nomination && not (same_state state New)) is ∙ unsettled a.rules.state_after_nomination
+      ap (λ (state : IceConnectionState). is_modern a.timing && not (same_state state New)) is ∙ unsettled (is_modern a.timing)
 
   pub new-ruled : {A : Type 0} (a : AgentRecord H P) → a.state ≡ New → HasRules a → A
   new-ruled a is rules = no-live (sym (new-unsettled a is) ∙ rules.0)
 
   pub settles-begun : (a : AgentRecord H P) → settles a ≡ true → same_state a.state New ≡ false
-  settles-begun a on = by a.rules.state_after_nomination (same_state a.state New) on where
+  settles-begun a on = by (is_modern a.timing) (same_state a.state New) on where
     by : (rule new : Bool) → rule && not new ≡ true → new ≡ false
     by true true h = no-live h
     by true false h = refl
     by false new h = no-live h
 
-  pub settles-as : (a b : AgentRecord H P) → b.state ≡ a.state → b.rules ≡ a.rules → settles b ≡ settles a
+  pub settles-as : (a b : AgentRecord H P) → b.state ≡ a.state → is_modern b.timing ≡ is_modern a.timing → settles b ≡ settles a
   settles-as a b state rules =
-      ap (λ (s : IceConnectionState). b.rules.state_after_nomination && not (same_state s New)) state
-      ∙ ap (λ (r : Rules). r.state_after_nomination && not (same_state a.state New)) rules
+      ap (λ (s : IceConnectionState). is_modern b.timing && not (same_state s New)) state
+      ∙ ap (λ (r : Bool). r && not (same_state a.state New)) rules
 
-  pub may-go-on : (a : AgentRecord H P) → (a.state ≡ New) ⊎ ((a.rules.state_after_nomination ≡ true) × (a.rules.selects_at_once ≡ true)) → MayGoOn a
+  pub may-go-on : (a : AgentRecord H P) → (a.state ≡ New) ⊎ (is_modern a.timing ≡ true) → MayGoOn a
   may-go-on a (inl new) = inl new
-  may-go-on a (inr rules) = by (same_state a.state New) refl where
+  may-go-on a (inr modern) = by (same_state a.state New) refl where
     by : (b : Bool) → same_state a.state New ≡ b → MayGoOn a
     by true is = inl (is-new a.state is)
     by false is = inr (
-      ap (λ b. b && not (same_state a.state New)) rules.0 ∙ ap (λ b. not b) is,
-      rules.1,
+      ap (λ b. b && not (same_state a.state New)) modern ∙ ap (λ b. not b) is,
+      modern,
     )
 
   -- ---- outcomes
 
-  -- The state stays. By the rules the selected pair does too, and no pair is valid and nominated first, unless it is selected.
+  -- The state stays. With `Modern` the selected pair does too, and no pair is valid and nominated first, unless it is selected.
   pub record Stays (old : AgentRecord H P) (emitted : Emitted) (new : AgentRecord H P) : Type 0 where
     pub state : new.state ≡ old.state
     pub unasked : IsUnasked emitted
@@ -83,7 +83,7 @@ module _ {H P : Type 0} where
     pub back : HasRules old → HasNominated new.pairs → HasNominated old.pairs ⊎ Selects new
     pub keeps : HasRules old → Selects old → Selects new
 
-  -- The state is evaluated. By the rules nomination was before it.
+  -- The state is evaluated. With `Modern` nomination was before it.
   pub record Settles (old new : AgentRecord H P) : Type 0 where
     pub begun : same_state new.state New ≡ false
     pub backed : IsBacked new
@@ -96,12 +96,12 @@ module _ {H P : Type 0} where
   -- a change before, which leaves the state
   pub record Prepares (old mid : AgentRecord H P) : Type 0 where
     pub state : mid.state ≡ old.state
-    pub rules : mid.rules ≡ old.rules
+    pub rules : is_modern mid.timing ≡ is_modern old.timing
     pub back : HasNominated mid.pairs → HasNominated old.pairs
     pub keeps : Selects old → Selects mid
 
   pub same-rules : (old mid : AgentRecord H P) → Prepares old mid → HasRules old → HasRules mid
-  same-rules old mid k rules = (settles-as old mid k.state k.rules ∙ rules.0, ap (λ (r : Rules). r.selects_at_once) k.rules ∙ rules.1)
+  same-rules old mid k rules = (settles-as old mid k.state k.rules ∙ rules.0, k.rules ∙ rules.1)
 
   pub after-preparing : (old mid new : AgentRecord H P) (emitted : Emitted) → Prepares old mid → Outcome mid emitted new → Outcome old emitted new
   after-preparing old mid new emitted k (inl o) = inl (record {

@@ -19,7 +19,7 @@ use Rattle.is_rules.specs.Credentials.{SetsLocal, SetsRemote}
 use Rattle.is_rules.specs.Settings.{SetsControlling, SetsMtu}
 use Rattle.is_rules.specs.Settling.{loses_selected, Reselects}
 use Rattle.is_theorems.specs.Runs.{IsFresh, Run, run_to}
-use Rattle.is_rules.specs.Steps.{Call, SetMtu, SetControlTieBreaker, SetMaxCandidatePairs, SetMaxDiscovered, SetIceLite, SetRenomination, SetRules, SetTimingAdvance, SetInitialStunRto, SetMaxStunRto, SetMaxStunRetransmits, SetLiteTimeout, SetLocalPreference, SetControlling, SetLocalCredentials, SetRemoteCredentials, SkipPairIds, AddLocalCandidate, AddRemoteCandidate, InvalidateCandidate, RestartIce, RecreateCandidatePairs, ReceivePacket, HandleTimeout, PollTransmit, PollTimeout, PollEvent, Entry, Step, MayDo}
+use Rattle.is_rules.specs.Steps.{Call, SetMtu, SetControlTieBreaker, SetMaxCandidatePairs, SetMaxDiscovered, SetIceLite, SetRenomination, SetConsent, SetProfile, SetTimingAdvance, SetInitialStunRto, SetMaxStunRto, SetMaxStunRetransmits, SetLiteTimeout, SetLocalPreference, SetControlling, SetLocalCredentials, SetRemoteCredentials, SkipPairIds, AddLocalCandidate, AddRemoteCandidate, InvalidateCandidate, RestartIce, RecreateCandidatePairs, ReceivePacket, HandleTimeout, PollTransmit, PollTimeout, PollEvent, Entry, Step, MayDo}
 use Rattle.is_theorems.proofs.CallEffects.AddedCandidates.{by_adding_local, by_adding_remote, by_waking}
 use Rattle.is_theorems.proofs.RuleEffects.UnchangedSettings.{either}
 use Rattle.is_theorems.proofs.CallEffects.FailedCallsAndNewAgents.{mtu_kept, controlling_kept, local_kept, remote_kept, restart_kept, recreation_kept, enrolment_kept, storing_kept}
@@ -157,7 +157,8 @@ module _ {H P : Type 0} where
     bounds (SetMaxDiscovered limit) _ (is, made, drawn) = relimited limit made
     bounds (SetIceLite lite) _ (is, made, drawn) = kept (ap (λ (a : AgentRecord H P). lists_of a) made)
     bounds (SetRenomination on) _ (is, made, drawn) = kept (ap (λ (a : AgentRecord H P). lists_of a) made)
-    bounds (SetRules rules) _ (is, made, drawn) = kept (ap (λ (a : AgentRecord H P). lists_of a) made)
+    bounds (SetProfile profile) _ (is, made, drawn) = kept (ap (λ (a : AgentRecord H P). lists_of a) made)
+    bounds (SetConsent consent) _ (is, made, drawn) = kept (ap (λ (a : AgentRecord H P). lists_of a) made)
     bounds (SetTimingAdvance by) _ (is, made, drawn) = kept (ap (λ (a : AgentRecord H P). lists_of a) made)
     bounds (SetInitialStunRto rto) _ (is, made, drawn) = kept (ap (λ (a : AgentRecord H P). lists_of a) made)
     bounds (SetMaxStunRto rto) _ (is, made, drawn) = kept (ap (λ (a : AgentRecord H P). lists_of a) made)

@@ -27,7 +27,7 @@ use Rattle.is_rules.specs.Settings.{SetsControlling, SetsMtu}
 use Rattle.is_rules.specs.Settling.{loses_selected, Reselects}
 use Rattle.is_theorems.specs.Runs.{IsFresh, Run, run_to}
 use Rattle.is_rules.specs.Sound.{IsSound}
-use Rattle.is_rules.specs.Steps.{Call, SetMtu, SetControlTieBreaker, SetMaxCandidatePairs, SetMaxDiscovered, SetIceLite, SetRenomination, SetRules, SetTimingAdvance, SetInitialStunRto, SetMaxStunRto, SetMaxStunRetransmits, SetLiteTimeout, SetLocalPreference, SetControlling, SetLocalCredentials, SetRemoteCredentials, SkipPairIds, AddLocalCandidate, AddRemoteCandidate, InvalidateCandidate, RestartIce, RecreateCandidatePairs, ReceivePacket, HandleTimeout, PollTransmit, PollTimeout, PollEvent, Entry, Step, MayDo}
+use Rattle.is_rules.specs.Steps.{Call, SetMtu, SetControlTieBreaker, SetMaxCandidatePairs, SetMaxDiscovered, SetIceLite, SetRenomination, SetConsent, SetProfile, SetTimingAdvance, SetInitialStunRto, SetMaxStunRto, SetMaxStunRetransmits, SetLiteTimeout, SetLocalPreference, SetControlling, SetLocalCredentials, SetRemoteCredentials, SkipPairIds, AddLocalCandidate, AddRemoteCandidate, InvalidateCandidate, RestartIce, RecreateCandidatePairs, ReceivePacket, HandleTimeout, PollTransmit, PollTimeout, PollEvent, Entry, Step, MayDo}
 use Rattle.is_theorems.proofs.StorageBounds.BoundedLists.{is_own}
 use Rattle.is_theorems.proofs.StorageBounds.PairsByCell.{cell_of, cells, cells-map, extras, extras-agree, extras-filter, extras-length, owned, pairs-in-grid, total-first}
 use Rattle.is_theorems.proofs.StorageBounds.PairsByCellAfterRules.{Fewer, alike, forms_few, grid_of, made-as, on, own_at, recast, received, reselects_alike, surplus, timed, unchanged}
@@ -146,7 +146,8 @@ module _ {H P : Type 0} where
     steps sound (SetMaxDiscovered limit) (is, made, drawn) = inl (placed (cells_in _ made))
     steps sound (SetIceLite lite) (is, made, drawn) = inl (placed (cells_in _ made))
     steps sound (SetRenomination on) (is, made, drawn) = inl (placed (cells_in _ made))
-    steps sound (SetRules rules) (is, made, drawn) = inl (placed (cells_in _ made))
+    steps sound (SetProfile profile) (is, made, drawn) = inl (placed (cells_in _ made))
+    steps sound (SetConsent consent) (is, made, drawn) = inl (placed (cells_in _ made))
     steps sound (SetTimingAdvance by) (is, made, drawn) = inl (placed (cells_in _ made))
     steps sound (SetInitialStunRto rto) (is, made, drawn) = inl (placed (cells_in _ made ∙ recast old _ (unless_undue (old.timing.initial_rto.0 == rto && old.timing.max_rto.0 == old.timing.max_rto.0) old.pairs)))
     steps sound (SetMaxStunRto rto) (is, made, drawn) = inl (placed (cells_in _ made ∙ recast old _ (unless_undue (old.timing.initial_rto.0 == old.timing.initial_rto.0 && old.timing.max_rto.0 == rto) old.pairs)))

@@ -32,7 +32,7 @@ use Rattle.is_rules.specs.Restarting.{Restarts, Recreates, cleared, emptied}
 use Rattle.is_rules.specs.Serving.{Serves}
 use Rattle.is_rules.specs.Settings.{SetsControlling, SetsMtu}
 use Rattle.is_rules.specs.Settling.{loses_selected, Reselects}
-use Rattle.is_rules.specs.Steps.{Call, SetMtu, SetControlTieBreaker, SetMaxCandidatePairs, SetMaxDiscovered, SetIceLite, SetRenomination, SetRules, SetTimingAdvance, SetInitialStunRto, SetMaxStunRto, SetMaxStunRetransmits, SetLiteTimeout, SetLocalPreference, SetControlling, SetLocalCredentials, SetRemoteCredentials, SkipPairIds, AddLocalCandidate, AddRemoteCandidate, InvalidateCandidate, RestartIce, RecreateCandidatePairs, ReceivePacket, HandleTimeout, PollTransmit, PollTimeout, PollEvent, Answer, Flag, Entry, Receives, Step, MayDo, Polled, Happened, answer_by, added, done, quiet}
+use Rattle.is_rules.specs.Steps.{Call, SetMtu, SetControlTieBreaker, SetMaxCandidatePairs, SetMaxDiscovered, SetIceLite, SetRenomination, SetConsent, SetProfile, SetTimingAdvance, SetInitialStunRto, SetMaxStunRto, SetMaxStunRetransmits, SetLiteTimeout, SetLocalPreference, SetControlling, SetLocalCredentials, SetRemoteCredentials, SkipPairIds, AddLocalCandidate, AddRemoteCandidate, InvalidateCandidate, RestartIce, RecreateCandidatePairs, ReceivePacket, HandleTimeout, PollTransmit, PollTimeout, PollEvent, Answer, Flag, Entry, Receives, Step, MayDo, Polled, Happened, answer_by, added, done, quiet}
 use Rattle.is_rules.specs.Timeouts.{at_request, MaintainsPairs, TimesOut, timeout_begun}
 use Rattle.is_theorems.proofs.CallEffects.AddedCandidates.{by_adding_local, by_adding_remote, by_waking}
 use Rattle.is_theorems.proofs.RuleEffects.Reselection.{reselects-none}
@@ -337,7 +337,8 @@ module _ {H P : Type 0} where
       moves (SetMaxDiscovered limit) (is, made, drawn) = relimited limit made
       moves (SetIceLite lite) (is, made, drawn) = still (same old new (ap (λ (a : AgentRecord H P). lines_of a) made))
       moves (SetRenomination on) (is, made, drawn) = still (same old new (ap (λ (a : AgentRecord H P). lines_of a) made))
-      moves (SetRules rules) (is, made, drawn) = still (same old new (ap (λ (a : AgentRecord H P). lines_of a) made))
+      moves (SetProfile profile) (is, made, drawn) = still (same old new (ap (λ (a : AgentRecord H P). lines_of a) made))
+      moves (SetConsent consent) (is, made, drawn) = still (same old new (ap (λ (a : AgentRecord H P). lines_of a) made))
       moves (SetTimingAdvance by) (is, made, drawn) = still (same old new (ap (λ (a : AgentRecord H P). lines_of a) made))
       moves (SetInitialStunRto rto) (is, made, drawn) = still (same old new (ap (λ (a : AgentRecord H P). lines_of a) made))
       moves (SetMaxStunRto rto) (is, made, drawn) = still (same old new (ap (λ (a : AgentRecord H P). lines_of a) made))

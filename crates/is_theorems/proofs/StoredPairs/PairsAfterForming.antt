@@ -7,6 +7,7 @@ use Rattle.std.specs.List.{list_any}
 use Rattle.is_proto.specs.declared.error.IceError.{IceError}
 use Rattle.is_proto.specs.declared.error.IceError.TheVariants.{PriorityTooHigh}
 use Rattle.is_proto.specs.Lists.{Has}
+use Rattle.is_stun.specs.Timing.{is_modern}
 use Rattle.is_candidate.specs.Candidates.{CandidateRecord, candidate_at}
 use Rattle.is_candidate.specs.Equality.{is_same_place}
 use Rattle.is_candidate.specs.Priorities.{candidate_priority}
@@ -281,7 +282,7 @@ module _ {H P : Type 0} where
         | inr many ↦
             inr (inr (
               (let added = adds-each (sides_of old) all (formed_of old) mid each in omega (arith, many, added)),
-              (let more = most-fewer old.rules.kinds_in_turn _ _ count in omega (arith, over, more)),
+              (let more = most-fewer (is_modern old.timing) _ _ count in omega (arith, over, more)),
             ))
       ]
     ]

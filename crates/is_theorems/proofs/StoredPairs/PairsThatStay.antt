@@ -26,7 +26,7 @@ use Rattle.is_rules.specs.Settings.{with_rtos}
 use Rattle.is_rules.specs.Settling.{loses_selected, Reselects}
 use Rattle.is_rules.specs.Sound.{IsSound}
 use Rattle.is_theorems.specs.Staying.{Stays, IsOfDiscarded, MayEnd, PairsStay, EndsIn, PairsStayOn}
-use Rattle.is_rules.specs.Steps.{Call, SetMtu, SetControlTieBreaker, SetMaxCandidatePairs, SetMaxDiscovered, SetIceLite, SetRenomination, SetRules, SetTimingAdvance, SetInitialStunRto, SetMaxStunRto, SetMaxStunRetransmits, SetLiteTimeout, SetLocalPreference, SetControlling, SetLocalCredentials, SetRemoteCredentials, SkipPairIds, AddLocalCandidate, AddRemoteCandidate, InvalidateCandidate, RestartIce, RecreateCandidatePairs, ReceivePacket, HandleTimeout, PollTransmit, PollTimeout, PollEvent, Done, Flag, Entry, Receives, Step}
+use Rattle.is_rules.specs.Steps.{Call, SetMtu, SetControlTieBreaker, SetMaxCandidatePairs, SetMaxDiscovered, SetIceLite, SetRenomination, SetConsent, SetProfile, SetTimingAdvance, SetInitialStunRto, SetMaxStunRto, SetMaxStunRetransmits, SetLiteTimeout, SetLocalPreference, SetControlling, SetLocalCredentials, SetRemoteCredentials, SkipPairIds, AddLocalCandidate, AddRemoteCandidate, InvalidateCandidate, RestartIce, RecreateCandidatePairs, ReceivePacket, HandleTimeout, PollTransmit, PollTimeout, PollEvent, Done, Flag, Entry, Receives, Step}
 use Rattle.is_rules.specs.Timeouts.{at_request, timeout_begun, is_expired, MaintainsPairs, ServesQueued}
 use Rattle.is_theorems.proofs.CallEffects.PathAndTradeEffects.{path_theorem}
 use Rattle.is_theorems.proofs.CallEffects.AddedCandidates.{by_waking}
@@ -134,7 +134,8 @@ module _ {H P : Type 0} where
       lasts (SetMaxDiscovered n) (is, made, drawn) = inl (becomes _ (λ n asks x. x) made)
       lasts (SetIceLite lite) (is, made, drawn) = inl (becomes _ (λ n asks x. x) made)
       lasts (SetRenomination on) (is, made, drawn) = inl (becomes _ (λ n asks x. x) made)
-      lasts (SetRules rules) (is, made, drawn) = inl (becomes _ (λ n asks x. x) made)
+      lasts (SetProfile profile) (is, made, drawn) = inl (becomes _ (λ n asks x. x) made)
+      lasts (SetConsent consent) (is, made, drawn) = inl (becomes _ (λ n asks x. x) made)
       lasts (SetTimingAdvance by) (is, made, drawn) = inl (becomes _ (λ n asks x. x) made)
       lasts (SetInitialStunRto rto) (is, made, drawn) =
           inl (becomes (with_rtos rto old.timing.max_rto.0 old)

@@ -49,7 +49,7 @@ use Rattle.is_theorems.proofs.RuleEffects.ChangedPairs.{Has-map}
 use Rattle.is_theorems.proofs.BasicLemmas.UsernamesAndFirstMatches.{any_has}
 use Rattle.is_theorems.proofs.CallEffects.ServedRequests.{Has-mapped}
 use Rattle.is_theorems.proofs.StoredPairs.TransactionsOverPackets.{sound-course}
-use Rattle.is_rules.specs.Steps.{Call, SetMtu, SetControlTieBreaker, SetMaxCandidatePairs, SetMaxDiscovered, SetIceLite, SetRenomination, SetRules, SetTimingAdvance, SetInitialStunRto, SetMaxStunRto, SetMaxStunRetransmits, SetLiteTimeout, SetLocalPreference, SetControlling, SetLocalCredentials, SetRemoteCredentials, SkipPairIds, AddLocalCandidate, AddRemoteCandidate, InvalidateCandidate, RestartIce, RecreateCandidatePairs, ReceivePacket, HandleTimeout, PollTransmit, PollTimeout, PollEvent, Done, Flag, Entry, Receives, Step}
+use Rattle.is_rules.specs.Steps.{Call, SetMtu, SetControlTieBreaker, SetMaxCandidatePairs, SetMaxDiscovered, SetIceLite, SetRenomination, SetConsent, SetProfile, SetTimingAdvance, SetInitialStunRto, SetMaxStunRto, SetMaxStunRetransmits, SetLiteTimeout, SetLocalPreference, SetControlling, SetLocalCredentials, SetRemoteCredentials, SkipPairIds, AddLocalCandidate, AddRemoteCandidate, InvalidateCandidate, RestartIce, RecreateCandidatePairs, ReceivePacket, HandleTimeout, PollTransmit, PollTimeout, PollEvent, Done, Flag, Entry, Receives, Step}
 use Rattle.is_rules.specs.Timeouts.{at_request, timeout_begun, MaintainsPairs, ServesQueued}
 use Rattle.is_theorems.proofs.CallEffects.PathAndTradeEffects.{path_theorem}
 use Rattle.is_theorems.proofs.CallEffects.AddedCandidates.{by_waking}
@@ -168,7 +168,8 @@ module _ {H P : Type 0} where
       lasts (SetMaxDiscovered n) (is, made, drawn) = inl (becomes _ (keeps-self old.pairs) made)
       lasts (SetIceLite lite) (is, made, drawn) = inl (becomes _ (keeps-self old.pairs) made)
       lasts (SetRenomination on) (is, made, drawn) = inl (becomes _ (keeps-self old.pairs) made)
-      lasts (SetRules rules) (is, made, drawn) = inl (becomes _ (keeps-self old.pairs) made)
+      lasts (SetProfile profile) (is, made, drawn) = inl (becomes _ (keeps-self old.pairs) made)
+      lasts (SetConsent consent) (is, made, drawn) = inl (becomes _ (keeps-self old.pairs) made)
       lasts (SetTimingAdvance by) (is, made, drawn) = inl (becomes _ (keeps-self old.pairs) made)
       lasts (SetInitialStunRto rto) (is, made, drawn) =
           inl (becomes (with_rtos rto old.timing.max_rto.0 old)

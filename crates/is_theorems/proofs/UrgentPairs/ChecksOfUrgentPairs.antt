@@ -11,6 +11,7 @@ use Rattle.is_pair.specs.Due.{asked, due_time_of, is_due, is_urgent, IsNextDue}
 use Rattle.is_pair.specs.Multiset.{is_named_by, is_numbered}
 use Rattle.is_pair.specs.Pairs.{PairRecord}
 use Rattle.is_stun.specs.declared.header.Class.TheVariants as class
+use Rattle.is_stun.specs.Timing.{is_modern}
 use Rattle.is_rules.specs.Agent.{AgentRecord}
 use Rattle.is_rules.specs.Checking.{all_asked, are_kinds_in_turn, has_first, is_ahead_turn, precedence, ChecksTop, IsNextInTurn, IsNextToCheck, MayCheck}
 use Rattle.is_rules.specs.declared.credentials.IceCreds.{IceCreds}
@@ -76,19 +77,16 @@ or-second : (a b : Bool) → b ≡ true → (a || b) ≡ true
 or-second true b is = refl
 or-second false b is = is
 
--- by the rules or not, no pair goes first that is not the selected one
+-- by either profile, no pair goes first that is not the selected one
 still-unnamed : (b : Bool) (o : Option ℕ) (p : PairRecord) → is_named_by o p ≡ false → is_named_by (if b then o else None) p ≡ false
 still-unnamed true o p off = off
 still-unnamed false o p off = refl
 
-turn-is : (kinds rule more ahead turns first : Bool) → rule ≡ true → first ≡ true → ((kinds || rule || more) && ahead && (turns || first)) ≡ ahead
-turn-is true rule more true true first on due = refl
-turn-is true rule more true false first on due = due
-turn-is true rule more false turns first on due = refl
-turn-is false true more true true first on due = refl
-turn-is false true more true false first on due = due
-turn-is false true more false turns first on due = refl
-turn-is false false more ahead turns first on due = absurd (let no : false ≡ true = on in cc)
+turn-is : (modern ahead turns first : Bool) → modern ≡ true → first ≡ true → (modern && ahead && (turns || first)) ≡ ahead
+turn-is true true true first on due = refl
+turn-is true true false first on due = due
+turn-is true false turns first on due = refl
+turn-is false ahead turns first on due = absurd (let no : false ≡ true = on in cc)
 
 selected-named : (number : Option ℕ) (ps : List PairRecord) (q : PairRecord) → Some q ≡ pair_selected number ps → is_named_by number q ≡ true
 selected-named None ps q is = absurd (let no : Some q ≡ None = is in cc)
@@ -120,7 +118,7 @@ module _ {H P : Type 0} where
 
   module _ (mac : H → List ℕ → List ℕ → List ℕ) (now : ℕ) where
     check-alternates : (old new : AgentRecord H P) (s u : Stream) (issued : Option Issued) → is_some old.remote_creds ≡ true → old.lite ≡ false → Distinct old.pairs
-        → is_some old.rules.triggered_checks ≡ true → (p : PairRecord) → Has old.pairs p → is_urgent p ≡ true → due_time_of now old.timing p ≤ now
+        → is_modern old.timing ≡ true → (p : PairRecord) → Has old.pairs p → is_urgent p ≡ true → due_time_of now old.timing p ≤ now
         → MayCheck mac now old.remote_creds old s issued new u → Checks old issued p ⊎ Alternates now old issued new p
     check-alternates old new s u issued known full distinct rule p has urgent due h =
         let k = next-check mac now old.remote_creds old new s u issued known full h in by-next k.0 k.1 k.2 k.3 where
@@ -138,7 +136,7 @@ module _ {H P : Type 0} where
               (and-is (is_due now old.timing (asked now old.timing p)) _ p_due (or-second (is_named_by (precedence old).selected p) ((precedence old).urgent && is_urgent p) p_first))
 
           ahead : is_ahead_turn now (all_asked now old) ≡ old.ahead_turn
-          ahead = turn-is old.rules.kinds_in_turn (is_some old.rules.triggered_checks) old.rules.selected_first old.ahead_turn (are_kinds_in_turn old) (has_first now (all_asked now old)) rule some_first
+          ahead = turn-is (is_modern old.timing) old.ahead_turn (are_kinds_in_turn old) (has_first now (all_asked now old)) rule some_first
 
           -- a pair that is checked ahead
           by-turn : (o : PairRecord) → TurnsBefore old.local old.remote (precedence old) old.next_kind now old.timing o p → (b : Bool) → is_named_by old.selected_pair o ≡ b → Precedes (view_of old) now p o
@@ -146,7 +144,7 @@ module _ {H P : Type 0} where
           by-turn o h false off = inr (
             both-are (precedence old).urgent (is_urgent o) (first-before (is_named_by (precedence old).selected o) (is_named_by (precedence old).selected p) ((precedence old).urgent && is_urgent o)
                 ((precedence old).urgent && is_urgent p) (is_brought old.remote o) (is_brought old.remote p) (turn_of old.next_kind (kind_of old.local old.remote o))
-                (turn_of old.next_kind (kind_of old.local old.remote p)) _ (still-unnamed old.rules.selected_first old.selected_pair o off) p_first h),
+                (turn_of old.next_kind (kind_of old.local old.remote p)) _ (still-unnamed (is_modern old.timing) old.selected_pair o off) p_first h),
             h,
           )
 
@@ -224,7 +222,7 @@ module _ {H P : Type 0} where
     -- ---- the `handle_timeout` call
 
     pub timeout-alternates : (old new : AgentRecord H P) (s u : Stream) (emitted : Emitted) → is_some old.remote_creds ≡ true → old.lite ≡ false → Distinct old.pairs
-        → is_some old.rules.triggered_checks ≡ true → is_some (last_of emitted.selected_paths) ≡ false
+        → is_modern old.timing ≡ true → is_some (last_of emitted.selected_paths) ≡ false
         → (p : PairRecord) → Has old.pairs p → is_urgent p ≡ true → due_time_of now old.timing p ≤ now → not (is_expired now old p) ≡ true
         → MaintainsPairs mac now old s emitted new u → Checks old emitted.issued p ⊎ Alternates now old emitted.issued new p
     timeout-alternates old new s u emitted known full distinct rule quiet p has urgent due stays (first, second, issued, named, kept, nominating, giving, checking, is) =
@@ -234,7 +232,7 @@ module _ {H P : Type 0} where
         let view : view_of kept ≡ view_of old = left.0 in
         taken kept left.1 view (ap (λ (x : Emitted). x.issued) is)
         (check-alternates kept new s u issued (ap (λ (v : TurnView). is_some v.remote_creds) view ∙ known) (ap (λ (v : TurnView). v.lite) view ∙ full)
-        (λ x y x_has y_has one. distinct x y (left.1 x x_has) (left.1 y y_has) one) (ap (λ (v : TurnView). is_some v.rules.triggered_checks) view ∙ rule) p (left.2 p has stays) urgent
+        (λ x y x_has y_has one. distinct x y (left.1 x x_has) (left.1 y y_has) one) (ap (λ (v : TurnView). is_modern v.timing) view ∙ rule) p (left.2 p has stays) urgent
         (subst (λ (v : TurnView). due_time_of now v.timing p ≤ now) (sym view) due) checking) where
           on-path : (kept : AgentRecord H P) (issued : Option Issued) → view_of kept ≡ view_of old → emitted.issued ≡ issued → (q : PairRecord) → Checks kept issued q → Checks old emitted.issued q
           on-path kept issued view issues q (id, out) = (id, issues ∙ (out ∙ ap (λ (v : TurnView). Some (issued_as (path_by v q) class.Request id)) view))

@@ -2,15 +2,14 @@
 use Rattle.std.proofs.Common.{◌≡◌, ℕ, ◌<◌, ◌≤◌, ◌&&◌, ◌||◌, Bool, true, false, not, List, [], ◌∷◌, ◌++◌, length, nat_lt, Some, None, is_some, inl, inr, ◌⊎◌, refl, ap, sym, ◌∙◌, subst, arith}
 use Rattle.rand_core.specs.Stream.{Stream}
 use Rattle.is_proto.specs.Lists.{Has}
+use Rattle.is_stun.specs.Timing.{is_modern}
 use Rattle.is_candidate.specs.Candidates.{CandidateRecord}
 use Rattle.is_pair.specs.Pairs.{PairRecord, is_valid}
 use Rattle.is_pair.specs.Due.{is_urgent}
 use Rattle.is_pair.specs.States.{is_nominating}
 use Rattle.is_rules.specs.Agent.{AgentRecord}
 use Rattle.is_rules.specs.Brought.{IsValidOn}
-use Rattle.is_rules.specs.Checking.{goes_ahead}
 use Rattle.is_rules.specs.declared.emitted.Path.{Path}
-use Rattle.is_rules.specs.declared.rules.Rules.{Rules}
 use Rattle.is_rules.specs.Effects.{lite_set_by}
 use Rattle.is_rules.specs.Sending.{path_of}
 use Rattle.is_rules.specs.Sound.{IsSound, GivesBased}
@@ -121,7 +120,7 @@ module _ {H P : Type 0} (mac : H → List ℕ → List ℕ → List ℕ) (answer
     keeps now = answered_at start p now
 
     abbrev ReachedIn : List (LoggedRound P) → Type 0
-    ReachedIn rounds = Reached mac answers p.number by path keeps (goes_ahead start.rules) (total_at by start p) start.next_number rounds
+    ReachedIn rounds = Reached mac answers p.number by path keeps (is_modern start.timing) (total_at by start p) start.next_number rounds
 
     abbrev Urgent : (rounds : List (LoggedRound P)) (last : AgentRecord H P) (t : Stream) → RunsOn mac answers before start u (entries_of rounds) last t → Type 0
     Urgent rounds last t run = PutUrgentFirstIn mac answers p.number path before start u (entries_of rounds) last t run × Stays start p last
@@ -137,7 +136,7 @@ module _ {H P : Type 0} (mac : H → List ℕ → List ℕ → List ℕ) (answer
 
     -- the pair is urgent at the next `handle_timeout` call
     urgent-at : (r : LoggedRound P) (older : List (LoggedRound P)) (old : AgentRecord H P) (z : Stream) (run : RunsOn mac answers before start u (entries_of older) old z)
-        → ((x : LoggedRound P) → Has older x → IsPassing by x) → selects r.timeout.entry ≡ false → old.rules ≡ start.rules → Stays start p old
+        → ((x : LoggedRound P) → Has older x → IsPassing by x) → selects r.timeout.entry ≡ false → is_modern old.timing ≡ is_modern start.timing → Stays start p old
         → PutsUrgentFirst p.number old r.timeout.entry ⊎ IsAnsweredIn (entries_of older) path
     urgent-at r older old z run are quiet rules stays = by-validity (is_valid stays.pair) refl where
       sound : IsSound old
@@ -145,8 +144,8 @@ module _ {H P : Type 0} (mac : H → List ℕ → List ℕ → List ℕ) (answer
 
       urgent : is_valid stays.pair ≡ false → PutsUrgentFirst p.number old r.timeout.entry
       urgent off = record {
-        rule = (let first_rule : is_some start.rules.triggered_checks ≡ true = search (served.rule) in
-            let on : is_some old.rules.triggered_checks ≡ true = ap (λ (x : Rules). is_some x.triggered_checks) rules ∙ first_rule in search (on));
+        rule = (let first_rule : is_modern start.timing ≡ true = search (served.rule) in
+            let on : is_modern old.timing ≡ true = rules ∙ first_rule in search (on));
         quiet = search (quiet);
         urgent = λ q has is. (let here : is_urgent q ≡ true = subst (λ (x : PairRecord). is_urgent x ≡ true)
             (one_pair old.pairs stays.pair q (rising-each old.pairs sound.rising) stays.there has (stays.number ∙ sym is))
@@ -193,22 +192,22 @@ module _ {H P : Type 0} (mac : H → List ℕ → List ℕ → List ℕ) (answer
               → PutUrgentFirstIn mac answers p.number path before start u (entries_of (r ∷ older)) last t run)
               → Whole
           on-halves began mid v old z run_older number given step back (inl reached) ends joins =
-              inl (reached-later mac answers p.number by path keeps (goes_ahead start.rules) (total_at by start p) start.next_number r older reached)
+              inl (reached-later mac answers p.number by path keeps (is_modern start.timing) (total_at by start p) start.next_number r older reached)
           on-halves began mid v old z run_older number given step back (inr (inl ended)) ends joins = inr (inl (ends (inr (inr ended))))
           on-halves began mid v old z run_older number given step back (inr (inr (puts, stays))) ends joins =
-              elim (rounds-urgent mac answers p.number by path keeps (goes_ahead start.rules) (total_at by start p) start.next_number first s fresh before start u led w.at (begins by start p all w)
+              elim (rounds-urgent mac answers p.number by path keeps (is_modern start.timing) (total_at by start p) start.next_number first s fresh before start u led w.at (begins by start p all w)
               older old z (older-began older began) (λ x has. are x (inr has)) (λ x has. lasting x (inr has)) run_older puts) [
-                | inl reached ↦ inl (reached-later mac answers p.number by path keeps (goes_ahead start.rules) (total_at by start p) start.next_number r older reached)
+                | inl reached ↦ inl (reached-later mac answers p.number by path keeps (is_modern start.timing) (total_at by start p) start.next_number r older reached)
                 | inr (inl ended) ↦ inr (inl (ends (inr (inr ended))))
                 | inr (inr done) ↦ goes-on done
               ] where
-                goes-on : After mac answers p.number by path keeps (goes_ahead start.rules) (total_at by start p) start.next_number first s fresh before start u led w.at (begins by start p all w)
+                goes-on : After mac answers p.number by path keeps (is_modern start.timing) (total_at by start p) start.next_number first s fresh before start u led w.at (begins by start p all w)
                     older old z run_older → Whole
                 goes-on done =
-                    let at_call = persists-at mac answers p.number by path keeps (goes_ahead start.rules) (total_at by start p) start.next_number first s fresh before start u led w.at (begins by start p all w)
+                    let at_call = persists-at mac answers p.number by path keeps (is_modern start.timing) (total_at by start p) start.next_number first s fresh before start u led w.at (begins by start p all w)
                     r older old z run_older began (are r (inl refl)) done in
-                    let rules : old.rules ≡ start.rules =
-                    rules-before mac answers p.number by path keeps (goes_ahead start.rules) (total_at by start p) start.next_number first s fresh before start u led w.at (begins by start p all w)
+                    let rules : is_modern old.timing ≡ is_modern start.timing =
+                    rules-before mac answers p.number by path keeps (is_modern start.timing) (total_at by start p) start.next_number first s fresh before start u led w.at (begins by start p all w)
                     older old z run_older done in
                     let sound = sound-at (entries_of older ++ before) old z (run-on mac answers first start old s u z before (entries_of older) led run_older) in
                     let called : Step mac answers old z (HandleTimeout r.now) r.timeout.entry mid v = subst (λ (c : Call P). Step mac answers old z c r.timeout.entry mid v) (are r (inl refl)).comes step in

@@ -11,8 +11,9 @@ use Rattle.is_pair.specs.Due.{is_urgent}
 use Rattle.is_pair.specs.Multiset.{is_named_by}
 use Rattle.is_pair.specs.Pairs.{PairRecord}
 use Rattle.is_stun.specs.declared.header.Class.TheVariants as class
+use Rattle.is_stun.specs.Timing.{is_modern}
 use Rattle.is_rules.specs.Agent.{AgentRecord}
-use Rattle.is_rules.specs.Checking.{goes_ahead, precedence}
+use Rattle.is_rules.specs.Checking.{precedence}
 use Rattle.is_rules.specs.declared.emitted.Path.{Path}
 use Rattle.is_rules.specs.Emitted.{issued_as}
 use Rattle.is_rules.specs.Kinds.{TurnsBefore}
@@ -177,7 +178,7 @@ module _ {H P : Type 0} (mac : H → List ℕ → List ℕ → List ℕ) (answer
         -- the pair waits, and the rules are those of the beginning
         abbrev pub After : (rounds : List (LoggedRound P)) (a : AgentRecord H P) (t : Stream) → RunsOn mac answers before start u (entries_of rounds) a t → Type 0
         After [] a t run = Unit {0}
-        After (r ∷ older) a t run = WaitsAt r.now (length (r ∷ older)) (spent_in (r ∷ older)) a × Went (length (r ∷ older)) (entries_of (r ∷ older)) a a t run × (a.rules ≡ start.rules)
+        After (r ∷ older) a t run = WaitsAt r.now (length (r ∷ older)) (spent_in (r ∷ older)) a × Went (length (r ∷ older)) (entries_of (r ∷ older)) a a t run × (is_modern a.timing ≡ is_modern start.timing)
 
         sound-at : (log : List (Logged P)) (a : AgentRecord H P) (t : Stream) → Run mac answers first s log a t → IsSound a
         sound-at log a t run = runs_sound mac answers (path_theorem mac answers) first a s t log fresh run
@@ -207,8 +208,8 @@ module _ {H P : Type 0} (mac : H → List ℕ → List ℕ → List ℕ) (answer
         went-before (x ∷ older) old z run done = done.1
 
         pub rules-before : (older : List (LoggedRound P)) (old : AgentRecord H P) (z : Stream) (run : RunsOn mac answers before start u (entries_of older) old z) → After older old z run
-            → old.rules ≡ start.rules
-        rules-before [] old z run done = ap (λ (a : AgentRecord H P). a.rules) run.0
+            → is_modern old.timing ≡ is_modern start.timing
+        rules-before [] old z run done = ap (λ (a : AgentRecord H P). is_modern a.timing) run.0
         rules-before (x ∷ older) old z run done = done.2
 
         -- the call of a round, and what follows it
@@ -228,7 +229,7 @@ module _ {H P : Type 0} (mac : H → List ℕ → List ℕ → List ℕ) (answer
             → Reached (r ∷ older)
             ⊎ (IsEndedIn mac answers ((r.timeout ∷ entries_of older) ++ before) mid v r.following last t back path
             ⊎ (WaitsAt r.now (length (r ∷ older)) (spent_in (r ∷ older)) last
-            × Went (length (r ∷ older)) (r.timeout ∷ entries_of older) last mid v (old, z, run_older, number, given, step) × (last.rules ≡ start.rules)))
+            × Went (length (r ∷ older)) (r.timeout ∷ entries_of older) last mid v (old, z, run_older, number, given, step) × (is_modern last.timing ≡ is_modern start.timing)))
         one-round r older old mid last z v t run_older number given step back began passing lasting puts done =
             let led_old = run-on mac answers first start old s u z before (entries_of older) led run_older in
             let led_mid = run-on mac answers first start mid s u v before (r.timeout ∷ entries_of older) led (old, z, run_older, number, given, step) in
@@ -254,7 +255,7 @@ module _ {H P : Type 0} (mac : H → List ℕ → List ℕ → List ℕ) (answer
                             subst (λ k. WaitsAt r.now (length (r ∷ older)) k last) (sym (paid-join (λ _. 1) r.following (r.timeout ∷ entries_of older))) still,
                             went-on r.now r.timeout (length older) (entries_of older) old mid last z v run_older number given step passing.comes on (went-before older old z run_older done)
                                 (ap (λ (g : Ground). g.ahead_turn) goes.0),
-                            ap (λ (g : Ground). g.rules) goes.0 ∙ (ap (λ (b : Base). b.rules) follows.0 ∙ rules-before older old z run_older done),
+                            ap (λ (g : Ground). is_modern g.timing) goes.0 ∙ (ap (λ (b : Base). is_modern b.timing) follows.0 ∙ rules-before older old z run_older done),
                           ))
                         ]
                   ]
@@ -307,12 +308,12 @@ module _ {H P : Type 0} (mac : H → List ℕ → List ℕ → List ℕ) (answer
   pub urgent-pairs-are-reached : UrgentPairsAreReached mac answers
   urgent-pairs-are-reached first s log fresh before start last rounds p by m found w turns enough =
       by-rounds rounds last found.following found.run w.began (omega (arith, enough))
-      (rounds-urgent p.number by (path_of start p) (answered_at start p) (goes_ahead start.rules) (total_at by start p) start.next_number first s fresh before start found.at found.led w.at (begins by start p rounds w) rounds last found.following
+      (rounds-urgent p.number by (path_of start p) (answered_at start p) (is_modern start.timing) (total_at by start p) start.next_number first s fresh before start found.at found.led w.at (begins by start p rounds w) rounds last found.following
       (inr w.began) w.passing (λ r has. lasts-at mac answers first s log fresh before start last (entries_of rounds) p found w.line.there r.now (search (w.lasting r has))) found.run turns) where
         by-rounds : (rs : List (LoggedRound P)) (a : AgentRecord H P) (t : Stream) (run : RunsOn mac answers before start found.at (entries_of rs) a t) → began_at rs ≡ Some w.at → 2 * m ≤ length rs
             → (ChecksIn rs (path_of start p) ⊎ IsAnsweredIn (entries_of rs) (path_of start p))
             ⊎ (IsEndedIn mac answers before start found.at (entries_of rs) a t run (path_of start p)
-            ⊎ After p.number by (path_of start p) (answered_at start p) (goes_ahead start.rules) (total_at by start p) start.next_number first s fresh before start found.at found.led w.at (begins by start p rounds w) rs a t run)
+            ⊎ After p.number by (path_of start p) (answered_at start p) (is_modern start.timing) (total_at by start p) start.next_number first s fresh before start found.at found.led w.at (begins by start p rounds w) rs a t run)
             → ChecksIn rs (path_of start p)
             ⊎ (IsAnsweredIn (entries_of rs) (path_of start p)
             ⊎ (IsEndedIn mac answers before start found.at (entries_of rs) a t run (path_of start p)

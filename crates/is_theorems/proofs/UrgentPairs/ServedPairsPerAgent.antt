@@ -9,10 +9,10 @@ use Rattle.is_candidate.specs.Candidates.{CandidateRecord}
 use Rattle.is_pair.specs.Checks.{unanswered_count}
 use Rattle.is_pair.specs.Pairs.{PairRecord, is_valid}
 use Rattle.is_stun.specs.declared.header.Class.TheVariants as class
+use Rattle.is_stun.specs.Timing.{is_modern}
 use Rattle.is_rules.specs.Agent.{AgentRecord}
 use Rattle.is_rules.specs.Brought.{IsValidOn}
 use Rattle.is_rules.specs.declared.emitted.Path.{Path}
-use Rattle.is_rules.specs.declared.rules.Rules.{Rules}
 use Rattle.is_rules.specs.Effects.{last_of}
 use Rattle.is_rules.specs.Emitted.{issued_as}
 use Rattle.is_rules.specs.Sending.{path_of}
@@ -333,7 +333,7 @@ module _ {H P : Type 0} (mac : H → List ℕ → List ℕ → List ℕ) (answer
       waits : Waits by p.number (path_of start p) (answered_at start p) at a
       stays : Stays start p a
       quiet : Quiet a
-      rules : a.rules ≡ start.rules
+      rules : is_modern a.timing ≡ is_modern start.timing
 
     kept-on : by ≤ at → (xs : List (Call P × Entry)) (old new : AgentRecord H P) → AreInRound xs → IsSound old → (course : Course mac answers xs old new) → Kept old
         → ((y : Call P × Entry) × Has xs y × AcceptsSuccess y.0 y.1) ⊎ (EndsAlong mac answers xs old new course (path_of start p) ⊎ Kept new)
@@ -356,7 +356,7 @@ module _ {H P : Type 0} (mac : H → List ℕ → List ℕ → List ℕ) (answer
                     waits = waits-on mac answers by p.number (path_of start p) (answered_at start p) at from old mid w sound_mid keeps l;
                     stays = stays-on mac answers start old mid p k.stays (subst (λ (q : PairRecord). Stays old q mid) one l);
                     quiet = still;
-                    rules = ap (λ (g : Ground). g.rules) keeps.0 ∙ k.rules;
+                    rules = ap (λ (g : Ground). is_modern g.timing) keeps.0 ∙ k.rules;
                   })) [
                     | inl (y, has, success) ↦ inl (y, inr has, success)
                     | inr (inl ends) ↦ inr (inl (inr ends))
@@ -373,7 +373,7 @@ module _ {H P : Type 0} (mac : H → List ℕ → List ℕ → List ℕ) (answer
       elim (timeout-on mac answers by p.number path (answered_at start p) r.now (omega (arith, from)) r.timeout start run.0 run.2 run.3 p done run.4 sound_start sound_mid line (λ m is. is) refl refl) [
         | inl (id, out) ↦ inr (inl (r, id, inl refl, out))
         | inr (other, w) ↦ elim (kept-on start p by r.now (omega (arith, from)) r.following run.0 run.1 (λ x has. between x has) sound_mid run.5
-            (record { waits = w; stays = stays; quiet = quiet; rules = ap (λ (b : Base). b.rules) after-call.0 })) [
+            (record { waits = w; stays = stays; quiet = quiet; rules = ap (λ (b : Base). is_modern b.timing) after-call.0 })) [
               | inl accepts ↦ inl (r, inl refl, accepts)
               | inr (inl ends) ↦ inr (inr (inr (inl ends)))
               | inr (inr k) ↦ from-second later k run.6 (λ x has. passing x has) enough
@@ -448,8 +448,8 @@ module _ {H P : Type 0} (mac : H → List ℕ → List ℕ → List ℕ) (answer
               none : IsValidOn run.1 (path_of run.1 v.pair) → ⊥
               none (q, there, valid, on) = no-case (sym (k.quiet.invalid q there) ∙ valid)
 
-              rule : is_some run.1.rules.triggered_checks ≡ true
-              rule = let was : is_some start.rules.triggered_checks ≡ true = search (s.served.rule) in ap (λ (x : Rules). is_some x.triggered_checks) k.rules ∙ was
+              rule : is_modern run.1.timing ≡ true
+              rule = let was : is_modern start.timing ≡ true = search (s.served.rule) in k.rules ∙ was
 
               requested : nat_lt 0 v.pair.requests ≡ true
               requested =

@@ -4,6 +4,8 @@ use Rattle.std.proofs.Common.{◌≡◌, ℕ, ◌<◌, true, false, List, [], �
 use Rattle.std.specs.Prelude.{codes}
 use Rattle.is_proto.specs.Lists.{Has}
 use Rattle.is_proto.specs.declared.proto.Protocol.TheVariants.{Udp}
+use Rattle.is_stun.specs.declared.timing.StunTiming.{StunTiming}
+use Rattle.is_stun.specs.declared.timing.Profile.TheVariants.{Modern}
 use Rattle.is_candidate.specs.Candidates.{CandidateRecord}
 use Rattle.is_candidate.specs.Making.{signalled_candidate}
 use Rattle.is_candidate.specs.declared.candidate.kind.CandidateKind.TheVariants.{ServerReflexive}
@@ -11,10 +13,14 @@ use Rattle.is_pair.specs.Due.{asked, GoesBefore}
 use Rattle.is_pair.specs.Pairs.{PairRecord, new_pair}
 use Rattle.is_rules.specs.declared.event.IceConnectionState.TheVariants.{Connected, Disconnected}
 use Rattle.is_rules.specs.declared.kinds.Precedence.{Precedence}
-use Rattle.is_rules.specs.Agent.{AgentRecord, default_timing, original_rules, modern_rules}
+use Rattle.is_rules.specs.Agent.{AgentRecord, default_timing}
 use Rattle.is_rules.specs.Checking.{all_asked, check_sent, IsNextToCheck}
 use Rattle.is_rules.specs.Kinds.{kind_of, TurnsBefore}
 use Rattle.is_theorems.proofs.WorkedExamples.ExampleAgents.{address_3, creds_2, host_2, own_1, with_host}
+
+-- checks may go ahead
+abbrev modern_timing : StunTiming
+modern_timing = record default_timing { profile = Modern }
 
 abbrev reflexive_3 : CandidateRecord
 reflexive_3 = signalled_candidate (codes "2") 1 Udp 1694498815 address_3 ServerReflexive None None None
@@ -34,86 +40,92 @@ urgent_ahead = record { selected = None; urgent = true }
 
 -- both pairs, which are due now
 abbrev due_pairs : List PairRecord
-due_pairs = asked 0 default_timing host_pair ∷ asked 0 default_timing reflexive_pair ∷ []
+due_pairs = asked 0 modern_timing host_pair ∷ asked 0 modern_timing reflexive_pair ∷ []
 
 -- The kinds of their remote candidates differ.
 kinds_differ : (kind_of (own_1 ∷ []) remote_candidates host_pair ≡ 7) × (kind_of (own_1 ∷ []) remote_candidates reflexive_pair ≡ 3)
 kinds_differ = (refl, refl)
 
-host_first : (q : PairRecord) → Has due_pairs q → GoesBefore 0 default_timing (asked 0 default_timing host_pair) q
-host_first q (inl same) = subst (λ x. GoesBefore 0 default_timing (asked 0 default_timing host_pair) x) same (inr (refl, omega arith))
-host_first q (inr (inl same)) = subst (λ x. GoesBefore 0 default_timing (asked 0 default_timing host_pair) x) same (inr (refl, omega arith))
+host_first : (q : PairRecord) → Has due_pairs q → GoesBefore 0 modern_timing (asked 0 modern_timing host_pair) q
+host_first q (inl same) = subst (λ x. GoesBefore 0 modern_timing (asked 0 modern_timing host_pair) x) same (inr (refl, omega arith))
+host_first q (inr (inl same)) = subst (λ x. GoesBefore 0 modern_timing (asked 0 modern_timing host_pair) x) same (inr (refl, omega arith))
 host_first q (inr (inr none)) = absurd none
+
+host_first_by_original : (q : PairRecord) → Has (asked 0 default_timing host_pair ∷ asked 0 default_timing reflexive_pair ∷ []) q
+    → GoesBefore 0 default_timing (asked 0 default_timing host_pair) q
+host_first_by_original q (inl same) = subst (λ x. GoesBefore 0 default_timing (asked 0 default_timing host_pair) x) same (inr (refl, omega arith))
+host_first_by_original q (inr (inl same)) = subst (λ x. GoesBefore 0 default_timing (asked 0 default_timing host_pair) x) same (inr (refl, omega arith))
+host_first_by_original q (inr (inr none)) = absurd none
 
 -- Kind 3 comes before kind 7 in a round that begins with kind 0.
 reflexive_first : (q : PairRecord) → Has due_pairs q
-    → TurnsBefore (own_1 ∷ []) remote_candidates urgent_ahead 0 0 default_timing (asked 0 default_timing reflexive_pair) q
+    → TurnsBefore (own_1 ∷ []) remote_candidates urgent_ahead 0 0 modern_timing (asked 0 modern_timing reflexive_pair) q
 reflexive_first q (inl same) =
     let earlier : 6 < 10 = omega arith in
-    subst (λ x. TurnsBefore (own_1 ∷ []) remote_candidates urgent_ahead 0 0 default_timing (asked 0 default_timing reflexive_pair) x) same (inl earlier)
+    subst (λ x. TurnsBefore (own_1 ∷ []) remote_candidates urgent_ahead 0 0 modern_timing (asked 0 modern_timing reflexive_pair) x) same (inl earlier)
 reflexive_first q (inr (inl same)) =
-    subst (λ x. TurnsBefore (own_1 ∷ []) remote_candidates urgent_ahead 0 0 default_timing (asked 0 default_timing reflexive_pair) x) same
+    subst (λ x. TurnsBefore (own_1 ∷ []) remote_candidates urgent_ahead 0 0 modern_timing (asked 0 modern_timing reflexive_pair) x) same
     (inr (refl, inr (refl, omega arith)))
 reflexive_first q (inr (inr none)) = absurd none
 
 -- After kind 3, the round goes on with kind 7.
-host_next : (q : PairRecord) → Has due_pairs q → TurnsBefore (own_1 ∷ []) remote_candidates urgent_ahead 4 0 default_timing (asked 0 default_timing host_pair) q
+host_next : (q : PairRecord) → Has due_pairs q → TurnsBefore (own_1 ∷ []) remote_candidates urgent_ahead 4 0 modern_timing (asked 0 modern_timing host_pair) q
 host_next q (inl same) =
-    subst (λ x. TurnsBefore (own_1 ∷ []) remote_candidates urgent_ahead 4 0 default_timing (asked 0 default_timing host_pair) x) same (inr (refl, inr (refl, omega arith)))
+    subst (λ x. TurnsBefore (own_1 ∷ []) remote_candidates urgent_ahead 4 0 modern_timing (asked 0 modern_timing host_pair) x) same (inr (refl, inr (refl, omega arith)))
 host_next q (inr (inl same)) =
     let earlier : 10 < 22 = omega arith in
-    subst (λ x. TurnsBefore (own_1 ∷ []) remote_candidates urgent_ahead 4 0 default_timing (asked 0 default_timing host_pair) x) same (inl earlier)
+    subst (λ x. TurnsBefore (own_1 ∷ []) remote_candidates urgent_ahead 4 0 modern_timing (asked 0 modern_timing host_pair) x) same (inl earlier)
 host_next q (inr (inr none)) = absurd none
 
 -- A request arrived on the pair, which is not valid: it is urgent, and comes before kind 7.
 abbrev urgent_pair : PairRecord
 urgent_pair = record reflexive_pair { requests = 1; last_request = Some 0 }
 
-urgent_first : (q : PairRecord) → Has (asked 0 default_timing host_pair ∷ asked 0 default_timing urgent_pair ∷ []) q
-    → TurnsBefore (own_1 ∷ []) remote_candidates urgent_ahead 4 0 default_timing (asked 0 default_timing urgent_pair) q
+urgent_first : (q : PairRecord) → Has (asked 0 modern_timing host_pair ∷ asked 0 modern_timing urgent_pair ∷ []) q
+    → TurnsBefore (own_1 ∷ []) remote_candidates urgent_ahead 4 0 modern_timing (asked 0 modern_timing urgent_pair) q
 urgent_first q (inl same) =
     let earlier : 1 < 10 = omega arith in
-    subst (λ x. TurnsBefore (own_1 ∷ []) remote_candidates urgent_ahead 4 0 default_timing (asked 0 default_timing urgent_pair) x) same (inl earlier)
+    subst (λ x. TurnsBefore (own_1 ∷ []) remote_candidates urgent_ahead 4 0 modern_timing (asked 0 modern_timing urgent_pair) x) same (inl earlier)
 urgent_first q (inr (inl same)) =
-    subst (λ x. TurnsBefore (own_1 ∷ []) remote_candidates urgent_ahead 4 0 default_timing (asked 0 default_timing urgent_pair) x) same (inr (refl, inr (refl, omega arith)))
+    subst (λ x. TurnsBefore (own_1 ∷ []) remote_candidates urgent_ahead 4 0 modern_timing (asked 0 modern_timing urgent_pair) x) same (inr (refl, inr (refl, omega arith)))
 urgent_first q (inr (inr none)) = absurd none
 
 module _ {H : Type 0} (P : Type 0) (mac : H → List ℕ → List ℕ → List ℕ) (provider : H) where
   -- a kind's turn
   abbrev with_turn : AgentRecord H P
   with_turn = record (with_host mac provider) {
-    rules = modern_rules;
+    timing = modern_timing;
     ahead_turn = true;
     remote = remote_candidates;
     pairs = host_pair ∷ reflexive_pair ∷ [];
     next_number = 2;
   }
 
-  checks_reflexive : IsNextToCheck 0 (all_asked 0 with_turn) (Some (asked 0 default_timing reflexive_pair))
+  checks_reflexive : IsNextToCheck 0 (all_asked 0 with_turn) (Some (asked 0 modern_timing reflexive_pair))
   checks_reflexive = (inr (inl refl), refl, λ q has due. reflexive_first q has)
 
   abbrev after_turn : List ℕ → AgentRecord H P
-  after_turn id = check_sent mac 0 creds_2 (asked 0 default_timing reflexive_pair) id (all_asked 0 with_turn)
+  after_turn id = check_sent mac 0 creds_2 (asked 0 modern_timing reflexive_pair) id (all_asked 0 with_turn)
 
   -- The next check is of the pair that is due first, and the next turn begins with the kind after this one.
   turn_ends : (id : List ℕ) → ((after_turn id).ahead_turn ≡ false) × ((after_turn id).next_kind ≡ 4)
   turn_ends id = (refl, refl)
 
-  checks_host : IsNextToCheck 0 (all_asked 0 (record with_turn { ahead_turn = false })) (Some (asked 0 default_timing host_pair))
+  checks_host : IsNextToCheck 0 (all_asked 0 (record with_turn { ahead_turn = false })) (Some (asked 0 modern_timing host_pair))
   checks_host = ((inl refl, λ q has. host_first q has), refl)
 
-  checks_next_kind : IsNextToCheck 0 (all_asked 0 (record with_turn { next_kind = 4 })) (Some (asked 0 default_timing host_pair))
+  checks_next_kind : IsNextToCheck 0 (all_asked 0 (record with_turn { next_kind = 4 })) (Some (asked 0 modern_timing host_pair))
   checks_next_kind = (inl refl, refl, λ q has due. host_next q has)
 
-  -- No kind has a turn while a path is selected, or under the original's rules.
-  checks_host_if_connected : IsNextToCheck 0 (all_asked 0 (record with_turn { state = Connected })) (Some (asked 0 default_timing host_pair))
+  -- No kind has a turn while a path is selected, or with the profile `Original`.
+  checks_host_if_connected : IsNextToCheck 0 (all_asked 0 (record with_turn { state = Connected })) (Some (asked 0 modern_timing host_pair))
   checks_host_if_connected = ((inl refl, λ q has. host_first q has), refl)
 
-  checks_host_by_original : IsNextToCheck 0 (all_asked 0 (record with_turn { rules = original_rules })) (Some (asked 0 default_timing host_pair))
-  checks_host_by_original = ((inl refl, λ q has. host_first q has), refl)
+  checks_host_by_original : IsNextToCheck 0 (all_asked 0 (record with_turn { timing = default_timing })) (Some (asked 0 default_timing host_pair))
+  checks_host_by_original = ((inl refl, λ q has. host_first_by_original q has), refl)
 
   -- After the path is lost, kinds take turns again.
-  checks_reflexive_if_disconnected : IsNextToCheck 0 (all_asked 0 (record with_turn { state = Disconnected })) (Some (asked 0 default_timing reflexive_pair))
+  checks_reflexive_if_disconnected : IsNextToCheck 0 (all_asked 0 (record with_turn { state = Disconnected })) (Some (asked 0 modern_timing reflexive_pair))
   checks_reflexive_if_disconnected = (inr (inl refl), refl, λ q has due. reflexive_first q has)
 
   -- ---- an urgent pair
@@ -122,16 +134,16 @@ module _ {H : Type 0} (P : Type 0) (mac : H → List ℕ → List ℕ → List �
   with_urgent = record with_turn { next_kind = 4; pairs = host_pair ∷ urgent_pair ∷ [] }
 
   -- It goes ahead of the kind whose turn it is, and also while a path is selected, but not in each check.
-  checks_urgent : IsNextToCheck 0 (all_asked 0 with_urgent) (Some (asked 0 default_timing urgent_pair))
+  checks_urgent : IsNextToCheck 0 (all_asked 0 with_urgent) (Some (asked 0 modern_timing urgent_pair))
   checks_urgent = (inr (inl refl), refl, λ q has due. urgent_first q has)
 
-  checks_urgent_if_connected : IsNextToCheck 0 (all_asked 0 (record with_urgent { state = Connected })) (Some (asked 0 default_timing urgent_pair))
+  checks_urgent_if_connected : IsNextToCheck 0 (all_asked 0 (record with_urgent { state = Connected })) (Some (asked 0 modern_timing urgent_pair))
   checks_urgent_if_connected = (inr (inl refl), refl, λ q has due. urgent_first q has)
 
-  checks_host_after_urgent : IsNextToCheck 0 (all_asked 0 (record with_urgent { ahead_turn = false })) (Some (asked 0 default_timing host_pair))
+  checks_host_after_urgent : IsNextToCheck 0 (all_asked 0 (record with_urgent { ahead_turn = false })) (Some (asked 0 modern_timing host_pair))
   checks_host_after_urgent = ((inl refl, λ q has. host_before q has), refl) where
-    host_before : (q : PairRecord) → Has (asked 0 default_timing host_pair ∷ asked 0 default_timing urgent_pair ∷ []) q
-        → GoesBefore 0 default_timing (asked 0 default_timing host_pair) q
-    host_before q (inl same) = subst (λ x. GoesBefore 0 default_timing (asked 0 default_timing host_pair) x) same (inr (refl, omega arith))
-    host_before q (inr (inl same)) = subst (λ x. GoesBefore 0 default_timing (asked 0 default_timing host_pair) x) same (inr (refl, omega arith))
+    host_before : (q : PairRecord) → Has (asked 0 modern_timing host_pair ∷ asked 0 modern_timing urgent_pair ∷ []) q
+        → GoesBefore 0 modern_timing (asked 0 modern_timing host_pair) q
+    host_before q (inl same) = subst (λ x. GoesBefore 0 modern_timing (asked 0 modern_timing host_pair) x) same (inr (refl, omega arith))
+    host_before q (inr (inl same)) = subst (λ x. GoesBefore 0 modern_timing (asked 0 modern_timing host_pair) x) same (inr (refl, omega arith))
     host_before q (inr (inr none)) = absurd none

@@ -2,7 +2,7 @@
 
 use is::{
     AgentCall, Answer, Call, Candidate, DefaultSha1HmacProvider, Duration, IceAgent, IceCreds,
-    IceError, LocalPreference, Protocol, Rules, RunLog, Text, run,
+    IceError, LocalPreference, Profile, Protocol, RunLog, Text, run,
 };
 use rand_core::SeedableRng;
 use rand_pcg::Pcg32;
@@ -54,7 +54,7 @@ fn settings(alloc: Global) -> Option<Vec<Call>> {
             AgentCall::SetMaxCandidatePairs(10),
             AgentCall::SetIceLite(false),
             AgentCall::SetRenomination(true),
-            AgentCall::SetRules(Rules::modern()),
+            AgentCall::SetProfile(Profile::Modern),
             AgentCall::SetTimingAdvance(Duration(50_000_000)),
             AgentCall::SetInitialStunRto(Duration(250_000_000)),
             AgentCall::SetMaxStunRto(Duration(3_000_000_000)),

@@ -5,7 +5,7 @@ use std::alloc::{AllocError, Global};
 use std::test::Fail;
 
 /// Lines, and what is wrong with them.
-static FAULTS: [(&str, &str); 40] = [
+static FAULTS: [(&str, &str); 36] = [
     ("[1]", "not a script line: no JSON object"),
     ("\r", "not a script line: no JSON at column 1"),
     (" ", "not a script line: no JSON at column 1"),
@@ -35,13 +35,13 @@ static FAULTS: [(&str, &str); 40] = [
     ),
     (
         r#"{"on":"A"}"#,
-        "missing call, which is one of agent, controlling, lite, renomination, rules, tie, mtu, local, remote, pairs, discovered, \
+        "missing call, which is one of agent, controlling, lite, renomination, profile, consent, tie, mtu, local, remote, pairs, discovered, \
         retransmits, rto, maxrto, litetimeout, advance, preference, skip, host, srflx, relay, candidate, invalidate, \
         restart, recreate, timeout, packet, deliver, poll",
     ),
     (
         r#"{"call":"sleep"}"#,
-        "bad call: \"sleep\" is not one of agent, controlling, lite, renomination, rules, tie, mtu, local, remote, pairs, discovered, \
+        "bad call: \"sleep\" is not one of agent, controlling, lite, renomination, profile, consent, tie, mtu, local, remote, pairs, discovered, \
         retransmits, rto, maxrto, litetimeout, advance, preference, skip, host, srflx, relay, candidate, invalidate, \
         restart, recreate, timeout, packet, deliver, poll",
     ),
@@ -90,40 +90,24 @@ static FAULTS: [(&str, &str); 40] = [
         "bad flag: 1 is not true or false",
     ),
     (
-        r#"{"call":"rules"}"#,
-        "missing name, which is original, modern or kinds",
+        r#"{"call":"profile"}"#,
+        "missing name, which is original or modern",
     ),
     (
-        r#"{"call":"rules","name":"Mod\nern"}"#,
-        r#"bad name: "Mod\nern" is not original, modern or kinds"#,
+        r#"{"call":"profile","name":"Mod\nern"}"#,
+        r#"bad name: "Mod\nern" is not original or modern"#,
     ),
     (
-        r#"{"call":"rules","name":"modern","selects_at_once":0}"#,
-        "bad selects_at_once: 0 is not true or false",
+        r#"{"call":"consent","timeout":true,"strict":false}"#,
+        "bad timeout: true is not a whole number from 0 to 18446744073709551615, or null",
     ),
     (
-        r#"{"call":"rules","name":"modern","early_rto":4}"#,
-        "bad early_rto: 4 is not an object with retransmits, interval and cap, or null",
+        r#"{"call":"consent","timeout":null,"strict":0}"#,
+        "bad strict: 0 is not true or false",
     ),
     (
-        r#"{"call":"rules","name":"modern","early_rto":{"retransmits":4}}"#,
-        "missing interval, which is a whole number from 0 to 18446744073709551615",
-    ),
-    (
-        r#"{"call":"rules","name":"modern","early_rto":{"retransmits":4,"interval":5}}"#,
-        "missing cap, which is a whole number from 0 to 18446744073709551615",
-    ),
-    (
-        r#"{"call":"rules","name":"modern","early_rto":{"retransmits":4,"interval":5,"cap":null}}"#,
-        "bad cap: null is not a whole number from 0 to 18446744073709551615",
-    ),
-    (
-        r#"{"call":"rules","name":"modern","consent":true}"#,
-        "bad consent: true is not an object with timeout and strict, or null",
-    ),
-    (
-        r#"{"call":"rules","name":"modern","early_pacing":true}"#,
-        "bad early_pacing: true is not a whole number from 0 to 18446744073709551615, or null",
+        r#"{"call":"consent","timeout":1}"#,
+        "missing strict, which is true or false",
     ),
     (
         r#"{"call":"poll","what":"packet"}"#,

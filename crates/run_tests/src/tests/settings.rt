@@ -30,7 +30,7 @@ const SESSION: &str = r#"{"call":"remote","ufrag":"BBBB","pass":"QQQQ","polls":f
 const SESSION_PRINTED: &str = "A remote ok\nA host added\nA candidate ok\nA timeout ok";
 
 /// The checks were written by another program, from RFC 8445, section 7.2.2, and RFC 8489.
-static SETTINGS: [Setting; 10] = [
+static SETTINGS: [Setting; 7] = [
     Setting {
         line: r#"{"call":"tie","number":258,"polls":false}"#,
         result: "A tie ok",
@@ -67,40 +67,18 @@ static SETTINGS: [Setting; 10] = [
         timeout: "250000000",
     },
     Setting {
-        line: r#"{"call":"rules","name":"original","polls":false}"#,
-        result: "A rules ok",
+        line: r#"{"call":"profile","name":"original","polls":false}"#,
+        result: "A profile ok",
         check: "000100442112a44200000000010000000200000000060009424242423a41414141000000802900080000000000000001002400046efffeff00080014575e3256ddc75e40fb5a5d995df884a45ae272a380280004c3c4bacc",
         creds: "AAAA PPPP",
         timeout: "250000000",
     },
     Setting {
-        line: r#"{"call":"rules","name":"modern","polls":false}"#,
-        result: "A rules ok",
+        line: r#"{"call":"profile","name":"modern","polls":false}"#,
+        result: "A profile ok",
         check: "000100442112a44200000000010000000200000000060009424242423a41414141000000802900080000000000000001002400046efffeff00080014575e3256ddc75e40fb5a5d995df884a45ae272a380280004c3c4bacc",
         creds: "AAAA PPPP",
         timeout: "100000000",
-    },
-    Setting {
-        line: r#"{"call":"rules","name":"original","early_rto":{"retransmits":1,"interval":70000000,"cap":90000000},"polls":false}"#,
-        result: "A rules ok",
-        check: "000100442112a44200000000010000000200000000060009424242423a41414141000000802900080000000000000001002400046efffeff00080014575e3256ddc75e40fb5a5d995df884a45ae272a380280004c3c4bacc",
-        creds: "AAAA PPPP",
-        timeout: "70000000",
-    },
-    // The first delay doubles already, up to the cap.
-    Setting {
-        line: r#"{"call":"rules","name":"original","early_rto":{"retransmits":0,"interval":70000000,"cap":90000000},"polls":false}"#,
-        result: "A rules ok",
-        check: "000100442112a44200000000010000000200000000060009424242423a41414141000000802900080000000000000001002400046efffeff00080014575e3256ddc75e40fb5a5d995df884a45ae272a380280004c3c4bacc",
-        creds: "AAAA PPPP",
-        timeout: "90000000",
-    },
-    Setting {
-        line: r#"{"call":"rules","name":"modern","early_rto":null,"polls":false}"#,
-        result: "A rules ok",
-        check: "000100442112a44200000000010000000200000000060009424242423a41414141000000802900080000000000000001002400046efffeff00080014575e3256ddc75e40fb5a5d995df884a45ae272a380280004c3c4bacc",
-        creds: "AAAA PPPP",
-        timeout: "250000000",
     },
 ];
 

@@ -10,8 +10,8 @@ use is::{
     AgentCall, AgentSpec, Answer, Call, Candidate, CandidateBuilder, CandidateKind,
     DefaultSha1HmacProvider, Duration, Entry, FnPreference, IceAgent, IceAgentEvent, IceAgentStats,
     IceConnectionState, IceCreds, IceError, InFlight, Instant, Issued, LocalCandidates,
-    LocalPreference, ParseFault, Path, PreferenceFunction, Protocol, RemoteCandidates, Rules,
-    RunLog, Sha1HmacProvider, Side, SocketText, StunError, TcpType, Text, Trace, Transmit,
+    LocalPreference, ParseFault, Path, PreferenceFunction, Protocol, RemoteCandidates, RunLog,
+    Settings, Sha1HmacProvider, Side, SocketText, StunError, TcpType, Text, Trace, Transmit,
     TwoAgents, TwoAgentsEvent, World, WorldEntry, WorldEvent, WorldLog,
 };
 use std::alloc::AllocError;
@@ -135,7 +135,7 @@ fn agents() {
     is_plain::<IceConnectionState>();
     is_plain::<IceAgentStats>();
     is_compared::<IceAgentEvent>();
-    is_plain::<Rules>();
+    is_plain::<Settings>();
     is_plain::<Path>();
     is_plain::<Issued>();
 }

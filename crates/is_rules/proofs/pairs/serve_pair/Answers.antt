@@ -8,11 +8,11 @@ use Rattle.is_rules.proofs.pairs.serve_pair.Goals as goal
 pub change-requires : goal.change-requires
 change-requires c =
     let by = c.args.role in let q = request_view c.args.request.now in let after = c.args.trigger in
-    record { keys = request-keys by.controlling by.lite q after.most after.at.0 }
+    record { keys = request-keys by.controlling by.lite q after.modern after.at.0 }
 
 pub returns-clause-placed : goal.returns-clause-placed
 returns-clause-placed c = λ local remote placed.
     let by = c.args.role in let q = request_view c.args.request.now in let after = c.args.trigger in
     rw (c.change.ensures.changed)
-    (placed-changed local remote c.args.number (λ p. served by.controlling by.lite q (triggered after.most after.at.0 p)) (multiset_of c.args.pairs.now)
-    (request-places by.controlling by.lite q after.most after.at.0) placed)
+    (placed-changed local remote c.args.number (λ p. served by.controlling by.lite q (triggered after.modern after.at.0 p)) (multiset_of c.args.pairs.now)
+    (request-places by.controlling by.lite q after.modern after.at.0) placed)

@@ -9,7 +9,7 @@ use is_candidate::CandidateKind;
 use is_pair::checklist::{Checklist, PairPriority, PairTest, Removal};
 use is_pair::pair::{CandidatePair, PairId};
 use is_proto::{Duration, IceError, Instant};
-use is_stun::stun::{Consent, StunTiming, TransId};
+use is_stun::stun::{ConsentSetting, Profile, StunTiming, TransId};
 use rand_core::SeedableRng;
 use rand_pcg::Pcg32;
 use std::alloc::Global;
@@ -193,23 +193,24 @@ fn the_order_follows_the_priorities(rt: HostRuntime) -> Result<(), Fail> {
     Ok(())
 }
 
-/// The first pair has a response to its check at 0 s, and the second pair has none.
+/// The first pair has a response to its check at 0 s, and is due at 250 ms. The second pair has none: it is due at 100, 200 and 400 ms.
 #[test]
 fn the_end_of_consent_is_an_earliest_time(rt: HostRuntime) -> Result<(), Fail> {
     let mut paths = paths_of(rt.alloc(), 9, &[50, 60])?;
-    paths.timing.consent = Some(Consent {
-        timeout: Duration::from_millis(400),
+    paths.timing.profile = Profile::Modern;
+    paths.timing.consent = ConsentSetting {
+        timeout: Some(Duration::from_millis(230)),
         strict: true,
-    });
+    };
     let first = paths.check(0, 0, 1)?;
     paths.answer(first, 50)?;
     paths.check(1, 0, 2)?;
-    assert!(rt; paths.next_call(50) == at(250));
-    paths.check(0, 250, 3)?;
-    paths.check(1, 250, 4)?;
-    assert!(rt; paths.next_call(250) == at(400));
-    paths.timing.consent = None;
-    assert!(rt; paths.next_call(250) == at(750));
+    assert!(rt; paths.next_call(50) == at(100));
+    paths.check(1, 100, 3)?;
+    paths.check(1, 200, 4)?;
+    assert!(rt; paths.next_call(200) == at(230));
+    paths.timing.profile = Profile::Original;
+    assert!(rt; paths.next_call(200) == at(250));
     Ok(())
 }
 

@@ -4,7 +4,7 @@ use super::{Path, at};
 use is_pair::checklist::{Expired, PairTest};
 use is_pair::take_over;
 use is_proto::{Duration, Instant};
-use is_stun::stun::Consent;
+use is_stun::stun::{ConsentSetting, Profile};
 use std::alloc::Global;
 use std::test::Fail;
 
@@ -17,10 +17,11 @@ const HEARD: u64 = 15_000;
 /// A path with consent by a clock.
 fn path_with(alloc: Global, strict: bool) -> Path {
     let mut path = Path::new(alloc);
-    path.timing.consent = Some(Consent {
-        timeout: Duration::from_millis(CONSENT),
+    path.timing.profile = Profile::Modern;
+    path.timing.consent = ConsentSetting {
+        timeout: Some(Duration::from_millis(CONSENT)),
         strict,
-    });
+    };
     path
 }
 
@@ -30,6 +31,7 @@ fn stays(path: &Path, now: Instant) -> bool {
         lite: false,
         now,
         timing: &path.timing,
+        consent: path.timing.consent(),
     };
     !expired.passes(&path.pair)
 }
@@ -98,7 +100,7 @@ fn without_a_response_consent_does_not_end(rt: HostRuntime) -> Result<(), Fail> 
 }
 
 #[test]
-fn without_the_rule_consent_does_not_end(rt: HostRuntime) -> Result<(), Fail> {
+fn by_the_original_consent_does_not_end(rt: HostRuntime) -> Result<(), Fail> {
     let mut path = Path::new(rt.alloc());
     path.check_answered(0, 50)?;
     assert!(rt; stays(&path, at(10 * CONSENT)));
@@ -128,6 +130,7 @@ fn an_ice_lite_pair_needs_no_consent(rt: HostRuntime) -> Result<(), Fail> {
         lite: true,
         now: at(CONSENT),
         timing: &path.timing,
+        consent: path.timing.consent(),
     };
     assert!(rt; !expired.passes(&path.pair));
     Ok(())

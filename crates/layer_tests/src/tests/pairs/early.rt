@@ -4,31 +4,18 @@
 use super::{Path, at};
 use is_pair::take_over;
 use is_proto::{Duration, Instant};
-use is_stun::stun::EarlyRto;
+use is_stun::stun::Profile;
 use std::alloc::Global;
 use std::test::Fail;
 
 /// How long a whole series of checks takes, in milliseconds: 0.5, 1 and 2 s, five times 3 s to the ninth one, and 3 s more.
 const SERIES: u64 = 21_500;
 
-/// So many early retransmissions after this interval each, and then delays of at most this cap, in milliseconds.
-fn rule(retransmits: usize, interval: u64, cap: u64) -> Option<EarlyRto> {
-    Some(EarlyRto {
-        retransmits,
-        interval: Duration::from_millis(interval),
-        cap: Duration::from_millis(cap),
-    })
-}
-
-fn path_with(alloc: Global, early: Option<EarlyRto>) -> Path {
-    let mut path = Path::new(alloc);
-    path.timing.early = early;
-    path
-}
-
-/// A path with two early retransmissions 100 ms apart, and delays of at most 300 ms.
+/// A path with the profile `Modern`: two early retransmissions 100 ms apart, and delays of at most 350 ms.
 fn early_path(alloc: Global) -> Path {
-    path_with(alloc, rule(2, 100, 300))
+    let mut path = Path::new(alloc);
+    path.timing.profile = Profile::Modern;
+    path
 }
 
 /// A check at this time, and when the next one is due.
@@ -86,38 +73,15 @@ fn check_until_removed(path: &mut Path, start: Instant) -> Result<(usize, Instan
 
 // ---- when checks are due
 
-/// Two retransmissions after 100 ms each, one after 200 ms, and the others after 300 ms, more than nine of them.
+/// Two retransmissions after 100 ms each, one after 200 ms, and the others after 350 ms, more than nine of them.
 #[test]
 fn checks_without_a_response_are_repeated_early(rt: HostRuntime) -> Result<(), Fail> {
     let mut path = early_path(rt.alloc());
     let mut now = path.due(at(0));
     assert!(rt; now == at(0));
     for next in [
-        100, 200, 400, 700, 1000, 1300, 1600, 1900, 2200, 2500, 2800, 3100,
+        100, 200, 400, 750, 1100, 1450, 1800, 2150, 2500, 2850, 3200, 3550,
     ] {
-        now = next_after(&mut path, now)?;
-        assert!(rt; now == at(next));
-    }
-    Ok(())
-}
-
-#[test]
-fn with_a_cap_below_the_interval_no_delay_doubles(rt: HostRuntime) -> Result<(), Fail> {
-    let mut path = path_with(rt.alloc(), rule(2, 100, 50));
-    let mut now = at(0);
-    for next in [100, 200, 300, 400, 500, 600, 700, 800, 900, 1000] {
-        now = next_after(&mut path, now)?;
-        assert!(rt; now == at(next));
-    }
-    Ok(())
-}
-
-/// The delays are 1, 1, 2, 4 ms and so on up to 256 ms; twice as much is above the cap.
-#[test]
-fn an_interval_of_zero_counts_as_a_millisecond(rt: HostRuntime) -> Result<(), Fail> {
-    let mut path = path_with(rt.alloc(), rule(2, 0, 300));
-    let mut now = at(0);
-    for next in [1, 2, 4, 8, 16, 32, 64, 128, 256, 512, 812, 1112] {
         now = next_after(&mut path, now)?;
         assert!(rt; now == at(next));
     }
@@ -159,10 +123,10 @@ fn a_response_to_the_first_check_ends_early_retransmissions(rt: HostRuntime) -> 
 #[test]
 fn a_response_to_a_later_check_ends_them_too(rt: HostRuntime) -> Result<(), Fail> {
     let mut path = early_path(rt.alloc());
-    assert!(rt; check_until(&mut path, at(2200))? == (9, at(2200)));
-    path.check_answered(2200, 2250)?;
-    assert!(rt; path.due(at(2250)) == at(5200));
-    assert!(rt; next_after(&mut path, at(5200))? == at(8200));
+    assert!(rt; check_until(&mut path, at(2500))? == (9, at(2500)));
+    path.check_answered(2500, 2550)?;
+    assert!(rt; path.due(at(2550)) == at(5500));
+    assert!(rt; next_after(&mut path, at(5500))? == at(8500));
     Ok(())
 }
 
@@ -177,7 +141,7 @@ fn a_check_that_nominates_is_repeated_early(rt: HostRuntime) -> Result<(), Fail>
     assert!(rt; path.due(at(70000)) == at(10000));
     let mut now = at(70000);
     for next in [
-        70100, 70200, 70400, 70700, 71000, 71300, 71600, 71900, 74900, 77900,
+        70100, 70200, 70400, 70750, 71100, 71450, 71800, 72150, 75150, 78150,
     ] {
         now = next_after(&mut path, now)?;
         assert!(rt; now == at(next));
@@ -197,14 +161,14 @@ fn the_response_to_a_nomination_ends_early_retransmissions(rt: HostRuntime) -> R
     Ok(())
 }
 
-/// The nominating checks are sent at 1, 1.1, 1.2, 1.4 and 1.7 s, then every 0.3 s until the ninth at 2.9 s, and then every 3 s. After fifteen
-/// of them the first one that is stored was sent at 2.3 s, a whole series before 23.8 s.
+/// The nominating checks are sent at 1, 1.1, 1.2, 1.4 and 1.75 s, then every 0.35 s until the ninth at 3.15 s, and then every 3 s. After
+/// fifteen of them the first one that is stored was sent at 2.45 s, a whole series before 23.95 s.
 #[test]
 fn a_nominated_pair_ends_by_the_clock(rt: HostRuntime) -> Result<(), Fail> {
     let mut path = early_path(rt.alloc());
     path.check_answered(0, 50)?;
     path.nominate()?;
-    assert!(rt; check_until_removed(&mut path, at(1000))? == (15, at(23_900)));
+    assert!(rt; check_until_removed(&mut path, at(1000))? == (15, at(24_150)));
     Ok(())
 }
 
@@ -251,27 +215,27 @@ fn eight_checks_end_no_pair(rt: HostRuntime) -> Result<(), Fail> {
     Ok(())
 }
 
-/// The fourth check is sent at 0.4 s, and seventy more every 0.3 s until 21.4 s. The next one is due at 21.7 s, while the response to that one
+/// The fourth check is sent at 0.4 s, and sixty more every 0.35 s until 21.4 s. The next one is due at 21.75 s, while the response to that one
 /// may still come. It is the last one, and is waited for by the RTO, 3 s.
 #[test]
-fn a_pair_without_a_response_has_75_checks(rt: HostRuntime) -> Result<(), Fail> {
+fn a_pair_without_a_response_has_65_checks(rt: HostRuntime) -> Result<(), Fail> {
     let mut path = early_path(rt.alloc());
-    assert!(rt; check_until_removed(&mut path, at(0))? == (75, at(24_700)));
+    assert!(rt; check_until_removed(&mut path, at(0))? == (65, at(24_750)));
     Ok(())
 }
 
-/// A check from the peer at 21 s keeps it until 36 s, and the response to the last check, at 33.7 s, may come until 36.7 s.
+/// A check from the peer at 21 s keeps it until 36 s, and the response to the last check, at 33.75 s, may come until 36.75 s.
 #[test]
 fn a_pair_that_is_still_heard_goes_on_with_the_rto(rt: HostRuntime) -> Result<(), Fail> {
     let mut path = early_path(rt.alloc());
     let (count, mut now) = check_until(&mut path, at(SERIES))?;
-    assert!(rt; count == 74 && now == at(21_700));
+    assert!(rt; count == 64 && now == at(21_750));
     path.pair.increase_remote_binding_requests(at(21_000));
     assert!(rt; path.is_possible(now));
     now = next_after(&mut path, now)?;
-    assert!(rt; now == at(24_700) && path.is_possible(now));
-    assert!(rt; due_after(&mut path, now, 4)? == at(36_700));
-    assert!(rt; ends_at(&path, 36_700));
+    assert!(rt; now == at(24_750) && path.is_possible(now));
+    assert!(rt; due_after(&mut path, now, 4)? == at(36_750));
+    assert!(rt; ends_at(&path, 36_750));
     Ok(())
 }
 
@@ -280,17 +244,17 @@ fn a_pair_that_is_still_heard_goes_on_with_the_rto(rt: HostRuntime) -> Result<()
 #[test]
 fn with_one_retransmit_there_are_four_checks(rt: HostRuntime) -> Result<(), Fail> {
     let mut path = Path::impatient(rt.alloc());
-    path.timing.early = rule(2, 100, 300);
+    path.timing.profile = Profile::Modern;
     assert!(rt; check_until_removed(&mut path, at(0))? == (4, at(650)));
     Ok(())
 }
 
-/// With two checks it takes 1 s. Five are sent by 0.7 s; the next one is due at 1 s, and by then the RTO counts, 500 ms.
+/// With two checks it takes 1 s. Five are sent by 0.75 s; the next one is due at 1.1 s, and by then the RTO counts, 500 ms.
 #[test]
 fn few_retransmits_end_as_well(rt: HostRuntime) -> Result<(), Fail> {
     let mut path = early_path(rt.alloc());
     path.timing.max_retransmits = 2;
-    assert!(rt; check_until_removed(&mut path, at(0))? == (6, at(1500)));
+    assert!(rt; check_until_removed(&mut path, at(0))? == (6, at(1600)));
     Ok(())
 }
 
@@ -325,12 +289,12 @@ fn after_a_response_a_whole_series_passes(rt: HostRuntime) -> Result<(), Fail> {
     Ok(())
 }
 
-/// Without the rule the number of checks counts. With it time counts, also where no retransmission is early.
+/// By the original the number of checks counts.
 #[test]
-fn without_the_rule_a_pair_has_nine_checks(rt: HostRuntime) -> Result<(), Fail> {
-    for (early, end) in [(None, 3000), (rule(0, 100, 300), SERIES)] {
+fn by_the_original_a_pair_has_nine_checks(rt: HostRuntime) -> Result<(), Fail> {
+    for (profile, end) in [(Profile::Original, 3000), (Profile::Modern, SERIES)] {
         let mut path = Path::new(rt.alloc());
-        path.timing.early = early;
+        path.timing.profile = profile;
         check_often(&mut path, 8, 0)?;
         assert!(rt; path.is_possible(at(1_000_000)));
         path.check(at(0))?;

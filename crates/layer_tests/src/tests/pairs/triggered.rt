@@ -16,9 +16,9 @@ fn due_path(alloc: Global) -> Result<Path, Fail> {
     Ok(path)
 }
 
-/// When the path is due after a request at this time, if each of the first `most` requests triggers a check.
-fn due_after_request(path: &mut Path, most: Option<u64>, now: Instant) -> Instant {
-    trigger(&mut path.pair, most, now);
+/// When the path is due after a request at this time, with the profile `Modern`.
+fn due_after_request(path: &mut Path, now: Instant) -> Instant {
+    trigger(&mut path.pair, true, now);
     path.pair.increase_remote_binding_requests(now);
     path.due(now)
 }
@@ -26,36 +26,30 @@ fn due_after_request(path: &mut Path, most: Option<u64>, now: Instant) -> Instan
 #[test]
 fn a_request_moves_the_next_check_up(rt: HostRuntime) -> Result<(), Fail> {
     let mut path = due_path(rt.alloc())?;
-    assert!(rt; due_after_request(&mut path, Some(4), at(100)) == at(100));
+    assert!(rt; due_after_request(&mut path, at(100)) == at(100));
     Ok(())
 }
 
 #[test]
 fn a_request_moves_no_check_down(rt: HostRuntime) -> Result<(), Fail> {
     let mut path = due_path(rt.alloc())?;
-    assert!(rt; due_after_request(&mut path, Some(4), at(251)) == at(250));
-    assert!(rt; due_after_request(&mut path, Some(4), at(100)) == at(100));
-    assert!(rt; due_after_request(&mut path, Some(4), at(101)) == at(100));
+    assert!(rt; due_after_request(&mut path, at(251)) == at(250));
     Ok(())
 }
 
 #[test]
-fn without_the_rule_a_request_moves_nothing(rt: HostRuntime) -> Result<(), Fail> {
+fn by_the_original_a_request_moves_nothing(rt: HostRuntime) -> Result<(), Fail> {
     let mut path = due_path(rt.alloc())?;
-    assert!(rt; due_after_request(&mut path, None, at(100)) == at(250));
-    assert!(rt; due_after_request(&mut path, Some(0), at(100)) == at(250));
+    trigger(&mut path.pair, false, at(100));
+    assert!(rt; path.due(at(100)) == at(250));
     Ok(())
 }
 
 #[test]
-fn only_the_first_requests_trigger_checks(rt: HostRuntime) -> Result<(), Fail> {
+fn only_the_first_request_triggers_a_check(rt: HostRuntime) -> Result<(), Fail> {
     let mut path = due_path(rt.alloc())?;
-    for time in [240, 230, 220, 210] {
-        assert!(rt; due_after_request(&mut path, Some(4), at(time)) == at(time));
-    }
-    assert!(rt; due_after_request(&mut path, Some(4), at(200)) == at(210));
-    assert!(rt; due_after_request(&mut path, Some(6), at(190)) == at(190));
-    assert!(rt; due_after_request(&mut path, Some(6), at(180)) == at(190));
+    assert!(rt; due_after_request(&mut path, at(240)) == at(240));
+    assert!(rt; due_after_request(&mut path, at(100)) == at(240));
     Ok(())
 }
 
@@ -64,7 +58,7 @@ fn a_request_on_a_valid_pair_moves_nothing(rt: HostRuntime) -> Result<(), Fail> 
     let mut path = Path::new(rt.alloc());
     path.check_answered(0, 50)?;
     assert!(rt; path.due(at(50)) == at(250));
-    assert!(rt; due_after_request(&mut path, Some(4), at(100)) == at(250));
+    assert!(rt; due_after_request(&mut path, at(100)) == at(250));
     Ok(())
 }
 
@@ -73,7 +67,7 @@ fn a_request_on_a_valid_pair_moves_nothing(rt: HostRuntime) -> Result<(), Fail> 
 fn a_due_time_that_is_not_fixed_is_not_moved(rt: HostRuntime) -> Result<(), Fail> {
     let mut path = Path::new(rt.alloc());
     path.check(at(0))?;
-    assert!(rt; due_after_request(&mut path, Some(4), at(100)) == at(250));
+    assert!(rt; due_after_request(&mut path, at(100)) == at(250));
     Ok(())
 }
 

@@ -8,5 +8,5 @@ pub returns-clause-formed : goal.returns-clause-formed
 returns-clause-formed g c =
     let self = c.args.self.now in
     let after = formed_as (multiset_of c.form_each.new.pairs) c.form_each.new.next_number in
-    let forms : FormsEach (sides_of (record_of self)) self.max_pairs c.args.all.now (formed_of (record_of self)) after = rw (c.deref.ensures.value, c.deref-2.ensures.value) at c.form_each.ensures.forms in
+    let forms : FormsEach (sides_of (record_of self)) self.max_pairs c.args.all.now (formed_of (record_of self)) after = rw (c.deref.ensures.value, c.deref-2.ensures.value, c.is_modern.ensures) at c.form_each.ensures.forms in
     (after, forms, refl)

@@ -1,4 +1,5 @@
 use Rattle.std.proofs.Common.{◌≡◌, ℕ, Bool, Option, ap, ◌∙◌}
+use Rattle.is_stun.specs.Timing.{is_modern}
 use Rattle.is_pair.specs.Due.{triggered}
 use Rattle.is_pair.specs.Multiset.{change_pair}
 use Rattle.is_pair.specs.Checklists.{multiset_of}
@@ -16,9 +17,9 @@ returns-clause-served g c =
     let as_said = c.as_taken-taken.ensures ∙ ap (λ (numbers : Bool). as_taken numbers q) c.numbers.ensures in
     let pairs : multiset_of c.serve_pair.new.pairs ≡ change_pair number (after_request q s) s.pairs =
     c.serve_pair.ensures.served
-    ∙ ap (λ (most : Option ℕ). change_pair number (λ p. served s.controlling s.lite taken (triggered most trigger.at.0 p)) s.pairs) c.trigger-trigger.ensures.most
-    ∙ ap (λ (at : ℕ). change_pair number (λ p. served s.controlling s.lite taken (triggered s.rules.triggered_checks at p)) s.pairs) c.trigger-trigger.ensures.at
-    ∙ ap (λ (r : RequestRecord). change_pair number (λ p. served s.controlling s.lite r (triggered s.rules.triggered_checks (trigger_time q s) p)) s.pairs) as_said in
+    ∙ ap (λ (modern : Bool). change_pair number (λ p. served s.controlling s.lite taken (triggered modern trigger.at.0 p)) s.pairs) c.trigger-trigger.ensures.modern
+    ∙ ap (λ (at : ℕ). change_pair number (λ p. served s.controlling s.lite taken (triggered (is_modern s.timing) at p)) s.pairs) c.trigger-trigger.ensures.at
+    ∙ ap (λ (r : RequestRecord). change_pair number (λ p. served s.controlling s.lite r (triggered (is_modern s.timing) (trigger_time q s) p)) s.pairs) as_said in
     let last = c.nominated_last-self.ensures ∙ ap (λ (r : RequestRecord). nominated_last s.controlling r number s.last_nominated) as_said in
     let seen = c.sees_number-self.ensures ∙ ap (λ (r : RequestRecord). sees_number s.controlling r.nomination s.numbers_seen) as_said in
     cc (pairs, last, seen)

@@ -1,11 +1,11 @@
-"""Measures what each rule contributes: how long agents behind NATs take if one rule is off, also if the peer starts later."""
+"""Measures how long agents behind NATs take by either profile, also if the peer starts later."""
 
 from __future__ import annotations
 
 from pathlib import Path
 
 from .figures import aligned, quantile
-from .hosts import RULES, Cell, Found, filled, measure
+from .hosts import PROFILES, Cell, Found, filled, measure
 
 # One-way delay in ms, loss in %, and host candidates of each side.
 Situation = tuple[int, int, int]
@@ -20,7 +20,7 @@ TITLE = "Median, 95th percentile and worst in ms, and packets"
 
 def cells() -> list[Cell]:
     """Returns all cells."""
-    return [Cell(True, *situation, rules, late) for late, situations in LATE.items() for situation in situations for rules in RULES]
+    return [Cell(True, *situation, profile, late) for late, situations in LATE.items() for situation in situations for profile in PROFILES]
 
 
 def told(found: Found) -> str:
@@ -33,11 +33,11 @@ def told(found: Found) -> str:
 
 
 def table(found: dict[Cell, Found]) -> str:
-    """Returns the table: a row for each situation, and a column for each choice of rules."""
-    rows = [["later s", "delay ms", "loss %", "hosts", *RULES]]
+    """Returns the table: a row for each situation, and a column for each profile."""
+    rows = [["later s", "delay ms", "loss %", "hosts", *PROFILES]]
     for late, situations in LATE.items():
         for situation in situations:
-            texts = [told(found[Cell(True, *situation, rules, late)]) for rules in RULES]
+            texts = [told(found[Cell(True, *situation, profile, late)]) for profile in PROFILES]
             rows.append([f"{late / 1000:g}", *(str(number) for number in situation), *texts])
     return aligned(rows)
 

@@ -1,4 +1,4 @@
-//! The fields of a line `rules`, each by what its rule changes.
+//! The lines `profile` and `consent`, by what the profile `Modern` changes.
 
 use crate::tests::playing::ends;
 use std::test::Fail;
@@ -8,7 +8,7 @@ static SCRIPTS: [(&str, &str); 8] = [
     // The second check is of the server-reflexive candidate.
     (
         r#"{"call":"agent","ufrag":"AAAA","pass":"PPPP","tie":10,"polls":false}
-{"call":"rules","name":"original","kinds_in_turn":true,"polls":false}
+{"call":"profile","name":"modern","polls":false}
 {"call":"controlling","flag":true,"polls":false}
 {"call":"remote","ufrag":"BBBB","pass":"QQQQ","polls":false}
 {"call":"host","addr":"10.0.0.1:1000","proto":"udp","polls":false}
@@ -20,7 +20,7 @@ static SCRIPTS: [(&str, &str); 8] = [
 {"call":"timeout","now":50000000,"polls":false}
 {"call":"poll","what":"transmit"}"#,
         "A agent ok\n\
-        A rules ok\n\
+        A profile ok\n\
         A controlling ok\n\
         A remote ok\n\
         A host added\n\
@@ -34,10 +34,10 @@ static SCRIPTS: [(&str, &str); 8] = [
         A poll ok\n\
         A send 1 udp 10.0.0.1:1000 10.0.0.102:2000 000100442112a44203000000040000000500000000060009424242423a41414141000000802a0008000000000000000a002400046efffeff000800143572ac93f0d926090fd4b877e3db80ac9931cce68028000498dd966b\n",
     ),
-    // The second check is 7 ms after the first one, since there is no path yet.
+    // The second check is 10 ms after the first one, since there is no path yet.
     (
         r#"{"call":"agent","ufrag":"AAAA","pass":"PPPP","tie":10,"polls":false}
-{"call":"rules","name":"original","early_pacing":7000000,"polls":false}
+{"call":"profile","name":"modern","polls":false}
 {"call":"controlling","flag":true,"polls":false}
 {"call":"remote","ufrag":"BBBB","pass":"QQQQ","polls":false}
 {"call":"host","addr":"10.0.0.1:1000","proto":"udp","polls":false}
@@ -46,10 +46,10 @@ static SCRIPTS: [(&str, &str); 8] = [
 {"call":"timeout","now":0,"polls":false}
 {"call":"poll","what":"transmit"}
 {"call":"poll","what":"timeout"}
-{"call":"rules","name":"modern","early_pacing":null,"polls":false}
+{"call":"profile","name":"original","polls":false}
 {"call":"poll","what":"timeout"}"#,
         "A agent ok\n\
-        A rules ok\n\
+        A profile ok\n\
         A controlling ok\n\
         A remote ok\n\
         A host added\n\
@@ -59,15 +59,15 @@ static SCRIPTS: [(&str, &str); 8] = [
         A poll ok\n\
         A send 0 udp 10.0.0.1:1000 10.0.0.2:2000 000100442112a44200000000010000000200000000060009424242423a41414141000000802a0008000000000000000a002400046efffeff00080014a9ae12c3be99238a376fd11c8924806feae17bd5802800042ff5a14f\n\
         A poll ok\n\
-        A wake 7000000\n\
-        A rules ok\n\
+        A wake 10000000\n\
+        A profile ok\n\
         A poll ok\n\
         A wake 50000000\n",
     ),
     // The fourth check is of the selected pair, and not of the one that was never checked.
     (
         r#"{"call":"agent","ufrag":"AAAA","pass":"PPPP","tie":10,"polls":false}
-{"call":"rules","name":"original","selected_first":true,"polls":false}
+{"call":"profile","name":"modern","polls":false}
 {"call":"controlling","flag":true,"polls":false}
 {"call":"remote","ufrag":"BBBB","pass":"QQQQ","polls":false}
 {"call":"host","addr":"10.0.0.1:1000","proto":"udp","polls":false}
@@ -84,7 +84,7 @@ static SCRIPTS: [(&str, &str); 8] = [
 {"call":"timeout","now":1050000000,"polls":false}
 {"call":"poll","what":"transmit"}"#,
         "A agent ok\n\
-        A rules ok\n\
+        A profile ok\n\
         A controlling ok\n\
         A remote ok\n\
         A host added\n\
@@ -108,7 +108,8 @@ static SCRIPTS: [(&str, &str); 8] = [
     // Consent ends 100 ms after the check that was answered.
     (
         r#"{"call":"agent","ufrag":"AAAA","pass":"PPPP","tie":10,"polls":false}
-{"call":"rules","name":"original","consent":{"timeout":100000000,"strict":true},"polls":false}
+{"call":"profile","name":"modern","polls":false}
+{"call":"consent","timeout":100000000,"strict":true,"polls":false}
 {"call":"controlling","flag":true,"polls":false}
 {"call":"remote","ufrag":"BBBB","pass":"QQQQ","polls":false}
 {"call":"host","addr":"10.0.0.1:1000","proto":"udp","polls":false}
@@ -127,7 +128,8 @@ static SCRIPTS: [(&str, &str); 8] = [
 {"call":"timeout","now":100000000,"polls":false}
 {"call":"poll","what":"event"}"#,
         "A agent ok\n\
-        A rules ok\n\
+        A profile ok\n\
+        A consent ok\n\
         A controlling ok\n\
         A remote ok\n\
         A host added\n\
@@ -156,22 +158,22 @@ static SCRIPTS: [(&str, &str); 8] = [
     // A lite agent that keeps its role is not made controlling.
     (
         r#"{"call":"agent","ufrag":"AAAA","pass":"PPPP","tie":1,"polls":false}
-{"call":"rules","name":"original","lite_keeps_role":true,"polls":false}
+{"call":"profile","name":"modern","polls":false}
 {"call":"lite","flag":true,"polls":false}
 {"call":"controlling","flag":true,"polls":false}
-{"call":"rules","name":"modern","lite_keeps_role":false,"polls":false}
+{"call":"profile","name":"original","polls":false}
 {"call":"controlling","flag":true,"polls":false}"#,
         "A agent ok\n\
-        A rules ok\n\
+        A profile ok\n\
         A lite ok\n\
         A controlling refused LiteStaysControlled\n\
-        A rules ok\n\
+        A profile ok\n\
         A controlling ok\n",
     ),
     // A time follows a call that serves an early request.
     (
         r#"{"call":"agent","ufrag":"p9KA","pass":"xJcE9AQAR7kczUDVOXRUCl","tie":1,"polls":false}
-{"call":"rules","name":"original","timeout_after_requests":true,"polls":false}
+{"call":"profile","name":"modern","polls":false}
 {"call":"host","addr":"10.0.0.1:1000","proto":"udp","polls":false}
 {"call":"packet","now":0,"proto":"udp","from":"10.0.0.2:2000","to":"10.0.0.1:1000","hex":"000100502112a4426a756331357578556e6747630006000970394b413a53514174000000c05700040001000a802a00086eeec6e97d18395c00250000002400046e7f1eff000800145d0425a0207ab1e054102299aaf9839ca076c6d580280004360e219f","polls":false}
 {"call":"remote","ufrag":"SQAt","pass":"x","polls":false}
@@ -179,7 +181,7 @@ static SCRIPTS: [(&str, &str); 8] = [
 {"call":"poll","what":"transmit"}
 {"call":"poll","what":"timeout"}"#,
         "A agent ok\n\
-        A rules ok\n\
+        A profile ok\n\
         A host added\n\
         A packet true\n\
         A remote ok\n\
@@ -187,9 +189,9 @@ static SCRIPTS: [(&str, &str); 8] = [
         A poll ok\n\
         A send 0 udp 10.0.0.1:1000 10.0.0.2:2000 0101002c2112a4426a756331357578556e67476300200008000126c22b12a440000800144465f0405413b525dd2d5730e3e8c803daecef75802800044a6e4696\n\
         A poll ok\n\
-        A wake 50000000\n",
+        A wake 10000000\n",
     ),
-    // A request makes the pair due at once, which is Ta after the last timeout.
+    // A request makes the pair due at once, which is 10 ms after the last timeout.
     (
         r#"{"call":"agent","ufrag":"AAAA","pass":"PPPP","tie":10,"polls":false}
 {"call":"controlling","flag":true,"polls":false}
@@ -199,7 +201,7 @@ static SCRIPTS: [(&str, &str); 8] = [
 {"call":"timeout","now":0,"polls":false}
 {"call":"poll","what":"transmit"}
 {"on":"B","call":"agent","ufrag":"BBBB","pass":"QQQQ","tie":5,"polls":false}
-{"on":"B","call":"rules","name":"original","triggered_checks":1,"polls":false}
+{"on":"B","call":"profile","name":"modern","polls":false}
 {"on":"B","call":"remote","ufrag":"AAAA","pass":"PPPP","polls":false}
 {"on":"B","call":"host","addr":"10.0.0.2:2000","proto":"udp","polls":false}
 {"on":"B","call":"candidate","text":"candidate:1 1 udp 2130706175 10.0.0.1 1000 typ host","polls":false}
@@ -218,7 +220,7 @@ static SCRIPTS: [(&str, &str); 8] = [
         A poll ok\n\
         A send 0 udp 10.0.0.1:1000 10.0.0.2:2000 000100442112a44200000000010000000200000000060009424242423a41414141000000802a0008000000000000000a002400046efffeff00080014a9ae12c3be99238a376fd11c8924806feae17bd5802800042ff5a14f\n\
         B agent ok\n\
-        B rules ok\n\
+        B profile ok\n\
         B remote ok\n\
         B host added\n\
         B candidate ok\n\
@@ -226,12 +228,12 @@ static SCRIPTS: [(&str, &str); 8] = [
         B poll ok\n\
         B send 1 udp 10.0.0.2:2000 10.0.0.1:1000 000100442112a44203000000040000000500000000060009414141413a42424242000000802900080000000000000005002400046efffeff00080014232eb19f2a3f8c147765f918c7dbe140a484a1308028000472f9a627\n\
         B poll ok\n\
-        B wake 250000000\n\
+        B wake 100000000\n\
         B deliver true\n\
         B poll ok\n\
         B send 2 udp 10.0.0.2:2000 10.0.0.1:1000 0101002c2112a44200000000010000000200000000200008000122fa2b12a443000800148e2a07d2834ed24ae8fc5a4747855eff72735578802800047e1acf89\n\
         B poll ok\n\
-        B wake 50000000\n",
+        B wake 10000000\n",
     ),
     // B selects when the request arrives that nominates.
     (
@@ -243,7 +245,7 @@ static SCRIPTS: [(&str, &str); 8] = [
 {"call":"timeout","now":0,"polls":false}
 {"call":"poll","what":"transmit"}
 {"on":"B","call":"agent","ufrag":"BBBB","pass":"QQQQ","tie":5,"polls":false}
-{"on":"B","call":"rules","name":"original","selects_at_once":true,"polls":false}
+{"on":"B","call":"profile","name":"modern","polls":false}
 {"on":"B","call":"remote","ufrag":"AAAA","pass":"PPPP","polls":false}
 {"on":"B","call":"host","addr":"10.0.0.2:2000","proto":"udp","polls":false}
 {"on":"B","call":"candidate","text":"candidate:1 1 udp 2130706175 10.0.0.1 1000 typ host","polls":false}
@@ -272,7 +274,7 @@ static SCRIPTS: [(&str, &str); 8] = [
         A poll ok\n\
         A send 0 udp 10.0.0.1:1000 10.0.0.2:2000 000100442112a44200000000010000000200000000060009424242423a41414141000000802a0008000000000000000a002400046efffeff00080014a9ae12c3be99238a376fd11c8924806feae17bd5802800042ff5a14f\n\
         B agent ok\n\
-        B rules ok\n\
+        B profile ok\n\
         B remote ok\n\
         B host added\n\
         B candidate ok\n\
@@ -304,7 +306,7 @@ static SCRIPTS: [(&str, &str); 8] = [
 ];
 
 #[test]
-fn each_rule_has_its_field(rt: HostRuntime) -> Result<(), Fail> {
+fn the_profile_has_its_effects(rt: HostRuntime) -> Result<(), Fail> {
     for (script, printed) in &SCRIPTS {
         assert!(&rt;
             ends(rt.alloc(), script.as_bytes(), 0, printed, ""),

@@ -1,0 +1,118 @@
+//! All that a user may choose, set and read.
+
+use crate::agent_settings::{
+    AgentSettings, is_ice_modern_settings, is_ice_original_settings, is_ice_set_settings,
+    is_ice_settings,
+};
+use crate::codes;
+use crate::making::{is_ice_agent_free, is_ice_agent_new};
+use crate::slot::Slot;
+
+/// The numbers of the original, and of RFC 8445, sections 14.2 and 14.3.
+pub(super) const ORIGINAL: AgentSettings = AgentSettings {
+    timing_advance: 50_000_000,
+    initial_rto: 250_000_000,
+    max_rto: 3_000_000_000,
+    lite_timeout: 15_000_000_000,
+    consent_timeout: 0,
+    max_retransmits: 9,
+    max_pairs: 100,
+    max_discovered: usize::MAX,
+    max_candidates: usize::MAX,
+    room: [0, 0, 0, 0],
+    modern: false,
+    strict_consent: false,
+    renomination: false,
+};
+
+const MODERN: AgentSettings = AgentSettings {
+    max_rto: 2_900_000_000,
+    max_retransmits: 11,
+    max_discovered: 32,
+    max_candidates: 100,
+    modern: true,
+    ..ORIGINAL
+};
+
+/// Each field with another value than those above.
+const OTHERS: AgentSettings = AgentSettings {
+    timing_advance: 1,
+    initial_rto: 2,
+    max_rto: 3,
+    lite_timeout: 4,
+    consent_timeout: 5,
+    max_retransmits: 6,
+    max_pairs: 7,
+    max_discovered: 8,
+    max_candidates: 9,
+    room: [0, 0, 0, 0],
+    modern: true,
+    strict_consent: true,
+    renomination: true,
+};
+
+fn are_same(one: &AgentSettings, other: &AgentSettings) -> bool {
+    one.timing_advance == other.timing_advance
+        && one.initial_rto == other.initial_rto
+        && one.max_rto == other.max_rto
+        && one.lite_timeout == other.lite_timeout
+        && one.consent_timeout == other.consent_timeout
+        && one.max_retransmits == other.max_retransmits
+        && one.max_pairs == other.max_pairs
+        && one.max_discovered == other.max_discovered
+        && one.max_candidates == other.max_candidates
+        && one.room == other.room
+        && one.modern == other.modern
+        && one.strict_consent == other.strict_consent
+        && one.renomination == other.renomination
+}
+
+#[test]
+fn named_settings_are_written(rt: HostRuntime) {
+    let mut settings = OTHERS;
+    let given = is_ice_original_settings(&mut settings);
+    assert!(rt; given == codes::OK);
+    assert!(rt; are_same(&settings, &ORIGINAL));
+    let given = is_ice_modern_settings(&mut settings);
+    assert!(rt; given == codes::OK);
+    assert!(rt; are_same(&settings, &MODERN));
+}
+
+#[test]
+fn settings_are_set_and_read(rt: HostRuntime) {
+    let alloc = rt.alloc();
+    let mut slot = Slot::empty(alloc);
+    let mut settings = OTHERS;
+    let none = is_ice_settings(alloc, &mut slot, &mut settings);
+    assert!(rt; none == codes::NO_AGENT);
+    assert!(rt; are_same(&settings, &OTHERS));
+    let made = is_ice_agent_new(alloc, &mut slot, b"AAAA", b"PPPP", 1);
+    assert!(rt; made == codes::OK);
+    let asked = is_ice_settings(alloc, &mut slot, &mut settings);
+    assert!(rt; asked == codes::OK);
+    assert!(rt; are_same(&settings, &MODERN));
+    for wanted in [OTHERS, ORIGINAL] {
+        let set = is_ice_set_settings(alloc, &mut slot, &wanted);
+        assert!(rt; set == codes::OK);
+        let asked = is_ice_settings(alloc, &mut slot, &mut settings);
+        assert!(rt; asked == codes::OK);
+        assert!(rt; are_same(&settings, &wanted));
+    }
+    is_ice_agent_free(alloc, &mut slot);
+}
+
+#[test]
+fn without_a_check_nothing_is_set(rt: HostRuntime) {
+    let alloc = rt.alloc();
+    let mut slot = Slot::empty(alloc);
+    let made = is_ice_agent_new(alloc, &mut slot, b"AAAA", b"PPPP", 1);
+    assert!(rt; made == codes::OK);
+    let mut settings = OTHERS;
+    settings.max_retransmits = 0;
+    let set = is_ice_set_settings(alloc, &mut slot, &settings);
+    assert!(rt; set == codes::BAD_LIMIT);
+    let asked = is_ice_settings(alloc, &mut slot, &mut settings);
+    assert!(rt; asked == codes::OK);
+    assert!(rt; are_same(&settings, &MODERN));
+    is_ice_agent_free(alloc, &mut slot);
+}

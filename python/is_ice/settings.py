@@ -1,0 +1,130 @@
+"""All that a program may choose of an agent, in one value."""
+
+from __future__ import annotations
+
+import enum
+from collections.abc import Callable
+from ctypes import byref
+from dataclasses import dataclass
+from typing import Any
+
+from . import _abi
+from ._library import library
+from .address import in_range
+from .errors import done
+
+NO_LIMIT = (1 << 64) - 1
+
+
+class Profile(enum.Enum):
+    """Which behavior an agent has.
+
+    `ORIGINAL` is that of the Rust crate `is` 0.12.0. `MODERN` is that of this library: agents connect sooner, and consent ends in time.
+    With `MODERN`:
+
+    - Until a path is selected, every second check goes to the next kind of pairs, and the others to the pair that is due first (RFC 8445,
+      section 6.1.4.2). So a path through NATs is found soon, however many host candidates there are. The kind of a pair is the kind of its
+      remote candidate, its IP version, and whether packets of its local candidate reach the outside. They do if the candidate is relayed,
+      if its base has a server-reflexive candidate or a public address, or if no base of its IP version has either. A host candidate with a
+      public address counts as server-reflexive. While there are more pairs than `set_max_candidate_pairs` allows, the lowest pair of the
+      kind that has the most is removed.
+    - The first request on a pair makes its next check due at once, unless the pair is valid (RFC 8445, section 7.3.1.4). Every second
+      check may go to such a pair, to one whose nomination has no response yet, or to the selected pair, before pairs that are due earlier.
+    - As long as no response arrived on a pair, its first two retransmissions come 100 ms apart, and each later delay is twice the one
+      before, up to 350 ms. This goes on for `ice_timeout` after the pair's first check; then the RTO counts. The checks that nominate a
+      pair which had a response come so, too. The number of checks ends no pair sooner.
+    - A controlled agent selects a pair in the `handle_packet` call of the request that nominates it, if the pair was valid before (RFC
+      8445, section 7.3.1.5).
+    - A pair is removed at the end of its `Consent`, however many pairs there are.
+    - Until the agent has a path, and if it is controlling has sent the check that nominates it, the pacing interval Ta is at most 10 ms,
+      and so short that each pair can be checked once in half a second; but at least 5 ms (RFC 8445, section 14.2). A shorter
+      `set_timing_advance` stays.
+    - `poll_timeout` returns a time after each `handle_timeout` call.
+    - A lite agent keeps its role, since only full agents repair roles (RFC 8445, sections 6.1.1 and 7.3.1.1). It sends a 487 to each sender
+      that claims the same role, and a 487 that it receives has no effect. `set_controlling(True)` raises LiteStaysControlled.
+    - With `set_renomination`, nominations have numbers by the attribute NOMINATION (0xC001) of draft-thatcher-ice-renomination, which
+      browsers call `renomination`. A controlling agent numbers the paths that it selects, and nominates each in the next `handle_timeout`
+      call. A controlled or lite agent selects the valid pair with the greatest number. USE-CANDIDATE without a number counts as 1, once a
+      number came since the last restart.
+    - An authentic request that is dropped without a response reports no source.
+    - The state is evaluated after nomination in each call, so that it says whether a path is selected.
+    - `invalidate_candidate` passes over candidates that were invalidated before.
+    """
+
+    ORIGINAL = False
+    MODERN = True
+
+
+@dataclass(frozen=True)
+class Consent:
+    """How long the response to a check keeps a pair (RFC 7675), with `Profile.MODERN`: so many nanoseconds after the check was sent.
+
+    Without a timeout it is the longest RTO and `ice_timeout` together, which is 29.6 s for a new agent; 0 is the same as None. With
+    `strict` only responses keep a pair, as in RFC 7675; otherwise the peer's checks keep it too, each for 15 s.
+    """
+
+    timeout: int | None = None
+    strict: bool = False
+
+
+@dataclass(frozen=True)
+class Settings:
+    """All that a program may choose of an agent. Times are in nanoseconds. An agent begins with `Settings.modern()`.
+
+    `dataclasses.replace(agent.settings, max_pairs=50)` changes one setting; so does its setter. A later version may have further fields.
+
+    Each field but `profile` and `consent` has a setter that says what it is for: `set_timing_advance`, `set_initial_stun_rto`,
+    `set_max_stun_rto`, `set_max_stun_retransmits`, `set_lite_timeout`, `set_max_candidate_pairs`, `set_max_discovered`,
+    `set_max_candidates`, `set_renomination`.
+    """
+
+    profile: Profile
+    timing_advance: int
+    initial_rto: int
+    max_rto: int
+    max_retransmits: int
+    lite_timeout: int
+    consent: Consent
+    max_pairs: int
+    max_discovered: int | None
+    max_candidates: int
+    renomination: bool
+
+    @staticmethod
+    def original() -> Settings:
+        """Returns the settings of the original: its behavior and its numbers, without a limit on candidates."""
+        return settings_from(library.calls.is_ice_original_settings)
+
+    @staticmethod
+    def modern() -> Settings:
+        """Returns the settings with which a new agent begins: it connects sooner, and consent ends in time."""
+        return settings_from(library.calls.is_ice_modern_settings)
+
+
+def settings_from(call: Callable[..., int], *arguments: Any) -> Settings:
+    """Returns the settings that a call writes."""
+    raw = _abi.AgentSettings()
+    done(call(*arguments, byref(raw)))
+    return Settings(
+        Profile(raw.modern), raw.timing_advance, raw.initial_rto, raw.max_rto, raw.max_retransmits, raw.lite_timeout,
+        Consent(raw.consent_timeout or None, raw.strict_consent), raw.max_pairs,
+        None if raw.max_discovered == NO_LIMIT else raw.max_discovered, raw.max_candidates, raw.renomination)
+
+
+def struct_of_settings(settings: Settings) -> _abi.AgentSettings:
+    """Converts to the library's struct. ValueError if a number does not fit into 64 bits."""
+    discovered = NO_LIMIT if settings.max_discovered is None else settings.max_discovered
+    return _abi.AgentSettings(
+        timing_advance=in_range(settings.timing_advance, 64, "a time"),
+        initial_rto=in_range(settings.initial_rto, 64, "a time"),
+        max_rto=in_range(settings.max_rto, 64, "a time"),
+        lite_timeout=in_range(settings.lite_timeout, 64, "a time"),
+        consent_timeout=in_range(settings.consent.timeout or 0, 64, "a time"),
+        max_retransmits=in_range(settings.max_retransmits, 64, "a number of checks"),
+        max_pairs=in_range(settings.max_pairs, 64, "a limit"),
+        max_discovered=in_range(discovered, 64, "a limit"),
+        max_candidates=in_range(settings.max_candidates, 64, "a limit"),
+        modern=settings.profile is Profile.MODERN,
+        strict_consent=settings.consent.strict,
+        renomination=settings.renomination,
+    )
