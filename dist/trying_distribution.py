@@ -5,7 +5,7 @@ import os
 import shutil
 import tarfile
 
-from building import CC, Failed, run
+from building import CC, Failed, proved, run
 from trying import Skipped, bare, debs, found_paths, moved, require, the, top, unpacked
 
 # A processor of x86-64 before SSE4.2, by the name that QEMU has for it.
@@ -82,7 +82,7 @@ def step_source(place, out):
     root = unpacked(archive, place / "unpacked")
     lines = dict(reversed(line.split("  ")) for line in the(out, "SHA256SUMS").read_text().splitlines())
     targets = os.environ.get("IS_ICE_TARGETS") or str(top / "targets" / "out")
-    run(root / "dist" / "run", env={**os.environ, "IS_ICE_TARGETS": targets}, cwd=root)
+    run(root / "dist" / "run", env={**os.environ, "IS_ICE_LIB": str(proved()), "IS_ICE_TARGETS": targets}, cwd=root)
     again = {path.name: hashlib.sha256(path.read_bytes()).hexdigest() for path in (root / "dist" / "out").iterdir()}
     packages = [name for name in lines if name.endswith((".deb", ".whl", ".zip", ".tar.gz")) and name != archive.name]
     others = [name for name in packages if again.get(name) != lines[name]]
