@@ -34,12 +34,14 @@
  * length to *length.
  *
  * Times and durations are whole nanoseconds. Times count from an origin that the caller chooses, as CLOCK_MONOTONIC
- * does, and may begin at 0.
+ * does, and may begin at 0. They end a minute before 2^64: in that minute is_ice_poll_timeout returns one time again and
+ * again.
  *
  * Memory comes from the program's malloc, realloc and free, through three functions that are linked with the library.
  * The comment of a call says if it does not allocate.
  *
- * Stack. A call needs at most 32 KiB of stack, malloc and free included (x86-64, glibc). So a thread with 64 KiB is enough.
+ * Stack. A call needs at most 32 KiB of stack, malloc and free included (x86-64, glibc). A thread with 64 KiB is
+ * enough there, or one with PTHREAD_STACK_MIN where that is more (128 KiB by glibc on ARM64).
  *
  * Threads. An agent may move between threads: any thread may use an is_ice_agent, one call at a time. The caller orders
  * the calls, by a lock, by the start or the join of a thread, or by a sequentially consistent atomic. Agents share no
@@ -298,7 +300,7 @@ typedef struct is_ice_pair {
 
 /* Why a pair was removed. */
 enum {
-    IS_ICE_REMOVED_NO_RESPONSE = 1,  /* no check on it had a response */
+    IS_ICE_REMOVED_NO_RESPONSE = 1,  /* no check on it had a success response */
     IS_ICE_REMOVED_CONSENT_LOST = 2, /* a check had a response once, and then consent ended (RFC 7675, section 5.1) */
     IS_ICE_REMOVED_PEER_SILENT = 3,  /* under lite: the checks of the other agent stopped */
     IS_ICE_REMOVED_EVICTED = 4,      /* there were more pairs than the limit (RFC 8445, section 6.1.2.5) */
@@ -392,8 +394,8 @@ IS_ICE_CALL int32_t is_ice_agent_new(
  * and may be passed to is_ice_agent_new again. */
 IS_ICE_QUIET_CALL void is_ice_agent_free(is_ice_agent *agent);
 
-/* ---- settings: at any time. Each comment ends with the value of a new agent. Only the calls that set credentials
- * allocate. */
+/* ---- settings: at any time. "Value:" at the end of a comment is that of a new agent. Only the calls that set
+ * credentials allocate. */
 
 /* is_ice_set_controlling - makes the agent controlling or controlled. The agent of the side that made the offer is
  * controlling (RFC 8445, section 6.1.1). If both agents claim one role, they resolve the role conflict.
@@ -408,8 +410,8 @@ IS_ICE_CALL int32_t is_ice_set_controlling(is_ice_agent *agent, bool controlling
  * IS_ICE_OK: controlling. IS_ICE_NOTHING: controlled. Does not allocate. On any thread. */
 IS_ICE_CALL int32_t is_ice_role(bool made_offer, bool lite, bool other_is_lite);
 
-/* is_ice_set_lite - makes the agent a lite agent, or a full one. A lite agent has only host candidates. It responds to
- * checks and sends none. It has to be controlled, and the other agent a full one: a lite agent that is controlling
+/* is_ice_set_lite - makes the agent a lite agent, or a full one. A lite agent takes only host candidates from the program.
+ * It responds to checks and sends none. It has to be controlled, and the other agent a full one: a lite agent that is controlling
  * never finds a path, and no call reports it. So make it lite while it is controlled: by the rule lite_keeps_role it
  * then stays controlled. IS_ICE_OK. Value: false. */
 IS_ICE_QUIET_CALL int32_t is_ice_set_lite(is_ice_agent *agent, bool lite);
@@ -430,8 +432,8 @@ IS_ICE_QUIET_CALL int32_t is_ice_set_renomination(is_ice_agent *agent, bool enab
  * response. A full agent does not use it. IS_ICE_OK. Value: 15 s. */
 IS_ICE_QUIET_CALL int32_t is_ice_set_lite_timeout(is_ice_agent *agent, uint64_t nanoseconds);
 
-/* is_ice_set_tie_breaker - sets the number that decides role conflicts: the greater one keeps its role. IS_ICE_OK.
- * Value: that of is_ice_agent_new. */
+/* is_ice_set_tie_breaker - sets the number that decides role conflicts: the greater one keeps its role, except against a
+ * lite agent by the rule lite_keeps_role. IS_ICE_OK. Value: that of is_ice_agent_new. */
 IS_ICE_QUIET_CALL int32_t is_ice_set_tie_breaker(is_ice_agent *agent, uint64_t tie_breaker);
 
 /* is_ice_set_max_pairs - limits how many pairs are left when a candidate is added or pairs are formed again: those of
@@ -457,7 +459,7 @@ IS_ICE_QUIET_CALL int32_t is_ice_set_max_pairs(is_ice_agent *agent, size_t limit
  * source is reported.
  *
  * The other agent can name a new mapped address in each response. At the limit such an address is not listed by
- * is_ice_local_candidate, and the response counts as ever. Peer-reflexive candidates that is_ice_add_local added count.
+ * is_ice_local_candidate, and the response counts as ever.
  *
  * With 0 no packet brings a candidate. IS_ICE_NO_LIMIT: each sender and each mapped address becomes one. Set the
  * limit before the first packet: a lower one removes no candidate. IS_ICE_OK. Value: 32. */
@@ -471,8 +473,8 @@ IS_ICE_QUIET_CALL int32_t is_ice_set_max_discovered(is_ice_agent *agent, size_t 
 IS_ICE_QUIET_CALL int32_t is_ice_set_max_candidates(is_ice_agent *agent, size_t limit);
 
 /* is_ice_set_timing_advance - sets the pacing interval Ta (RFC 8445, section 14.2): the least time from the last
- * is_ice_handle_timeout call to the next one that is_ice_poll_timeout returns. Each is_ice_handle_timeout call sends at
- * most one packet. With `modern` of is_ice_set_settings the interval is shorter until the agent is settled: it has a path
+ * is_ice_handle_timeout call to the next one that is_ice_poll_timeout returns. A lite agent, and one without pairs, waits
+ * no longer than 3 s. Each is_ice_handle_timeout call sends at most one packet. With `modern` of is_ice_set_settings the interval is shorter until the agent is settled: it has a path
  * and, if it is controlling, has sent the check that nominates it. IS_ICE_OK. Value: 50 ms. */
 IS_ICE_QUIET_CALL int32_t is_ice_set_timing_advance(is_ice_agent *agent, uint64_t nanoseconds);
 
@@ -482,8 +484,9 @@ IS_ICE_QUIET_CALL int32_t is_ice_set_timing_advance(is_ice_agent *agent, uint64_
  * (is_ice_set_settings) have delays of their own. IS_ICE_OK. Value: 250 ms. */
 IS_ICE_QUIET_CALL int32_t is_ice_set_initial_rto(is_ice_agent *agent, uint64_t nanoseconds);
 
-/* is_ice_set_max_rto - sets the longest time from one check of a pair until the next one is due. A pair that works is
- * checked at this interval, which keeps consent (RFC 7675). IS_ICE_OK. Value: 2.9 s. */
+/* is_ice_set_max_rto - sets the longest time from one check of a pair until the next one is due. With the
+ * default limit on retransmits a pair that works is checked at this interval, which keeps consent (RFC 7675); with a
+ * limit of 1 to 4 more often. IS_ICE_OK. Value: 2.9 s. */
 IS_ICE_QUIET_CALL int32_t is_ice_set_max_rto(is_ice_agent *agent, uint64_t nanoseconds);
 
 /* is_ice_set_max_retransmits - sets after how many checks in a row without a response a pair is removed. It is not
@@ -955,7 +958,7 @@ IS_ICE_CALL int32_t is_ice_remote_pass(is_ice_agent *agent, uint8_t *buffer, siz
  * A server-reflexive candidate is found in three steps. Send the message of is_ice_stun_request from the socket of a
  * host candidate to a STUN server. Pass what the server returns to is_ice_stun_response. Then add a candidate of kind
  * IS_ICE_SERVER_REFLEXIVE: its address is the mapped address, its base that of the socket. Send the request again after
- * 500 ms, then after twice as long each time, 7 times at most (section 6.2.1): is_ice_retransmit_delay returns these
+ * 500 ms, then after twice as long each time, 7 requests in all (section 6.2.1): is_ice_retransmit_delay returns these
  * times. Check that the response came from the server, to the socket that sent the request. A FINGERPRINT is read, but
  * not verified. */
 

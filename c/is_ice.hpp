@@ -18,8 +18,10 @@
  *         that has passed:     agent.handle_timeout(now(), random());
  *     }
  *
- * examples/two.cpp is a complete program. An error code is thrown as is_ice::error, and changed nothing. Times and
- * durations are std::chrono::nanoseconds, and not negative. The rules on threads are those of is_ice.h. */
+ * examples/two.cpp is a complete program. An error code is thrown as is_ice::error, and the call that returned it changed
+ * nothing. add_local makes two calls: if the second one fails for lack of memory, the candidate was added. Times and
+ * durations that functions take and return are std::chrono::nanoseconds, and not negative; those in structs are the
+ * numbers of C, which is_ice::duration converts. The rules on threads are those of is_ice.h. */
 #ifndef IS_ICE_HPP
 #define IS_ICE_HPP
 
@@ -82,6 +84,13 @@ inline int32_t checked(int32_t code)
 {
     if (code < 0) throw error(code);
     return code;
+}
+
+/* A time or a duration of a struct's field, such as pair::due: nanoseconds::max() if it is longer. */
+inline nanoseconds duration(uint64_t count)
+{
+    constexpr auto most = static_cast<uint64_t>(nanoseconds::max().count());
+    return count < most ? nanoseconds(static_cast<int64_t>(count)) : nanoseconds::max();
 }
 
 struct credentials {
@@ -171,12 +180,6 @@ inline uint64_t count(nanoseconds time)
     return static_cast<uint64_t>(time.count());
 }
 
-inline nanoseconds duration(uint64_t count)
-{
-    constexpr auto most = static_cast<uint64_t>(nanoseconds::max().count());
-    return count < most ? nanoseconds(static_cast<int64_t>(count)) : nanoseconds::max();
-}
-
 /* What a call writes to a buffer, which grows until it is long enough. */
 template <class Bytes, class Call> std::optional<Bytes> written(Call call)
 {
@@ -218,17 +221,17 @@ template <class Struct, class Call> std::optional<Struct> filled(Call call)
 
 } // namespace detail
 
-inline address ipv4(std::array<uint8_t, 4> bytes, uint16_t port)
+inline address ipv4(std::array<uint8_t, 4> octets, uint16_t port)
 {
     address result{4, {}, port, 0, 0};
-    std::memcpy(result.bytes, bytes.data(), bytes.size());
+    std::memcpy(result.bytes, octets.data(), octets.size());
     return result;
 }
 
-inline address ipv6(std::array<uint8_t, 16> bytes, uint16_t port, uint32_t scope = 0)
+inline address ipv6(std::array<uint8_t, 16> octets, uint16_t port, uint32_t scope = 0)
 {
     address result{6, {}, port, 0, scope};
-    std::memcpy(result.bytes, bytes.data(), bytes.size());
+    std::memcpy(result.bytes, octets.data(), octets.size());
     return result;
 }
 
@@ -259,7 +262,7 @@ inline nanoseconds retransmit_timeout(nanoseconds initial_rto, nanoseconds max_r
     uint64_t timeout = 0;
     checked(is_ice_retransmit_timeout(
         detail::count(initial_rto), detail::count(max_rto), max_retransmits, &timeout));
-    return detail::duration(timeout);
+    return duration(timeout);
 }
 
 inline nanoseconds retransmit_delay(
@@ -267,7 +270,7 @@ inline nanoseconds retransmit_delay(
 {
     uint64_t delay = 0;
     is_ice_retransmit_delay(detail::count(initial_rto), detail::count(max_rto), max_retransmits, sent, &delay);
-    return detail::duration(delay);
+    return duration(delay);
 }
 
 inline settings modern_settings() { return *detail::filled<settings>(is_ice_modern_settings); }
@@ -463,7 +466,8 @@ public:
         done(is_ice_set_remote_credentials(at(), detail::at(ufrag), ufrag.size(), detail::at(pass), pass.size()));
     }
 
-    /* The text of the candidate, for signaling; none if it is redundant. */
+    /* The text of the candidate, for signaling; none if it is redundant. If it throws for lack of memory, the candidate may
+     * have been added: local_candidate lists it then. */
     std::optional<std::string> add_local(const candidate &gathered)
     {
         size_t index = 0;
@@ -536,13 +540,13 @@ public:
     {
         uint64_t time = 0;
         if (!done(is_ice_poll_timeout(at(), &time))) return std::nullopt;
-        return detail::duration(time);
+        return duration(time);
     }
     std::optional<nanoseconds> poll_timeout_soon()
     {
         uint64_t time = 0;
         if (!done(is_ice_poll_timeout_soon(at(), &time))) return std::nullopt;
-        return detail::duration(time);
+        return duration(time);
     }
     std::optional<packet> poll_transmit()
     {
@@ -717,14 +721,14 @@ inline bool stun_verify(const void *data, size_t length, std::string_view key)
     return detail::done(is_ice_stun_verify(detail::at(data), length, detail::at(key), key.size()));
 }
 
-/* `texts` says where in `bytes` each text is. */
+/* `texts` says where in `from` each text is. */
 inline std::vector<uint8_t> stun_write(
-    const stun_message &message, const stun_texts &texts, std::string_view bytes, std::string_view key)
+    const stun_message &message, const stun_texts &texts, std::string_view from, std::string_view key)
 {
-    std::vector<uint8_t> buffer(IS_ICE_STUN_WRITE_LENGTH + bytes.size() + 8);
+    std::vector<uint8_t> buffer(IS_ICE_STUN_WRITE_LENGTH + from.size() + 8);
     size_t length = 0;
     checked(is_ice_stun_write(
-        &message, &texts, detail::at(bytes), bytes.size(), detail::at(key), key.size(), buffer.data(), buffer.size(),
+        &message, &texts, detail::at(from), from.size(), detail::at(key), key.size(), buffer.data(), buffer.size(),
         &length));
     buffer.resize(length);
     return buffer;

@@ -1,6 +1,5 @@
 """Builds the release files of one version from the proved library. dist/README.md lists them."""
 import base64
-import datetime
 import hashlib
 import os
 import pathlib
@@ -10,21 +9,18 @@ import subprocess
 import time
 import tomllib
 
-import debian
 import documents
 import manual
-from packing import Link, gzipped, tar_gz, zipped
+import metadata
+import notices
+import symbols
+from packing import Link, gzipped
 from versions import differing, version
 
 here = pathlib.Path(__file__).resolve().parent
 top = here.parent
 CC = os.environ.get("CC", "cc")
 LICENSES = ("LICENSE-APACHE", "LICENSE-MIT")
-LEVEL = "x86-64-v2"
-# Instructions that a processor of this level need not have. Those of AVX and later begin with v. TZCNT is not among them: older
-# processors run it as BSF, and compilers use it as such.
-BEYOND = re.compile(r"v(?!err|erw)\w+|andn|bextr|bls(?:i|r|msk)|bzhi|mulx|pdep|pext|rorx|s[ah][lr]x|lzcnt|movbe|ad[co]x"
-                    r"|sha(?:1|256)\w+|aes\w+|pclmul\w+|rd(?:rand|seed)")
 
 
 class Failed(Exception):
@@ -62,7 +58,11 @@ def below(folder, files):
 
 
 def licenses():
-    return contents(top, *LICENSES)
+    """The licenses of the project, and the notices of what the library contains besides."""
+    try:
+        return {**contents(top, *LICENSES), "third-party.txt": notices.text().encode()}
+    except ValueError as why:
+        raise Failed(str(why)) from None
 
 
 # ---- what the release is named after
@@ -83,11 +83,6 @@ def git(*words):
     return run("git", "-C", top, *words).strip()
 
 
-def date():
-    """The date of the commit, or SOURCE_DATE_EPOCH, in seconds."""
-    return int(os.environ.get("SOURCE_DATE_EPOCH") or git("log", "-1", "--format=%ct"))
-
-
 def kit():
     return run("rt", "version").strip() if shutil.which("rt") else None
 
@@ -106,11 +101,16 @@ def proved():
     return library
 
 
-def shared(archive, soname, target):
-    """Links the shared library. It has no start files, so its bytes depend on the archive and the linker only."""
+def shared(archive, soname, target, compiler=CC, tools=""):
+    """Links the shared library, and writes its symbols next to it (.debug). It has no start files, so its bytes depend on the archive and
+    the linker only. `tools` is the prefix of the tools of its processor."""
+    script, linked = target.with_suffix(".map"), target.with_suffix(".linked")
+    script.write_text(symbols.version_script(interface()))
     options = ["--whole-archive", archive, "--no-whole-archive", "--no-undefined", "--as-needed", "--gc-sections", "--build-id=sha1"]
-    options += ["-soname", soname, f"--version-script={here / 'exports.map'}", "-z", "relro", "-z", "now", "-z", "noexecstack"]
-    run(CC, "-shared", "-nostartfiles", "-s", "-o", target, *(word for option in options for word in ("-Xlinker", option)))
+    options += ["-soname", soname, f"--version-script={script}", "-z", "relro", "-z", "now", "-z", "noexecstack"]
+    run(compiler, "-shared", "-nostartfiles", "-o", linked, *(word for option in options for word in ("-Xlinker", option)))
+    run(f"{tools}objcopy", "--only-keep-debug", linked, f"{target}.debug")
+    run(f"{tools}strip", "-s", "-o", target, linked)
     return target
 
 
@@ -126,6 +126,8 @@ def exports_only_calls(library):
     exported = {line.split()[-1].split("@")[0] for line in lines if " A " not in line}
     if exported != declared():
         raise Failed(f"{library}: calls and exports differ: {sorted(exported ^ declared())}")
+    if others := symbols.differing(declared()):
+        raise Failed(f"dist/symbols.txt says of other calls in which release they came: {others}")
 
 
 def needs_only_libc(library):
@@ -135,13 +137,13 @@ def needs_only_libc(library):
         raise Failed(f"{library} needs {' '.join(needed)}")
 
 
-def suits_level(library):
-    """Fails if the shared library has an instruction that a processor of LEVEL need not have."""
-    code = run("objdump", "-d", "--no-show-raw-insn", library)
+def suits_level(library, processor):
+    """Fails if the shared library has an instruction that a processor of the level need not have."""
+    code = run(processor.tool("objdump"), "-d", "--no-show-raw-insn", library)
     others = {line.split("\t")[1].split()[0] for line in code.splitlines() if line.count("\t") and line.split("\t")[1].strip()}
-    others = sorted(name for name in others if BEYOND.fullmatch(name))
+    others = sorted(name for name in others if processor.beyond.fullmatch(name))
     if others:
-        raise Failed(f"{library} is not for {LEVEL}: {' '.join(others)}")
+        raise Failed(f"{library} is not for {processor.level}, for which `rt lib --cpu x86-64` builds it: {' '.join(others)}")
 
 
 def lowest_glibc(library):
@@ -153,14 +155,15 @@ def lowest_glibc(library):
 
 # ---- the packages: each is a dictionary of files
 
-def for_c(libraries, soname, number, when, deb=False):
-    """Headers, libraries, pkg-config and CMake files, a man page, documents, examples and licenses, below usr/ in a Debian package."""
-    root, place = ("usr/", debian.MULTIARCH) if deb else ("", "lib")
+def for_c(libraries, soname, number, when, deb=None):
+    """Headers, libraries, pkg-config and CMake files, a man page, documents, examples and licenses. In a Debian package, for the processor
+    `deb`, they are below usr/."""
+    root, place = ("usr/", deb.multiarch) if deb else ("", "lib")
     docs = f"{root}share/doc/" + ("libis-ice-dev" if deb else "is_ice")
     major, minor = number.split(".")[:2]
     template = (top / "c" / "is_ice.pc.in").read_text().replace("@VERSION@", number)
     if deb:
-        template = template.replace("${prefix}/lib", "${prefix}/" + debian.MULTIARCH.removeprefix("usr/"))
+        template = template.replace("${prefix}/lib", "${prefix}/" + deb.multiarch.removeprefix("usr/"))
     package = template.replace("@PREFIX@", "/usr" if deb else "${pcfiledir}/../..").encode()
     headers = ("../" if deb else "") + "../include"
     page = manual.is_ice(number, time.strftime("%Y-%m-%d", time.gmtime(when)))
@@ -189,16 +192,11 @@ def wheel(library, number, tag):
     places = {**documents.carried(docs), **documents.placed("python", docs, "README.md", "peer.py", "examples/**/*.*"),
               **dict.fromkeys(documents.placed("python/is_ice", ".", "*.py"))}
     readme = documents.document(project_readme := f"python/{project['readme']}", {**places, project_readme: None})
-    extras = "".join(f"Provides-Extra: {name}\n" + "".join(f'Requires-Dist: {needed}; extra == "{name}"\n' for needed in packages)
-                     for name, packages in project.get("optional-dependencies", {}).items())
-    metadata = (f"Metadata-Version: 2.1\nName: {project['name']}\nVersion: {number}\nSummary: {project['description']}\n"
-                f"License: {project['license']['text']}\nRequires-Python: {project['requires-python']}\n{extras}"
-                f"Description-Content-Type: text/markdown\n\n{readme}")
     files = below("is_ice", contents(top / "python" / "is_ice", "*.py", "py.typed"))
     files["is_ice/libis_ice.so"] = library
     files |= documents.documents(places) | documents.others(places)
     files |= below(f"{info}/licenses", licenses())
-    files[f"{info}/METADATA"] = metadata.encode()
+    files[f"{info}/METADATA"] = metadata.of_wheel(project, number, readme)
     files[f"{info}/WHEEL"] = f"Wheel-Version: 1.0\nGenerator: dist\nRoot-Is-Purelib: false\nTag: {tag}\n".encode()
     record = ""
     for name, file in files.items():
@@ -207,63 +205,15 @@ def wheel(library, number, tag):
     return {**files, f"{info}/RECORD": f"{record}{info}/RECORD,,\n".encode()}
 
 
-def for_rust(archive):
-    """The crate with the static library in lib/, the package with serde, the program that is patched, and documents.
+def for_rust(archives):
+    """The crate with the static libraries in lib/, by their processors, the packages with serde and for str0m, the programs that are
+    patched, and documents.
 
-    The crate and the package with serde are no workspaces of their own, so that they may be members of the user's."""
+    The crate and these packages are no workspaces of their own, so that they may be members of the user's."""
     sources = ("README.md", "build.rs", "src/**/*.rs", "examples/**/*.rs", "tests/**/*.rs", "serde/Cargo.toml", "serde/tests/*.rs",
-               "drop_in/Cargo.toml", "drop_in/src/*.rs", "drop_in/tests/*.rs")
+               "drop_in/Cargo.toml", "drop_in/src/*.rs", "drop_in/tests/*.rs", "str0m/**/Cargo.toml", "str0m/**/*.rs")
     places = {**documents.carried("."), **documents.placed("rust", ".", *sources)}
-    manifests = {name: (top / "rust" / name).read_text() for name in ("Cargo.toml", "serde/Cargo.toml")}
-    manifests = {name: text.replace("\n[workspace]\n", "").encode() for name, text in manifests.items()}
+    manifests = {name: (top / "rust" / name).read_text() for name in ("Cargo.toml", "serde/Cargo.toml", "str0m/Cargo.toml")}
+    manifests = {name: metadata.manifest(text) for name, text in manifests.items()}
     files = {**documents.documents(places), **documents.others(places), **licenses()}
-    return {**files, **manifests, "lib/libis_ice.a": archive}
-
-
-# ---- all of them
-
-def built(number, library, glibc, when, ci_line):
-    """What was built from what."""
-    commit = git("rev-parse", "HEAD") + (" with changes that are not committed" if git("status", "--porcelain") else "")
-    rows = {
-        "version": number,
-        "commit": commit,
-        "date": datetime.datetime.fromtimestamp(when, datetime.timezone.utc).strftime("%Y-%m-%d %H:%M:%S UTC"),
-        "kit": kit() or "unknown: rt is not on the path",
-        "library": f"libis_c.a, SHA-256 {hashlib.sha256(library.read_bytes()).hexdigest()}",
-        "linker": run(CC, "-Wl,--version").splitlines()[0],
-        "processor": LEVEL,
-        "glibc": f"{glibc} or later",
-        "proof run": ci_line or "not given",
-    }
-    return "".join(f"{name + ':':<11}{value}\n" for name, value in rows.items()).encode()
-
-
-def release(stage, ci_line=None):
-    """Builds all release files in memory: a dictionary from their names to their bytes. The folder `stage` gets the libraries."""
-    number, when, library = one_version(), date(), proved()
-    run(top / "c" / "run", "install", stage, env={**os.environ, "IS_ICE_LIB": str(library)})
-    archive, soname = stage / "lib" / "libis_ice.a", f"libis_ice.so.{interface()}"
-    dynamic = shared(archive, soname, stage / "lib" / soname)
-    exports_only_calls(dynamic)
-    needs_only_libc(dynamic)
-    suits_level(dynamic)
-    glibc = lowest_glibc(dynamic)
-    tag = f"py3-none-manylinux_{glibc.replace('.', '_')}_x86_64"
-    static, dynamic = archive.read_bytes(), dynamic.read_bytes()
-    name, crate = f"is_ice-{number}-linux-x86_64", f"is-{number}"
-    c = for_c({"lib/libis_ice.a": static, f"lib/{soname}": dynamic}, soname, number, when)
-    dev = for_c({f"{debian.MULTIARCH}/libis_ice.a": static}, soname, number, when, deb=True)
-    python, rust = wheel(dynamic, number, tag), for_rust(static)
-    for package in (c, dev, python, rust):
-        if wrong := documents.leading_out(package) + documents.not_there(package):
-            raise Failed(f"a package names files that it does not have: {wrong}")
-    files = {
-        f"{name}.tar.gz": tar_gz(below(name, c), when),
-        f"is_ice-{number}-{tag}.whl": zipped(python, when),
-        f"{crate}-rust-linux-x86_64.tar.gz": tar_gz(below(crate, rust), when),
-        **debian.packages(dynamic, dev, soname, number, glibc, when),
-        "BUILT": built(number, library, glibc, when, ci_line),
-    }
-    sums = "".join(f"{hashlib.sha256(file).hexdigest()}  {name}\n" for name, file in files.items())
-    return {**files, "SHA256SUMS": sums.encode()}
+    return {**files, **manifests, **{f"lib/linux-{processor.name}/libis_ice.a": archive for processor, archive in archives.items()}}

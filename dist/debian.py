@@ -4,12 +4,13 @@ import hashlib
 import pathlib
 import time
 
+import notices
+import symbols
+from metadata import MAINTAINER, control_lines
 from packing import Link, ar, folders, gzipped, tar_gz
 
 here = pathlib.Path(__file__).resolve().parent
 top = here.parent
-MULTIARCH = "usr/lib/x86_64-linux-gnu"
-MAINTAINER = "Tigvalk maintainers <maintainers@users.noreply.tigvalk.example>"
 REVISION = 1  # of the packages of one version
 CHANGELOG = """is-ice ({version}) unstable; urgency=medium
 
@@ -44,6 +45,7 @@ def described(package, number, version, date):
     docs = f"usr/share/doc/{package}"
     return {
         f"{docs}/copyright": copyright_file(date),
+        f"{docs}/third-party.txt": notices.KEPT.read_bytes(),
         f"{docs}/changelog.gz": gzipped((top / "CHANGELOG.md").read_bytes()),
         f"{docs}/changelog.Debian.gz": gzipped(changelog(number, version, date)),
         # it is no upload to Debian, so it closes no request for a package
@@ -58,7 +60,14 @@ def control(name, files, **values):
     text = (here / name).read_text()
     for key, value in values.items():
         text = text.replace(f"@{key}@", str(value))
-    return text.encode()
+    return text.replace("Description: ", f"{control_lines()}Description: ").encode()
+
+
+def debug_package(runtime, debug, build_id, date, values):
+    """The package with the symbols of the shared library, where debuggers look for them."""
+    package = f"{runtime}-dbgsym"
+    files = {f"usr/lib/debug/.build-id/{build_id[:2]}/{build_id[2:]}.debug": debug, f"usr/share/doc/{package}": Link(runtime)}
+    return packed(files, date, control("control-dbgsym.in", files, BUILD_ID=build_id, **values))
 
 
 def packed(files, date, described_by, **more):
@@ -70,17 +79,19 @@ def packed(files, date, described_by, **more):
     return ar({"debian-binary": b"2.0\n", **parts}, date)
 
 
-def packages(library, others, soname, number, glibc, date):
-    """Both packages, by their file names. `others` is what the second one has."""
+def packages(processor, library, others, soname, number, glibc, date, debug, build_id):
+    """The packages for a processor, by their file names. `others` is what the second one has, `debug` what the third one has."""
     interface = soname.rpartition(".")[2]
     runtime, dev = names(interface)
     version = f"{number}-{REVISION}"
-    values = {"VERSION": version, "GLIBC": glibc, "RUNTIME": runtime}
-    own = {f"{MULTIARCH}/{soname}": library, **described(runtime, number, version, date)}
+    values = {"VERSION": version, "GLIBC": glibc, "RUNTIME": runtime, "ARCHITECTURE": processor.debian}
+    own = {f"{processor.multiarch}/{soname}": library, **described(runtime, number, version, date)}
     others = {**others, **described(dev, number, version, date)}
     shlibs = f"libis_ice {interface} {runtime}\n".encode()
-    ldconfig = b"activate-noawait ldconfig\n"
+    more = {"shlibs": shlibs, "triggers": b"activate-noawait ldconfig\n", "symbols": symbols.debian(soname, runtime, dev)}
+    name = f"{version}_{processor.debian}"
     return {
-        f"{runtime}_{version}_amd64.deb": packed(own, date, control("control.in", own, **values), shlibs=shlibs, triggers=ldconfig),
-        f"{dev}_{version}_amd64.deb": packed(others, date, control("control-dev.in", others, **values)),
+        f"{runtime}_{name}.deb": packed(own, date, control("control.in", own, **values), **more),
+        f"{dev}_{name}.deb": packed(others, date, control("control-dev.in", others, **values)),
+        f"{runtime}-dbgsym_{name}.deb": debug_package(runtime, debug, build_id, date, values),
     }

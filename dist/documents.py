@@ -21,7 +21,7 @@ SCHEME = re.compile(r"[a-zA-Z][\w+.-]*:")
 
 def carried(target):
     """The documents that every package has, and their places below its folder of documents."""
-    first = {"README.md": f"{target}/docs/README.md", "CHANGELOG.md": f"{target}/CHANGELOG.md"}
+    first = {"README.md": f"{target}/docs/README.md", **{name: f"{target}/{name}" for name in ("CHANGELOG.md", "SECURITY.md")}}
     return {**{source: os.path.normpath(place) for source, place in first.items()}, **placed("docs", f"{target}/docs", "*.md")}
 
 

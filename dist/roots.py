@@ -132,7 +132,7 @@ def step_bare_deb(place, out):
 
 def step_bare_rust(place, out):
     """README.md's command in a new package with two.rs; the quick start of the crate; the package with serde and Debian's crates."""
-    script = f"""tar xzf is-*-rust-linux-x86_64.tar.gz
+    script = f"""tar xzf is-*-rust-linux.tar.gz
 cargo new --quiet --vcs none two
 cd two
 {install_command("Rust")}

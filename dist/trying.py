@@ -11,8 +11,8 @@ import tempfile
 import time
 import zipfile
 
-from building import CC, Failed, run
-from debian import MULTIARCH
+from building import CC, Failed, interface, run
+from processors import X86_64
 from progress import shown
 
 top = pathlib.Path(__file__).resolve().parent.parent
@@ -155,21 +155,22 @@ def step_wheel(place, out):
     run(sys.executable, "-m", "venv", place / "venv", env=bare())
     python = place / "venv" / "bin" / "python"
     begun = time.monotonic()
-    run(python, "-m", "pip", "install", "--no-index", "--disable-pip-version-check", the(out, "*.whl"), env=bare(PATH=str(python.parent)))
+    wheel = the(out, "*_x86_64.whl")
+    run(python, "-m", "pip", "install", "--no-index", "--disable-pip-version-check", wheel, env=bare(PATH=str(python.parent)))
     took = time.monotonic() - begun
     shutil.copy(top / "python" / "examples" / "quick.py", place)
     found_paths(run(python, place / "quick.py", env=bare(), cwd=place))
     where = run(python, "-c", "import is_ice._library; print(is_ice._library.library_path())", env=bare(), cwd=place).strip()
     if not pathlib.Path(where).is_relative_to(place.resolve()):
         raise Failed(f"another library was loaded: {where}")
-    with zipfile.ZipFile(the(out, "*.whl")) as archive:
+    with zipfile.ZipFile(wheel) as archive:
         size = sum(entry.file_size for entry in archive.infolist())
     return f"pip install: {took:.1f} s, {size} bytes unpacked"
 
 
 def step_rust(place, out):
     require("cargo", CC)
-    crate = unpacked(the(out, "is-*-rust-linux-x86_64.tar.gz"), place / "unpacked")
+    crate = unpacked(the(out, "is-*-rust-linux.tar.gz"), place / "unpacked")
     package, env = place / "package", bare()
     run("cargo", "new", "--quiet", "--vcs", "none", "--name", "two", package, env=env)
     run("cargo", "add", "--quiet", "--offline", "--path", crate, cwd=package, env=env)
@@ -181,9 +182,9 @@ def step_rust(place, out):
     return f"cargo run: {took:.1f} s; the tests of drop_in passed"
 
 
-def debs(out):
-    """The Debian packages: of the shared library, and for compilers."""
-    return the(out, "libis-ice[0-9]*.deb"), the(out, "libis-ice-dev_*.deb")
+def debs(out, processor=X86_64):
+    """The Debian packages for a processor: of the shared library, and for compilers."""
+    return the(out, f"libis-ice{interface()}_*_{processor.debian}.deb"), the(out, f"libis-ice-dev_*_{processor.debian}.deb")
 
 
 def step_deb(place, out):
@@ -191,7 +192,7 @@ def step_deb(place, out):
     root = place / "root"
     for package in debs(out):
         run("dpkg-deb", "-x", package, root)
-    libraries = root / MULTIARCH
+    libraries = root / X86_64.multiarch
     env = bare(PKG_CONFIG_LIBDIR=str(libraries / "pkgconfig"), PKG_CONFIG_SYSROOT_DIR=str(root), PKG_CONFIG_ALLOW_SYSTEM_CFLAGS="1",
                PKG_CONFIG_ALLOW_SYSTEM_LIBS="1")
     example = root / "usr" / "share" / "doc" / "libis-ice-dev" / "examples" / "two.c"

@@ -9,6 +9,8 @@ COPIES = (
     ("c/is_ice.h", r'(?m)(^#define IS_ICE_VERSION_TEXT ")([^"\n]*)(")'),
     ("python/is_ice/__init__.py", r'(?m)(^__version__ = ")([^"\n]*)(")'),
     ("rust/Cargo.toml", r'(?m)(\A\[package\]\nname = "is"\nversion = ")([^"\n]*)(")'),
+    ("rust/serde/Cargo.toml", r'(?m)(^\[package\]\nname = "is"\nversion = ")([^"\n]*)(")'),
+    ("rust/str0m/Cargo.toml", r'(?m)(^\[package\]\nname = "is"\nversion = ")([^"\n]*)(")'),
     ("README.md", r"(?m)(^Version )(\d+\.\d+\.\d+)(\. )"),
     ("js/package.json", r'(?m)(^  "version": ")([^"\n]*)(")'),
     ("rust/Cargo.lock", r'(?m)(^name = "is"\nversion = ")([^"\n]*)(")'),

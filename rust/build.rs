@@ -1,14 +1,21 @@
-//! Links the library: the archive next to this file in lib/, which a release has, else that of IS_ICE_LIB, else that of
-//! `pkg-config is_ice`. The package in serde/ has this script too.
+//! Links the library: the archive of the target in lib/ next to this file, which a release has, else that of IS_ICE_LIB, else that of
+//! `pkg-config is_ice`. The packages in serde/ and str0m/ have this script too; for the one in str0m/ it sets `str0m_types`, by which the
+//! sources take the types of the crate `str0m_proto`. A feature would not do: str0m depends on this crate without its default features.
 
 use std::path::{Path, PathBuf};
 use std::process::{Command, exit};
 
-/// The archive of a release of this crate.
+/// The folder of the package that is built.
+fn package() -> PathBuf {
+    PathBuf::from(std::env::var_os("CARGO_MANIFEST_DIR").unwrap_or_default())
+}
+
+/// The archive of a release of this crate, for the system and processor of the target.
 fn released() -> Option<PathBuf> {
-    let package = PathBuf::from(std::env::var_os("CARGO_MANIFEST_DIR")?);
-    let folder = if package.ends_with("serde") { "../lib" } else { "lib" };
-    let archive = package.join(folder).join("libis_ice.a");
+    let package = package();
+    let folder = package.join(if package.ends_with("serde") || package.ends_with("str0m") { "../lib" } else { "lib" });
+    let of_target = |name| std::env::var(format!("CARGO_CFG_TARGET_{name}")).ok();
+    let archive = folder.join(format!("{}-{}/libis_ice.a", of_target("OS")?, of_target("ARCH")?));
     archive.exists().then_some(archive)
 }
 
@@ -32,6 +39,10 @@ fn link_name(archive: &Path) -> Option<&str> {
 }
 
 fn main() {
+    println!("cargo:rustc-check-cfg=cfg(str0m_types)");
+    if package().ends_with("str0m") {
+        println!("cargo:rustc-cfg=str0m_types");
+    }
     println!("cargo:rerun-if-env-changed=IS_ICE_LIB");
     println!("cargo:rerun-if-env-changed=PKG_CONFIG_PATH");
     let named = || std::env::var_os("IS_ICE_LIB").map(PathBuf::from);

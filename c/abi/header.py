@@ -139,11 +139,11 @@ def measured(kind, structs):
 def struct_of(record, structs):
     """A struct, with the offsets that a compiler for a 64-bit target gives its fields."""
     fields, end, widest = [], 0, 1
+    if record["tagUsed"] != "struct" or any(part["kind"].endswith("Attr") or part.get("isBitfield") for part in record["inner"]):
+        raise Unknown(f"{record['name']}: a union, a bit field or an attribute")
     for part in record["inner"]:
         if part["kind"] != "FieldDecl":
             continue
-        if part.get("isBitfield"):
-            raise Unknown(f"{record['name']}: bit field")
         kind = type_of(part["type"]["qualType"], structs)
         size, align = measured(kind, structs)
         offset = -(-end // align) * align
@@ -153,6 +153,8 @@ def struct_of(record, structs):
 
 
 def call_of(function):
+    if function.get("variadic"):
+        raise Unknown(f"{function['name']}: any number of arguments")
     result = function["type"]["qualType"].split(" (")[0]
     arguments = [(part["name"], type_of(part["type"]["qualType"])) for part in function.get("inner", ()) if part["kind"] == "ParmVarDecl"]
     return Call(function["name"], Type("void") if result == "void" else type_of(result), arguments)

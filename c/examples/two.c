@@ -1,4 +1,5 @@
 /* Two ICE agents in one process find a path. No sockets: packets are handed over. */
+#define _CRT_RAND_S /* of Windows: rand_s */
 #include "is_ice.h"
 #include <stdio.h>
 #include <stdlib.h>
@@ -14,9 +15,17 @@ static void must(int32_t code)
 
 static void randomize(void *bytes, size_t length)
 {
+#ifdef _WIN32
+    for (size_t i = 0; i < length; i++) {
+        unsigned some;
+        if (rand_s(&some) != 0) exit(1);
+        ((uint8_t *)bytes)[i] = (uint8_t)some;
+    }
+#else
     FILE *file = fopen("/dev/urandom", "rb");
     if (!file || fread(bytes, 1, length, file) != length) exit(1);
     fclose(file);
+#endif
 }
 
 int main(void)

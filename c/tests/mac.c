@@ -10,7 +10,9 @@
  * the first wrong byte makes the ticks rise with the right bytes. */
 #define _GNU_SOURCE
 #include "measuring.h"
+#ifdef __x86_64__
 #include <x86intrin.h>
+#endif
 
 enum {
     MAC = 20,         /* bytes of a MAC, which FINGERPRINT follows (RFC 8489, sections 14.5 and 14.7) */
@@ -82,17 +84,27 @@ static int compare_ticks(const void *a, const void *b)
     return (x > y) - (x < y);
 }
 
+/* The processor's clock, after all that came before and before all that comes after; where there is no such clock here, nanoseconds. */
+static uint64_t ticks(void)
+{
+#ifdef __x86_64__
+    _mm_lfence();
+    uint64_t now = __rdtsc();
+    _mm_lfence();
+    return now;
+#else
+    struct timespec t;
+    if (clock_gettime(CLOCK_MONOTONIC, &t) != 0) exit(2);
+    return (uint64_t)t.tv_sec * SECOND + (uint64_t)t.tv_nsec;
+#endif
+}
+
 static uint32_t ticks_of(struct world *w, bool is_agent, size_t kind)
 {
-    unsigned processor;
     w->given = w->requests[kind];
-    _mm_lfence();
-    uint64_t begun = __rdtsc();
-    _mm_lfence();
+    uint64_t begun = ticks();
     volatile int32_t code = ask(w, is_agent);
-    _mm_lfence();
-    uint64_t took = __rdtscp(&processor) - begun;
-    _mm_lfence();
+    uint64_t took = ticks() - begun;
     (void)code;
     return took > UINT32_MAX ? UINT32_MAX : (uint32_t)took;
 }

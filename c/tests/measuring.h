@@ -43,6 +43,7 @@ static inline double processor_time(void)
     return (double)t.tv_sec * 1e9 + (double)t.tv_nsec;
 }
 
+#ifndef _WIN32 /* which has no /proc */
 /* Bytes of the process in memory, without those that are a file's: code is loaded when it first runs. */
 static inline long resident(void)
 {
@@ -52,6 +53,7 @@ static inline long resident(void)
     fclose(file);
     return (pages - shared) * sysconf(_SC_PAGESIZE);
 }
+#endif
 
 static inline int compare(const void *a, const void *b)
 {

@@ -1,8 +1,9 @@
-/* Measures how many bytes of stack each call of is_ice.h needs, and shows that a thread with 64 KiB is enough for them.
+/* Measures how many bytes of stack each call of is_ice.h needs, and shows that a thread with 64 KiB is enough for them, or with the
+ * system's least if that is more (glibc on ARM64: 128 KiB).
  *
  * A story makes every call in several situations, on a thread with a stack of its own. Before each call the stack below it is
  * painted, and afterwards the lowest word that has changed counts. That includes what malloc, realloc and free need. Each
- * need is at most MOST, and the thread has twice as much, which the story needs too. */
+ * need is at most MOST, and the thread has at least twice as much, which the story needs too. */
 #define _GNU_SOURCE
 #include "measuring.h"
 #include <pthread.h>
@@ -413,9 +414,11 @@ static size_t greatest(void)
 
 int main(void)
 {
-    run(SMALL);
+    long least = sysconf(_SC_THREAD_STACK_MIN);
+    size_t size = least > SMALL ? (size_t)least : SMALL;
+    run(size);
     for (size_t i = 0; i < need_count; i++) printf("%7zu  %s\n", needs[i].need, needs[i].name);
     size_t most = greatest();
-    printf("%zu calls on a stack of 64 KiB; at most %zu bytes\n", need_count, most);
+    printf("%zu calls on a stack of %zu KiB; at most %zu bytes\n", need_count, size / 1024, most);
     return 0;
 }

@@ -31,7 +31,15 @@ def have_distinct_ids(x: Execution) -> bool:
     return len(set(ids)) == len(ids)
 
 
+def compares_ties(x: Execution, side: str) -> bool:
+    """Whether the side is never lite, or never has the rule by which a lite agent keeps its role (`ComparesTies`)."""
+    lite = x.indices(("is_lite", side), lambda s: s.before[side].lite)
+    keeps = x.indices(("keeps_role", side), lambda s: s.before[side].rules.lite_keeps_role)
+    return not lite or not keeps
+
+
 def is_fair_world(x: Execution) -> Lacks:
-    """Both agents are new, no packet is in flight, their tie-breakers differ, and so do the IDs of checks (`IsFairWorld`)."""
+    """Both agents are new, no packet is in flight, their tie-breakers differ and decide the roles, and IDs differ (`IsFairWorld`)."""
     tie = x.state(0, "a").tie_breaker != x.state(0, "b").tie_breaker
-    return lacks(new=are_new_agents(x), empty=is_empty(x), tie=tie, distinct=have_distinct_ids(x))
+    compares = all(compares_ties(x, side) for side in SIDES)
+    return lacks(new=are_new_agents(x), empty=is_empty(x), tie=tie, distinct=have_distinct_ids(x), compares=compares)

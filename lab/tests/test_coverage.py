@@ -17,7 +17,8 @@ class Sessions(unittest.TestCase):
                 found = Play(0)((scenario.load(name), range(1)))
                 assert isinstance(found, list)
                 self.assertEqual(found[0].differences, ())
-                self.assertEqual(found[0].connected, found[0].verdicts["meet"].held)
+                compares = name != "lite_server"  # there a lite agent keeps its role, whatever the tie-breakers are
+                self.assertEqual(found[0].connected and compares, found[0].verdicts["meet"].held)
 
     def test_how_long_a_session_goes_on(self) -> None:
         homes, hosts = scenario.load("two_homes"), scenario.load("many_hosts")

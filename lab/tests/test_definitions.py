@@ -14,7 +14,7 @@ from lab.clauses.selections import are_each_polled, are_enough, are_kept, is_ans
 from lab.clauses.single import are_plain
 from lab.clauses.staying import may_end_in
 from lab.clock import BEGINNING, MILLISECOND
-from lab.kinds import Rules
+from lab.kinds import ORIGINAL, Rules
 from lab.model import Agent
 from lab.requests import Request
 from lab.pairs import Check, Place, Timing
@@ -266,6 +266,11 @@ class Fair(unittest.TestCase):
         story.ids = 0
         story.timeout("b", 0)
         self.assertEqual(is_fair_world(story.network().x), ["distinct"])
+
+    def test_a_lite_agent_that_keeps_its_role(self) -> None:
+        for keeps, lacking in ((True, ["compares"]), (False, [])):
+            story = Story(rules=replace(ORIGINAL, lite_keeps_role=keeps))
+            self.assertEqual(is_fair_world(story.altered(1, "b", lite=True).x), lacking)
 
 
 class Returned(unittest.TestCase):

@@ -6,7 +6,7 @@ import logging
 from collections import Counter
 from collections.abc import MutableMapping
 from itertools import dropwhile
-from typing import Any
+from typing import TYPE_CHECKING, Any
 
 from .address import SocketAddress
 from .agent import IceAgent
@@ -17,6 +17,11 @@ from .stun import StunClass, StunMessage
 _MOST_KINDS = 32  # of messages that are counted each for itself
 _CLASSES = {StunClass.REQUEST: "request", StunClass.INDICATION: "indication", StunClass.SUCCESS: "success response",
             StunClass.FAILURE: "error response"}
+
+if TYPE_CHECKING:
+    _Adapter = logging.LoggerAdapter[logging.Logger]
+else:
+    _Adapter = logging.LoggerAdapter  # takes a type parameter from Python 3.11 on
 
 
 def kind_of_message(data: bytes) -> str:
@@ -29,14 +34,14 @@ def kind_of_message(data: bytes) -> str:
     return kind if message.error_code is None else f"{kind} {message.error_code}"
 
 
-class SessionLog(logging.LoggerAdapter[logging.Logger]):
+class SessionLog(_Adapter):
     """A logger whose lines begin with the username fragment of an agent: the checks of its peer have it too.
 
     `discarded` counts the STUN messages that nobody took, by their kind.
     """
 
     def __init__(self, logger: logging.Logger, agent: IceAgent) -> None:
-        super().__init__(logger)
+        super().__init__(logger, {})
         self.discarded: Counter[str] = Counter()
         self._agent, self._ufrag = agent, agent.local_credentials.ufrag
         self._removed: list[RemovedPair] = []  # those that the agent listed last: what comes after them is new

@@ -203,6 +203,8 @@ class Connection(Unique):
             self._gathering.result()
 
     async def _gather(self) -> None:
+        if self._closed:  # in the turn of the loop in which the call began, so the agent is gone
+            return
         turn = None
         if self.turn_server:
             turn = TurnServer(self.turn_server, self.turn_username, self.turn_password, self.turn_ssl, self.turn_transport)

@@ -5,6 +5,7 @@ from __future__ import annotations
 import asyncio
 import os
 import unittest
+from collections.abc import Callable
 from typing import Any
 
 from is_ice.connection import Connection
@@ -54,6 +55,15 @@ async def talk(a: Any, b: Any) -> None:
             assert await asyncio.wait_for(other.recv(), 2) == data
         await one.sendto(b"\x80 to", 1)
         assert await asyncio.wait_for(other.recvfrom(), 2) == (b"\x80 to", 1)
+
+
+async def until(condition: Callable[[], bool], patience: float = 10) -> None:
+    """Waits until the condition holds; asyncio.TimeoutError if it does not in time."""
+    async def wait() -> None:
+        while not condition():
+            await asyncio.sleep(0.01)
+
+    await asyncio.wait_for(wait(), patience)
 
 
 async def close(*connections: Any) -> None:

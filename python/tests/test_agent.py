@@ -1,5 +1,7 @@
 """Tests the module with the library: two agents connect, calls fail with their errors, texts and addresses round-trip."""
 
+from __future__ import annotations
+
 import copy
 import ctypes
 import dataclasses
@@ -119,7 +121,7 @@ def last_paths(
         agent.set_renomination(renomination)
         agent.set_settings(dataclasses.replace(agent.settings, profile=profile))
         agent.set_remote_credentials(other.local_credentials)
-        for preference, address in zip((2000, 1000), addresses, strict=False):
+        for preference, address in zip((2000, 1000), addresses):
             agent.set_local_preference(preference)
             agent.add_local_candidate(Candidate.host(address))
     a.add_remote_candidate(LINE_OF_THERE)
@@ -536,7 +538,7 @@ class Errors(unittest.TestCase):
                 (True, Profile.MODERN, {1, 2}), (True, Profile.ORIGINAL, set()), (False, Profile.MODERN, set())):
             sent: list[bytes] = []
             last_paths(renomination, profile, sent)
-            self.assertEqual({int.from_bytes(number) for packet in sent for number in NOMINATION.findall(packet)}, expected)
+            self.assertEqual({int.from_bytes(number, "big") for packet in sent for number in NOMINATION.findall(packet)}, expected)
 
     def test_settings_are_kept(self) -> None:
         most = (1 << 64) - 1

@@ -10,7 +10,7 @@ from unittest import mock
 import is_ice.aiortc
 import is_ice.connection
 
-from pairs import LOOPBACK, aioice
+from pairs import LOOPBACK, aioice, until
 
 try:
     import aiortc
@@ -28,12 +28,6 @@ def peer(uses_agent: bool) -> Any:
     else:
         is_ice.aiortc.uninstall()
     return aiortc.RTCPeerConnection(aiortc.RTCConfiguration(iceServers=[]))
-
-
-async def until(condition: Any, patience: float = 10) -> None:
-    async with asyncio.timeout(patience):
-        while not condition():
-            await asyncio.sleep(0.01)
 
 
 async def session(offers: bool, answers: bool) -> tuple[Any, Any, list[str], int]:
@@ -60,7 +54,7 @@ async def session(offers: bool, answers: bool) -> tuple[Any, Any, list[str], int
     await answering.setRemoteDescription(offering.localDescription)
     await answering.setLocalDescription(await answering.createAnswer())
     await offering.setRemoteDescription(answering.localDescription)
-    await until(lambda: channel.readyState == "open")
+    await until(lambda: bool(channel.readyState == "open"))
     for text in ("one", "two"):
         channel.send(text)
     for _ in range(16):

@@ -106,6 +106,18 @@ class Closing(unittest.IsolatedAsyncioTestCase):
                     await a.gather_candidates()
                     self.assertEqual(other_tasks(), set())
 
+    async def test_a_close_in_the_first_turns_of_gathering(self) -> None:
+        for turns in range(4):  # in the first ones the task of gathering has not begun to run
+            with self.subTest(turns=turns):
+                a = agent(True)
+                gathering = asyncio.ensure_future(a.gather_candidates())
+                for _ in range(turns):
+                    await asyncio.sleep(0)
+                closing = a.close()  # closes at once, and waits when it is awaited
+                await asyncio.wait_for(gathering, 1)
+                await closing
+                self.assertEqual((other_tasks(), a.local_candidates), (set(), []))
+
     @unittest.skipIf(aioice is None, "aioice is not installed (Debian's python3-aioice)")
     async def test_an_allocation_is_freed(self) -> None:
         from turn_server import TurnServer

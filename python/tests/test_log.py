@@ -26,7 +26,7 @@ from is_ice._session_log import SessionLog, kind_of_message
 from is_ice.mdns import Mdns
 from is_ice.stun import StunClass, StunMethod, write_message
 
-from pairs import LOOPBACK, NOBODY, add_candidates, agent, close, gather, join
+from pairs import LOOPBACK, NOBODY, add_candidates, agent, close, gather, join, until
 from test_loop import BINDING_REQUEST, BINDING_RESPONSE
 
 THERE, HERE = SocketAddress("192.0.2.2", 2000), SocketAddress("192.0.2.1", 1000)
@@ -48,9 +48,7 @@ class Lines(unittest.IsolatedAsyncioTestCase):
         a, b = agent(True), agent(False)
         with self.assertLogs("is_ice", "INFO") as logged:
             await join(a, b)
-            async with asyncio.timeout(5):
-                while not all(side.agent.state is IceConnectionState.COMPLETED for side in (a, b)):
-                    await asyncio.sleep(0.01)
+            await until(lambda: all(side.agent.state is IceConnectionState.COMPLETED for side in (a, b)), 5)
         for one, other in ((a, b), (b, a)):
             ports = [side.local_candidates[0].port for side in (one, other)]
             lines = [record.getMessage() for record in logged.records]

@@ -1,5 +1,7 @@
 """Tests two peers over loopback for each combination of roles, and with aioice if that is installed."""
 
+from __future__ import annotations
+
 import asyncio
 import os
 import socket

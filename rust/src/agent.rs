@@ -3,14 +3,16 @@
 use crate::candidate::Candidate;
 use crate::creds::IceCreds;
 use crate::error::{CallError, found, or_panic};
-use crate::event::{IceAgentEvent, IceAgentStats, IceConnectionState, MediaPath, Transmit};
+use crate::event::{IceAgentEvent, IceAgentStats, IceConnectionState, MediaPath};
 use crate::ffi;
-use crate::hmac::Sha1HmacProvider;
 use crate::ids::TransIds;
+use crate::logs::{Pii, is_heard, logged, role_name};
 use crate::pair::CandidatePair;
 use crate::preference::LocalPreference;
-use crate::proto::{Protocol, address_of, socket_of};
+use crate::proto::{address_of, number_of, protocol_of, socket_of};
+use crate::removed::{RemovedPair, new_ones};
 use crate::stun::{StunMessage, StunPacket};
+use crate::types::{Protocol, Sha1HmacProvider, Transmit};
 use std::fmt;
 use std::net::SocketAddr;
 use std::sync::{Arc, Mutex, OnceLock, PoisonError};
@@ -203,8 +205,10 @@ impl IceAgent {
         let (given, mut index) = (c.as_gathered(), 0);
         let is_added = self.tell(|agent| known(ffi::is_ice_add_local(agent, &given, &mut index)))?;
         if !is_added {
+            logged!(debug, "Reject redundant candidate, or one that is not for this agent: {:?}", Pii(&c));
             return Ok(None);
         }
+        logged!(debug, "Add local candidate ({index}): {:?}", Pii(&c));
         self.added = Some(Box::new(self.local_candidate(index).map_err(CallError::of)?));
         Ok(self.added.as_deref())
     }
@@ -215,6 +219,7 @@ impl IceAgent {
         let (given, mut same_kind) = (c.as_gathered(), 0);
         if self.tell(|agent| known(ffi::is_ice_alike_local(agent, &given, &mut same_kind)))? {
             let number = u16::try_from(preference.calculate(c, same_kind)).map_err(|_| CallError::PriorityTooHigh)?;
+            logged!(trace, "Calculated local preference: {number}");
             self.set(|agent| ffi::is_ice_set_local_preference(agent, number));
         }
         Ok(())
@@ -238,7 +243,16 @@ impl IceAgent {
     ///
     /// [`CallError::OutOfMemory`], [`CallError::PairIdsExhausted`], [`CallError::BadCandidate`], [`CallError::TooManyCandidates`].
     pub fn try_add_remote_candidate(&mut self, c: Candidate) -> Result<bool, CallError> {
-        self.tell(|agent| ffi::is_ice_add_remote(agent, c.text().as_bytes(), &mut 0))
+        let mut index = 0;
+        let code = ffi::is_ice_add_remote(self.held(), c.text().as_bytes(), &mut index);
+        match code {
+            ffi::OK => logged!(debug, "Add remote candidate ({index}): {:?}", Pii(&c)),
+            ffi::NOTHING => logged!(trace, "Ignoring candidate({:?}) that exactly matches existing non-discarded candidate", Pii(&c)),
+            ffi::OTHER_COMPONENT => logged!(debug, "Reject candidate for component other than 1: {:?}", Pii(&c)),
+            ffi::OTHER_UFRAG => logged!(debug, "Reject candidate with ufrag mismatch: {:?}", Pii(&c)),
+            _ => {}
+        }
+        found(code)
     }
 
     /// Removes a candidate and its pairs: a local one, else a remote one. Returns whether there was one.
@@ -260,10 +274,16 @@ impl IceAgent {
     ///
     /// [`CallError::OutOfMemory`].
     pub fn try_invalidate_candidate(&mut self, c: &Candidate) -> Result<bool, CallError> {
-        match c.given() {
+        let is_removed = match c.given() {
             Some(given) => self.tell(|agent| known(ffi::is_ice_invalidate_local(agent, &given))),
             None => self.tell(|agent| ffi::is_ice_invalidate(agent, c.text().as_bytes())),
+        }?;
+        if is_removed {
+            logged!(debug, "Candidate to discard {:?}", Pii(c));
+        } else {
+            logged!(debug, "No local or remote candidate found: {:?}", Pii(c));
         }
+        Ok(is_removed)
     }
 
     /// A pair whose remote candidate equals this one in address, base, protocol, kind and related address: one of the greatest priority.
@@ -364,13 +384,16 @@ impl IceAgent {
 
     /// Whether the message is for this agent, from any source.
     pub fn accepts_message(&self, message: &StunMessage<'_>) -> bool {
-        self.ask(|agent| ffi::is_ice_accepts_message(agent, message.bytes())) == ffi::OK
+        let is_accepted = self.ask(|agent| ffi::is_ice_accepts_message(agent, message.bytes())) == ffi::OK;
+        logged!(trace, "Message {}: {:?}", if is_accepted { "accepted" } else { "rejected" }, Pii(message));
+        is_accepted
     }
 
     /// Whether `handle_packet` would accept the packet: it is for this agent, and a response came back on the path of its check.
     pub fn accepts_packet(&self, packet: &StunPacket<'_>) -> bool {
         let (source, destination) = (address_of(packet.source), address_of(packet.destination));
-        self.ask(|agent| ffi::is_ice_accepts_packet(agent, packet.proto.number(), &source, &destination, packet.message.bytes())) == ffi::OK
+        self.ask(|agent| ffi::is_ice_accepts_packet(agent, number_of(packet.proto), &source, &destination, packet.message.bytes()))
+            == ffi::OK
     }
 
     /// Passes a received packet to the agent. Returns whether it is for this agent; if not, the agent is unchanged. A message that was
@@ -392,6 +415,7 @@ impl IceAgent {
     /// [`CallError::OutOfMemory`], [`CallError::PairIdsExhausted`].
     #[inline]
     pub fn try_handle_packet(&mut self, now: Instant, packet: StunPacket<'_>) -> Result<bool, CallError> {
+        logged!(trace, "Handle receive: {:?}", Pii(&packet.message));
         self.take(now, packet.proto, packet.source, packet.destination, packet.message.bytes())
     }
 
@@ -407,10 +431,19 @@ impl IceAgent {
         self.forget_added();
         let now = self.time(now);
         let (source, destination) = (address_of(source), address_of(destination));
-        self.tell(|agent| match ffi::is_ice_handle_packet(agent, now, proto.number(), &source, &destination, bytes) {
-            ffi::UNPARSED => ffi::NOTHING,
-            code => code,
-        })
+        let before = is_heard().then(|| self.controlling());
+        let is_accepted =
+            self.tell(|agent| match ffi::is_ice_handle_packet(agent, now, number_of(proto), &source, &destination, bytes) {
+                ffi::UNPARSED => ffi::NOTHING,
+                code => code,
+            })?;
+        if !is_accepted {
+            logged!(debug, "Message not accepted");
+        }
+        if let Some(before) = before.filter(|before| *before != self.controlling()) {
+            logged!(debug, "Switch role: {} -> {}", role_name(before), role_name(!before));
+        }
+        Ok(is_accepted)
     }
 
     /// Passes the current time to the agent. The first call starts the session.
@@ -432,7 +465,20 @@ impl IceAgent {
         let id = self.ids.next().ok_or(CallError::NoRandomBytes)?;
         self.forget_added();
         let now = self.time(now);
-        self.tell(|agent| ffi::is_ice_handle_timeout(agent, now, &id)).map(drop)
+        let before: Option<Vec<_>> = is_heard().then(|| self.removed_pairs().collect());
+        self.tell(|agent| ffi::is_ice_handle_timeout(agent, now, &id))?;
+        if let Some(before) = before {
+            self.log_removals(&before);
+        }
+        Ok(())
+    }
+
+    /// Logs the pairs that were removed since these were listed.
+    fn log_removals(&self, before: &[RemovedPair]) {
+        let listed: Vec<_> = self.removed_pairs().collect();
+        for pair in new_ones(before, &listed) {
+            logged!(debug, "Remove failed pair: {:?}", Pii(pair));
+        }
     }
 
     /// The next packet to send.
@@ -440,7 +486,13 @@ impl IceAgent {
         let mut packet = ffi::Packet::default();
         let contents = self.held().poll_transmit(&mut packet)?;
         let (source, destination) = (socket_of(&packet.source), socket_of(&packet.destination));
-        Some(Transmit { proto: Protocol::of(packet.protocol), source, destination, contents })
+        #[allow(clippy::useless_conversion)] // the contents are a type of its own in str0m_proto
+        let transmit = Transmit { proto: protocol_of(packet.protocol), source, destination, contents: contents.into() };
+        if is_heard() && transmit.contents.len() > self.mtu_warn() {
+            logged!(warn, "ICE above MTU {}: {}", self.mtu_warn(), transmit.contents.len());
+        }
+        logged!(trace, "Poll transmit: {:?}", Pii(&transmit));
+        Some(transmit)
     }
 
     /// The time at which to call `handle_timeout` next. Call it before packets are polled, and keep the earliest one that it returns
@@ -465,7 +517,12 @@ impl IceAgent {
     pub fn poll_event(&mut self) -> Option<IceAgentEvent> {
         let mut event = ffi::Event::default();
         let is_some = ffi::is_ice_poll_event(self.held(), &mut event) == ffi::OK;
-        is_some.then(|| IceAgentEvent::of(&event, || IceCreds::of(self.held().local_credentials())))
+        let event = is_some.then(|| IceAgentEvent::of(&event, || IceCreds::of(self.held().local_credentials())))?;
+        if let IceAgentEvent::IceConnectionStateChange(state) = event {
+            logged!(debug, "State change: {state:?}");
+        }
+        logged!(trace, "Poll event: {:?}", Pii(&event));
+        Some(event)
     }
 
     /// Nothing refers any longer to the candidate that was added last.

@@ -2,7 +2,7 @@
 
 use crate::candidate::Candidate;
 use crate::error::IceError;
-use crate::proto::{Protocol, TcpType};
+use crate::types::{Protocol, TcpType};
 use std::marker::PhantomData;
 use std::net::SocketAddr;
 

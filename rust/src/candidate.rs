@@ -2,7 +2,8 @@
 
 use crate::error::{IceError, or_panic};
 use crate::ffi;
-use crate::proto::{Protocol, TcpType, address_of, socket_of};
+use crate::proto::{address_of, number_of, protocol_of, socket_of, tcp_number_of, tcptype_of};
+use crate::types::{Protocol, TcpType};
 use std::fmt;
 use std::hash::{Hash, Hasher};
 use std::net::{IpAddr, SocketAddr};
@@ -105,8 +106,8 @@ impl Candidate {
             address: address_of(addr),
             base: address_of(base),
             kind,
-            protocol: proto.number(),
-            tcptype: tcptype.map_or(ffi::TCP_UNSTATED, TcpType::number),
+            protocol: number_of(proto),
+            tcptype: tcp_number_of(tcptype),
         };
         ffi::candidate(|buffer, length, fields| ffi::is_ice_candidate_fields(&given, buffer, length, fields))
             .map(Candidate::listed_local)
@@ -195,8 +196,8 @@ impl Candidate {
             priority: prio,
             component: component_id,
             kind: kind.number(),
-            protocol: proto.number(),
-            tcptype: tcptype.map_or(ffi::TCP_UNSTATED, TcpType::number),
+            protocol: number_of(proto),
+            tcptype: tcp_number_of(tcptype),
             ..Default::default()
         };
         let made = ffi::candidate(|buffer, length, fields| ffi::is_ice_fields_line(&given, foundation.as_bytes(), buffer, length, fields));
@@ -377,7 +378,7 @@ impl Candidate {
 
     /// Its transport protocol.
     pub fn proto(&self) -> Protocol {
-        Protocol::of(self.fields.protocol)
+        protocol_of(self.fields.protocol)
     }
 
     /// Its kind.
@@ -387,7 +388,7 @@ impl Candidate {
 
     /// Which side opens the connection of a TCP candidate.
     pub fn tcptype(&self) -> Option<TcpType> {
-        TcpType::of(self.fields.tcptype)
+        tcptype_of(self.fields.tcptype)
     }
 
     /// The username fragment of the session that it belongs to.

@@ -13,7 +13,7 @@ use std::fmt;
 /// assert_eq!(format!("{creds:?}"), r#"IceCreds { ufrag: "EsAw", pass: ".." }"#);
 /// ```
 #[derive(Clone, PartialEq, Eq, Hash)]
-#[cfg_attr(feature = "serde", derive(::serde::Serialize, ::serde::Deserialize))]
+#[cfg_attr(any(feature = "serde", str0m_types), derive(::serde::Serialize, ::serde::Deserialize))]
 pub struct IceCreds {
     /// The username fragment, of `a=ice-ufrag`.
     pub ufrag: String,

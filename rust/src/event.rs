@@ -2,7 +2,8 @@
 
 use crate::creds::IceCreds;
 use crate::ffi;
-use crate::proto::{Protocol, socket_of};
+use crate::proto::{protocol_of, socket_of};
+use crate::types::Protocol;
 use std::net::SocketAddr;
 
 /// The state of a connection.
@@ -97,7 +98,7 @@ pub enum IceAgentEvent {
 impl IceAgentEvent {
     /// Converts the library's event; the credentials are those of a restart.
     pub(crate) fn of(event: &ffi::Event, creds: impl FnOnce() -> IceCreds) -> IceAgentEvent {
-        let proto = Protocol::of(event.protocol);
+        let proto = protocol_of(event.protocol);
         let source = socket_of(&event.source);
         match event.kind {
             ffi::RESTARTED => IceAgentEvent::IceRestart(creds()),
@@ -121,19 +122,6 @@ pub struct MediaPath {
 
 impl MediaPath {
     pub(crate) fn of(protocol: u8, source: &ffi::Address, destination: &ffi::Address) -> MediaPath {
-        MediaPath { proto: Protocol::of(protocol), source: socket_of(source), destination: socket_of(destination) }
+        MediaPath { proto: protocol_of(protocol), source: socket_of(source), destination: socket_of(destination) }
     }
-}
-
-/// A packet to send: a STUN message.
-#[derive(Clone, Debug, PartialEq, Eq)]
-pub struct Transmit {
-    /// The transport protocol.
-    pub proto: Protocol,
-    /// The local address to send from: the base of a local candidate.
-    pub source: SocketAddr,
-    /// The address to send to.
-    pub destination: SocketAddr,
-    /// Its bytes.
-    pub contents: Vec<u8>,
 }

@@ -1,16 +1,9 @@
-//! HMAC-SHA1 as the original has it: a trait, and a provider for programs that call it themselves.
+//! HMAC-SHA1 as the original has it: a provider of the trait [`Sha1HmacProvider`] for programs that call it themselves.
 //!
 //! No agent and no STUN message calls it: the library uses its own HMAC-SHA1, which is that of the provider here too.
 
 use crate::ffi;
-use std::fmt;
-
-/// Computes HMAC-SHA1 (RFC 2104). An agent accepts a provider in [`IceAgent::with_hmac`](crate::IceAgent::with_hmac), and does not call
-/// it.
-pub trait Sha1HmacProvider: fmt::Debug + Send + Sync {
-    /// The HMAC-SHA1 of the payloads, one after the other.
-    fn sha1_hmac(&self, key: &[u8], payloads: &[&[u8]]) -> [u8; 20];
-}
+use crate::types::Sha1HmacProvider;
 
 /// A provider for programs that compute HMAC-SHA1 themselves.
 ///

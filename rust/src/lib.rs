@@ -18,8 +18,8 @@
 //! - HMAC-SHA1 is the proved one: [`IceAgent::with_hmac`] does not call its provider. Random bytes are those of the system, by `getentropy`.
 //! - [`stun::StunMessage`]: `verify` and `to_bytes` do not call the HMAC function that they get. [`stun::StunMessage::binding_query`] writes a
 //!   Binding request without credentials.
-//! - Candidate JSON is a text, by [`Candidate::to_json`] and [`Candidate::from_json`]: a clone has a
-//!   package with serde.
+//! - Candidate JSON is a text, by [`Candidate::to_json`] and [`Candidate::from_json`]: a package in serde/ has serde. The one in str0m/ has serde,
+//!   the types of `str0m_proto` in place of its own, and events for `tracing`.
 
 mod agent;
 mod all_settings;
@@ -31,11 +31,12 @@ mod event;
 mod ffi;
 mod hmac;
 mod ids;
+mod logs;
 mod pair;
 mod preference;
 mod proto;
 mod removed;
-#[cfg(feature = "serde")]
+#[cfg(any(feature = "serde", str0m_types))]
 mod serde;
 mod session_log;
 mod settings;
@@ -43,6 +44,10 @@ pub mod stun;
 mod stun_builder;
 mod stun_texts;
 mod stun_timing;
+#[cfg(not(str0m_types))]
+mod types;
+#[cfg(str0m_types)]
+use str0m_proto as types;
 
 pub use agent::IceAgent;
 pub use all_settings::{Consent, Profile, Settings};
@@ -50,10 +55,10 @@ pub use builder::CandidateBuilder;
 pub use candidate::{Candidate, CandidateKind};
 pub use creds::IceCreds;
 pub use error::{CallError, IceError, StunError};
-pub use event::{IceAgentEvent, IceAgentStats, IceConnectionState, MediaPath, Transmit};
-pub use hmac::{DefaultSha1HmacProvider, Sha1HmacProvider};
+pub use event::{IceAgentEvent, IceAgentStats, IceConnectionState, MediaPath};
+pub use hmac::DefaultSha1HmacProvider;
 pub use pair::{CandidatePair, CheckState};
 pub use preference::{KindPreferences, LocalPreference, PreferenceTable, default_local_preference, try_default_local_preference};
-pub use proto::{Protocol, TcpType};
 pub use removed::{Removal, RemovedPair};
 pub use session_log::SessionLog;
+pub use types::{Protocol, Sha1HmacProvider, TcpType, Transmit};

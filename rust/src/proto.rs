@@ -1,120 +1,46 @@
-//! Transport protocols, and socket addresses in the library's form.
+//! Conversions of protocols, TCP types and socket addresses to the library's form.
 
 use crate::ffi;
-use std::fmt;
+use crate::types::{Protocol, TcpType};
 use std::net::{IpAddr, Ipv4Addr, Ipv6Addr, SocketAddr, SocketAddrV6};
-use std::str::FromStr;
 
-/// The transport protocol of a candidate's packets.
-#[derive(Clone, Copy, Debug, PartialEq, Eq, PartialOrd, Ord, Hash)]
-pub enum Protocol {
-    /// UDP.
-    Udp,
-    /// TCP with framing (RFC 4571).
-    Tcp,
-    /// TCP after a fixed SSL handshake.
-    SslTcp,
-    /// TLS over TCP.
-    Tls,
-}
-
-impl Protocol {
-    pub(crate) fn number(self) -> u8 {
-        match self {
-            Protocol::Udp => ffi::UDP,
-            Protocol::Tcp => ffi::TCP,
-            Protocol::SslTcp => ffi::SSL_TCP,
-            Protocol::Tls => ffi::TLS,
-        }
-    }
-
-    pub(crate) fn of(number: u8) -> Protocol {
-        match number {
-            ffi::UDP => Protocol::Udp,
-            ffi::TCP => Protocol::Tcp,
-            ffi::SSL_TCP => Protocol::SslTcp,
-            _ => Protocol::Tls,
-        }
+/// The library's number of a protocol.
+pub(crate) fn number_of(protocol: Protocol) -> u8 {
+    match protocol {
+        Protocol::Udp => ffi::UDP,
+        Protocol::Tcp => ffi::TCP,
+        Protocol::SslTcp => ffi::SSL_TCP,
+        Protocol::Tls => ffi::TLS,
     }
 }
 
-impl TryFrom<&str> for Protocol {
-    type Error = ();
-
-    /// Reads the name of a protocol, in upper or lower case.
-    fn try_from(word: &str) -> Result<Protocol, ()> {
-        match word.to_ascii_lowercase().as_str() {
-            "udp" => Ok(Protocol::Udp),
-            "tcp" => Ok(Protocol::Tcp),
-            "ssltcp" => Ok(Protocol::SslTcp),
-            "tls" => Ok(Protocol::Tls),
-            _ => Err(()),
-        }
+/// The protocol of a number of the library.
+pub(crate) fn protocol_of(number: u8) -> Protocol {
+    match number {
+        ffi::UDP => Protocol::Udp,
+        ffi::TCP => Protocol::Tcp,
+        ffi::SSL_TCP => Protocol::SslTcp,
+        _ => Protocol::Tls,
     }
 }
 
-impl From<Protocol> for &'static str {
-    fn from(protocol: Protocol) -> &'static str {
-        match protocol {
-            Protocol::Udp => "udp",
-            Protocol::Tcp => "tcp",
-            Protocol::SslTcp => "ssltcp",
-            Protocol::Tls => "tls",
-        }
+/// The library's number of a TCP type: 0 if there is none.
+pub(crate) fn tcp_number_of(tcptype: Option<TcpType>) -> u8 {
+    match tcptype {
+        None => ffi::TCP_UNSTATED,
+        Some(TcpType::Active) => ffi::TCP_ACTIVE,
+        Some(TcpType::Passive) => ffi::TCP_PASSIVE,
+        Some(TcpType::So) => ffi::TCP_SO,
     }
 }
 
-impl fmt::Display for Protocol {
-    fn fmt(&self, f: &mut fmt::Formatter<'_>) -> fmt::Result {
-        f.write_str((*self).into())
-    }
-}
-
-/// Which side opens the connection of a TCP candidate (RFC 6544).
-#[derive(Clone, Copy, Debug, PartialEq, Eq, Hash)]
-pub enum TcpType {
-    /// The agent of the candidate.
-    Active,
-    /// The other agent.
-    Passive,
-    /// Both at once (simultaneous open).
-    So,
-}
-
-impl TcpType {
-    pub(crate) fn number(self) -> u8 {
-        match self {
-            TcpType::Active => ffi::TCP_ACTIVE,
-            TcpType::Passive => ffi::TCP_PASSIVE,
-            TcpType::So => ffi::TCP_SO,
-        }
-    }
-
-    pub(crate) fn of(number: u8) -> Option<TcpType> {
-        match number {
-            ffi::TCP_ACTIVE => Some(TcpType::Active),
-            ffi::TCP_PASSIVE => Some(TcpType::Passive),
-            ffi::TCP_SO => Some(TcpType::So),
-            _ => None,
-        }
-    }
-}
-
-const TCP_TYPES: [(&str, TcpType); 3] = [("active", TcpType::Active), ("passive", TcpType::Passive), ("so", TcpType::So)];
-
-impl fmt::Display for TcpType {
-    fn fmt(&self, f: &mut fmt::Formatter<'_>) -> fmt::Result {
-        f.write_str(TCP_TYPES.iter().find(|known| known.1 == *self).map_or("", |known| known.0))
-    }
-}
-
-impl FromStr for TcpType {
-    type Err = String;
-
-    /// Reads the word of a candidate attribute, as `active`.
-    fn from_str(word: &str) -> Result<TcpType, String> {
-        let known = TCP_TYPES.iter().find(|known| known.0 == word);
-        known.map(|known| known.1).ok_or_else(|| format!("unknown TCP type: {word}"))
+/// The TCP type of a number of the library.
+pub(crate) fn tcptype_of(number: u8) -> Option<TcpType> {
+    match number {
+        ffi::TCP_ACTIVE => Some(TcpType::Active),
+        ffi::TCP_PASSIVE => Some(TcpType::Passive),
+        ffi::TCP_SO => Some(TcpType::So),
+        _ => None,
     }
 }
 

@@ -9,7 +9,7 @@ use std::fmt;
 /// Why a pair was removed.
 #[derive(Clone, Copy, Debug, PartialEq, Eq)]
 pub enum Removal {
-    /// No check on it had a response.
+    /// No check on it had a success response.
     NoResponse,
     /// A check had a response once, and then consent ended (RFC 7675, section 5.1).
     ConsentLost,
@@ -101,6 +101,12 @@ impl fmt::Display for RemovedPair {
         }
         write!(f, ": {}", self.reason)
     }
+}
+
+/// Those of the listed pairs that were not listed before.
+pub(crate) fn new_ones<'a>(before: &'a [RemovedPair], listed: &'a [RemovedPair]) -> impl Iterator<Item = &'a RemovedPair> {
+    let mut known = before.iter();
+    listed.iter().skip_while(move |pair| known.any(|before| before == *pair))
 }
 
 impl IceAgent {

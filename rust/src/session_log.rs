@@ -2,7 +2,7 @@
 
 use crate::agent::IceAgent;
 use crate::event::IceAgentEvent;
-use crate::removed::RemovedPair;
+use crate::removed::{RemovedPair, new_ones};
 
 /// The lines that a program may log of one agent: of each event, and of each pair that is removed. A line begins with the local username
 /// fragment. What is logged, and where, is the program's choice.
@@ -44,9 +44,7 @@ impl SessionLog {
     /// so that no more pairs are removed in between than the agent lists, and a removal comes before the state that it causes.
     pub fn removals(&mut self, agent: &IceAgent) -> Vec<String> {
         let listed: Vec<RemovedPair> = agent.removed_pairs().collect();
-        let mut known = self.removed.iter();
-        let new = listed.iter().skip_while(|pair| known.any(|before| before == *pair));
-        let lines = new.map(|pair| line(agent, &format!("removed {pair}"))).collect();
+        let lines = new_ones(&self.removed, &listed).map(|pair| line(agent, &format!("removed {pair}"))).collect();
         self.removed = listed;
         lines
     }

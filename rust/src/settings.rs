@@ -4,21 +4,24 @@ use crate::agent::{IceAgent, nanoseconds};
 use crate::creds::IceCreds;
 use crate::error::{CallError, or_panic};
 use crate::ffi;
+use crate::logs::{Pii, logged};
 use crate::preference::{LocalPreference, PreferenceTable};
 use std::ops::RangeInclusive;
 use std::sync::{Arc, OnceLock};
 use std::time::Duration;
 
+/// The result of the original's form of a setting, which has no error: a value that the agent does not take changes nothing.
+fn kept(result: Result<(), CallError>) {
+    if let Err(why) = result {
+        logged!(debug, "a setting stays as it was: {why}");
+    }
+}
+
 impl IceAgent {
-    /// Stores how long a packet may be, and the length to warn about. Default: 1150 and 1280.
-    ///
-    /// # Panics
-    ///
-    /// If the first is below 588 bytes, the length of the longest connectivity check without NOMINATION. `try_set_mtu` returns an error
-    /// then.
-    #[track_caller]
+    /// Stores how long a packet may be, and the length to warn about. Default: 1150 and 1280. Both stay as they are if the first one is to
+    /// be below 588 bytes, the length of the longest connectivity check without NOMINATION. `try_set_mtu` returns an error then.
     pub fn set_mtu(&mut self, mtu: RangeInclusive<usize>) {
-        or_panic(self.try_set_mtu(mtu));
+        kept(self.try_set_mtu(mtu));
     }
 
     /// As `set_mtu`.
@@ -111,6 +114,7 @@ impl IceAgent {
     /// ([`Profile::Modern`](crate::Profile::Modern)) have delays of their own. Default: 250 ms.
     pub fn set_initial_stun_rto(&mut self, timeout: Duration) {
         self.set(|agent| ffi::is_ice_set_initial_rto(agent, nanoseconds(timeout)));
+        logged!(debug, "initial_rto = {timeout:?}");
     }
 
     /// Sets the longest time from one check of a pair until the next one is due. Default: 2.9 s; in the original 3 s. With few pairs
@@ -118,6 +122,7 @@ impl IceAgent {
     /// pairs there are, [`Consent`](crate::Consent) ends it by then.
     pub fn set_max_stun_rto(&mut self, timeout: Duration) {
         self.set(|agent| ffi::is_ice_set_max_rto(agent, nanoseconds(timeout)));
+        logged!(debug, "max_rto = {timeout:?}");
     }
 
     /// Sets how long a lite agent keeps a pair after the peer's last check on it. A pair without any counts as checked at its first
@@ -130,14 +135,10 @@ impl IceAgent {
     /// Sets after how many checks in a row without a response a pair is removed. It is not removed while the last check may still
     /// be answered in time, nor within 15 s of a check of the peer on it. With early retransmissions
     /// ([`Profile::Modern`](crate::Profile::Modern)) it is not removed within [`IceAgent::ice_timeout`] after the first of its checks
-    /// without a response, either. Default: 11; in the original 9.
-    ///
-    /// # Panics
-    ///
-    /// If the limit is 0. `try_set_max_stun_retransmits` returns an error then.
-    #[track_caller]
+    /// without a response, either. Default: 11; in the original 9. A limit of 0 is not taken: `try_set_max_stun_retransmits` returns an
+    /// error then.
     pub fn set_max_stun_retransmits(&mut self, num: usize) {
-        or_panic(self.try_set_max_stun_retransmits(num));
+        kept(self.try_set_max_stun_retransmits(num));
     }
 
     /// As `set_max_stun_retransmits`.
@@ -146,7 +147,9 @@ impl IceAgent {
     ///
     /// [`CallError::BadLimit`].
     pub fn try_set_max_stun_retransmits(&mut self, num: usize) -> Result<(), CallError> {
-        self.tell(|agent| ffi::is_ice_set_max_retransmits(agent, num)).map(drop)
+        self.tell(|agent| ffi::is_ice_set_max_retransmits(agent, num))?;
+        logged!(debug, "max_retransmits = {num}");
+        Ok(())
     }
 
     /// Sets the function that gives local candidates that are added later their local preference: a closure, or a [`LocalPreference`].
@@ -178,15 +181,10 @@ impl IceAgent {
         self.status().controlling
     }
 
-    /// Makes the agent controlling or controlled: controlling on the side that made the offer.
-    ///
-    /// # Panics
-    ///
-    /// If a lite agent with [`Profile::Modern`](crate::Profile::Modern) is to be controlling.
-    /// `try_set_controlling` returns an error then.
-    #[track_caller]
+    /// Makes the agent controlling or controlled: controlling on the side that made the offer. A lite agent with
+    /// [`Profile::Modern`](crate::Profile::Modern) stays controlled: `try_set_controlling` returns an error then.
     pub fn set_controlling(&mut self, controlling: bool) {
-        or_panic(self.try_set_controlling(controlling));
+        kept(self.try_set_controlling(controlling));
     }
 
     /// As `set_controlling`.
@@ -221,6 +219,7 @@ impl IceAgent {
     /// [`CallError::CredentialsTooLong`], [`CallError::OutOfMemory`].
     pub fn try_set_local_credentials(&mut self, r: IceCreds) -> Result<(), CallError> {
         self.tell(|agent| ffi::is_ice_set_local_credentials(agent, r.ufrag.as_bytes(), r.pass.as_bytes()))?;
+        logged!(debug, "Set local credentials: {:?}", Pii(&r));
         self.local = OnceLock::new();
         Ok(())
     }
@@ -252,6 +251,7 @@ impl IceAgent {
     /// [`CallError::CredentialsTooLong`], [`CallError::OutOfMemory`].
     pub fn try_set_remote_credentials(&mut self, r: IceCreds) -> Result<(), CallError> {
         self.tell(|agent| ffi::is_ice_set_remote_credentials(agent, r.ufrag.as_bytes(), r.pass.as_bytes()))?;
+        logged!(debug, "Set remote credentials: {:?}", Pii(&r));
         self.remote = OnceLock::new();
         Ok(())
     }

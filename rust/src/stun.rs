@@ -2,8 +2,9 @@
 
 use crate::error::{CallError, or_panic};
 use crate::ffi;
-use crate::proto::{Protocol, socket_of};
+use crate::proto::socket_of;
 use crate::stun_texts::{Texts, find, write};
+use crate::types::Protocol;
 use std::marker::PhantomData;
 use std::net::SocketAddr;
 

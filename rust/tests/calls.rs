@@ -373,15 +373,15 @@ fn checks_are_closer_until_there_is_a_path() {
 }
 
 #[test]
-#[should_panic(expected = "MTU target too small")]
-fn a_short_mtu_is_refused() {
-    IceAgent::new(creds("near")).set_mtu(587..=1280);
-}
-
-#[test]
-#[should_panic(expected = "bad limit")]
-fn no_retransmits_are_refused() {
-    IceAgent::new(creds("near")).set_max_stun_retransmits(0);
+fn settings_that_are_not_taken_change_nothing() {
+    let mut agent = IceAgent::new(creds("near"));
+    agent.set_max_stun_retransmits(3);
+    let timeout = agent.ice_timeout();
+    agent.set_mtu(587..=1280);
+    agent.set_max_stun_retransmits(0);
+    agent.set_ice_lite(true);
+    agent.set_controlling(true);
+    assert_eq!((agent.mtu(), agent.mtu_warn(), agent.ice_timeout(), agent.controlling()), (1150, 1280, timeout, false));
 }
 
 #[test]

@@ -233,7 +233,7 @@ impl Session {
         self.timing();
         let agent = &mut self.agents[side];
         match self.random.below(20) {
-            0 => agent.set_mtu(588..=number),
+            0 => agent.set_mtu(number..=number),
             1 => _ = black_box(agent.try_set_mtu(number..=number)),
             2 => agent.set_control_tie_breaker(number as u64),
             3 => agent.set_max_candidate_pairs(number),
@@ -244,12 +244,12 @@ impl Session {
             8 => agent.set_initial_stun_rto(duration),
             9 => agent.set_max_stun_rto(duration),
             10 => agent.set_lite_timeout(duration),
-            11 => agent.set_max_stun_retransmits(number.max(1)),
+            11 => agent.set_max_stun_retransmits(number),
             12 => _ = black_box(agent.try_set_max_stun_retransmits(number)),
             13 if flag => agent.set_preference_table(table),
             13 if number > 99 => agent.set_local_preference(move |_: &Candidate, _: usize| u32::from(number as u16)),
             13 => agent.reset_local_preference(),
-            14 if agent.ice_lite() => _ = black_box(agent.try_set_controlling(flag)),
+            14 if number > 99 => _ = black_box(agent.try_set_controlling(flag)),
             14 => agent.set_controlling(flag),
             15 => _ = black_box(agent.try_set_local_credentials(creds)),
             16 => _ = black_box(agent.try_set_remote_credentials(creds)),

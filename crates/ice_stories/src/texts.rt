@@ -128,7 +128,18 @@ impl fmt::Display for EventText<'_> {
             IceAgentEvent::DiscoveredRecv { proto, source } => {
                 write!(f, "discovered {proto} {}", AddressText(*source))
             }
-            IceAgentEvent::NominatedSend { .. } => f.write_str("nominated"),
+            IceAgentEvent::NominatedSend {
+                proto,
+                source,
+                destination,
+            } => {
+                let path = Path {
+                    proto: *proto,
+                    source: *source,
+                    destination: *destination,
+                };
+                write!(f, "nominated {}", PathText(path))
+            }
         }
     }
 }

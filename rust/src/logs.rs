@@ -1,0 +1,45 @@
+//! Events for the crate `tracing`, with the words and the target of the original's. Only the package in str0m/ has that crate: in the other
+//! ones nothing is logged.
+
+use std::fmt;
+
+/// Logs an event of a level, as `logged!(debug, "max_rto = {timeout:?}")`.
+#[cfg(str0m_types)]
+macro_rules! logged {
+    ($level:ident, $($words:tt)*) => {
+        tracing::$level!(target: "is::agent", $($words)*)
+    };
+}
+
+#[cfg(not(str0m_types))]
+macro_rules! logged {
+    ($level:ident, $($words:tt)*) => {
+        if false {
+            let _ = format_args!($($words)*);
+        }
+    };
+}
+
+pub(crate) use logged;
+
+/// Whether anybody listens to what only a comparison of two states shows.
+pub(crate) fn is_heard() -> bool {
+    #[cfg(str0m_types)]
+    return tracing::enabled!(target: "is::agent", tracing::Level::DEBUG);
+    #[cfg(not(str0m_types))]
+    false
+}
+
+/// A value with addresses or names, which the feature `pii` keeps out of the log.
+pub(crate) struct Pii<T>(pub(crate) T);
+
+impl<T: fmt::Debug> fmt::Debug for Pii<T> {
+    fn fmt(&self, f: &mut fmt::Formatter<'_>) -> fmt::Result {
+        if cfg!(feature = "pii") { f.write_str("{redacted}") } else { self.0.fmt(f) }
+    }
+}
+
+/// The word for a role.
+pub(crate) fn role_name(controlling: bool) -> &'static str {
+    if controlling { "controlling" } else { "controlled" }
+}
