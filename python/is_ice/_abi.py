@@ -14,7 +14,7 @@ TIMEOUT_RANDOM = 12
 UFRAG_LENGTH = 16
 PASS_LENGTH = 22
 STUN_REQUEST_LENGTH = 28
-STUN_WRITE_LENGTH = 1236
+STUN_WRITE_LENGTH = 1252
 FOUNDATION_START = 10
 
 
@@ -226,6 +226,8 @@ class StunMessage(ctypes.Structure):
         ("use_candidate", c_bool),
         ("has_integrity", c_bool),
         ("has_fingerprint", c_bool),
+        ("requested_transport", c_uint8),
+        ("requested_family", c_uint8),
     ]
 
 

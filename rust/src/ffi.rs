@@ -283,6 +283,8 @@ pub(crate) struct StunMessage {
     pub(crate) use_candidate: bool,
     pub(crate) has_integrity: bool,
     pub(crate) has_fingerprint: bool,
+    pub(crate) requested_transport: u8,
+    pub(crate) requested_family: u8,
 }
 
 #[repr(C)]
