@@ -1000,7 +1000,7 @@ enum {
     IS_ICE_STUN_DATA = 0x0013,       /* any bytes; the others are UTF-8 */
     IS_ICE_STUN_REALM = 0x0014,
     IS_ICE_STUN_NONCE = 0x0015,
-    IS_ICE_STUN_SOFTWARE = 0x0022    /* SOFTWARE with the type that libwebrtc gives it, not 0x8022 */
+    IS_ICE_STUN_SOFTWARE = 0x0022    /* SOFTWARE with the type that libwebrtc gives it, not 0x8022: for no TURN server */
 };
 
 /* is_ice_stun_text - returns a text of a message: the value of the last attribute of this type before
@@ -1025,6 +1025,9 @@ enum {
     IS_ICE_STUN_CREATE_PERMISSION = 8,
     IS_ICE_STUN_CHANNEL_BIND = 9
 };
+
+/* The protocol between a TURN server and the peers (RFC 8656, section 7.1): the only one that it defines. */
+enum { IS_ICE_STUN_UDP = 17 };
 
 /* A number that a message may have. */
 typedef struct is_ice_stun_number {
@@ -1054,6 +1057,8 @@ typedef struct is_ice_stun_message {
     bool use_candidate;                /* USE-CANDIDATE (RFC 8445, section 16.1) */
     bool has_integrity;                /* MESSAGE-INTEGRITY (RFC 8489, section 14.5); is_ice_stun_verify verifies it */
     bool has_fingerprint;              /* FINGERPRINT (RFC 8489, section 14.7); is_ice_stun_write always writes it */
+    uint8_t requested_transport;       /* REQUESTED-TRANSPORT (RFC 8656, section 18.7); 0: none. An Allocate has UDP */
+    uint8_t requested_family;          /* REQUESTED-ADDRESS-FAMILY (section 18.6): 4 or 6; 0: none, which requests IPv4 */
 } is_ice_stun_message;
 
 /* is_ice_is_stun - returns whether a datagram begins as a STUN message, and not as media on the same socket (RFC 7983). It
@@ -1133,17 +1138,19 @@ typedef struct is_ice_stun_texts {
  * is_ice_stun_read says of them. Flow information and scope of addresses are not written.
  *
  * `texts` says where in `bytes` each text is: `is_ice_stun_texts texts = {.username = {0, 9, true}};` with the bytes
- * "evtj:h6vY", for example. A buffer of IS_ICE_STUN_WRITE_LENGTH bytes is long enough for any message without DATA.
+ * "evtj:h6vY", for example. To a TURN server write no SOFTWARE: its type here, 0x0022, is that of RESERVATION-TOKEN there
+ * (RFC 8656, section 18.10). A buffer of IS_ICE_STUN_WRITE_LENGTH bytes is long enough for any message without DATA.
  * With it the message is longer by 4 bytes and the length of DATA, rounded up to a multiple of four.
  *
  * IS_ICE_OK: *length is the length of the message. After an error the buffer and *length are unchanged:
  * - IS_ICE_BAD_MESSAGE: a class or method that is not listed above, or an error code outside 300 to 699. A priority,
  *   lifetime or nomination of more than 32 bits, or a channel number, network ID or cost of more than 16. Only one of
  *   network_id and network_cost. A span that ends after the last byte.
- * - IS_ICE_BAD_ADDRESS: a family other than 0, 4 and 6. IS_ICE_NOT_UTF8: a text that is set, except DATA.
+ * - IS_ICE_BAD_ADDRESS: a family other than 0, 4 and 6, of an address or requested. IS_ICE_NOT_UTF8: a text that is set,
+ *   except DATA.
  * - IS_ICE_MESSAGE_TOO_LONG: a text is too long, or more than 65535 bytes would follow the header.
  * - IS_ICE_BUFFER_TOO_SHORT: the message does not fit, and nothing else is wrong with it. */
-enum { IS_ICE_STUN_WRITE_LENGTH = 1236 };
+enum { IS_ICE_STUN_WRITE_LENGTH = 1252 };
 IS_ICE_CALL int32_t is_ice_stun_write(
     const is_ice_stun_message *message, const is_ice_stun_texts *texts, const uint8_t *bytes, size_t bytes_length,
     const uint8_t *key, size_t key_length, uint8_t *buffer, size_t size, size_t *length);

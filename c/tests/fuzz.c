@@ -758,7 +758,8 @@ static void stun_write(void)
     if (again.method != m.method || again.cls != m.cls || again.use_candidate != m.use_candidate || again.has_integrity != m.has_integrity
         || !is_like(again.priority, m.priority) || !is_like(again.controlling, m.controlling) || !is_like(again.controlled, m.controlled)
         || !is_like(again.error_code, m.error_code) || !is_like(again.lifetime, m.lifetime)
-        || !is_like(again.nomination, m.nomination) || memcmp(&again.id, &m.id, sizeof m.id) != 0)
+        || !is_like(again.nomination, m.nomination) || again.requested_transport != m.requested_transport
+        || again.requested_family != m.requested_family || memcmp(&again.id, &m.id, sizeof m.id) != 0)
         stop("a written message is read otherwise");
     if (m.has_integrity && CALL(OK | QUIET, is_ice_stun_verify(o.bytes, *o.length, key.bytes, key.length)) != IS_ICE_OK)
         stop("a written message is not verified");

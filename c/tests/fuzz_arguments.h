@@ -209,6 +209,7 @@ static is_ice_stun_message fields(void)
         m.error_code = stun_number(700), m.lifetime = stun_number(UINT32_MAX), m.channel_number = stun_number(0x8000);
         m.network_id = stun_number(65536), m.network_cost = stun_number(65536), m.nomination = stun_number(UINT32_MAX);
         m.peer = address(), m.relayed = address();
+        m.requested_transport = take(), m.requested_family = one_in(8) ? take() : (uint8_t)(2 * below(4));
         if (one_in(8)) m.method = (uint16_t)number(), m.cls = take();
     }
     if (m.cls == IS_ICE_STUN_SUCCESS || one_in(8)) m.mapped = address();

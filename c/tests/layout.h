@@ -147,6 +147,8 @@ static inline const char *other_layout(void)
     if (offsetof(is_ice_stun_message, use_candidate) != 243) return "is_ice_stun_message.use_candidate";
     if (offsetof(is_ice_stun_message, has_integrity) != 244) return "is_ice_stun_message.has_integrity";
     if (offsetof(is_ice_stun_message, has_fingerprint) != 245) return "is_ice_stun_message.has_fingerprint";
+    if (offsetof(is_ice_stun_message, requested_transport) != 246) return "is_ice_stun_message.requested_transport";
+    if (offsetof(is_ice_stun_message, requested_family) != 247) return "is_ice_stun_message.requested_family";
     if (sizeof(is_ice_stun_span) != 24) return "is_ice_stun_span";
     if (offsetof(is_ice_stun_span, start) != 0) return "is_ice_stun_span.start";
     if (offsetof(is_ice_stun_span, length) != 8) return "is_ice_stun_span.length";
@@ -347,7 +349,9 @@ static inline bool same_stun_message(const is_ice_stun_message *a, const is_ice_
         && a->cls == b->cls
         && a->use_candidate == b->use_candidate
         && a->has_integrity == b->has_integrity
-        && a->has_fingerprint == b->has_fingerprint;
+        && a->has_fingerprint == b->has_fingerprint
+        && a->requested_transport == b->requested_transport
+        && a->requested_family == b->requested_family;
 }
 
 static inline bool same_stun_span(const is_ice_stun_span *a, const is_ice_stun_span *b)

@@ -52,6 +52,7 @@ static void offsets(void)
     AT(is_ice_stun_message, mapped, 144), AT(is_ice_stun_message, peer, 172), AT(is_ice_stun_message, relayed, 200);
     AT(is_ice_stun_message, id, 228), AT(is_ice_stun_message, method, 240), AT(is_ice_stun_message, cls, 242);
     AT(is_ice_stun_message, use_candidate, 243), AT(is_ice_stun_message, has_integrity, 244), AT(is_ice_stun_message, has_fingerprint, 245);
+    AT(is_ice_stun_message, requested_transport, 246), AT(is_ice_stun_message, requested_family, 247);
     AT(is_ice_stun_span, start, 0), AT(is_ice_stun_span, length, 8), AT(is_ice_stun_span, is_set, 16);
     AT(is_ice_stun_texts, username, 0), AT(is_ice_stun_texts, reason, 24), AT(is_ice_stun_texts, data, 48);
     AT(is_ice_stun_texts, realm, 72), AT(is_ice_stun_texts, nonce, 96), AT(is_ice_stun_texts, software, 120);
@@ -128,6 +129,7 @@ static void reads_any_message(void)
     HOLD(!m.error_code.is_set && !m.lifetime.is_set && !m.channel_number.is_set && !m.network_id.is_set && !m.network_cost.is_set);
     HOLD(!m.nomination.is_set && m.nomination.value == 0);
     HOLD(m.mapped.family == 0 && m.peer.family == 0 && m.relayed.family == 0 && m.has_integrity && m.has_fingerprint);
+    HOLD(m.requested_transport == 0 && m.requested_family == 0);
     HOLD(is_ice_stun_text(IS_ICE_STUN_USERNAME, bytes, size, text, sizeof text, &length) == IS_ICE_OK);
     HOLD(length == 9 && memcmp(text, "evtj:h6vY", 9) == 0);
     HOLD(is_ice_stun_text(IS_ICE_STUN_REALM, bytes, size, text, sizeof text, &length) == IS_ICE_NOTHING && length == 9);
@@ -164,6 +166,7 @@ static void same_again(
     HOLD(m.mapped.family == wanted->mapped.family && m.mapped.port == wanted->mapped.port);
     HOLD(m.mapped.family == 0 || memcmp(m.mapped.bytes, wanted->mapped.bytes, m.mapped.family == 4 ? 4 : 16) == 0);
     HOLD(m.use_candidate == wanted->use_candidate && m.has_integrity == wanted->has_integrity && m.has_fingerprint);
+    HOLD(m.requested_transport == wanted->requested_transport && m.requested_family == wanted->requested_family);
     HOLD(is_ice_stun_verify(bytes, size, (const uint8_t *)password, sizeof password - 1) == (m.has_integrity ? 0 : 1));
     if (text == NULL) return;
     HOLD(is_ice_stun_text(attribute, bytes, size, found, sizeof found, &length) == IS_ICE_OK);
@@ -257,6 +260,32 @@ static void writes_a_nomination(void)
     HOLD(is_ice_stun_read(written, length, &m) == IS_ICE_OK && !m.nomination.is_set && m.nomination.value == 0 && !m.lifetime.is_set);
 }
 
+/* An Allocate request without credentials, byte by byte (RFC 8656, sections 18.6 and 18.7). */
+static void writes_an_allocate(void)
+{
+    static const uint8_t header[8] = {0, 3, 0, 24, 0x21, 0x12, 0xa4, 0x42};
+    static const uint8_t asked[16] = {0, 0x17, 0, 4, 2, 0, 0, 0, 0, 0x19, 0, 4, 17, 0, 0, 0};
+    uint8_t written[64];
+    size_t length;
+    is_ice_stun_message m;
+    is_ice_stun_texts none;
+    memset(&m, 0, sizeof m);
+    memset(&none, 0, sizeof none);
+    m.method = IS_ICE_STUN_ALLOCATE, m.id = id, m.requested_transport = IS_ICE_STUN_UDP, m.requested_family = 6;
+    HOLD(write_it(&m, &none, "", written, sizeof written, &length) == IS_ICE_OK && length == 44);
+    HOLD(memcmp(written, header, 8) == 0 && memcmp(written + 8, id.bytes, 12) == 0 && memcmp(written + 20, asked, 16) == 0);
+    same_again(&m, 0, NULL, written, length);
+    written[24] = 3; /* a family that RFC 8656 does not define is left out */
+    HOLD(is_ice_stun_read(written, length, &m) == IS_ICE_OK && m.requested_family == 0 && m.requested_transport == IS_ICE_STUN_UDP);
+    m.requested_family = 4;
+    HOLD(write_it(&m, &none, "", written, sizeof written, &length) == IS_ICE_OK && length == 44 && written[24] == 1);
+    same_again(&m, 0, NULL, written, length);
+    written[35] = 1, written[31] = 3; /* REQUESTED-TRANSPORT of three bytes is left out */
+    HOLD(is_ice_stun_read(written, length, &m) == IS_ICE_OK && m.requested_family == 4 && m.requested_transport == 0);
+    m.requested_family = 5;
+    HOLD(write_it(&m, &none, "", written, sizeof written, &length) == IS_ICE_BAD_ADDRESS);
+}
+
 static is_ice_stun_span whole(size_t length)
 {
     is_ice_stun_span span = {0, 0, true};
@@ -282,6 +311,7 @@ static void writes_all_attributes(void)
     m.error_code.value = 699;
     m.mapped.family = m.peer.family = m.relayed.family = 6;
     m.use_candidate = m.has_integrity = true;
+    m.requested_transport = 255, m.requested_family = 6;
     texts.username = whole(508);
     texts.reason = texts.realm = texts.nonce = texts.software = whole(128);
     HOLD(write_it(&m, &texts, text, written, sizeof written, &length) == IS_ICE_OK && length == IS_ICE_STUN_WRITE_LENGTH);
@@ -430,6 +460,7 @@ int main(void)
     writes_the_samples();
     writes_an_error();
     writes_a_nomination();
+    writes_an_allocate();
     writes_all_attributes();
     refuses_what_is_no_message();
     writes_a_request();

@@ -121,6 +121,8 @@ export const STRUCTS = {
     ["useCandidate", 243, "bool"],
     ["hasIntegrity", 244, "bool"],
     ["hasFingerprint", 245, "bool"],
+    ["requestedTransport", 246, "u8"],
+    ["requestedFamily", 247, "u8"],
   ],
   StunSpan: [24, ["start", 0, "u64"], ["length", 8, "u64"], ["isSet", 16, "bool"]],
   StunTexts: [
@@ -219,8 +221,9 @@ export const NUMBERS = {
   STUN_DATA_INDICATION: 7,
   STUN_CREATE_PERMISSION: 8,
   STUN_CHANNEL_BIND: 9,
+  STUN_UDP: 17,
   HMAC_LENGTH: 20,
-  STUN_WRITE_LENGTH: 1236,
+  STUN_WRITE_LENGTH: 1252,
 };
 
 // call: its arguments. `in:` and `out:` are pointers: the call only reads what is there, or may write it.

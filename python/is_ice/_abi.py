@@ -103,9 +103,11 @@ STUN_DATA_INDICATION = 7
 STUN_CREATE_PERMISSION = 8
 STUN_CHANNEL_BIND = 9
 
+STUN_UDP = 17
+
 HMAC_LENGTH = 20
 
-STUN_WRITE_LENGTH = 1236
+STUN_WRITE_LENGTH = 1252
 
 # The text of each code.
 TEXTS = {
@@ -337,6 +339,8 @@ class StunMessage(ctypes.Structure):
         ("use_candidate", c_bool),
         ("has_integrity", c_bool),
         ("has_fingerprint", c_bool),
+        ("requested_transport", c_uint8),
+        ("requested_family", c_uint8),
     ]
 
 

@@ -127,12 +127,14 @@ def write_message(
     realm: str | None = None, nonce: str | None = None, software: str | None = None,
     peer_address: SocketAddress | None = None, relayed_address: SocketAddress | None = None, data: bytes | None = None,
     lifetime: int | None = None, channel_number: int | None = None, network_cost: tuple[int, int] | None = None,
-    nomination: int | None = None,
+    nomination: int | None = None, requested_transport: int | None = None, requested_family: int | None = None,
 ) -> bytes:
     """Writes a message: the attributes that are not None, MESSAGE-INTEGRITY if there is a key, and FINGERPRINT.
 
     The names are those of `StunMessage`; `error` is the code and the reason phrase. In ICE the key is the password of the request's
-    receiver. Raises BadMessage or MessageTooLong, and ValueError for a number that does not fit its attribute.
+    receiver, at a TURN server the MD5 digest of USERNAME, realm and password with colons between them (RFC 8489, section 9.2.2).
+    To a TURN server write no `software`: its type here is another attribute there. Raises BadMessage or MessageTooLong, BadAddress
+    for a family other than 4 and 6, and ValueError for a number that does not fit its attribute.
     """
     network, cost = network_cost or (None, None)
     flat = _abi.StunMessage(id=_id_of(transaction), method=int(method), cls=int(class_), use_candidate=use_candidate)
@@ -142,6 +144,9 @@ def write_message(
     for name, number, bits in numbers:
         if number is not None:
             setattr(flat, name, _abi.StunNumber(in_range(number, bits, name), True))
+    for name, byte in (("requested_transport", requested_transport), ("requested_family", requested_family)):
+        if byte is not None:
+            setattr(flat, name, in_range(byte, 8, name))
     for name, address in (("mapped", mapped_address), ("peer", peer_address), ("relayed", relayed_address)):
         if address is not None:
             setattr(flat, name, address_of(address))
@@ -250,6 +255,16 @@ class StunMessage:
     def nomination(self) -> int | None:
         """NOMINATION: the number of a nomination (draft-thatcher-ice-renomination)."""
         return _number(self._flat.nomination)
+
+    @property
+    def requested_transport(self) -> int | None:
+        """REQUESTED-TRANSPORT (RFC 8656, section 18.7): the protocol that an Allocate request requests. 17 is UDP."""
+        return self._flat.requested_transport or None
+
+    @property
+    def requested_family(self) -> int | None:
+        """REQUESTED-ADDRESS-FAMILY (RFC 8656, section 18.6): 4 or 6, the family that an Allocate request requests."""
+        return self._flat.requested_family or None
 
     @property
     def username(self) -> str | None:

@@ -11,7 +11,7 @@ import time
 import unittest
 import zlib
 
-from is_ice import BadMessage, IceAgent, MessageTooLong, SocketAddress, Unparsed
+from is_ice import BadAddress, BadMessage, IceAgent, MessageTooLong, SocketAddress, Unparsed
 from is_ice.loop import IceLoop
 from is_ice.stun import (
     BindingResponse,
@@ -162,7 +162,8 @@ class Writing(unittest.TestCase):
         written = write_message(
             StunMethod.ALLOCATE, StunClass.INDICATION, bytes(12), username="a:b", priority=1, use_candidate=True, ice_controlled=2,
             ice_controlling=3, mapped_address=at, error=(699, ""), realm="r", nonce="n", software="s", peer_address=at,
-            relayed_address=at, data=bytes(70), lifetime=4, channel_number=0x4000, network_cost=(5, 6), nomination=7)
+            relayed_address=at, data=bytes(70), lifetime=4, channel_number=0x4000, network_cost=(5, 6), nomination=7,
+            requested_transport=17, requested_family=6)
         m = StunMessage(written)
         self.assertEqual((m.method, m.class_, m.transaction, m.username), (StunMethod.ALLOCATE, StunClass.INDICATION, bytes(12), "a:b"))
         self.assertEqual((m.priority, m.use_candidate, m.ice_controlled, m.ice_controlling), (1, True, 2, 3))
@@ -170,6 +171,7 @@ class Writing(unittest.TestCase):
         texts = [m.text(text) for text in (StunText.ERROR_CODE, StunText.REALM, StunText.NONCE, StunText.SOFTWARE)]
         self.assertEqual(texts, ["", "r", "n", "s"])
         self.assertEqual((m.value_of_data, m.lifetime, m.channel_number, m.network_cost, m.nomination), (bytes(70), 4, 0x4000, (5, 6), 7))
+        self.assertEqual((m.requested_transport, m.requested_family), (17, 6))
         self.assertEqual(m.to_bytes(), written)
 
     def test_a_nomination_has_a_number(self) -> None:
@@ -183,6 +185,14 @@ class Writing(unittest.TestCase):
             self.assertEqual((message.nomination, message.use_candidate, message.verify(PASSWORD)), (number, False, True))
             self.assertEqual(message.to_bytes(PASSWORD), check)
 
+    def test_an_allocate_request_has_a_transport_and_a_family(self) -> None:
+        """REQUESTED-ADDRESS-FAMILY and REQUESTED-TRANSPORT byte by byte (RFC 8656, sections 18.6 and 18.7)."""
+        for family, number in ((4, 1), (6, 2)):
+            written = write_message(StunMethod.ALLOCATE, StunClass.REQUEST, ID, requested_transport=17, requested_family=family)
+            self.assertEqual((len(written), written[20:36]), (44, bytes([0, 0x17, 0, 4, number, 0, 0, 0, 0, 0x19, 0, 4, 17, 0, 0, 0])))
+        plain = StunMessage(write_message(StunMethod.ALLOCATE, StunClass.REQUEST, ID))
+        self.assertEqual((plain.requested_transport, plain.requested_family), (None, None))
+
     def test_what_cannot_be_written(self) -> None:
         kind = StunMethod.BINDING, StunClass.REQUEST, ID
         self.assertRaises(BadMessage, write_message, StunMethod.OTHER, StunClass.REQUEST, ID)
@@ -190,6 +200,8 @@ class Writing(unittest.TestCase):
         self.assertRaises(MessageTooLong, write_message, *kind, realm="r" * 129)
         self.assertRaises(ValueError, write_message, *kind, priority=1 << 32)
         self.assertRaises(ValueError, write_message, *kind, nomination=1 << 32)
+        self.assertRaises(ValueError, write_message, *kind, requested_transport=256)
+        self.assertRaises(BadAddress, write_message, *kind, requested_family=5)
         self.assertRaises(ValueError, write_message, StunMethod.BINDING, StunClass.REQUEST, b"")
         self.assertEqual(len(write_message(*kind, data=bytes(65000))), 20 + 4 + 65000 + 8)
 

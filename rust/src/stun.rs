@@ -48,6 +48,13 @@ impl TransId {
     }
 }
 
+/// The family that an Allocate request requests (RFC 8656, section 18.6).
+#[derive(Clone, Copy, Debug, PartialEq, Eq)]
+pub enum AddressFamily {
+    Ipv4,
+    Ipv6,
+}
+
 /// The class of a message (RFC 8489, section 5).
 #[derive(Clone, Copy, Debug, PartialEq, Eq)]
 pub enum Class {
@@ -452,6 +459,23 @@ impl<'a> StunMessage<'a> {
     /// NOMINATION: the number of a nomination (draft-thatcher-ice-renomination).
     pub fn nomination(&self) -> Option<u32> {
         number(self.flat.nomination)
+    }
+
+    /// REQUESTED-TRANSPORT (RFC 8656, section 18.7): the protocol that an Allocate request requests. 17 is UDP.
+    pub fn requested_transport(&self) -> Option<u8> {
+        match self.flat.requested_transport {
+            0 => None,
+            number => Some(number),
+        }
+    }
+
+    /// REQUESTED-ADDRESS-FAMILY (RFC 8656, section 18.6): the family that an Allocate request requests.
+    pub fn requested_family(&self) -> Option<AddressFamily> {
+        match self.flat.requested_family {
+            4 => Some(AddressFamily::Ipv4),
+            6 => Some(AddressFamily::Ipv6),
+            _ => None,
+        }
     }
 
     /// Whether the message was parsed and has MESSAGE-INTEGRITY (RFC 8489, section 14.5).

@@ -3,7 +3,7 @@
 
 use crate::ffi;
 use crate::proto::address_of;
-use crate::stun::{Class, Method, StunMessage, TransId, class_number, method_number};
+use crate::stun::{AddressFamily, Class, Method, StunMessage, TransId, class_number, method_number};
 use crate::stun_texts::Texts;
 use std::marker::PhantomData;
 use std::net::SocketAddr;
@@ -212,6 +212,22 @@ impl<'a> Builder<'a, HasClass> {
     /// Sets NOMINATION: the number of a nomination (draft-thatcher-ice-renomination).
     pub fn nomination(mut self, number: u32) -> Self {
         self.flat.nomination = set(number);
+        self
+    }
+
+    /// Sets REQUESTED-TRANSPORT (RFC 8656, section 18.7): the protocol between a TURN server and the peers. Each Allocate request has
+    /// it, with 17 for UDP. A protocol of 0 is not written.
+    pub fn requested_transport(mut self, protocol: u8) -> Self {
+        self.flat.requested_transport = protocol;
+        self
+    }
+
+    /// Sets REQUESTED-ADDRESS-FAMILY (RFC 8656, section 18.6) of an Allocate request. Without it a server allocates an IPv4 address.
+    pub fn requested_family(mut self, family: AddressFamily) -> Self {
+        self.flat.requested_family = match family {
+            AddressFamily::Ipv4 => 4,
+            AddressFamily::Ipv6 => 6,
+        };
         self
     }
 

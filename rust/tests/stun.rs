@@ -1,7 +1,7 @@
 //! STUN messages: the samples of RFC 5769, read and written, and the request and the responses of a client.
 
 use is::StunError;
-use is::stun::{BindingResponse, Class, Method, QUERY_LENGTH, StunMessage, StunMessageBuilder, TransId};
+use is::stun::{AddressFamily, BindingResponse, Class, Method, QUERY_LENGTH, StunMessage, StunMessageBuilder, TransId};
 use std::io::ErrorKind;
 use std::net::SocketAddr;
 use std::time::{Duration, Instant};
@@ -157,6 +157,21 @@ fn a_nomination_has_a_number() {
         assert!(read.is_signed_by(PASSWORD) && !read.use_candidate());
         assert_eq!((read.nomination(), read.prio()), (Some(number), Some(1)));
     }
+}
+
+/// What an Allocate request requests, byte by byte (RFC 8656, sections 18.6 and 18.7).
+#[test]
+fn an_allocate_request_has_a_transport_and_a_family() {
+    for (family, number) in [(AddressFamily::Ipv4, 1), (AddressFamily::Ipv6, 2)] {
+        let built = StunMessageBuilder::new().allocate().request().requested_transport(17).requested_family(family).build(ID);
+        let bytes = bytes_of(built, None);
+        assert_eq!((bytes.len(), &bytes[20..36]), (44, &[0, 0x17, 0, 4, number, 0, 0, 0, 0, 0x19, 0, 4, 17, 0, 0, 0][..]));
+        let read = StunMessage::parse_any(&bytes).unwrap();
+        assert_eq!((read.requested_transport(), read.requested_family()), (Some(17), Some(family)));
+    }
+    let plain = bytes_of(StunMessageBuilder::new().allocate().request().build(ID), None);
+    let read = StunMessage::parse_any(&plain).unwrap();
+    assert_eq!((plain.len(), read.requested_transport(), read.requested_family()), (28, None, None));
 }
 
 #[test]

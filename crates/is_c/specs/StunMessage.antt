@@ -4,9 +4,13 @@ use Rattle.std.specs.declared.net.socket_addr.SocketAddr.{SocketAddr}
 use Rattle.is_proto.specs.Hmac.{hmac_sha1}
 use Rattle.is_stun.specs.declared.header.Class.{Class}
 use Rattle.is_stun.specs.declared.header.Class.TheVariants as classes
+use Rattle.is_stun.specs.declared.requested.AddressFamily.{AddressFamily}
+use Rattle.is_stun.specs.declared.requested.AddressFamily.TheVariants.{Ipv4, Ipv6}
+use Rattle.is_stun.specs.declared.requested.Requested.{Requested}
 use Rattle.is_stun.specs.Header.{method_bits}
 use Rattle.is_stun.specs.Integrity.{IsSignedBy}
 use Rattle.is_stun.specs.Message.{Message}
+use Rattle.is_stun.specs.Requested.{requested_in}
 use Rattle.is_c.specs.declared.address.Address.{Address}
 use Rattle.is_c.specs.declared.stun_message.Message.{Message as Flat}
 use Rattle.is_c.specs.declared.stun_message.Number.{Number}
@@ -63,8 +67,24 @@ pub record IsFlat (m : Message) (f : Flat) : Type 0 where
   pub has_integrity : f.has_integrity ≡ is_some m.integrity
   pub has_fingerprint : f.has_fingerprint ≡ is_some m.attributes.fingerprint
 
-abbrev pub IsFlatOf : Message → ℤ → Flat → Type 0
-IsFlatOf m code f = (code ≡ OK) × IsFlat m f
+-- ---- what an Allocate request requests: 0 for nothing
+
+abbrev pub transport_number : Option ℕ → ℕ
+transport_number None = 0
+transport_number (Some n) = n
+
+abbrev pub family_number : Option AddressFamily → ℕ
+family_number None = 0
+family_number (Some Ipv4) = 4
+family_number (Some Ipv6) = 6
+
+pub record HasRequested (r : Requested) (f : Flat) : Type 0 where
+  pub transport : f.requested_transport ≡ transport_number r.transport
+  pub family : f.requested_family ≡ family_number r.family
+
+-- the message that bytes encode, and what it requests
+abbrev pub IsFlatOf : List ℕ → Message → ℤ → Flat → Type 0
+IsFlatOf bytes m code f = (code ≡ OK) × IsFlat m f × HasRequested (requested_in bytes) f
 
 -- OK exactly if the message carries the MAC of its text under the key
 abbrev pub AnswersSigned : Message → List ℕ → ℤ → Type 0

@@ -9,11 +9,13 @@ use Rattle.is_stun.specs.declared.header.Method.{Method}
 use Rattle.is_stun.specs.declared.header.Method.TheVariants as methods
 use Rattle.is_stun.specs.Builder.{built}
 use Rattle.is_stun.specs.Message.{AttributesRecord, Message}
-use Rattle.is_stun.specs.Writing.{rejection, written, is_known}
+use Rattle.is_stun.specs.Requested.{rejection_with, written_with}
+use Rattle.is_stun.specs.Writing.{is_known}
+use Rattle.is_stun.specs.declared.requested.AddressFamily.TheVariants.{Ipv4, Ipv6}
+use Rattle.is_stun.specs.declared.requested.Requested.{Requested}
 use Rattle.is_c.specs.declared.stun_message.Message.{Message as Flat}
 use Rattle.is_c.specs.declared.stun_message.Number.{Number}
 use Rattle.is_c.specs.declared.stun_texts.Texts.{Texts}
-use Rattle.is_c.specs.declared.address.Address.{Address}
 use Rattle.is_c.specs.Addresses.{socket_of}
 use Rattle.is_c.specs.Codes.{OK, BAD_ADDRESS, BUFFER_TOO_SHORT, BAD_MESSAGE, MESSAGE_TOO_LONG}
 use Rattle.is_c.specs.StunMessage.{number_in}
@@ -63,12 +65,13 @@ has_bad_number f =
     || is_above 0xFFFFFFFF f.nomination
     || is_half f.network_id.is_set f.network_cost.is_set
 
--- neither family 4 nor 6, nor 0, which says that there is no address
-abbrev pub is_bad_family : Address → Bool
-is_bad_family a = not (a.family == 0) && not (a.family == 4) && not (a.family == 6)
+-- neither family 4 nor 6, nor 0, which says that there is none
+abbrev pub is_bad_family : ℕ → Bool
+is_bad_family family = not (family == 0) && not (family == 4) && not (family == 6)
 
 abbrev pub has_bad_family : Flat → Bool
-has_bad_family f = is_bad_family f.mapped || is_bad_family f.peer || is_bad_family f.relayed
+has_bad_family f =
+    is_bad_family f.mapped.family || is_bad_family f.peer.family || is_bad_family f.relayed.family || is_bad_family f.requested_family
 
 -- ---- the message
 
@@ -110,6 +113,13 @@ attributes_in f t bytes =
 abbrev pub message_in : Flat → Texts → List ℕ → Message
 message_in f t bytes = built (method_in f.method) (class_in f.class) f.id.bytes (attributes_in f t bytes)
 
+-- what it requests
+abbrev pub requested_of : Flat → Requested
+requested_of f = record {
+  transport = if f.requested_transport == 0 then None else Some f.requested_transport;
+  family = if f.requested_family == 4 then Some Ipv4 else (if f.requested_family == 6 then Some Ipv6 else None);
+}
+
 -- why they mean none
 abbrev pub fault_in : Flat → Texts → List ℕ → Option ℤ
 fault_in f t bytes =
@@ -141,6 +151,6 @@ key_if is_signed key = if is_signed then Some key else None
 abbrev pub WritesMessage : Flat → Texts → List ℕ → List ℕ → List ℕ → ℕ → ℤ → List ℕ → ℕ → Type 0
 WritesMessage f t bytes key old count code new new_count =
     WritesIn (fault_in f t bytes)
-    (rejection (key_if f.has_integrity key) (length old) (message_in f t bytes))
-    (written hmac_sha1 (key_if f.has_integrity key) (message_in f t bytes))
+    (rejection_with (key_if f.has_integrity key) (length old) (message_in f t bytes) (requested_of f))
+    (written_with hmac_sha1 (key_if f.has_integrity key) (message_in f t bytes) (requested_of f))
     old count code new new_count

@@ -5,7 +5,7 @@ ghost use Rattle.std.specs.Option.{option_map};
 ghost use Rattle.is_proto.specs.Hmac.{hmac_sha1};
 ghost use Rattle.is_stun.specs.Header.{method_bits};
 ghost use Rattle.is_stun.specs.MessageView.{message_view};
-ghost use Rattle.is_c.specs.StunMessage.{class_number, number_of, IsAddress, IsFlat, IsFlatOf, AnswersSigned};
+ghost use Rattle.is_c.specs.StunMessage.{class_number, number_of, IsAddress, IsFlat, family_number, transport_number, HasRequested, IsFlatOf, AnswersSigned};
 ghost use Rattle.is_c.specs.StunRead.{ReturnsMessage, ReturnsStrict};
 ghost use Rattle.is_c.specs.Texts.{Puts};
 
@@ -14,7 +14,7 @@ use crate::codes;
 use crate::stun_client::Transaction;
 use crate::text::put;
 use is_proto::{DefaultSha1HmacProvider, Sha1HmacProvider};
-use is_stun::stun::{Class, Method, StunMessage};
+use is_stun::stun::{AddressFamily, Class, Method, Requested, StunMessage};
 use std::net::SocketAddr;
 
 /// A number that a message may have: 0 if it is not set.
@@ -53,6 +53,9 @@ pub struct Message {
     pub use_candidate: bool,
     pub has_integrity: bool,
     pub has_fingerprint: bool,
+    /// REQUESTED-TRANSPORT and REQUESTED-ADDRESS-FAMILY of an Allocate request: the protocol, and 4 or 6. 0: not there.
+    pub requested_transport: u8,
+    pub requested_family: u8,
 }
 
 fn number_of(value: Option<u64>) -> Number
@@ -149,8 +152,28 @@ fn network_of(message: &StunMessage<'_>) -> (Option<u16>, Option<u16>)
     }
 }
 
-fn flat(message: &StunMessage<'_>) -> Message
-    ensures { IsFlat (message_view message.now) result }
+fn family_number(family: Option<AddressFamily>) -> u8
+    ensures { result ≡ family_number family }
+{
+    match family {
+        Some(AddressFamily::Ipv4) => 4,
+        Some(AddressFamily::Ipv6) => 6,
+        None => 0,
+    }
+}
+
+fn transport_number(transport: Option<u8>) -> u8
+    ensures { result ≡ transport_number transport }
+{
+    match transport {
+        Some(number) => number,
+        None => 0,
+    }
+}
+
+fn flat(message: &StunMessage<'_>, requested: &Requested) -> Message
+    ensures message { IsFlat (message_view message.now) result }
+    ensures requested { HasRequested requested.now result }
 {
     let (network, cost) = network_of(message);
     let id = message.trans_id();
@@ -174,17 +197,19 @@ fn flat(message: &StunMessage<'_>) -> Message
         use_candidate: message.use_candidate(),
         has_integrity: message.has_integrity(),
         has_fingerprint: message.fingerprint().is_some(),
+        requested_transport: transport_number(requested.transport),
+        requested_family: family_number(requested.family),
     }
 }
 
 /// Reads a message of any method and class; its texts are read by `is_ice_stun_text`.
 #[unsafe(no_mangle)]
 pub extern "C" fn is_ice_stun_read(bytes: &[u8], message: &mut Message) -> i32
-    ensures { ReturnsMessage bytes.now (λ m code. IsFlatOf m code message.new) (message.new ≡ message.old) result }
+    ensures { ReturnsMessage bytes.now (λ m code. IsFlatOf bytes.now m code message.new) (message.new ≡ message.old) result }
 {
     match StunMessage::parse_any(bytes) {
         Ok(found) => {
-            *message = flat(&found);
+            *message = flat(&found, &Requested::of(bytes));
             codes::OK
         }
         Err(_) => codes::UNPARSED,
@@ -194,11 +219,11 @@ pub extern "C" fn is_ice_stun_read(bytes: &[u8], message: &mut Message) -> i32
 /// Reads a message as `is_ice_handle_packet` does: a Binding request or success response has the attributes that ICE requires.
 #[unsafe(no_mangle)]
 pub extern "C" fn is_ice_stun_read_strict(bytes: &[u8], message: &mut Message) -> i32
-    ensures { ReturnsStrict bytes.now (λ m code. IsFlatOf m code message.new) (message.new ≡ message.old) result }
+    ensures { ReturnsStrict bytes.now (λ m code. IsFlatOf bytes.now m code message.new) (message.new ≡ message.old) result }
 {
     match StunMessage::parse(bytes) {
         Ok(read) => {
-            *message = flat(&read);
+            *message = flat(&read, &Requested::of(bytes));
             codes::OK
         }
         Err(_) => codes::UNPARSED,

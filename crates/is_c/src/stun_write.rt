@@ -6,16 +6,16 @@ ghost use Rattle.is_proto.specs.Hmac.{hmac_sha1};
 ghost use Rattle.is_stun.specs.Builder.{attributes_so_far, method_so_far, kind_so_far};
 ghost use Rattle.is_stun.specs.Message.{no_attributes};
 ghost use Rattle.is_stun.specs.MessageView.{message_view};
-ghost use Rattle.is_stun.specs.Writing.{is_known, rejection, written};
-ghost use Rattle.is_c.specs.StunWrite.{method_in, class_in, is_kind, is_above, is_half, has_bad_number, is_bad_family, has_bad_family, write_code, key_if, fault_in, message_in, WritesIn, WritesMessage};
+ghost use Rattle.is_stun.specs.Requested.{rejection_with, written_with};
+ghost use Rattle.is_stun.specs.Writing.{is_known};
+ghost use Rattle.is_c.specs.StunWrite.{method_in, class_in, is_kind, is_above, is_half, has_bad_number, is_bad_family, has_bad_family, write_code, key_if, fault_in, message_in, requested_of, WritesIn, WritesMessage};
 
-use crate::address::Address;
 use crate::codes;
 use crate::stun_fill::filled;
 use crate::stun_message::{Message, Number};
 use crate::stun_texts::{Texts, words_of};
 use is_proto::{DefaultSha1HmacProvider, StunError};
-use is_stun::stun::{Builder, HasClass, HasMethod, StunMessage, TransId};
+use is_stun::stun::{AddressFamily, Builder, HasClass, HasMethod, Requested, StunMessage, TransId};
 
 // ---- the method and the class
 
@@ -81,18 +81,19 @@ fn has_bad_number(message: &Message) -> bool
         || is_half(message.network_id.is_set, message.network_cost.is_set)
 }
 
-fn is_bad_family(address: &Address) -> bool
-    ensures { result ≡ is_bad_family address.now }
+fn is_bad_family(family: u8) -> bool
+    ensures { result ≡ is_bad_family family }
 {
-    address.family != 0 && address.family != 4 && address.family != 6
+    family != 0 && family != 4 && family != 6
 }
 
 fn has_bad_family(message: &Message) -> bool
     ensures { result ≡ has_bad_family message.now }
 {
-    is_bad_family(&message.mapped)
-        || is_bad_family(&message.peer)
-        || is_bad_family(&message.relayed)
+    is_bad_family(message.mapped.family)
+        || is_bad_family(message.peer.family)
+        || is_bad_family(message.relayed.family)
+        || is_bad_family(message.requested_family)
 }
 
 // ---- the message
@@ -139,13 +140,35 @@ fn key_of<'a>(message: &Message, key: &'a [u8]) -> Option<&'a [u8]>
     }
 }
 
+fn requested_of(message: &Message) -> Requested
+    ensures { result ≡ requested_of message.now }
+{
+    Requested {
+        transport: match message.requested_transport {
+            0 => None,
+            number => Some(number),
+        },
+        family: match message.requested_family {
+            4 => Some(AddressFamily::Ipv4),
+            6 => Some(AddressFamily::Ipv6),
+            _ => None,
+        },
+    }
+}
+
 #[tactic(auto, using(crate::proofs::WriteLemmas::put_written))]
-fn write(drafted: StunMessage<'_>, key: Option<&[u8]>, buffer: &mut [u8], count: &mut usize) -> i32
-    ensures { WritesIn None (rejection (option_copied key.entry) (length buffer.old) (message_view drafted.entry))
-        (written hmac_sha1 (option_copied key.entry) (message_view drafted.entry))
+fn write(
+    drafted: StunMessage<'_>,
+    requested: &Requested,
+    key: Option<&[u8]>,
+    buffer: &mut [u8],
+    count: &mut usize,
+) -> i32
+    ensures { WritesIn None (rejection_with (option_copied key.entry) (length buffer.old) (message_view drafted.entry) requested.now)
+        (written_with hmac_sha1 (option_copied key.entry) (message_view drafted.entry) requested.now)
         buffer.old count.old result buffer.new count.new }
 {
-    match drafted.to_bytes(key, buffer, &DefaultSha1HmacProvider) {
+    match drafted.to_bytes_with(requested, key, buffer, &DefaultSha1HmacProvider) {
         Ok(written) => {
             *count = written;
             codes::OK
@@ -154,8 +177,8 @@ fn write(drafted: StunMessage<'_>, key: Option<&[u8]>, buffer: &mut [u8], count:
     }
 }
 
-/// Writes a message of one of the seven methods: its attributes, MESSAGE-INTEGRITY with the key if `has_integrity` is set, and
-/// FINGERPRINT (RFC 8489, sections 5 and 14).
+/// Writes a message of one of the seven methods: its attributes, what it requests, MESSAGE-INTEGRITY with the key if `has_integrity`
+/// is set, and FINGERPRINT (RFC 8489, sections 5 and 14; RFC 8656, section 7.1).
 #[unsafe(no_mangle)]
 pub extern "C" fn is_ice_stun_write(
     message: &Message,
@@ -171,5 +194,11 @@ pub extern "C" fn is_ice_stun_write(
         Ok(drafted) => drafted,
         Err(code) => return code,
     };
-    write(drafted, key_of(message, key), buffer, length)
+    write(
+        drafted,
+        &requested_of(message),
+        key_of(message, key),
+        buffer,
+        length,
+    )
 }

@@ -7,3 +7,4 @@ pub mod ReadMessages
 pub mod MalformedMessages
 pub mod EncodedMessages
 pub mod OneReading
+pub mod FoundValues

@@ -5,3 +5,6 @@ pub mod XorAddresses
 pub mod MessageParts
 pub mod Attributes
 pub mod SignedMessages
+pub mod FoundRows
+pub mod Requests
+pub mod WrittenChannelData

@@ -4,3 +4,4 @@ pub mod ConsecutiveRows
 pub mod MessagesByParts
 pub mod LengthsOfMessages
 pub mod PlainAddresses
+pub mod RequestingMessages

@@ -19,6 +19,9 @@ pub mod Crc
 pub mod Writing
 pub mod RowView
 pub mod Builder
+pub mod ChannelData
+pub mod Finding
 pub mod Checks
 pub mod Theorems
+pub mod Requested
 pub mod Timing

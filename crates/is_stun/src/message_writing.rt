@@ -4,6 +4,7 @@ ghost use Rattle.std.specs.Prelude.{◌≡◌, length, take, None, IfNone, IfOk,
 ghost use Rattle.std.specs.Option.{option_copied, option_map};
 ghost use Rattle.is_stun.specs.Writing.{WritesOr, is_longer, is_bad_code, has_long_value, value_rejection, rejection, written};
 ghost use Rattle.is_stun.specs.Theorems.{RoundTripsAs};
+ghost use Rattle.is_stun.specs.Requested.{rejection_with, written_with};
 ghost use Rattle.is_stun.specs.MessageView.{attributes_view, message_view};
 ghost use Rattle.is_stun.specs.ErrorCode.{error_value};
 ghost use Rattle.is_stun.specs.ErrorCodeView.{error_bytes, error_view, WritableError};
@@ -13,6 +14,7 @@ use crate::error_code::ErrorValue;
 use crate::header::Method;
 use crate::message::StunMessage;
 use crate::numbers::{DATA_LIMIT, WRITTEN_TEXT_LIMIT, WRITTEN_USERNAME_LIMIT};
+use crate::requested::{Requested, RequestedValues, rows_with};
 use crate::rows::{Values, rows_of};
 use crate::values::{id_fits, values_fit};
 use crate::writing::{Draft, write_draft};
@@ -111,6 +113,31 @@ fn write_message<H: Sha1HmacProvider>(
     write_draft(&draft, password, buf, provider)
 }
 
+/// Writes a message that can be written, with what it requests after its attributes.
+fn write_requesting<H: Sha1HmacProvider>(
+    message: &StunMessage<'_>,
+    requested: &Requested,
+    error: Option<&ErrorValue>,
+    password: Option<&[u8]>,
+    buf: &mut [u8],
+    provider: &H,
+) -> Result<usize, StunError>
+    requires writable { value_rejection (message_view message.now) ≡ None }
+    requires error { option_map error_bytes (option_copied error) ≡ option_map error_value (error_view message.now.attrs.error_code) }
+    ensures { WritesOr result buf.old buf.new (rejection_with (option_copied password.entry) (length buf.old)
+        (message_view message.now) requested.now) (written_with (H.mac provider.now) (option_copied password.entry) (message_view message.now) requested.now) }
+{
+    let values = Values::of(&message.attrs, &message.trans_id.0);
+    let asked = RequestedValues::of(requested);
+    let rows = rows_with(&message.attrs, &values, &asked, error);
+    let draft = Draft {
+        typ: message.class.to_u16() + message.method.to_u16(),
+        id: &message.trans_id.0,
+        rows: &rows,
+    };
+    write_draft(&draft, password, buf, provider)
+}
+
 impl<'a> StunMessage<'a> {
     /// Writes the message to the front of the buffer and returns its length: its attributes, then MESSAGE-INTEGRITY if
     /// there is a password, then FINGERPRINT (RFC 8489, sections 5 and 14). It leaves out the MESSAGE-INTEGRITY and
@@ -147,6 +174,29 @@ impl<'a> StunMessage<'a> {
                 write_message(&self, Some(&error), password, buf, provider)
             }
             None => write_message(&self, None, password, buf, provider),
+        }
+    }
+    /// Writes the message as `to_bytes` does, with what it requests after its attributes: an Allocate request (RFC 8656,
+    /// section 7.1). It has the errors of `to_bytes`.
+    pub fn to_bytes_with<H: Sha1HmacProvider>(
+        self,
+        requested: &Requested,
+        password: Option<&[u8]>,
+        buf: &mut [u8],
+        provider: &H,
+    ) -> Result<usize, StunError>
+        ensures { WritesOr result buf.old buf.new (rejection_with (option_copied password.entry) (length buf.old)
+            (message_view self.entry) requested.now) (written_with (H.mac provider.now) (option_copied password.entry) (message_view self.entry) requested.now) }
+    {
+        if let Some(error) = value_rejection(&self) {
+            return Err(error);
+        }
+        match self.attrs.error_code {
+            Some((code, reason)) => {
+                let error = ErrorValue::new(code, reason);
+                write_requesting(&self, requested, Some(&error), password, buf, provider)
+            }
+            None => write_requesting(&self, requested, None, password, buf, provider),
         }
     }
 }

@@ -33,6 +33,10 @@ pub(crate) const NONCE: u16 = 0x0015;
 
 pub(crate) const XOR_RELAYED_ADDRESS: u16 = 0x0016;
 
+pub(crate) const REQUESTED_ADDRESS_FAMILY: u16 = 0x0017;
+
+pub(crate) const REQUESTED_TRANSPORT: u16 = 0x0019;
+
 pub(crate) const XOR_MAPPED_ADDRESS: u16 = 0x0020;
 
 /// SOFTWARE is read and written with this type. The type of RFC 8489, 0x8022, is skipped as unknown types are.

@@ -5,7 +5,8 @@ ghost use Rattle.std.specs.Option.{option_copied, option_map};
 ghost use Rattle.std.specs.Int.{w32, w64, to_be_bytes};
 ghost use Rattle.is_stun.specs.Writing.{row, if_set, channel_value, network_cost_value};
 ghost use Rattle.is_stun.specs.ErrorCodeView.{error_bytes};
-ghost use Rattle.is_stun.specs.RowView.{row_view};
+ghost use Rattle.is_stun.specs.MessageView.{attributes_view};
+ghost use Rattle.is_stun.specs.RowView.{row_view, rows_in};
 ghost use Rattle.is_stun.specs.Address.{xor_address};
 ghost use Rattle.is_stun.specs.AddressView.{xor_bytes};
 
@@ -135,7 +136,7 @@ fn bytes_row<'a>(code: u16, value: Option<&'a [u8]>) -> Row<'a>
     Row { code, value }
 }
 
-fn array_row<const N: usize>(code: u16, bytes: &Option<[u8; N]>) -> Row<'_>
+pub(crate) fn array_row<const N: usize>(code: u16, bytes: &Option<[u8; N]>) -> Row<'_>
     ensures { row_view result ≡ row code bytes.now }
 {
     Row {
@@ -188,25 +189,7 @@ pub(crate) fn rows_of<'a>(
     values: &'a Values,
     error: Option<&'a ErrorValue>,
 ) -> [Row<'a>; 17]
-    ensures { map row_view result
-        ≡ row USERNAME (option_copied attrs.now.username)
-        ∷ row ICE_CONTROLLED values.now.controlled
-        ∷ row ICE_CONTROLLING values.now.controlling
-        ∷ row PRIORITY values.now.priority
-        ∷ row XOR_MAPPED_ADDRESS (option_map xor_bytes values.now.mapped_address)
-        ∷ row USE_CANDIDATE (if_set attrs.now.use_candidate)
-        ∷ row DATA (option_copied attrs.now.«data»)
-        ∷ row XOR_RELAYED_ADDRESS (option_map xor_bytes values.now.relayed_address)
-        ∷ row XOR_PEER_ADDRESS (option_map xor_bytes values.now.peer_address)
-        ∷ row CHANNEL_NUMBER values.now.channel_number
-        ∷ row LIFETIME values.now.lifetime
-        ∷ row REALM (option_copied attrs.now.realm)
-        ∷ row NONCE (option_copied attrs.now.nonce)
-        ∷ row ERROR_CODE (option_map error_bytes (option_copied error.entry))
-        ∷ row SOFTWARE (option_copied attrs.now.software)
-        ∷ row NETWORK_COST values.now.network_cost
-        ∷ row NOMINATION values.now.nomination
-        ∷ [] }
+    ensures { map row_view result ≡ rows_in (attributes_view attrs.now) values.now (option_map error_bytes (option_copied error.entry)) }
 {
     [
         text_row(USERNAME, attrs.username),

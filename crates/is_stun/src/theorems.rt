@@ -7,6 +7,11 @@ ghost use Rattle.is_stun.specs.Spells.{Spells};
 ghost use Rattle.is_stun.specs.Theorems.{ReadsOrFails, SignedIffAuthentic, WrittenIsRead, WrittenIsReadAlike, WrittenByDefaultIsRead};
 ghost use Rattle.is_stun.specs.Theorems.{IsWrittenPlain, PlainReply, TakesBytes, FitsInto, CheckTakes, LONGEST_CHECK, LONGEST_NUMBERED_CHECK, LONGEST_REPLY, reply_len};
 ghost use Rattle.is_stun.specs.Numbers.{WRITTEN_USERNAME_LIMIT};
+ghost use Rattle.is_stun.specs.ChannelData.{ChannelDataIsRead};
+ghost use Rattle.is_stun.specs.Finding.{WrittenIsFound};
+ghost use Rattle.is_stun.specs.Requested.{RequestIsRead, RequestIsSkipped, RequestsNothing};
+ghost use Rattle.is_stun.specs.Writing.{Row};
+ghost use Rattle.is_stun.specs.declared.requested.Requested.{Requested};
 ghost use Rattle.is_stun.specs.Checks.{binding_request, binding_reply, binding_role_conflict_reply, with_nomination};
 ghost use Rattle.std.specs.declared.net.socket_addr.SocketAddr.{SocketAddr};
 ghost use Rattle.std.specs.Cmp.{IsTotalOrder};
@@ -42,6 +47,25 @@ pub fn written_is_read()
 /// requires.
 pub fn written_is_read_alike()
     ensures { (mac : List ℕ → List ℕ → List ℕ) (key : List ℕ) (m : Message) → WrittenIsReadAlike mac key m }
+{}
+
+/// In a message that is written from rows, the value of each type except FINGERPRINT is that of its last row, with a key and without.
+pub fn written_rows_are_found()
+    ensures { (mac : List ℕ → List ℕ → List ℕ) (key : Option (List ℕ)) (typ : ℕ) (id : List ℕ) (rows : List Row) (code : ℕ)
+        → WrittenIsFound mac key typ id rows code }
+{}
+
+/// What a message requests is read from its bytes. With a key it parses as no other message, and verifies with that key. A message
+/// that requests nothing is written as `to_bytes` writes it, and has the same errors.
+pub fn requests_round_trip()
+    ensures read { (mac : List ℕ → List ℕ → List ℕ) (key : Option (List ℕ)) (m : Message) (r : Requested) → RequestIsRead mac key m r }
+    ensures skipped { (mac : List ℕ → List ℕ → List ℕ) (key : List ℕ) (m : Message) (r : Requested) → RequestIsSkipped mac key m r }
+    ensures nothing { (mac : List ℕ → List ℕ → List ℕ) (key : Option (List ℕ)) (room : ℕ) (m : Message) → RequestsNothing mac key room m }
+{}
+
+/// ChannelData that was written is read, whatever follows it.
+pub fn channel_data_round_trips()
+    ensures { (number : ℕ) (contents rest : List ℕ) → ChannelDataIsRead number contents rest }
 {}
 
 /// Flow information and scope of addresses are not written.

@@ -79,9 +79,11 @@ fn put_header(buf: &mut [u8], typ: u16, len: u16, id: &[u8; 12]) -> usize
 
 /// A row of the attribute table: an attribute that is written, or an absent one.
 #[derive(Clone, Copy)]
-pub(crate) struct Row<'a> {
-    pub(crate) code: u16,
-    pub(crate) value: Option<&'a [u8]>,
+pub struct Row<'a> {
+    /// The type of the attribute.
+    pub code: u16,
+    /// Its value, without padding. `None`: it is not written.
+    pub value: Option<&'a [u8]>,
 }
 
 /// Returns the length of a row, if it fits the room.
@@ -170,10 +172,13 @@ fn put_fingerprint(buf: &mut [u8], at: usize) -> usize
 
 /// A message of these rows, except its key.
 #[derive(Clone, Copy)]
-pub(crate) struct Draft<'a> {
-    pub(crate) typ: u16,
-    pub(crate) id: &'a [u8; 12],
-    pub(crate) rows: &'a [Row<'a>],
+pub struct Draft<'a> {
+    /// The type of the message: the bits of its method and its class (RFC 8489, section 5).
+    pub typ: u16,
+    /// The transaction ID.
+    pub id: &'a [u8; 12],
+    /// The attributes before MESSAGE-INTEGRITY, in the order of writing.
+    pub rows: &'a [Row<'a>],
 }
 
 fn integrity_len(password: Option<&[u8]>) -> usize
@@ -227,8 +232,10 @@ fn write_within<H: Sha1HmacProvider>(
     put_fingerprint(buf, at)
 }
 
-/// Writes a message, or fails and leaves the buffer unchanged.
-pub(crate) fn write_draft<H: Sha1HmacProvider>(
+/// Writes the rows of a draft, then MESSAGE-INTEGRITY if there is a password, then FINGERPRINT (RFC 8489, sections 5 and 14), and
+/// returns the length. No row may be MESSAGE-INTEGRITY or FINGERPRINT: a reader would take it for the writer's. An error leaves the
+/// buffer unchanged: `MessageTooLong` if more than 65535 bytes would follow the header, `BufferTooShort` if the message does not fit.
+pub fn write_draft<H: Sha1HmacProvider>(
     draft: &Draft<'_>,
     password: Option<&[u8]>,
     buf: &mut [u8],

@@ -4,3 +4,4 @@ mod candidates;
 mod pairs;
 mod proto;
 mod stun;
+mod turn;

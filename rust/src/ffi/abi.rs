@@ -104,9 +104,11 @@ pub(crate) const STUN_DATA_INDICATION: u16 = 7;
 pub(crate) const STUN_CREATE_PERMISSION: u16 = 8;
 pub(crate) const STUN_CHANNEL_BIND: u16 = 9;
 
+pub(crate) const STUN_UDP: i32 = 17;
+
 pub(crate) const HMAC_LENGTH: usize = 20;
 
-pub(crate) const STUN_WRITE_LENGTH: usize = 1236;
+pub(crate) const STUN_WRITE_LENGTH: usize = 1252;
 
 /// The text of each code, as in `is_ice_code_text` of the header.
 pub(crate) fn text_of(code: i32) -> &'static str {
@@ -349,6 +351,8 @@ pub(crate) struct StunMessage {
     pub(crate) use_candidate: bool,
     pub(crate) has_integrity: bool,
     pub(crate) has_fingerprint: bool,
+    pub(crate) requested_transport: u8,
+    pub(crate) requested_family: u8,
 }
 
 #[repr(C)]
@@ -511,6 +515,8 @@ const _: () = {
     assert!(offset_of!(StunMessage, use_candidate) == 243);
     assert!(offset_of!(StunMessage, has_integrity) == 244);
     assert!(offset_of!(StunMessage, has_fingerprint) == 245);
+    assert!(offset_of!(StunMessage, requested_transport) == 246);
+    assert!(offset_of!(StunMessage, requested_family) == 247);
     assert!(size_of::<StunSpan>() == 24 && align_of::<StunSpan>() == 8);
     assert!(offset_of!(StunSpan, start) == 0);
     assert!(offset_of!(StunSpan, length) == 8);

@@ -185,6 +185,8 @@ fn an_error_response_leaves_its_code(rt: HostRuntime) {
     message.mapped.family = 0;
     message.peer.family = 0;
     message.relayed.family = 0;
+    message.requested_transport = 0;
+    message.requested_family = 0;
     message.use_candidate = false;
     message.error_code.value = 400;
     message.id = Transaction {

@@ -53,6 +53,8 @@ pub(super) fn no_message() -> Message {
         use_candidate: true,
         has_integrity: true,
         has_fingerprint: true,
+        requested_transport: 9,
+        requested_family: 9,
     }
 }
 
@@ -67,6 +69,8 @@ fn a_message_is_read_strictly_or_not(rt: HostRuntime) {
     assert!(rt; lenient == codes::OK);
     assert!(rt; message.class == 2);
     assert!(rt; message.mapped.port == 32853);
+    assert!(rt; message.requested_transport == 0);
+    assert!(rt; message.requested_family == 0);
     let strict = is_ice_stun_read_strict(&REPLY, &mut message);
     assert!(rt; strict == codes::OK);
     assert!(rt; message.has_integrity);

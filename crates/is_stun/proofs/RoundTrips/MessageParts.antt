@@ -15,12 +15,13 @@ use Rattle.is_stun.specs.Kinds.{value_fault, text, number, bytes_of_len, error_c
 use Rattle.is_stun.specs.Message.{AttributesRecord}
 use Rattle.is_stun.specs.Writing.{Row, attribute, row_text, rows_text, optional_attribute}
 use Rattle.is_stun.specs.Header.{header, header_fault, length_field, magic_of, type_of, body_of, method_of, class_of}
+use Rattle.is_stun.specs.Finding.{IsPlainRow}
 use Rattle.is_stun.specs.Integrity.{signed_text, integrity_of, first_integrity, before_integrity}
 use Rattle.is_stun.specs.Reading.{attributes_fault, first_fault, last_of, value_in, attributes_of, message_of}
 use Rattle.is_stun.proofs.MessageReading.AttributeSequence.{tlvs_short}
 use Rattle.is_stun.proofs.MessageReading.FirstAttribute.{attributes_fault-cons, first_integrity-here, before_integrity-here}
 use Rattle.is_stun.proofs.WrittenMessages.ConsecutiveRows.{attribute_length, header_length}
-use Rattle.is_stun.proofs.RoundTrips.Rows.{tlv_of, tlvs_of_rows, FitsRow, tlvs-attribute, rows_are_tlvs, first_in_rows, last_in_rows, fault_at-written, last_row}
+use Rattle.is_stun.proofs.RoundTrips.Rows.{tlv_of, tlvs_of_rows, FitsRow, all_plain, tlvs-attribute, rows_are_tlvs, first_in_rows, last_in_rows, fault_at-written, last_row}
 
 -- the bytes of a message by its parts
 unfoldable pub bytes_of : ℕ → ℕ → List ℕ → List Row → List ℕ → List ℕ → List ℕ
@@ -39,14 +40,20 @@ tail_is place mac fingerprint mac_len fp_len =
     ∙ ap (λ (cs : List Tlv). tlv_of place 8 mac ∷ cs) (tlvs-attribute (place + 24) 0x8028 fingerprint [] (omega arith) (omega (arith, fp_len)))
     ∙ ap (λ (cs : List Tlv). tlv_of place 8 mac ∷ tlv_of (place + 24) 0x8028 fingerprint ∷ cs) (tlvs_short _ [] (omega arith))
 
-pub body_is : (typ len : ℕ) (id : List ℕ) (rows : List Row) (mac fingerprint : List ℕ) → length id ≡ 12 → AllByRecursion FitsRow rows → length mac ≡ 20 → length fingerprint ≡ 4
+-- the attributes of a body of rows, and of what follows them
+pub body_of_rows : (typ len : ℕ) (id : List ℕ) (rows : List Row) (rest : List ℕ) (cs : List Tlv) → length id ≡ 12 → AllByRecursion IsPlainRow rows → tlvs_after 0 (length (rows_text rows)) rest ≡ cs
+    → tlvs_of (body_of (header typ len id ++ (rows_text rows ++ rest))) ≡ tlvs_of_rows 0 rows cs
+body_of_rows typ len id rows rest cs id_len plain e =
+    let head_len : length (header typ len id) ≡ 20 = omega (arith, header_length typ len id, id_len) in
+    ap (tlvs_after 0 0) (drop_at (header typ len id) (rows_text rows ++ rest) 20 head_len)
+    ∙ rows_are_tlvs 0 rows rest cs plain (ap (λ (p : ℕ). tlvs_after 0 p rest) (omega arith) ∙ e)
+
+pub body_is : (typ len : ℕ) (id : List ℕ) (rows : List Row) (mac fingerprint : List ℕ) → length id ≡ 12 → AllByRecursion IsPlainRow rows → length mac ≡ 20 → length fingerprint ≡ 4
     → tlvs_of (body_of (bytes_of typ len id rows mac fingerprint)) ≡ tlvs_of_rows 0 rows (tail_tlvs (length (rows_text rows)) mac fingerprint)
 unfolding bytes_of
-body_is typ len id rows mac fingerprint id_len fits mac_len fp_len =
-    let head_len : length (header typ len id) ≡ 20 = omega (arith, header_length typ len id, id_len) in
-    ap (tlvs_after 0 0) (drop_at (header typ len id) (rows_text rows ++ (attribute 8 mac ++ attribute 0x8028 fingerprint)) 20 head_len)
-    ∙ rows_are_tlvs 0 rows (attribute 8 mac ++ attribute 0x8028 fingerprint) (tail_tlvs (length (rows_text rows)) mac fingerprint) fits
-    (ap (λ (p : ℕ). tlvs_after 0 p (attribute 8 mac ++ attribute 0x8028 fingerprint)) (omega arith) ∙ tail_is (length (rows_text rows)) mac fingerprint mac_len fp_len)
+body_is typ len id rows mac fingerprint id_len plain mac_len fp_len =
+    body_of_rows typ len id rows (attribute 8 mac ++ attribute 0x8028 fingerprint) (tail_tlvs (length (rows_text rows)) mac fingerprint) id_len plain
+    (tail_is (length (rows_text rows)) mac fingerprint mac_len fp_len)
 
 -- a value of four bytes is no fault of a fingerprint, and one of 20 none of an integrity
 fingerprint_sound : (v : List ℕ) → length v ≡ 4 → value_fault 0x8028 v ≡ None
@@ -152,7 +159,7 @@ spelled_by typ len id rows mac fingerprint typ_fits len_fits id_len mac_len fp_l
     let bytes : List ℕ = bytes_of typ len id rows mac fingerprint in
     let p : ℕ = length (rows_text rows) in
     let head = header_parts typ len id rows mac fingerprint typ_fits len_fits id_len mac_len fp_len len_is in
-    let body = body_is typ len id rows mac fingerprint id_len fits mac_len fp_len in
+    let body = body_is typ len id rows mac fingerprint id_len (all_plain rows fits) mac_len fp_len in
     let found : first_integrity (tlvs_of (body_of bytes)) ≡ Some (tlv_of p 8 mac) =
     ap first_integrity body ∙ first_in_rows 0 rows (tail_tlvs p mac fingerprint) (tlv_of p 8 mac) fits (first_integrity-here _ _ (tlv_of p 8 mac) refl refl) in
     let front : take (20 + p) bytes ≡ header typ len id ++ rows_text rows = front_is typ len id rows mac fingerprint id_len in (

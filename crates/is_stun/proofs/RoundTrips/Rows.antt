@@ -12,6 +12,7 @@ use Rattle.is_stun.specs.Tlv.{Tlv, padded_len, attribute_len, tlv_at, tlvs_after
 use Rattle.is_stun.specs.Writing.{Row, attribute, optional_attribute, row_text, rows_text}
 use Rattle.is_stun.specs.Reading.{is_skipped, counts, last_of, fault_at, attributes_fault}
 use Rattle.is_stun.specs.Integrity.{before_integrity, first_integrity}
+use Rattle.is_stun.specs.Finding.{last_value, last_written, IsPlainRow}
 use Rattle.is_stun.proofs.MessageReading.AttributeSequence.{tlvs_after-drop}
 use Rattle.is_stun.proofs.MessageReading.FirstAttribute.{first_integrity-past, before_integrity-past, option_or-none, attributes_fault-cons}
 use Rattle.std.specs.List.{AllByRecursion}
@@ -81,7 +82,16 @@ pub record GoodValue (code : ℕ) (v : List ℕ) : Type 0 where
 abbrev pub FitsRow : Row → Type 0
 FitsRow r = (r.code < 2 ^ 16) × (r.code ≡ 8 → ⊥) × IfSome r.value (GoodValue r.code)
 
-row_is_tlv : (place : ℕ) (r : Row) (v : Option (List ℕ)) (rest : List ℕ) (cs : List Tlv) → r.value ≡ v → FitsRow r → tlvs_after 0 (place + length (row_text r)) rest ≡ cs
+-- what is read of a row needs less
+plain_value : (code : ℕ) (v : Option (List ℕ)) → IfSome v (GoodValue code) → IfSome v (λ value. length value < 2 ^ 16)
+plain_value code None good = tt
+plain_value code (Some v) good = good.short
+
+pub all_plain : (rows : List Row) → AllByRecursion FitsRow rows → AllByRecursion IsPlainRow rows
+all_plain [] fits = tt
+all_plain (r ∷ rs) fits = (record { code = fits.0.0; other = fits.0.1; short = plain_value r.code r.value fits.0.2 }, all_plain rs fits.1)
+
+row_is_tlv : (place : ℕ) (r : Row) (v : Option (List ℕ)) (rest : List ℕ) (cs : List Tlv) → r.value ≡ v → IsPlainRow r → tlvs_after 0 (place + length (row_text r)) rest ≡ cs
     → tlvs_after 0 place (row_text r ++ rest) ≡ tlv_of_row place r.code r.value cs
 row_is_tlv place r None rest cs is fits e =
     let text : row_text r ≡ [] = ap (optional_attribute r.code) is in
@@ -90,14 +100,14 @@ row_is_tlv place r None rest cs is fits e =
 row_is_tlv place r (Some v) rest cs is fits e =
     let text : row_text r ≡ attribute r.code v = ap (optional_attribute r.code) is in
     let at : place + length (row_text r) ≡ place + attribute_len (length v) = ap (λ (t : List ℕ). place + length t) text ∙ ap (λ (n : ℕ). place + n) (attribute_length r.code v) in
-    let good = subst (λ (o : Option (List ℕ)). IfSome o (GoodValue r.code)) is fits.2 in
+    let short = subst (λ (o : Option (List ℕ)). IfSome o (λ value. length value < 2 ^ 16)) is fits.short in
     ap (λ (t : List ℕ). tlvs_after 0 place (t ++ rest)) text
-    ∙ tlvs-attribute place r.code v rest fits.0 good.short
+    ∙ tlvs-attribute place r.code v rest fits.code short
     ∙ ap (λ (p : ℕ). tlv_of place r.code v ∷ tlvs_after 0 p rest) (sym at)
     ∙ ap (λ (x : List Tlv). tlv_of place r.code v ∷ x) e
     ∙ ap (λ (o : Option (List ℕ)). tlv_of_row place r.code o cs) (sym is)
 
-pub rows_are_tlvs : (place : ℕ) (rows : List Row) (rest : List ℕ) (cs : List Tlv) → AllByRecursion FitsRow rows → tlvs_after 0 (place + length (rows_text rows)) rest ≡ cs
+pub rows_are_tlvs : (place : ℕ) (rows : List Row) (rest : List ℕ) (cs : List Tlv) → AllByRecursion IsPlainRow rows → tlvs_after 0 (place + length (rows_text rows)) rest ≡ cs
     → tlvs_after 0 place (rows_text rows ++ rest) ≡ tlvs_of_rows place rows cs
 unfolding rows_text tlvs_of_rows
 rows_are_tlvs place [] rest cs fits e = ap (λ (p : ℕ). tlvs_after 0 p rest) (sym (add-zero place)) ∙ e
@@ -163,3 +173,19 @@ unfolding tlvs_of_rows
 sound_in_rows place [] cs fits e = e
 sound_in_rows place (r ∷ rs) cs fits e =
     sound_in_row place r.code r.value _ fits.0.1 fits.0.2 (sound_in_rows (place + length (row_text r)) rs cs fits.1 e)
+
+-- ---- what is found of one type
+
+value_in_row : (code place own : ℕ) (v : Option (List ℕ)) (cs : List Tlv) → (own ≡ 8 → ⊥)
+    → last_value code (before_integrity (tlv_of_row place own v cs)) ≡ option_or (last_value code (before_integrity cs)) (cond (eqb own code) v None)
+unfolding last_value
+value_in_row code place own None cs other = sym (ap (option_or (last_value code (before_integrity cs))) (same_cond (eqb own code)) ∙ option_or-none (last_value code (before_integrity cs)))
+value_in_row code place own (Some v) cs other = ap (last_value code) (before_integrity-past _ cs (tlv_of place own v) refl other)
+
+pub value_in_rows : (code place : ℕ) (rows : List Row) (cs : List Tlv) → AllByRecursion IsPlainRow rows → last_value code (before_integrity cs) ≡ None
+    → last_value code (before_integrity (tlvs_of_rows place rows cs)) ≡ last_written code rows
+unfolding tlvs_of_rows last_written
+value_in_rows code place [] cs plain e = e
+value_in_rows code place (r ∷ rs) cs plain e =
+    value_in_row code place r.code r.value (tlvs_of_rows (place + length (row_text r)) rs cs) plain.0.other
+    ∙ ap (λ (o : Option (List ℕ)). option_or o (cond (eqb r.code code) r.value None)) (value_in_rows code (place + length (row_text r)) rs cs plain.1 e)

@@ -22,8 +22,9 @@ use Rattle.is_stun.specs.Writing.{Row, attribute, rows_text, rows_of, body_len, 
 use Rattle.is_stun.specs.Theorems.{IsClass, IsId, IsChannelNumber, HasReadableValues, IsCarried, SameMessage, ReadsBack, WrittenIsRead, WrittenIsReadAlike, RoundTripsAs, sealed, plain, plain_address}
 use Rattle.is_stun.proofs.MessageReading.FirstAttribute.{none_parts}
 use Rattle.is_stun.proofs.MessageReading.ReadMessages.{fault_of-parts, rejected_or, not_false}
-use Rattle.is_stun.proofs.RoundTrips.Rows.{sound_in_rows}
-use Rattle.is_stun.proofs.RoundTrips.MessageParts.{bytes_of, header_parts, body_is, tail_tlvs, tail_sound, spelled_by}
+use Rattle.std.specs.List.{AllByRecursion}
+use Rattle.is_stun.proofs.RoundTrips.Rows.{FitsRow, all_plain, sound_in_rows}
+use Rattle.is_stun.proofs.RoundTrips.MessageParts.{bytes_of, header_parts, body_is, tail_tlvs, tail_sound, row_attributes, spelled_by}
 use Rattle.is_stun.proofs.WrittenMessages.MessagesByParts.{writes_message}
 use Rattle.is_stun.proofs.WrittenMessages.PlainAddresses.{rows_plain, written_plain, rejection_plain}
 use Rattle.is_stun.proofs.RoundTrips.Attributes.{HasShortValues, short_values, all_trip, rows_fit, attributes_back}
@@ -35,7 +36,7 @@ pub record IsAccepted (key : Option (List ℕ)) (m : Message) : Type 0 where
   pub values : HasShortValues m.attributes
   pub short : body_len key (rows_of m.id m.attributes) ≤ 65535
 
-accepted : (key : Option (List ℕ)) (room : ℕ) (m : Message) → rejection key room m ≡ None → IsAccepted key m
+pub accepted : (key : Option (List ℕ)) (room : ℕ) (m : Message) → rejection key room m ≡ None → IsAccepted key m
 unfolding rejection value_rejection
 accepted key room m e =
     let parts = none_parts (value_rejection m) (rows_rejection key room (rows_of m.id m.attributes)) e in
@@ -56,7 +57,7 @@ pub record IsType (method : Method) (class : Class) : Type 0 where
   pub class_back : class_of (class_bits class + method_bits method) ≡ class
   pub fits : class_bits class + method_bits method < 2 ^ 16
 
-type_back : (method : Method) (class : Class) → is_known method ≡ true → IsClass class → IsType method class
+pub type_back : (method : Method) (class : Class) → is_known method ≡ true → IsClass class → IsType method class
 type_back methods.Binding classes.Request known is_class = record { method_back = refl; class_back = refl; fits = omega arith }
 type_back methods.Binding classes.Indication known is_class = record { method_back = refl; class_back = refl; fits = omega arith }
 type_back methods.Binding classes.Success known is_class = record { method_back = refl; class_back = refl; fits = omega arith }
@@ -122,16 +123,14 @@ demand_same a b method class integrity same =
 
 -- ---- the whole
 
--- what is written, by its parts
-written_is : (mac : List ℕ → List ℕ → List ℕ) (key : List ℕ) (m : Message)
-    → let rows = rows_of m.id m.attributes in
-    let front = header (class_bits m.class + method_bits m.method) (body_len (Some key) rows) m.id ++ rows_text rows in
+-- what is written of rows, by its parts
+written_is : (mac : List ℕ → List ℕ → List ℕ) (key : List ℕ) (typ : ℕ) (id : List ℕ) (rows : List Row)
+    → let front = header typ (body_len (Some key) rows) id ++ rows_text rows in
     (fingerprint : List ℕ) × (length fingerprint ≡ 4)
-    × (written mac (Some key) m ≡ bytes_of (class_bits m.class + method_bits m.method) (body_len (Some key) rows) m.id rows (mac key (signed_text front (length (rows_text rows) + 24))) fingerprint)
-unfolding written written_rows sealed_of front_of bytes_of
-written_is mac key m =
-    let rows : List Row = rows_of m.id m.attributes in
-    let head : List ℕ = header (class_bits m.class + method_bits m.method) (body_len (Some key) rows) m.id in
+    × (written_rows mac (Some key) typ id rows ≡ bytes_of typ (body_len (Some key) rows) id rows (mac key (signed_text front (length (rows_text rows) + 24))) fingerprint)
+unfolding written_rows sealed_of front_of bytes_of
+written_is mac key typ id rows =
+    let head : List ℕ = header typ (body_len (Some key) rows) id in
     let front : List ℕ = head ++ rows_text rows in
     let sign : List ℕ = attribute 8 (mac key (signed_text front (length (rows_text rows) + 24))) in
     let fingerprint : List ℕ = to_be_bytes w32 (bit_xor (crc32 (front ++ sign)) FINGERPRINT_MASK) in
@@ -146,39 +145,43 @@ abbrev pub text_of_mac : List ℕ → Message → List ℕ
 text_of_mac key m = text_of_rows key m (rows_of m.id m.attributes)
 
 -- what the bytes of a message are read as, except what a reader demands
-record IsBack (mac : List ℕ → List ℕ → List ℕ) (key bytes : List ℕ) (m : Message) : Type 0 where
+pub record IsBack (mac : List ℕ → List ℕ → List ℕ) (key bytes : List ℕ) (m : Message) : Type 0 where
   pub header : header_fault bytes ≡ None
   pub sound : attributes_fault (tlvs_of (body_of bytes)) ≡ None
   pub same : SameMessage (message_of bytes) m
   pub sealed : is_none (message_of bytes).integrity ≡ false
   pub signed : IsSignedBy mac (message_of bytes) key
 
-comes_back : (mac : List ℕ → List ℕ → List ℕ) (key : List ℕ) (m : Message) → length (mac key (text_of_mac key m)) ≡ 20 → (room : ℕ) → rejection (Some key) room m ≡ None → IsCarried m
-    → IsBack mac key (written mac (Some key) m) m
-comes_back mac key m mac_len room not_refused ok =
-    let rows : List Row = rows_of m.id m.attributes in
+-- rows that say what the message says come back as the message
+pub rows_come_back : (mac : List ℕ → List ℕ → List ℕ) (key : List ℕ) (m : Message) (rows : List Row) → length (mac key (text_of_rows key m rows)) ≡ 20
+    → IsType m.method m.class → IsId m.id → body_len (Some key) rows < 2 ^ 16 → AllByRecursion FitsRow rows → row_attributes m.id rows ≡ record m.attributes { fingerprint = None }
+    → IsBack mac key (written_rows mac (Some key) (class_bits m.class + method_bits m.method) m.id rows) m
+rows_come_back mac key m rows mac_len type_is id_is short fits says =
     let len : ℕ = body_len (Some key) rows in
     let typ : ℕ = class_bits m.class + method_bits m.method in
-    let text : List ℕ = text_of_mac key m in
-    let sign : List ℕ = mac key text in
-    let fine = accepted (Some key) room m not_refused in
-    let type_is = type_back m.method m.class fine.method ok.class in
-    let short : len < 2 ^ 16 = omega (arith, fine.short) in
-    let trips = all_trip m.id m.attributes ok.id fine.values ok.values in
-    let fits = rows_fit m.id m.attributes trips in
-    let made = written_is mac key m in
+    let sign : List ℕ = mac key (text_of_rows key m rows) in
+    let made = written_is mac key typ m.id rows in
     let bytes : List ℕ = bytes_of typ len m.id rows sign made.0 in
-    let is : written mac (Some key) m ≡ bytes = made.2 in
-    let head = header_parts typ len m.id rows sign made.0 type_is.fits short ok.id.0 mac_len made.1 refl in
-    let body = body_is typ len m.id rows sign made.0 ok.id.0 fits mac_len made.1 in
-    let spelled = spelled_by typ len m.id rows sign made.0 type_is.fits short ok.id.0 mac_len made.1 refl fits in
+    let is : written_rows mac (Some key) typ m.id rows ≡ bytes = made.2 in
+    let head = header_parts typ len m.id rows sign made.0 type_is.fits short id_is.0 mac_len made.1 refl in
+    let body = body_is typ len m.id rows sign made.0 id_is.0 (all_plain rows fits) mac_len made.1 in
+    let spelled = spelled_by typ len m.id rows sign made.0 type_is.fits short id_is.0 mac_len made.1 refl fits in
     subst (λ (x : List ℕ). IsBack mac key x m) (sym is) (record {
       header = head.0;
       sound = ap attributes_fault body ∙ sound_in_rows 0 rows (tail_tlvs (length (rows_text rows)) sign made.0) fits (tail_sound (length (rows_text rows)) sign made.0 mac_len made.1);
-      same = record { method = spelled.0 ∙ type_is.method_back; class = spelled.1 ∙ type_is.class_back; id = spelled.2; attributes = spelled.3 ∙ attributes_back m.id m.attributes trips };
+      same = record { method = spelled.0 ∙ type_is.method_back; class = spelled.1 ∙ type_is.class_back; id = spelled.2; attributes = spelled.3 ∙ says };
       sealed = ap is_none spelled.4;
       signed = subst (λ (o : Option Integrity). IsSomeAnd o (λ s. s.mac ≡ mac key s.text)) (sym spelled.4) refl;
     })
+
+comes_back : (mac : List ℕ → List ℕ → List ℕ) (key : List ℕ) (m : Message) → length (mac key (text_of_mac key m)) ≡ 20 → (room : ℕ) → rejection (Some key) room m ≡ None → IsCarried m
+    → IsBack mac key (written mac (Some key) m) m
+unfolding written
+comes_back mac key m mac_len room not_refused ok =
+    let rows : List Row = rows_of m.id m.attributes in
+    let fine = accepted (Some key) room m not_refused in
+    let trips = all_trip m.id m.attributes ok.id fine.values ok.values in
+    rows_come_back mac key m rows mac_len (type_back m.method m.class fine.method ok.class) ok.id (omega (arith, fine.short)) (rows_fit m.id m.attributes trips) (attributes_back m.id m.attributes trips)
 
 -- bytes that come back are read, where the demands are met
 read_back : (mac : List ℕ → List ℕ → List ℕ) (key bytes : List ℕ) (m : Message) → IsBack mac key bytes m → demand_fault (sealed m) ≡ None → ReadsBack mac key bytes m

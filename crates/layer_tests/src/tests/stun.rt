@@ -5,4 +5,5 @@ mod fingerprints;
 mod published;
 mod rejections;
 mod timing;
+mod turn;
 mod written;

@@ -1,0 +1,2 @@
+-- What a datagram says to a client, and what it changes.
+mod Answers

@@ -1,0 +1,19 @@
+//! Clients of STUN and TURN servers, without I/O (RFC 8489, RFC 8656): a whole STUN client, which finds the address at which a server sees
+//! a socket, and keeps the mapping of the NATs between them alive; and the messages of a TURN client.
+#![tactic(auto)]
+
+mod answer;
+mod client;
+mod credentials;
+mod incoming;
+mod octets;
+mod requests;
+mod timing;
+mod verdict;
+
+pub use crate::client::{Received, StunClient, StunEvent};
+pub use crate::credentials::{Credentials, long_term_key};
+pub use crate::incoming::{Incoming, read_incoming};
+pub use crate::requests::{Request, write_request, write_send};
+pub use crate::timing::ClientTiming;
+pub use crate::verdict::{Verdict, verdict_on};
