@@ -1,4 +1,4 @@
--- `is_ice_agent_free` returns at a null pointer. Else it lends the slot that lies there to `free`, and gets it back.
+-- `is_ice_agent_free` returns at a null pointer. Else it passes the slot at the pointer to `free`, and gets it back.
 use mathlib.Core.Path.{◌≡◌, refl, sym, ap, subst}
 use Rattle.std.specs.Prelude.{Option, None}
 use mathlib.Core.List.{List, [], ◌∷◌, ◌++◌}
