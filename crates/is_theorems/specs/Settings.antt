@@ -1,12 +1,13 @@
 -- The settings of an agent: each changes only if the caller sets it.
-use Rattle.std.specs.Prelude.{◌≡◌, ℕ, Bool, List, [], ◌∷◌, Option, Some, if◌then◌else◌}
+use Rattle.std.specs.Prelude.{◌≡◌, ℕ, ◌<◌, Bool, List, [], ◌∷◌, map, Option, Some, if◌then◌else◌}
 use Rattle.rand_core.specs.Stream.{Stream}
 use Rattle.is_candidate.specs.Candidates.{CandidateRecord}
 use Rattle.is_rules.specs.declared.settings.Settings.{Settings}
 use Rattle.is_rules.specs.Agent.{AgentRecord}
 use Rattle.is_rules.specs.Settings.{settings_of, with_settings}
 use Rattle.is_rules.specs.Steps.{Call, SetMtu, SetControlTieBreaker, SetMaxCandidatePairs, SetMaxDiscovered, SetIceLite, SetRenomination, SetProfile, SetConsent, SetTimingAdvance}
-use Rattle.is_rules.specs.Steps.{SetInitialStunRto, SetMaxStunRto, SetMaxStunRetransmits, SetLiteTimeout, SetLocalPreference, Answer, is_done, Entry, Step}
+use Rattle.is_rules.specs.Steps.{SetInitialStunRto, SetMaxStunRto, SetMaxStunRetransmits, SetLiteTimeout, SetLocalPreference, Answer, Done, is_done, Entry, quiet, Step}
+use Rattle.is_theorems.specs.Exchange.{Course}
 use Rattle.is_theorems.specs.Logs.{Logged}
 
 -- What the caller sets and nothing else changes: all that `set_settings` sets, as one value, and what only a setter of its own sets.
@@ -61,3 +62,16 @@ SettingsAreSet {H = H} {P = P} mac answers =
 -- The theorem: `set_settings` sets all of its value, and leaves the others.
 abbrev pub AllAreSet : Type 0 → Type 0 → Type 0
 AllAreSet H P = (old : AgentRecord H P) (s : Settings) → all_settings_of (with_settings s old) ≡ record (all_settings_of old) { settings = s }
+
+-- the setters of all that `set_settings` sets, in an order in which they may be called
+abbrev pub setters_of : {P : Type 0} → Settings → List (Call P)
+setters_of s =
+    SetProfile s.profile ∷ SetConsent s.consent ∷ SetMaxStunRetransmits s.max_retransmits ∷ SetLiteTimeout s.lite_timeout.0
+    ∷ SetInitialStunRto s.initial_rto.0 ∷ SetMaxStunRto s.max_rto.0 ∷ SetTimingAdvance s.timing_advance.0
+    ∷ SetMaxCandidatePairs s.max_pairs ∷ SetMaxDiscovered s.max_discovered ∷ SetRenomination s.renomination ∷ []
+
+-- The theorem: `set_settings` is an execution of these setters. So what holds of executions holds of agents whose settings are set at once.
+abbrev pub AllAreSetInTurn : {H P : Type 0} → (H → List ℕ → List ℕ → List ℕ) → (P → CandidateRecord → ℕ → ℕ → Type 0) → Type 0
+AllAreSetInTurn {H = H} {P = P} mac answers =
+    (old : AgentRecord H P) (s : Settings) (random : Stream) → 0 < s.max_retransmits
+    → Course mac answers (map (λ call. (call, quiet Done)) (setters_of s)) old (with_settings s old)
