@@ -1,5 +1,7 @@
 -- `set_settings` sets its value, and does what the setters of the fields do, one after another.
+use native.Mathlib.Omega.{arith}
 use Rattle.std.proofs.Common.{◌≡◌, ℕ, ◌==◌, ◌<◌, ◌&&◌, Bool, true, false, List, [], ◌∷◌, map, refl, ap, sym, subst, ◌∙◌, if◌then◌else◌}
+use Rattle.std.proofs.lemmas.Bool.{eqb-true}
 use Rattle.std.specs.Prelude.{MatchBool}
 use Rattle.rand_core.specs.Stream.{Stream}
 use Rattle.is_candidate.specs.Candidates.{CandidateRecord}
@@ -29,6 +31,12 @@ after-both true false ps = refl
 after-both false true ps = refl
 after-both false false ps = undue-twice ps
 
+not-zero : (n : ℕ) → 0 < n → (n == 0) ≡ false
+not-zero n some = by (n == 0) refl where
+  by : (b : Bool) → (n == 0) ≡ b → (n == 0) ≡ false
+  by true is = let none = eqb-true n 0 is in absurd (omega (arith, some, none))
+  by false is = is
+
 module _ {H P : Type 0} where
   pairs-after : (initial greatest : ℕ) (a : AgentRecord H P)
       → (with_rtos initial greatest (with_rtos initial a.timing.max_rto.0 a)).pairs ≡ (with_rtos initial greatest a).pairs
@@ -46,15 +54,12 @@ module _ {H P : Type 0} where
   rtos-in-turn initial greatest a = ap (λ (ps : List PairRecord). record (with_rtos initial greatest a) { pairs = ps }) (pairs-after initial greatest a)
 
   -- the setters before those of the RTOs
-  begun : Settings → AgentRecord H P → AgentRecord H P
+  abbrev begun : Settings → AgentRecord H P → AgentRecord H P
   begun s a = with_lite_timeout s.lite_timeout.0 (with_retransmits s.max_retransmits (with_consent s.consent (with_profile s.profile a)))
 
   -- those after them
-  ended : Settings → AgentRecord H P → AgentRecord H P
+  abbrev ended : Settings → AgentRecord H P → AgentRecord H P
   ended s a = record a { timing_advance = s.timing_advance.0; max_pairs = s.max_pairs; max_discovered = s.max_discovered; renominates = s.renomination }
-
-  not-zero : (n : ℕ) → 0 < n → (n == 0) ≡ false
-  not-zero n some = search
 
   retransmits : (n : ℕ) (a : AgentRecord H P) (r : Stream) → (n == 0) ≡ false
       → MatchBool (n == 0) ((quiet Done ≡ quiet NotCalled) × (with_retransmits n a ≡ a) × (r ≡ r)) (Becomes (with_retransmits n a) r (quiet Done) (with_retransmits n a) r)
@@ -74,16 +79,15 @@ module _ {H P : Type 0} where
         let paced : AgentRecord H P = record both { timing_advance = s.timing_advance.0 } in
         let paired : AgentRecord H P = record paced { max_pairs = s.max_pairs } in
         let found : AgentRecord H P = record paired { max_discovered = s.max_discovered } in
-        (
-          profiled, r, r, tt, (refl, refl, refl),
-          consented, r, r, tt, (refl, refl, refl),
-          limited, r, r, tt, retransmits s.max_retransmits consented r (not-zero s.max_retransmits some),
-          timed, r, r, tt, (refl, refl, refl),
-          first, r, r, tt, (refl, refl, refl),
-          both, r, r, tt, (refl, refl, refl),
-          paced, r, r, tt, (refl, refl, refl),
-          paired, r, r, tt, (refl, refl, refl),
-          found, r, r, tt, (refl, refl, refl),
-          record found { renominates = s.renomination }, r, r, tt, (refl, refl, refl),
-          sym (ap (λ (a : AgentRecord H P). ended s a) (rtos-in-turn s.initial_rto.0 s.max_rto.0 timed)),
-        )
+        let positive : 0 < s.max_retransmits = search some in
+        (profiled, r, r, tt, (refl, refl, refl),
+        (consented, r, r, tt, (refl, refl, refl),
+        (limited, r, r, tt, retransmits s.max_retransmits consented r (not-zero s.max_retransmits positive),
+        (timed, r, r, tt, (refl, refl, refl),
+        (first, r, r, tt, (refl, refl, refl),
+        (both, r, r, tt, (refl, refl, refl),
+        (paced, r, r, tt, (refl, refl, refl),
+        (paired, r, r, tt, (refl, refl, refl),
+        (found, r, r, tt, (refl, refl, refl),
+        (record found { renominates = s.renomination }, r, r, tt, (refl, refl, refl),
+        sym (ap (λ (a : AgentRecord H P). ended s a) (rtos-in-turn s.initial_rto.0 s.max_rto.0 timed))))))))))))

@@ -37,7 +37,7 @@ true_false b h k = let wrong : true ≡ false = sym h ∙ k in absurd (cc)
 
 -- ---- whether nominations have numbers, by the calls
 
-numbering-in : {P : Type 0} → SettingsRecord P → Bool × Bool
+abbrev numbering-in : {P : Type 0} → SettingsRecord P → Bool × Bool
 numbering-in s = (s.settings.renomination, is_modern_profile s.settings.profile)
 
 pub numbering_set : {P : Type 0} (call : Call P) (answer : Answer) (s : SettingsRecord P)
