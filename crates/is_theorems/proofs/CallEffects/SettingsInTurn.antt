@@ -8,9 +8,9 @@ use Rattle.is_candidate.specs.Candidates.{CandidateRecord}
 use Rattle.is_pair.specs.Pairs.{PairRecord, undue}
 use Rattle.is_rules.specs.declared.settings.Settings.{Settings}
 use Rattle.is_rules.specs.Agent.{AgentRecord}
-use Rattle.is_rules.specs.Settings.{with_settings, with_rtos, with_profile, with_consent, with_retransmits, with_lite_timeout}
-use Rattle.is_rules.specs.Steps.{Becomes, Entry, quiet, Done, NotCalled}
-use Rattle.is_theorems.specs.Settings.{all_settings_of, AllAreSet, AllAreSetInTurn}
+use Rattle.is_rules.specs.Settings.{with_rtos, with_profile, with_consent, with_retransmits, with_lite_timeout}
+use Rattle.is_rules.specs.Steps.{Becomes, quiet, Done, NotCalled}
+use Rattle.is_theorems.specs.Settings.{AllAreSet, AllAreSetInTurn}
 use Rattle.is_theorems.proofs.StoredPairs.StoredChecks.{number_same}
 
 pub all-are-set : (H P : Type 0) → AllAreSet H P
@@ -79,15 +79,74 @@ module _ {H P : Type 0} where
         let paced : AgentRecord H P = record both { timing_advance = s.timing_advance.0 } in
         let paired : AgentRecord H P = record paced { max_pairs = s.max_pairs } in
         let found : AgentRecord H P = record paired { max_discovered = s.max_discovered } in
-        let positive : 0 < s.max_retransmits = search some in
-        (profiled, r, r, tt, (refl, refl, refl),
-        (consented, r, r, tt, (refl, refl, refl),
-        (limited, r, r, tt, retransmits s.max_retransmits consented r (not-zero s.max_retransmits positive),
-        (timed, r, r, tt, (refl, refl, refl),
-        (first, r, r, tt, (refl, refl, refl),
-        (both, r, r, tt, (refl, refl, refl),
-        (paced, r, r, tt, (refl, refl, refl),
-        (paired, r, r, tt, (refl, refl, refl),
-        (found, r, r, tt, (refl, refl, refl),
-        (record found { renominates = s.renomination }, r, r, tt, (refl, refl, refl),
-        sym (ap (λ (a : AgentRecord H P). ended s a) (rtos-in-turn s.initial_rto.0 s.max_rto.0 timed))))))))))))
+        let positive : 0 < s.max_retransmits = search some in (
+          profiled,
+          r,
+          r,
+          tt,
+          (refl, refl, refl),
+          (
+            consented,
+            r,
+            r,
+            tt,
+            (refl, refl, refl),
+            (
+              limited,
+              r,
+              r,
+              tt,
+              retransmits s.max_retransmits consented r (not-zero s.max_retransmits positive),
+              (
+                timed,
+                r,
+                r,
+                tt,
+                (refl, refl, refl),
+                (
+                  first,
+                  r,
+                  r,
+                  tt,
+                  (refl, refl, refl),
+                  (
+                    both,
+                    r,
+                    r,
+                    tt,
+                    (refl, refl, refl),
+                    (
+                      paced,
+                      r,
+                      r,
+                      tt,
+                      (refl, refl, refl),
+                      (
+                        paired,
+                        r,
+                        r,
+                        tt,
+                        (refl, refl, refl),
+                        (
+                          found,
+                          r,
+                          r,
+                          tt,
+                          (refl, refl, refl),
+                          (
+                            record found { renominates = s.renomination },
+                            r,
+                            r,
+                            tt,
+                            (refl, refl, refl),
+                            sym (ap (λ (a : AgentRecord H P). ended s a) (rtos-in-turn s.initial_rto.0 s.max_rto.0 timed)),
+                          ),
+                        ),
+                      ),
+                    ),
+                  ),
+                ),
+              ),
+            ),
+          ),
+        )

@@ -5,7 +5,6 @@ use Rattle.is_proto.specs.Lists.{Has}
 use Rattle.is_candidate.specs.Candidates.{CandidateRecord}
 use Rattle.is_pair.specs.Pairs.{PairRecord, is_valid, is_nominated}
 use Rattle.is_pair.specs.Checks.{Check}
-use Rattle.is_stun.specs.Message.{Message}
 use Rattle.is_stun.specs.Integrity.{IsSignedBy}
 use Rattle.is_stun.specs.Timing.{is_modern, is_modern_profile}
 use Rattle.is_rules.specs.declared.emitted.Path.{Path}
