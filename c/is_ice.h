@@ -340,7 +340,7 @@ typedef struct is_ice_agent_settings {
     uint64_t initial_rto;     /* see is_ice_set_initial_rto */
     uint64_t max_rto;         /* see is_ice_set_max_rto */
     uint64_t lite_timeout;    /* see is_ice_set_lite_timeout */
-    uint64_t consent_timeout; /* with modern: how long a response keeps a pair; 0: by the RTOs and max_retransmits */
+    uint64_t consent_timeout; /* with modern: so long after its last answered check a pair is removed; 0: by the RTOs */
     size_t max_retransmits;   /* see is_ice_set_max_retransmits */
     size_t max_pairs;         /* see is_ice_set_max_pairs */
     size_t max_discovered;    /* see is_ice_set_max_discovered */
