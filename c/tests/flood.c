@@ -16,8 +16,8 @@ enum {
  * that can be due before. Times are whole milliseconds here. */
 #define LONGEST_GAP (3 * SECOND + PAIRS * 51 * MS)
 
-/* When a new address has a valid pair after a flood at the latest, with the original settings: a pair without a response is removed
- * 21.5 s after its first check, and each of its nine checks can wait for one of each other pair. With the modern ones it is after 31 s. */
+/* When a new address has a valid pair after a flood at the latest, by the original's rules: a pair without a response is removed
+ * 21.5 s after its first check, and each of its nine checks can wait for one of each other pair. With all rules it is after 31 s. */
 #define LONGEST_WAIT (UINT64_C(21500) * MS + 9 * PAIRS * 51 * MS)
 
 struct flood {
