@@ -1,5 +1,5 @@
-"""Tests that the checkers of rounds read the consent of the pair: logs in which it ends before the rounds, or in them, and that lack nothing
-else."""
+"""Tests that the checkers of rounds read the consent of the pair: logs in which it ends before the rounds, or in them, and that lack
+nothing else."""
 
 import unittest
 from dataclasses import replace
@@ -12,7 +12,7 @@ from lab.tests.stories import MODERN, TO_A, TO_B, Story, at
 
 class Lasting(unittest.TestCase):
     def test_the_consent_of_the_pair_ends_before_the_rounds(self) -> None:
-        """A, which is controlling, selects at 10 ms, and nominates at 50 ms. B's check at 1 ms is answered, and its rounds begin at 400 ms."""
+        """A, which is controlling, selects at 10 ms, and nominates at 50 ms. B's check at 1 ms is answered. A's rounds begin at 700 ms."""
         cases: tuple[tuple[int, list[str]], ...] = ((1000, []), (1, ["asking.line.lasting"]))
         for limit, missing in cases:
             story = Story()
