@@ -117,7 +117,7 @@ fn takes_ufrag(alloc: Global, line: &str, text: &str) -> bool {
 }
 
 /// Whether the line is rejected with a ufrag without a value after it.
-fn wants_ufrag(alloc: Global, line: &str) -> bool {
+fn needs_ufrag_value(alloc: Global, line: &str) -> bool {
     match format!(in alloc; "{line} ufrag") {
         Ok(cut) => is_rejected(alloc, cut.as_str(), "missing ufrag value"),
         Err(_) => false,
@@ -130,7 +130,7 @@ fn lines_of_any_number_of_keys_read_to_their_last_word(rt: HostRuntime) -> Resul
     let mut line = String::from_str(rt.alloc(), "candidate:1 1 udp 1 10.0.0.1 1 typ host")?;
     for _ in 0..40 {
         assert!(rt; takes_ufrag(rt.alloc(), line.as_str(), text));
-        assert!(rt; wants_ufrag(rt.alloc(), line.as_str()));
+        assert!(rt; needs_ufrag_value(rt.alloc(), line.as_str()));
         line.push_str(" generation 0")?;
     }
     Ok(())

@@ -13,7 +13,7 @@ const UNNAMED: [u8; 20] = [
     0x6e, 0x67, 0x47, 0x63,
 ];
 
-/// The same header for a REALM of 132 bytes, with what stands before its value.
+/// The same header for a REALM of 132 bytes, with what is before its value.
 const REALM_FRONT: [u8; 24] = [
     0x00, 0x02, 0x00, 136, 0x21, 0x12, 0xa4, 0x42, 0x6a, 0x75, 0x63, 0x31, 0x35, 0x75, 0x78, 0x55,
     0x6e, 0x67, 0x47, 0x63, 0x00, 0x14, 0x00, 132,
@@ -56,8 +56,8 @@ fn an_unknown_method_is_reported_first(rt: HostRuntime) -> Result<(), Fail> {
 
 #[test]
 fn a_value_that_is_too_long_is_reported_next(rt: HostRuntime) {
-    let letters = [b'a'; 129];
-    let text = str::from_utf8(&letters).unwrap_or("");
+    let bytes = [b'a'; 129];
+    let text = str::from_utf8(&bytes).unwrap_or("");
     let failure = Builder::new().binding().failure();
     let full = failure.data(&[0; 65535]);
     assert!(rt;

@@ -76,7 +76,7 @@ impl Side {
     }
 
     /// Whether the server's error response to the last packet counts.
-    fn is_refused(&mut self, now: u64, code: u16) -> bool {
+    fn gets_error(&mut self, now: u64, code: u16) -> bool {
         let error = Builder::new()
             .binding()
             .failure()
@@ -174,7 +174,7 @@ fn an_error_ends_nothing_once_there_was_an_answer(rt: HostRuntime) {
     let mut side = Side::new(ClientTiming::rfc());
     assert!(rt; side.sends_at(0) && side.is_answered(100, address(77)));
     assert!(rt; side.reports(Some(StunEvent::Mapped(address(77)))));
-    assert!(rt; side.sends_at(20100) && side.is_refused(20200, 500));
+    assert!(rt; side.sends_at(20100) && side.gets_error(20200, 500));
     assert!(rt; side.reports(None));
     assert!(rt; side.client.poll_timeout() == Some(at(40200)));
 }
@@ -182,7 +182,7 @@ fn an_error_ends_nothing_once_there_was_an_answer(rt: HostRuntime) {
 #[test]
 fn an_error_ends_the_first_request(rt: HostRuntime) {
     let mut side = Side::new(ClientTiming::rfc());
-    assert!(rt; side.sends_at(0) && side.is_refused(10, 300));
+    assert!(rt; side.sends_at(0) && side.gets_error(10, 300));
     assert!(rt; side.reports(Some(StunEvent::Failed(Some(300)))));
     assert!(rt; side.client.poll_timeout().is_none());
     side.client.start(at(20));
