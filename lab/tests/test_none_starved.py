@@ -9,7 +9,7 @@ from lab.clauses import none_starved_in_time as of
 from lab.clauses.execution import MAX, Execution, Lacks
 from lab.clauses.verdict import Verdict
 from lab.clock import BEGINNING, MILLISECOND
-from lab.pairs import Consent, Timing
+from lab.pairs import Timing
 from lab.replay import replay
 from lab.requests import Request
 from lab.tests.stories import LINE, TO_B, A, B, Story, at
@@ -92,7 +92,7 @@ class NoneStarved(unittest.TestCase):
     def test_all_pairs_have_consent(self) -> None:
         story = limited()
         pair = story.session().steps[story.moments["a"][2]].before["a"].pairs[0]
-        fields = {"pairs": (replace(pair, state="succeeded", consented=BEGINNING),), "timing": Timing(consent=Consent(MILLISECOND, True))}
+        fields = {"pairs": (replace(pair, state="succeeded", consented=BEGINNING),), "timing": Timing(modern=True, limit=MILLISECOND, strict=True)}
         self.assertEqual(self.altered(story, 2, **fields), ["consents"])
 
     def test_the_pair_waits(self) -> None:
