@@ -1,4 +1,4 @@
-"""`World::run`, clause `in_time`, of pairs on which a request was served (`ServedRoundsReach`): by the rule `triggered_checks` 2 * m rounds
+"""`World::run`, clause `in_time`, of pairs on which a request was served (`ServedRoundsReach`): with the profile `Modern` 2 * m rounds
 suffice then in either role, if fewer than m of them check other pairs before, however many pairs there are."""
 
 from __future__ import annotations

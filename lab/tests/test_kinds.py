@@ -8,7 +8,7 @@ from is_ice import Candidate, IceAgent, IceConnectionState, IceCreds, Settings, 
 from lab import kinds
 from lab.clauses.progress import are_as_many_as_due, are_open_enough, checks_for
 from lab.clauses.staying import combines_with, most_pairs, rank_count
-from lab.clock import BEGINNING, MILLISECOND, Clock
+from lab.clock import MILLISECOND, Clock
 from lab.kinds import counted_kind, is_public, kind_between, kind_of, reaches_out, turn_of
 from lab.log import Beginning, Log, LoggedAgent
 from lab.pairs import Place, Timing

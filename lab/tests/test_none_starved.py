@@ -92,7 +92,8 @@ class NoneStarved(unittest.TestCase):
     def test_all_pairs_have_consent(self) -> None:
         story = limited()
         pair = story.session().steps[story.moments["a"][2]].before["a"].pairs[0]
-        fields = {"pairs": (replace(pair, state="succeeded", consented=BEGINNING),), "timing": Timing(modern=True, limit=MILLISECOND, strict=True)}
+        fields = {"pairs": (replace(pair, state="succeeded", consented=BEGINNING),),
+                  "timing": Timing(modern=True, limit=MILLISECOND, strict=True)}
         self.assertEqual(self.altered(story, 2, **fields), ["consents"])
 
     def test_the_pair_waits(self) -> None:

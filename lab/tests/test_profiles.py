@@ -309,7 +309,7 @@ class Settings(unittest.TestCase):
             self.assertEqual(made, replace(ORIGINAL, max_pairs=7, profile=profile, consent=Consent(29_600 * MILLISECOND)))
         made = endpoint.settings_by(AgentSettings(consent_ms=0.5, strict_consent=True), MODERN)
         self.assertEqual(made, replace(MODERN, consent=Consent(MILLISECOND // 2, True)))
-        self.assertEqual(endpoint.settings_by(AgentSettings(consent_ms=0), ORIGINAL), replace(MODERN, consent=Consent(0)))
+        self.assertEqual(endpoint.settings_by(AgentSettings(consent_ms=0), ORIGINAL), MODERN)
 
     def test_an_agent_with_settings(self) -> None:
         agent = Story().agents["a"]

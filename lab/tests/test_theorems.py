@@ -289,7 +289,7 @@ class Completed(unittest.TestCase):
     def test_the_preconditions(self) -> None:
         story = self.nominated_last()
         self.assertEqual(self.lacking(altered(story, 0, "b", next_number=1)), ["IsFresh"])
-        self.assertEqual(self.lacking(self.nominated_last(ORIGINAL).network().x), ["selects_at_once"])
+        self.assertEqual(self.lacking(self.nominated_last(ORIGINAL).network().x), ["modern"])
         self.assertEqual(self.lacking(altered(story, self.last(story), "b", True, controlling=True)), ["controlled"])
         pair = story.agents["b"].pairs[0]
         two = altered(story, self.last(story), "b", True, pairs=(pair, replace(pair, number=9)))
