@@ -172,9 +172,10 @@ class Connecting(Late):
 
 class Numbered(unittest.TestCase):
     """Nominations have numbers. A has two pairs. It selects the lesser one at 60 ms and nominates it at 100 ms, and the greater one at 260
-    and 310 ms. B's checks are answered: its lesser pair, which it selects at 131 ms, and at 520 ms the greater one. A's second nomination
-    arrives at 540 ms, and B follows. A's rounds for the greater pair begin at 310 ms, B's at 520 ms. Two pairs need 7 rounds, since every
-    second check may go ahead, and two more for each nomination that may be sent at once, from the second round on."""
+    and 310 ms. B's checks are answered. It selects the lesser pair at 131 ms, and the greater one at 540 ms, when A's second nomination
+    arrives. A's rounds for the greater pair begin at 310 ms, B's at 520 ms. Two pairs take 7 rounds, since every second check may go ahead,
+    and a path that is selected, and whose pair was not checked since, two more. So after its first round A takes 7, since it sent its
+    nomination, and B takes 9, since it selected a path."""
 
     def story(self, asking: int, asked: int) -> Story:
         """The log with so many later timeouts of A and of B, 50 ms apart, whose checks are lost."""
