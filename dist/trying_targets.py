@@ -82,16 +82,23 @@ def step_arm64_rust(place, out):
 
 # ---- Windows
 
-def step_windows(place, out):
-    """The zip for Windows: the block of its README.md, and programs of c/, which print what they print here."""
+def windows_zip(place, out):
+    """The unpacked zip, and the environment of programs under wine."""
     archive = optional(out, "is_ice-*-windows-x86_64.zip", "windows")
-    require(WINDOWS_CC, WINDOWS_CXX, "wine", CC)
+    require(WINDOWS_CC, WINDOWS_CXX, "wine")
     with zipfile.ZipFile(archive) as zipped:
         zipped.extractall(place)
-    root = next(place.glob("is_ice-*"))
     env = bare(WINEDEBUG="-all", WINEPREFIX=str(place / "wine"))
+    root = next(place.glob("is_ice-*"))
     block = [line.strip() for line in (root / "README.md").read_text().splitlines() if line.startswith("    ")]
     run("sh", "-ec", "\n".join(block), cwd=root, env=env)
+    return root, env
+
+
+def step_windows(place, out):
+    """The zip for Windows: the blocks of its README.md, and programs of c/, which print what they print here."""
+    require(CC)
+    root, env = windows_zip(place, out)
     found_paths(run("wine", root / "two.exe", cwd=root, env=env).replace("\r", ""))
     run(WINDOWS_CXX, "-std=c++17", "-Iinclude", "-o", root / "two_cxx.exe", "share/doc/is_ice/examples/two.cpp", "lib/libis_ice.dll.a",
         "-static", cwd=root, env=env)
@@ -107,6 +114,20 @@ def step_windows(place, out):
         if said != run(program, env=bare()):
             raise Failed(f"{name} prints other text: {said[:1000]}")
     return f"two.c, two.cpp and {len(WINDOWS_PROGRAMS)} programs of c/ under wine"
+
+
+def step_windows_sockets(place, out):
+    """The programs of the zip that open sockets: the tests of c/ for peers and chats, under wine."""
+    root, env = windows_zip(place, out)
+    for name in ("peer", "chat", "chat_cxx"):
+        (root / name).write_text(f"#!/bin/sh\nexec wine '{root / name}.exe' \"$@\"\n")
+        (root / name).chmod(0o755)
+    run("wineboot", "--init", env=env)  # the first program would do this, and have less time
+    tests = top / "c" / "tests"
+    said = [run(sys.executable, tests / "connect.py", root / "peer", *WINDOWS_CASES, env=env).splitlines()[-1]]
+    for name in ("chat", "chat_cxx"):
+        said.append(run(sys.executable, tests / "chat.py", root / name, env={**env, "CASES_OF_CHAT": WINDOWS_CHATS}).splitlines())
+    return f"peers {said[0]}; chats {said[1:]}"
 
 
 # ---- JavaScript

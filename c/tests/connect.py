@@ -1,7 +1,9 @@
 """Tests two runs of the program peer over loopback, and carries the signaling between them.
 
-Usage: connect.py PEER [CASE ..]. Prints a line for each case, and 'N passed, M failed'. The status is 0 if all passed.
+Usage: connect.py PEER [CASE ..]. Prints a line for each case, and 'N passed, M failed'. The status is 0 if all passed. IS_ICE_PATIENCE=4
+waits four times as long for each line, as for programs in an emulator.
 """
+import os
 import queue
 import re
 import socket
@@ -11,7 +13,7 @@ import sys
 import threading
 import time
 
-PATIENCE = 15
+PATIENCE = 15 * int(os.environ.get("IS_ICE_PATIENCE", "1"))
 ROLES = ("controlling", "controlled")
 
 
