@@ -1,4 +1,4 @@
-//! The rule `state_after_nomination`: the agent is Connected or Completed if and only if the path of the last `NominatedSend` is that
+//! With `Modern` the agent is Connected or Completed if and only if the path of the last `NominatedSend` is that
 //! of a pair that can be used.
 
 use super::step::Call::*;

@@ -1,4 +1,4 @@
-//! What an agent does beyond the original's behavior: triggered checks, and selection at a request.
+//! What a request does at an agent with the profile `Modern`: it triggers a check, and may select.
 
 use super::step::Call::*;
 use super::step::Emitted::*;
