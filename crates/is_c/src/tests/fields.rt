@@ -1,15 +1,14 @@
 //! The fields of a candidate, username fragments that are no word, and mDNS names.
 
-use super::{address, host};
+use super::{address, gathers, host, is_new, signals};
 use crate::address::Address;
-use crate::candidates::{is_ice_add_local, is_ice_add_remote};
 use crate::codes;
 use crate::fields::{
     Fields, is_ice_candidate_fields, is_ice_line_fields, is_ice_local_fields, is_ice_remote_fields,
 };
 use crate::infos::{is_ice_json_refusal, is_ice_line_from_json};
 use crate::lines::is_ice_line_with_ufrag;
-use crate::making::{free, is_ice_agent_new};
+use crate::making::free;
 use crate::mdns::{is_ice_line_name, is_ice_line_with_address};
 use crate::slot::Slot;
 
@@ -144,28 +143,35 @@ fn a_gathered_candidate_has_fields(rt: HostRuntime) {
 }
 
 #[test]
-fn listed_candidates_have_fields(rt: HostRuntime) {
+fn what_is_not_listed_has_no_fields(rt: HostRuntime) {
     let alloc = rt.alloc();
     let mut slot = Slot::empty(alloc);
     let mut text = [0; 120];
     let mut length = 0;
-    let mut index = 9;
     let mut fields = no_fields();
     let none = is_ice_local_fields(alloc, &mut slot, 0, &mut text, &mut length, &mut fields);
     assert!(rt; none == codes::NO_AGENT);
     let none = is_ice_remote_fields(alloc, &mut slot, 0, &mut text, &mut length, &mut fields);
     assert!(rt; none == codes::NO_AGENT);
-    let made = is_ice_agent_new(alloc, &mut slot, b"AAAA", b"PPPP", 1);
-    assert!(rt; made == codes::OK);
+    assert!(rt; is_new(alloc, &mut slot));
     let none = is_ice_local_fields(alloc, &mut slot, 0, &mut text, &mut length, &mut fields);
     assert!(rt; none == codes::NOTHING);
     let none = is_ice_remote_fields(alloc, &mut slot, 0, &mut text, &mut length, &mut fields);
     assert!(rt; none == codes::NOTHING);
     assert!(rt; fields.kind == 99);
-    let added = is_ice_add_local(alloc, &mut slot, &host(address(1, 1000)), &mut index);
-    assert!(rt; added == codes::OK);
-    let added = is_ice_add_remote(alloc, &mut slot, HOST, &mut index);
-    assert!(rt; added == codes::OK);
+    free(alloc, &mut slot);
+}
+
+#[test]
+fn listed_candidates_have_fields(rt: HostRuntime) {
+    let alloc = rt.alloc();
+    let mut slot = Slot::empty(alloc);
+    let mut text = [0; 120];
+    let mut length = 0;
+    let mut fields = no_fields();
+    assert!(rt; is_new(alloc, &mut slot));
+    assert!(rt; gathers(alloc, &mut slot, 1) == (codes::OK, 0));
+    assert!(rt; signals(alloc, &mut slot, HOST) == (codes::OK, 0));
     let read = is_ice_local_fields(alloc, &mut slot, 0, &mut text, &mut length, &mut fields);
     assert!(rt; read == codes::OK);
     assert!(rt; fields.address.port == 1000);
