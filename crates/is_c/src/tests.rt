@@ -356,13 +356,17 @@ fn a_failure_needs_a_message_and_room(rt: HostRuntime) {
     assert!(rt; none == codes::NOTHING);
 }
 
+/// Writes the local candidate with this index. Whether there is one.
+fn lists(alloc: Global, slot: &mut Slot, index: usize, line: &mut [u8; 100]) -> bool {
+    let mut length = 0;
+    is_ice_local_candidate(alloc, slot, index, line, &mut length) == codes::OK
+}
+
 #[test]
 fn a_table_gives_the_preference(rt: HostRuntime) {
     let alloc = rt.alloc();
     let mut slot = Slot::empty(alloc);
     let mut line = [0; 100];
-    let mut length = 0;
-    let mut index = 9;
     let kinds = KindPreferences {
         host: 256,
         peer_reflexive: 0,
@@ -373,20 +377,14 @@ fn a_table_gives_the_preference(rt: HostRuntime) {
         v4: kinds,
         v6: kinds,
     };
-    let made = is_ice_agent_new(alloc, &mut slot, b"AAAA", b"PPPP", 1);
-    assert!(rt; made == codes::OK);
+    assert!(rt; is_new(alloc, &mut slot));
     let set = is_ice_set_preference_table(alloc, &mut slot, &table);
     assert!(rt; set == codes::OK);
-    let first = is_ice_add_local(alloc, &mut slot, &host(address(1, 1000)), &mut index);
-    assert!(rt; first == codes::OK);
-    let reported = is_ice_local_candidate(alloc, &mut slot, 0, &mut line, &mut length);
-    assert!(rt; reported == codes::OK);
+    assert!(rt; gathers(alloc, &mut slot, 1) == (codes::OK, 0));
+    assert!(rt; lists(alloc, &mut slot, 0, &mut line));
     assert!(rt; line[41..51] == b"2113995007"[..]);
-    let second = is_ice_add_local(alloc, &mut slot, &host(address(3, 1000)), &mut index);
-    assert!(rt; second == codes::OK);
-    assert!(rt; index == 1);
-    let reported = is_ice_local_candidate(alloc, &mut slot, index, &mut line, &mut length);
-    assert!(rt; reported == codes::OK);
+    assert!(rt; gathers(alloc, &mut slot, 3) == (codes::OK, 1));
+    assert!(rt; lists(alloc, &mut slot, 1, &mut line));
     assert!(rt; line[41..51] == b"2113994751"[..]);
     free(alloc, &mut slot);
 }

@@ -11,6 +11,7 @@ use crate::lines::is_ice_line_with_ufrag;
 use crate::making::free;
 use crate::mdns::{is_ice_line_name, is_ice_line_with_address};
 use crate::slot::Slot;
+use std::alloc::Global;
 
 // The server-reflexive candidate of RFC 8839, appendix A, with two spaces, an extension and a username fragment.
 const REFLEXIVE: &[u8] =
@@ -47,7 +48,7 @@ pub(super) fn starts_with(address: &Address, octets: [u8; 4]) -> bool {
 }
 
 #[test]
-fn a_line_has_fields(rt: HostRuntime) {
+fn a_line_is_printed(rt: HostRuntime) {
     let alloc = rt.alloc();
     let mut text = [0; 120];
     let mut length = 0;
@@ -56,6 +57,22 @@ fn a_line_has_fields(rt: HostRuntime) {
     assert!(rt; read == codes::OK);
     assert!(rt; length == PRINTED.len());
     assert!(rt; text.starts_with(PRINTED));
+}
+
+/// The fields of the candidate of a line; `no_fields` if it is none.
+fn fields_of(alloc: Global, line: &[u8]) -> Fields {
+    let mut text = [0; 120];
+    let mut length = 0;
+    let mut fields = no_fields();
+    match is_ice_line_fields(alloc, line, &mut text, &mut length, &mut fields) {
+        codes::OK => fields,
+        _ => no_fields(),
+    }
+}
+
+#[test]
+fn a_line_has_addresses(rt: HostRuntime) {
+    let fields = fields_of(rt.alloc(), REFLEXIVE);
     assert!(rt; fields.address.family == 4);
     assert!(rt; fields.address.port == 45664);
     assert!(rt; starts_with(&fields.address, [192, 0, 2, 3]));
@@ -64,6 +81,11 @@ fn a_line_has_fields(rt: HostRuntime) {
     assert!(rt; starts_with(&fields.local, [0, 0, 0, 0]));
     assert!(rt; fields.related.port == 8998);
     assert!(rt; starts_with(&fields.related, [203, 0, 113, 141]));
+}
+
+#[test]
+fn a_line_has_fields(rt: HostRuntime) {
+    let fields = fields_of(rt.alloc(), REFLEXIVE);
     assert!(rt; fields.foundation_length == 1);
     assert!(rt; fields.ufrag_length == 4);
     assert!(rt; fields.priority == 1694498815);
@@ -105,15 +127,22 @@ fn an_error_leaves_the_fields(rt: HostRuntime) {
     let bad = is_ice_line_fields(alloc, b"candidate:1 x", &mut text, &mut length, &mut fields);
     assert!(rt; bad == codes::BAD_CANDIDATE);
     assert!(rt; length == 5);
+    assert!(rt; fields.kind == 99);
+}
+
+#[test]
+fn what_has_no_room_or_no_meaning_leaves_the_fields(rt: HostRuntime) {
+    let alloc = rt.alloc();
     let mut brief = [7; 95];
+    let mut length = 5;
+    let mut fields = no_fields();
     let short = is_ice_line_fields(alloc, REFLEXIVE, &mut brief, &mut length, &mut fields);
     assert!(rt; short == codes::BUFFER_TOO_SHORT);
     assert!(rt; length == PRINTED.len());
     assert!(rt; brief[0] == 7);
-    assert!(rt; fields.kind == 99);
     let mut prflx = host(address(1, 1000));
     prflx.kind = 3;
-    let unknown = is_ice_candidate_fields(alloc, &prflx, &mut text, &mut length, &mut fields);
+    let unknown = is_ice_candidate_fields(alloc, &prflx, &mut brief, &mut length, &mut fields);
     assert!(rt; unknown == codes::BAD_ADDRESS);
     assert!(rt; fields.kind == 99);
 }
