@@ -16,6 +16,12 @@ WINDOWS_CC, WINDOWS_CXX = "x86_64-w64-mingw32-gcc", "x86_64-w64-mingw32-g++"
 STRICT = ["-Wall", "-Wextra", "-Werror"]
 # Programs that print the same on each system.
 WINDOWS_PROGRAMS = ("examples/request", "tests/layout", "tests/texts", "tests/stun", "tests/odd_texts", "tests/threads")
+# The cases of c/tests/connect.py without `options`, which has the words of Linux; those of chat.py without `network`, which needs a network
+# namespace. Programs start slowly under wine.
+WINDOWS_CASES = ("roles", "families", "interfaces", "trickle", "removed", "restart", "lite", "renomination", "reflexive", "silent_server",
+                 "mdns", "replay", "errors", "long_candidate", "late")
+WINDOWS_CHATS = ("--case", "chat", "--case", "loss")
+PATIENCE = {"IS_ICE_PATIENCE": "6"}
 
 
 def optional(out, pattern, target):
@@ -82,16 +88,24 @@ def step_arm64_rust(place, out):
 
 # ---- Windows
 
-def step_windows(place, out):
-    """The zip for Windows: the block of its README.md, and programs of c/, which print what they print here."""
+def windows_zip(place, out):
+    """The unpacked zip with the programs that its README.md builds, and the environment of programs under wine."""
     archive = optional(out, "is_ice-*-windows-x86_64.zip", "windows")
-    require(WINDOWS_CC, WINDOWS_CXX, "wine", CC)
+    require(WINDOWS_CC, WINDOWS_CXX, "wine")
     with zipfile.ZipFile(archive) as zipped:
         zipped.extractall(place)
-    root = next(place.glob("is_ice-*"))
     env = bare(WINEDEBUG="-all", WINEPREFIX=str(place / "wine"))
+    root = next(place.glob("is_ice-*"))
     block = [line.strip() for line in (root / "README.md").read_text().splitlines() if line.startswith("    ")]
     run("sh", "-ec", "\n".join(block), cwd=root, env=env)
+    run("wine", "wineboot", "--init", env=env)  # it takes longer than a program waits
+    return root, env
+
+
+def step_windows(place, out):
+    """The zip for Windows: the blocks of its README.md, and programs of c/, which print what they print here."""
+    require(CC)
+    root, env = windows_zip(place, out)
     found_paths(run("wine", root / "two.exe", cwd=root, env=env).replace("\r", ""))
     run(WINDOWS_CXX, "-std=c++17", "-Iinclude", "-o", root / "two_cxx.exe", "share/doc/is_ice/examples/two.cpp", "lib/libis_ice.dll.a",
         "-static", cwd=root, env=env)
@@ -107,6 +121,19 @@ def step_windows(place, out):
         if said != run(program, env=bare()):
             raise Failed(f"{name} prints other text: {said[:1000]}")
     return f"two.c, two.cpp and {len(WINDOWS_PROGRAMS)} programs of c/ under wine"
+
+
+def step_windows_sockets(place, out):
+    """The programs of the zip that open sockets: the tests of c/ for peers and chats, under wine."""
+    root, env = windows_zip(place, out)
+    for name in ("peer", "chat", "chat_cxx"):
+        (root / name).write_text(f"#!/bin/sh\nexec wine '{root / name}.exe' \"$@\"\n")
+        (root / name).chmod(0o755)
+    tests = top / "c" / "tests"
+    said = run(sys.executable, tests / "connect.py", root / "peer", *WINDOWS_CASES, env={**env, **PATIENCE}).splitlines()[-1]
+    for chat in ("chat", "chat_cxx"):
+        run(sys.executable, tests / "chat.py", *WINDOWS_CHATS, root / chat, env={**env, **PATIENCE})
+    return f"peers: {said}; chats in C and C++ that restart and lose their peer"
 
 
 # ---- JavaScript
@@ -173,5 +200,5 @@ def step_sessions(place, out):
     return "; ".join([f"{sessions.COUNT} sessions of {', '.join(done)} are those of x86-64, byte for byte", *without])
 
 
-STEPS = {"arm64": step_arm64, "arm64_deb": step_arm64_deb, "arm64_rust": step_arm64_rust, "windows": step_windows, "npm": step_npm,
-         "sessions": step_sessions}
+STEPS = {"arm64": step_arm64, "arm64_deb": step_arm64_deb, "arm64_rust": step_arm64_rust, "windows": step_windows,
+         "windows_sockets": step_windows_sockets, "npm": step_npm, "sessions": step_sessions}

@@ -50,8 +50,7 @@ static bool take_line(void) /* false: it was the last one */
 {
     char line[4096];
     is_ice_nominated_pair path;
-    if (!fgets(line, sizeof line, stdin) || strcmp(line, "/quit\n") == 0) return false;
-    line[strcspn(line, "\n")] = '\0';
+    if (!net_line(line, sizeof line) || strcmp(line, "/quit") == 0) return false;
     if (strncmp(line, "signal ", 7) == 0) ok(signal_take(&agent, line + 7)); /* makes a restart if the peer did */
     else if (strcmp(line, "/restart") == 0) ok(signal_restart(&agent, &net));
     else if (ok(is_ice_nominated(&agent, &path))) net_send(&net, &path.source, &path.destination, line, strlen(line));
@@ -70,7 +69,6 @@ int main(int argc, char **argv)
     ok(is_ice_set_settings(&agent, &settings));
     ok(is_ice_set_max_rto(&agent, SECOND)); /* as the path is checked each second */
     ok(is_ice_set_controlling(&agent, strcmp(argv[1], "controlling") == 0));
-    setvbuf(stdin, NULL, _IONBF, 0), setvbuf(stdout, NULL, _IOLBF, BUFSIZ); /* so that each line is waited for, and is printed */
     for (uint64_t timeout = 0, next; goes_on;) {
         uint64_t now = net_now();
         if (net_move(&net, now, argc > 2 ? "127.0.0.1" : NULL)) ok(signal_restart(&agent, &net));
@@ -83,6 +81,7 @@ int main(int argc, char **argv)
             timeout = next; /* before packets are polled; an agent that took a packet may have a check to send at once */
         while (ok(is_ice_poll_transmit(&agent, buffer, sizeof buffer, &packet)))
             net_send(&net, &packet.source, &packet.destination, buffer, packet.length);
+        fflush(stdout);
         goes_on = net_wait(&net, true, timeout, ready);
         for (size_t i = 0; i < net.count; i++)
             if (ready[i]) changed |= receive(i);

@@ -51,9 +51,11 @@ static bool receive(is_ice::agent &agent, size_t i) // whether the agent took a 
 
 static bool take_line(is_ice::agent &agent) // false: it was the last one
 {
-    std::string line;
-    if (!std::getline(std::cin, line) || line == "/quit") return false;
-    if (line.rfind("signal ", 0) == 0) is_ice::checked(signal_take(agent.get(), &line[7])); // makes a restart if the peer did
+    char bytes[4096];
+    if (!net_line(bytes, sizeof bytes)) return false;
+    std::string_view line = bytes;
+    if (line == "/quit") return false;
+    if (line.rfind("signal ", 0) == 0) is_ice::checked(signal_take(agent.get(), &bytes[7])); // makes a restart if the peer did
     else if (line == "/restart") restart(agent);
     else if (auto path = agent.nominated()) net_send(&sockets, &path->source, &path->destination, line.data(), line.size());
     return true;
@@ -69,7 +71,6 @@ int main(int argc, char **argv)
     agent.set_settings(settings);
     agent.set_max_rto(is_ice::nanoseconds(SECOND)); // as the path is checked each second
     agent.set_controlling(goes_on && std::string_view(argv[1]) == "controlling");
-    setvbuf(stdin, nullptr, _IONBF, 0); // so that each line is waited for
     for (is_ice::nanoseconds timeout{}; goes_on;) try {
             auto now = is_ice::nanoseconds(net_now());
             if (net_move(&sockets, net_now(), argc > 2 ? "127.0.0.1" : nullptr)) restart(agent);

@@ -83,7 +83,7 @@ static void handle_timeout(struct session *s, uint64_t now)
 {
     uint8_t random[IS_ICE_TIMEOUT_RANDOM];
     size_t early = early_requests(s);
-    if (!net_random(random, sizeof random)) stop("no random bytes", strerror(errno));
+    if (!net_random(random, sizeof random)) stop("no random bytes", NULL);
     s->timeout = UINT64_MAX;
     if (warn("timeout", is_ice_handle_timeout(&s->agent, now, random, sizeof random)) < 0) s->not_before = now + 50 * MILLISECOND;
     s->has_changed = early_requests(s) < early; /* it served one, and sent no check */
@@ -308,8 +308,8 @@ static void take_lines(struct session *s)
 
 static void read_input(struct session *s)
 {
-    ssize_t got = read(STDIN_FILENO, s->input + s->input_length, INPUT - 1 - s->input_length);
-    if (got < 0 && (errno == EINTR || errno == EAGAIN)) return;
+    ssize_t got = net_input(s->input + s->input_length, INPUT - 1 - s->input_length);
+    if (got < 0) return;
     if (got > 0) {
         s->input_length += (size_t)got;
     } else {
@@ -335,7 +335,7 @@ static void say_message(struct session *s, uint64_t now)
 static void wait_until(struct session *s, uint64_t until)
 {
     bool ready[NET_SOCKETS + 1];
-    if (!net_wait(&s->net, !s->input_is_over, until, ready)) stop("poll", strerror(errno));
+    if (!net_wait(&s->net, !s->input_is_over, until, ready)) stop("poll", net_error_text(net_error()));
     for (size_t i = 0; i < s->net.count; i++)
         if (ready[i]) receive(s, i);
     if (ready[s->net.count]) read_input(s);
@@ -375,7 +375,7 @@ static void begin_sockets(struct session *s, const struct options *o)
         is_ice_address servers[2];
         size_t count = net_resolve(o->server, "3478", servers, &why);
         if (count == 0) stop_option('s', o->server, why);
-        if (!stun_begin(&s->stun, &s->net, servers, count, net_now())) stop("no random bytes", strerror(errno));
+        if (!stun_begin(&s->stun, &s->net, servers, count, net_now())) stop("no random bytes", NULL);
     }
 }
 
@@ -484,7 +484,7 @@ int main(int count, char **words)
     run(&session);
     if (session.net.lost > 0)
         fprintf(stderr, "peer: %llu datagrams could not be sent: %s\n", (unsigned long long)session.net.lost,
-                strerror(session.net.lost_why));
+                net_error_text(session.net.lost_why));
     if (!pcap_close(&session.net.pcap)) fprintf(stderr, "peer: -w %s: not all could be written\n", options.capture);
     is_ice_agent_free(&session.agent);
     net_close(&session.net);

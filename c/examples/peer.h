@@ -25,17 +25,17 @@ void pcap_write(struct pcap *pcap, const is_ice_address *from, const is_ice_addr
 /* Closes the file. Returns false if a write failed since it was opened. */
 bool pcap_close(struct pcap *pcap);
 
-/* ---- peer_net.c: clock, random bytes, sockets and addresses of the machine */
+/* ---- peer_net.c: clock, random bytes, sockets, addresses and standard input of the machine */
 
 enum { NET_SOCKETS = 16, NET_TEXT = 80 };
 
 /* The sockets, one at each local address. */
 struct net {
     size_t count;
-    int sockets[NET_SOCKETS];
+    intptr_t sockets[NET_SOCKETS];
     is_ice_address addresses[NET_SOCKETS];
     uint64_t lost; /* datagrams that could not be sent */
-    int lost_why;  /* errno of the last one */
+    int lost_why;  /* the error of the last one */
     uint64_t look; /* when net_move looks at the machine's addresses next */
     struct pcap pcap; /* what was sent and received, if it is captured */
 };
@@ -45,6 +45,10 @@ uint64_t net_now(void);
 
 /* Writes random bytes of the system, at most 256. False if the system has none. */
 bool net_random(void *bytes, size_t length);
+
+/* The system's number of the last error of a socket, and the text of one. */
+int net_error(void);
+const char *net_error_text(int error);
 
 /* Binds a UDP socket at this address, as "192.0.2.1" or "::1". Returns false if that fails; *why is a text that says why. */
 bool net_bind(struct net *net, const char *address, const char **why);
@@ -58,9 +62,16 @@ void net_close(struct net *net);
  * seconds: at those of the interfaces, or only at this address, unless it is NULL. */
 bool net_move(struct net *net, uint64_t now, const char *only);
 
-/* Waits until this time for a datagram, and for standard input if `input` is true. ready[i]: the socket i has something to read;
- * ready[net->count]: standard input has. Returns false, with errno, if waiting fails. */
+/* Waits until this time for a datagram, and for standard input if `input` is true. ready[i]: the socket i may have something to read;
+ * ready[net->count]: standard input has. Returns false, with an error, if waiting fails. */
 bool net_wait(const struct net *net, bool input, uint64_t until, bool ready[NET_SOCKETS + 1]);
+
+/* Reads what standard input has, and waits if it has nothing. Returns the length, 0 at its end, or -1 to try again. Programs that call
+ * it read standard input by nothing else. */
+ssize_t net_input(void *bytes, size_t size);
+
+/* Reads the next line by it, and cuts one that is too long. Returns false if there is none. */
+bool net_line(char *line, size_t size);
 
 /* Resolves a server, as "stun.example.org:3478", "192.0.2.1" or "[2001:db8::1]:3478", to at most one address of each IP
  * version. Returns their number; if it is 0, *why is a text that says why. */

@@ -1,32 +1,30 @@
-/* Clock, random bytes, sockets and addresses of the machine. */
+/* Clock, random bytes, sockets, addresses and standard input of the machine. What differs between systems is in sockets.h. */
 #define _DEFAULT_SOURCE
 #include "peer.h"
-#include <arpa/inet.h>
-#include <errno.h>
-#include <fcntl.h>
-#include <ifaddrs.h>
+#include "sockets.h"
 #include <limits.h>
-#include <net/if.h>
-#include <netdb.h>
-#include <netinet/in.h>
-#include <poll.h>
 #include <stdio.h>
 #include <stdlib.h>
 #include <string.h>
-#include <sys/socket.h>
-#include <time.h>
-#include <unistd.h>
 
 uint64_t net_now(void)
 {
-    struct timespec t = {0};
-    if (clock_gettime(CLOCK_MONOTONIC, &t) != 0) return 0;
-    return (uint64_t)t.tv_sec * SECOND + (uint64_t)t.tv_nsec;
+    return system_now();
 }
 
 bool net_random(void *bytes, size_t length)
 {
-    return getentropy(bytes, length) == 0;
+    return system_random(bytes, length);
+}
+
+int net_error(void)
+{
+    return system_error();
+}
+
+const char *net_error_text(int error)
+{
+    return system_error_text(error);
 }
 
 /* ---- conversion of addresses */
@@ -152,15 +150,12 @@ static bool bind_at(struct net *net, const is_ice_address *address)
     socklen_t size = socket_of(address, &own);
     const int on = 1;
     if (net->count == NET_SOCKETS) return false;
-    int s = socket(own.ss_family, SOCK_DGRAM, 0);
+    intptr_t s = socket_open(own.ss_family);
     if (s < 0) return false;
-    bool ok = fcntl(s, F_SETFD, FD_CLOEXEC) == 0 && fcntl(s, F_SETFL, O_NONBLOCK) == 0;
-    if (own.ss_family == AF_INET6) ok = ok && setsockopt(s, IPPROTO_IPV6, IPV6_V6ONLY, &on, sizeof on) == 0;
+    bool ok = own.ss_family != AF_INET6 || setsockopt(s, IPPROTO_IPV6, IPV6_V6ONLY, (const char *)&on, sizeof on) == 0;
     ok = ok && bind(s, (struct sockaddr *)&own, size) == 0 && getsockname(s, (struct sockaddr *)&own, &size) == 0;
     if (!ok || !address_of((struct sockaddr *)&own, &net->addresses[net->count])) {
-        int why = errno;
-        close(s);
-        errno = why;
+        socket_close(s);
         return false;
     }
     net->sockets[net->count++] = s;
@@ -180,6 +175,8 @@ bool net_bind(struct net *net, const char *address, const char **why)
     is_ice_address own;
     hints.ai_socktype = SOCK_DGRAM;
     hints.ai_flags = AI_NUMERICHOST;
+    *why = "this system has no sockets";
+    if (!sockets_begin()) return false;
     *why = "not an IP address; names are not resolved";
     if (getaddrinfo(address, "0", &hints, &list) != 0) return false;
     bool ok = address_of(list->ai_addr, &own);
@@ -188,31 +185,34 @@ bool net_bind(struct net *net, const char *address, const char **why)
     *why = "the unspecified address cannot be a candidate; without -a each interface's address is used";
     if (is_unspecified(&own)) return false;
     ok = bind_at(net, &own);
-    *why = strerror(errno);
+    *why = net_error_text(net_error());
     return ok;
+}
+
+static void bind_loopback_too(struct net *net, const struct sockaddr *address, bool is_loopback)
+{
+    char text[NET_TEXT];
+    is_ice_address own;
+    if (!address_of(address, &own) || (!is_loopback && is_ice_is_host_address(&own) != IS_ICE_OK)) return;
+    if (bind_at(net, &own)) return;
+    const char *why = net->count == NET_SOCKETS ? "too many addresses" : net_error_text(net_error());
+    fprintf(stderr, "peer: %s: %s\n", net_text(&own, text), why);
+}
+
+static void bind_others(struct net *net, const struct sockaddr *address, bool is_loopback)
+{
+    if (!is_loopback) bind_loopback_too(net, address, false);
 }
 
 void net_bind_all(struct net *net, bool loopback)
 {
-    struct ifaddrs *list = NULL;
-    is_ice_address own;
-    if (getifaddrs(&list) != 0) {
-        perror("peer: interfaces");
-        return;
-    }
-    for (const struct ifaddrs *at = list; at; at = at->ifa_next) {
-        bool is_up = (at->ifa_flags & IFF_UP) != 0, is_loopback = (at->ifa_flags & IFF_LOOPBACK) != 0;
-        if (!at->ifa_addr || !is_up || (is_loopback && !loopback)) continue;
-        if (!address_of(at->ifa_addr, &own) || (!is_loopback && is_ice_is_host_address(&own) != IS_ICE_OK)) continue;
-        if (bind_at(net, &own)) continue;
-        fprintf(stderr, "peer: %s: %s\n", at->ifa_name, net->count == NET_SOCKETS ? "too many addresses" : strerror(errno));
-    }
-    freeifaddrs(list);
+    if (!sockets_begin() || !each_address(net, loopback ? bind_loopback_too : bind_others))
+        fprintf(stderr, "peer: interfaces: %s\n", net_error_text(net_error()));
 }
 
 void net_close(struct net *net)
 {
-    while (net->count > 0) close(net->sockets[--net->count]);
+    while (net->count > 0) socket_close(net->sockets[--net->count]);
 }
 
 bool net_move(struct net *net, uint64_t now, const char *only)
@@ -234,23 +234,26 @@ bool net_move(struct net *net, uint64_t now, const char *only)
     return true;
 }
 
-static struct pollfd readable(int descriptor)
-{
-    struct pollfd wait = {0};
-    wait.fd = descriptor;
-    wait.events = POLLIN;
-    return wait;
-}
-
 bool net_wait(const struct net *net, bool input, uint64_t until, bool ready[NET_SOCKETS + 1])
 {
-    struct pollfd waits[NET_SOCKETS + 1];
     uint64_t now = net_now(), left = until > now ? (until - now + MILLISECOND - 1) / MILLISECOND : 0;
-    for (size_t i = 0; i < net->count; i++) waits[i] = readable(net->sockets[i]);
-    waits[net->count] = readable(input ? STDIN_FILENO : -1);
-    int count = poll(waits, (nfds_t)net->count + 1, left < INT_MAX ? (int)left : INT_MAX);
-    for (size_t i = 0; i <= net->count; i++) ready[i] = count > 0 && waits[i].revents != 0;
-    return count >= 0 || errno == EINTR;
+    return system_wait(net->sockets, net->count, input, left < INT_MAX ? (int)left : INT_MAX, ready);
+}
+
+ssize_t net_input(void *bytes, size_t size)
+{
+    return system_input(bytes, size);
+}
+
+bool net_line(char *line, size_t size)
+{
+    size_t length = 0;
+    char next = 0;
+    ssize_t got;
+    while ((got = net_input(&next, 1)) != 0 && (got < 0 || next != '\n'))
+        if (got > 0 && next != '\r' && length + 1 < size) line[length++] = next;
+    line[length] = '\0';
+    return got != 0 || length > 0;
 }
 
 void net_send(struct net *net, const is_ice_address *from, const is_ice_address *to, const void *bytes, size_t length)
@@ -259,9 +262,9 @@ void net_send(struct net *net, const is_ice_address *from, const is_ice_address 
     socklen_t size = socket_of(to, &name);
     for (size_t i = 0; i < net->count; i++) {
         if (!net_equal(&net->addresses[i], from)) continue;
-        if (sendto(net->sockets[i], bytes, length, 0, (struct sockaddr *)&name, size) < 0) {
+        if (sendto(net->sockets[i], (const char *)bytes, length, 0, (struct sockaddr *)&name, size) < 0) {
             net->lost++;
-            net->lost_why = errno;
+            net->lost_why = net_error();
         } else {
             pcap_write(&net->pcap, from, to, bytes, length);
         }
@@ -274,7 +277,7 @@ ssize_t net_receive(struct net *net, size_t index, void *bytes, size_t size, is_
     struct sockaddr_storage name;
     memset(&name, 0, sizeof name);
     socklen_t length = sizeof name;
-    ssize_t got = recvfrom(net->sockets[index], bytes, size, 0, (struct sockaddr *)&name, &length);
+    ssize_t got = recvfrom(net->sockets[index], (char *)bytes, size, 0, (struct sockaddr *)&name, &length);
     if (got < 0 || !address_of((struct sockaddr *)&name, from)) return -1;
     pcap_write(&net->pcap, from, &net->addresses[index], bytes, (size_t)got);
     return got;

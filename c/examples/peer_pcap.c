@@ -3,7 +3,7 @@
 #define _DEFAULT_SOURCE
 #include "peer.h"
 #include <string.h>
-#include <time.h>
+#include <sys/time.h>
 
 enum { LINKTYPE_RAW = 101, LARGEST = 65535, UDP = 17, HOPS = 64, IPV4 = 20, IPV6 = 40, HEADER = 8 };
 
@@ -83,15 +83,15 @@ static void put_udp(uint8_t *to, const is_ice_address *from, const is_ice_addres
 void pcap_write(struct pcap *pcap, const is_ice_address *from, const is_ice_address *to, const void *bytes, size_t length)
 {
     uint8_t headers[IPV6 + HEADER];
-    struct timespec now = {0};
+    struct timeval now = {0};
     if (!pcap->file || length > LARGEST - sizeof headers) return;
     size_t size = put_ip(headers, from, to, HEADER + length);
     put_udp(headers + size, from, to, (const uint8_t *)bytes, length);
     size += HEADER;
 
-    clock_gettime(CLOCK_REALTIME, &now);
+    gettimeofday(&now, NULL);
     uint32_t whole = (uint32_t)(size + length);
-    const uint32_t numbers[4] = {(uint32_t)now.tv_sec, (uint32_t)(now.tv_nsec / 1000), whole, whole};
+    const uint32_t numbers[4] = {(uint32_t)now.tv_sec, (uint32_t)now.tv_usec, whole, whole};
     put(pcap, numbers, 4);
     fwrite(headers, 1, size, pcap->file);
     fwrite(bytes, 1, length, pcap->file);

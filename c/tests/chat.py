@@ -1,13 +1,14 @@
 """Tests a chat program (examples/chat.c, and those of C++, Rust and Python): two runs of it, and the signaling between them.
 
-usage: chat.py PROGRAM [WORD ..]      runs `PROGRAM WORD .. controlling -l` and the same with `controlled`
+usage: chat.py [--case CASE].. PROGRAM [WORD ..]      runs `PROGRAM WORD .. controlling -l` and the same with `controlled`
 
   chat      both find a path and hear each other; one makes an ICE restart, and the other one follows
   loss      one is killed: the other one says that checks were answered at first, and that consent for the path was lost, makes an ICE
             restart, and chats with a new run
   network   the machine gets another address: both make an ICE restart. It needs root, for a network namespace
 
-These cases run at the same time, with a line for each. The status is 0 if none failed.
+These cases run at the same time, with a line for each; with --case only these. The status is 0 if none failed. IS_ICE_PATIENCE=4 waits
+four times as long for each line, as for programs in an emulator.
 """
 import os
 import re
@@ -121,7 +122,11 @@ def begun(name):
 def main():
     if "CASE_OF_CHAT" in os.environ:
         return played(os.environ["CASE_OF_CHAT"])
-    processes = [process for process in map(begun, CASES) if process]
+    cases = []
+    while sys.argv[1:2] == ["--case"]:
+        cases.append(sys.argv[2])
+        del sys.argv[1:3]
+    processes = [process for process in map(begun, cases or CASES) if process]
     return max([process.wait() for process in processes])
 
 

@@ -1,7 +1,9 @@
 """Tests two runs of the program peer over loopback, and carries the signaling between them.
 
-Usage: connect.py PEER [CASE ..]. Prints a line for each case, and 'N passed, M failed'. The status is 0 if all passed.
+Usage: connect.py PEER [CASE ..]. Prints a line for each case, and 'N passed, M failed'. The status is 0 if all passed. IS_ICE_PATIENCE=4
+waits four times as long for each line, as for programs in an emulator.
 """
+import os
 import queue
 import re
 import socket
@@ -11,7 +13,8 @@ import sys
 import threading
 import time
 
-PATIENCE = 15
+PATIENCE = 15 * int(os.environ.get("IS_ICE_PATIENCE", "1"))
+LIFE = ("-t", str(2 * PATIENCE))
 ROLES = ("controlling", "controlled")
 
 
@@ -52,8 +55,11 @@ class Peer:
             self.told.append(line)
 
     def hears(self, line):
-        self.run.stdin.write(line + "\n")
-        self.run.stdin.flush()
+        try:
+            self.run.stdin.write(line + "\n")
+            self.run.stdin.flush()
+        except BrokenPipeError:
+            raise Failed(f"ended before it heard {line!r}, after {self.told}") from None
 
     def ends(self, status=0):
         """Waits for the end, and returns the lines that no `says` removed."""
@@ -68,7 +74,7 @@ class Peer:
 
 
 def pair(*words, roles=ROLES):
-    return [Peer("-t", "30", *words, role) for role in roles]
+    return [Peer(*LIFE, *words, role) for role in roles]
 
 
 def introduce(a, b):
@@ -185,7 +191,7 @@ def restart():
 def lite():
     """A lite agent, which is controlled, with a full one in either role: if both are controlled, the full one switches."""
     for role in ROLES:
-        a, b = Peer("-t", "30", "-a", "127.0.0.1", role), Peer("-t", "30", "-a", "127.0.0.1", "-L", "controlled")
+        a, b = Peer(*LIFE, "-a", "127.0.0.1", role), Peer(*LIFE, "-a", "127.0.0.1", "-L", "controlled")
         introduce(a, b)
         connected(a, b)
         talk(a, b)
@@ -221,8 +227,8 @@ def reflexive():
     server.bind(("127.0.0.1", 0))
     thread = threading.Thread(target=serve, args=(server,), daemon=True)
     thread.start()
-    a = Peer("-t", "30", "-a", "127.0.0.1", "-s", f"127.0.0.1:{server.getsockname()[1]}", "controlling")
-    b = Peer("-t", "30", "-a", "127.0.0.1", "controlled")
+    a = Peer(*LIFE, "-a", "127.0.0.1", "-s", f"127.0.0.1:{server.getsockname()[1]}", "controlling")
+    b = Peer(*LIFE, "-a", "127.0.0.1", "controlled")
     introduce(a, b)
     line = "candidate:" + a.says("candidate:")
     if " 192.0.2.9 " not in line or " typ srflx" not in line:
@@ -346,7 +352,7 @@ def errors():
 
 def long_candidate():
     """A candidate whose text is longer than the buffer of /pairs is printed by its length, and nothing of the datagrams before it."""
-    a = Peer("-t", "30", "-a", "127.0.0.1", "controlled")
+    a = Peer(*LIFE, "-a", "127.0.0.1", "controlled")
     port = int(re.search(r" 127\.0\.0\.1 (\d+) typ host", a.says("signal "))[1])
     candidate = f"candidate:{'a' * 12000} 1 udp 2130706431 127.0.0.1 9 typ host"
     a.hears(f"signal abcdefgh abcdefghijklmnopqrstuv {candidate}")
