@@ -11,7 +11,7 @@ from .execution import Execution, Lacks, Round, entries_of, fewest, is_in_round,
 from .accepted_nominations import ALL, Network
 from .progress import is_in_line, is_lasting, nominations_ahead, suffices
 from .selections import are_kept, checks_in
-from .served import served_rounds_reach
+from .served import is_served, served_rounds_reach
 from .staying import may_end_in_rounds
 from .verdict import C, C_co
 
@@ -58,6 +58,7 @@ class Rows:
     def __init__(self, x: Execution, side: str) -> None:
         self.x, self.side, self.timeouts = x, side, x.timeouts[side]
         self._lines: dict[int, list[Path]] = {}
+        self._served: dict[int, list[Path]] = {}
 
     def latest(self, end: int, path: Path | None = None) -> tuple[int, Path] | None:
         """Returns the latest `handle_timeout` call from which rounds up to `end` suffice for a pair on the path or any; its path too."""
@@ -65,19 +66,26 @@ class Rows:
         others = self.x.calls_besides(self.side, is_in_round)
         before = bisect_left(others, end)
         for place in range(stop - 1, bisect_left(self.timeouts, others[before - 1] if before else 0) - 1, -1):
-            if self._may_suffice(place, stop, end) and (found := self._path_at(place, end, path)) is not None:
+            lines = self.lines(place) if self._may_suffice(place, stop, end) else self._served_lines(place)
+            if (found := self._path_at(place, end, [line for line in lines if path in (None, line)])) is not None:
                 return self.timeouts[place], found
         return None
 
     def _may_suffice(self, place: int, stop: int, end: int) -> bool:
-        """Whether there may be enough rounds: if the pair is due before the first one, or if a request was served on it."""
-        first, later = self.timeouts[place], stop - place - 1
-        agent, second = self.x.state(first, self.side), self.timeouts[place + 1] if later else end
-        is_served = agent.modern and any(p.requests for p in agent.pairs)
-        return is_served or side_rounds_reach(self.x, self.side, True, first, second, later, end)
+        """Whether there are enough rounds, if the pair is due before the first one."""
+        later = stop - place - 1
+        return side_rounds_reach(self.x, self.side, True, self.timeouts[place], self.timeouts[place + 1] if later else end, later, end)
 
-    def _path_at(self, place: int, end: int, path: Path | None) -> Path | None:
-        lines = [p for p in self.lines(place) if path in (None, p)]
+    def _served_lines(self, place: int) -> list[Path]:
+        """Returns the paths of the pairs on which a request was served, and for which fewer rounds may suffice."""
+        if place not in self._served:
+            moment = self.timeouts[place]
+            agent, now = self.x.state(moment, self.side), self.x.now(moment)
+            due = [p for p in agent.pairs if p.requests and p.due_at(now, agent.timing) < now]
+            self._served[place] = sorted({agent.path(p) for p in due if not is_served(agent, p)})
+        return self._served[place]
+
+    def _path_at(self, place: int, end: int, lines: list[Path]) -> Path | None:
         rounds = self.x.rounds(self.side, self.timeouts[place], end) if lines else []
         fits = (p for p in lines if not has_rounds(self.x, self.side, p, rounds, end)
                 and not may_end_in_rounds(self.x, self.side, p, rounds))
