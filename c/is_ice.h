@@ -400,8 +400,8 @@ IS_ICE_QUIET_CALL void is_ice_agent_free(is_ice_agent *agent);
 /* is_ice_set_controlling - makes the agent controlling or controlled. The agent of the side that made the offer is
  * controlling (RFC 8445, section 6.1.1). If both agents claim one role, they resolve the role conflict.
  *
- * IS_ICE_OK. IS_ICE_LITE_STAYS_CONTROLLED: the agent is lite, `controlling` is true, and is_ice_settings returns
- * lite_keeps_role; the role is unchanged. Value: false. */
+ * IS_ICE_OK. IS_ICE_LITE_STAYS_CONTROLLED: the agent is lite and `modern` of is_ice_set_settings, and `controlling` is true;
+ * the role is unchanged. Value: false. */
 IS_ICE_CALL int32_t is_ice_set_controlling(is_ice_agent *agent, bool controlling);
 
 /* is_ice_role - returns which role the agent has at first (RFC 8445, section 6.1.1): for is_ice_set_controlling. A full
@@ -412,8 +412,8 @@ IS_ICE_CALL int32_t is_ice_role(bool made_offer, bool lite, bool other_is_lite);
 
 /* is_ice_set_lite - makes the agent a lite agent, or a full one. A lite agent takes only host candidates from the program.
  * It responds to checks and sends none. It has to be controlled, and the other agent a full one: a lite agent that is controlling
- * never finds a path, and no call reports it. So make it lite while it is controlled: by the rule lite_keeps_role it
- * then stays controlled. IS_ICE_OK. Value: false. */
+ * never finds a path, and no call reports it. So make it lite while it is controlled: with `modern` of is_ice_set_settings
+ * it then stays controlled. IS_ICE_OK. Value: false. */
 IS_ICE_QUIET_CALL int32_t is_ice_set_lite(is_ice_agent *agent, bool lite);
 
 /* is_ice_set_renomination - lets each nomination replace the ones before, so that both agents select the same path
@@ -421,8 +421,8 @@ IS_ICE_QUIET_CALL int32_t is_ice_set_lite(is_ice_agent *agent, bool lite);
  * `a=ice-options:renomination`. A controlling agent then puts USE-CANDIDATE only on checks of the pair that it selected
  * last. A controlled one selects the pair on which it received the last request with USE-CANDIDATE, once a check of its
  * own was answered on it; until then it keeps its path. If only the controlled agent has it, its path may change at each
- * check of the other. By the rule numbered_nominations nominations have numbers besides, as browsers send them, and the
- * greatest one counts in place of the last one. IS_ICE_OK. Value: false. */
+ * check of the other. With `modern` of is_ice_set_settings nominations have numbers besides, as browsers send them, and
+ * the greatest one counts in place of the last one. IS_ICE_OK. Value: false. */
 IS_ICE_QUIET_CALL int32_t is_ice_set_renomination(is_ice_agent *agent, bool enabled);
 
 /* is_ice_set_lite_timeout - sets how long a lite agent keeps a pair after the last check of the other agent on it. A
@@ -433,13 +433,13 @@ IS_ICE_QUIET_CALL int32_t is_ice_set_renomination(is_ice_agent *agent, bool enab
 IS_ICE_QUIET_CALL int32_t is_ice_set_lite_timeout(is_ice_agent *agent, uint64_t nanoseconds);
 
 /* is_ice_set_tie_breaker - sets the number that decides role conflicts: the greater one keeps its role, except against a
- * lite agent by the rule lite_keeps_role. IS_ICE_OK. Value: that of is_ice_agent_new. */
+ * lite agent with `modern` of is_ice_set_settings. IS_ICE_OK. Value: that of is_ice_agent_new. */
 IS_ICE_QUIET_CALL int32_t is_ice_set_tie_breaker(is_ice_agent *agent, uint64_t tie_breaker);
 
 /* is_ice_set_max_pairs - limits how many pairs are left when a candidate is added or pairs are formed again: those of
- * the lowest priority are removed then. With the rule kinds_in_turn, each time the lowest pair of the kind that has the
- * most is removed. A request of the other agent adds its pair without regard to this limit, which counts the pair when
- * pairs are next formed. IS_ICE_OK. Value: 100. */
+ * the lowest priority are removed then. With `modern` of is_ice_set_settings it is the lowest pair of the kind that has
+ * the most, each time. A request of the other agent adds its pair without regard to this limit, which counts the pair
+ * when pairs are next formed. IS_ICE_OK. Value: 100. */
 IS_ICE_QUIET_CALL int32_t is_ice_set_max_pairs(is_ice_agent *agent, size_t limit);
 
 /* No limit: see is_ice_set_max_discovered and is_ice_set_max_candidates. */
@@ -474,8 +474,9 @@ IS_ICE_QUIET_CALL int32_t is_ice_set_max_candidates(is_ice_agent *agent, size_t 
 
 /* is_ice_set_timing_advance - sets the pacing interval Ta (RFC 8445, section 14.2): the least time from the last
  * is_ice_handle_timeout call to the next one that is_ice_poll_timeout returns. A lite agent, and one without pairs, waits
- * no longer than 3 s. Each is_ice_handle_timeout call sends at most one packet. With `modern` of is_ice_set_settings the interval is shorter until the agent is settled: it has a path
- * and, if it is controlling, has sent the check that nominates it. IS_ICE_OK. Value: 50 ms. */
+ * no longer than 3 s. Each is_ice_handle_timeout call sends at most one packet. With `modern` of is_ice_set_settings the
+ * interval is shorter until the agent is settled: it has a path and, if it is controlling, has sent the check that
+ * nominates it. IS_ICE_OK. Value: 50 ms. */
 IS_ICE_QUIET_CALL int32_t is_ice_set_timing_advance(is_ice_agent *agent, uint64_t nanoseconds);
 
 /* is_ice_set_initial_rto - sets the time from a pair's first check until the second one is due. It doubles with each
@@ -614,7 +615,7 @@ IS_ICE_CALL int32_t is_ice_add_remote(is_ice_agent *agent, const uint8_t *line, 
 
 /* is_ice_invalidate_local - removes a candidate and its pairs, as when an interface is gone: the local candidate that
  * equals this one in address, base, protocol, kind and related address, else such a remote one. Of several it removes the
- * first one that was not removed before; without the rule invalidates_listed it looks at the first one only.
+ * first one that was not removed before; without `modern` of is_ice_set_settings it looks at the first one only.
  *
  * IS_ICE_OK: removed. IS_ICE_NOTHING: there is none, or it was removed before. IS_ICE_BAD_ADDRESS, IS_ICE_BAD_CANDIDATE: see
  * is_ice_add_local. IS_ICE_OUT_OF_MEMORY. */
@@ -836,12 +837,12 @@ IS_ICE_CALL int32_t is_ice_accepts_message(is_ice_agent *agent, const uint8_t *b
 /* is_ice_poll_timeout - returns the time at which to call is_ice_handle_timeout next. A later call only adds its delay.
  *
  * Call it before packets are polled. While a packet or an early request is queued, the time is one Ta after the last
- * is_ice_handle_timeout call. At that call the state follows, and without the rule selects_at_once a controlled agent
- * selects its pair. So it is, with numbered_nominations, while a selected path is still to be nominated, or its pair is
- * gone and another one may be selected. After packets were polled, it is the time of the next check, or of the end of
- * consent, if that is sooner. A request of the other agent moves up only a time that was computed: with triggered_checks
- * each call computes it, also while a packet is queued. A packet for which the buffer was too short does not count as
- * queued here. Does not allocate.
+ * is_ice_handle_timeout call. At that call the state follows, and without `modern` of is_ice_set_settings a controlled
+ * agent selects its pair. So it is, with `modern` and renomination, while a selected path is still to be nominated, or its
+ * pair is gone and another one may be selected. After packets were polled, it is the time of the next check, or of the end
+ * of consent, if that is sooner. A request of the other agent moves up only a time that was computed: with `modern` each
+ * call computes it, also while a packet is queued. A packet for which the buffer was too short does not count as queued
+ * here. Does not allocate.
  *
  * IS_ICE_OK: *at is the time. IS_ICE_NOTHING: no is_ice_handle_timeout call has returned IS_ICE_OK yet (see also
  * `modern` of is_ice_set_settings); *at is unchanged. */

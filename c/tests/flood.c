@@ -16,9 +16,10 @@ enum {
  * that can be due before. Times are whole milliseconds here. */
 #define LONGEST_GAP (3 * SECOND + PAIRS * 51 * MS)
 
-/* When a new address has a valid pair after a flood at the latest, by the original's rules: a pair without a response is removed
- * 21.5 s after its first check, and each of its nine checks can wait for one of each other pair. With all rules it is after 31 s. */
-#define LONGEST_WAIT (UINT64_C(21500) * MS + 9 * PAIRS * 51 * MS)
+/* When a new address has a valid pair after a flood at the latest: a pair without a response is checked a last time at most 350 ms
+ * after a whole series of checks, which takes 26.7 s, and removed 2.9 s later. Its first check, this one and the first one of the new
+ * pair can each wait for two of each other pair. */
+#define LONGEST_WAIT (UINT64_C(29950) * MS + 3 * 2 * PAIRS * 51 * MS)
 
 struct flood {
     const char *name;

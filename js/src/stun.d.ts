@@ -46,6 +46,10 @@ export interface StunAttributes {
   networkCost?: { id: number; cost: number } | null;
   /** NOMINATION (draft-thatcher-ice-renomination). */
   nomination?: number | null;
+  /** REQUESTED-TRANSPORT (RFC 8656, section 18.7): the protocol that an Allocate request requests. 17 is UDP. */
+  requestedTransport?: number | null;
+  /** REQUESTED-ADDRESS-FAMILY (RFC 8656, section 18.6) of an Allocate request. Without it a server allocates an IPv4 address. */
+  requestedFamily?: 4 | 6 | null;
 }
 /** A message that was read. `other`: any method that is not listed. */
 export interface StunMessage extends Required<StunAttributes> {
@@ -65,8 +69,9 @@ export interface StunMessage extends Required<StunAttributes> {
 export function readMessage(datagram: Bytes, options?: { strict?: boolean }): StunMessage;
 /**
  * Writes a message: the attributes that are neither undefined nor null, MESSAGE-INTEGRITY if there is a key, and FINGERPRINT. In ICE the
- * key is the password of the request's receiver. Throws `BadMessage` or `MessageTooLong`, and RangeError for a number that does not fit
- * its attribute.
+ * key is the password of the request's receiver, at a TURN server the MD5 digest of USERNAME, realm and password with colons between them
+ * (RFC 8489, section 9.2.2). To a TURN server write no `software`: its type here is another attribute there. Throws `BadMessage` or
+ * `MessageTooLong`, `BadAddress` for a family other than 4 and 6, and RangeError for a number that does not fit its attribute.
  */
 export function writeMessage(
   message: { method: StunMethod | "other"; class: StunClass; transaction: Bytes } & StunAttributes, key?: string | Bytes | null,

@@ -84,6 +84,7 @@ export function readMessage(datagram, { strict = false } = {}) {
     error: code === null ? null : { code, reason: text("reason") ?? "" },
     lifetime: numberIn(it.lifetime), channelNumber: numberIn(it.channelNumber),
     networkCost: id === null || cost === null ? null : { id, cost }, nomination: numberIn(it.nomination),
+    requestedTransport: it.requestedTransport || null, requestedFamily: it.requestedFamily || null,
     username: text("username"), realm: text("realm"), nonce: text("nonce"), software: text("software"),
     data: bytesIn(memory, NUMBERS.STUN_DATA, bytes),
     hasIntegrity: it.hasIntegrity, hasFingerprint: it.hasFingerprint,
@@ -104,6 +105,7 @@ function structOf(message, hasIntegrity) {
     channelNumber: number(message.channelNumber, "channelNumber", 16),
     networkId: number(networkCost?.id, "a network's ID", 16), networkCost: number(networkCost?.cost, "a network's cost", 16),
     mapped: message.mappedAddress, peer: message.peerAddress, relayed: message.relayedAddress,
+    requestedTransport: message.requestedTransport, requestedFamily: message.requestedFamily,
   };
 }
 
@@ -125,7 +127,8 @@ function textsOf({ username, error, realm, nonce, software, data }) {
 
 /** Writes a message: the attributes that are neither undefined nor null, MESSAGE-INTEGRITY if there is a key, and FINGERPRINT.
  *
- *  Its members are those of `readMessage`. In ICE the key is the password of the request's receiver. */
+ *  Its members are those of `readMessage`. In ICE the key is the password of the request's receiver, at a TURN server the MD5 digest of
+ *  USERNAME, realm and password with colons between them (RFC 8489, section 9.2.2). To a TURN server write no `software`. */
 export function writeMessage(message, key = null) {
   const memory = library(), { first, second, length } = memory, { spans, all } = textsOf(message);
   writeStruct(memory, "StunMessage", first.at, structOf(message, key !== null));

@@ -66,16 +66,28 @@ test("each attribute is written and read", () => {
     method: "allocate", class: "failure", transaction: ID, priority: 0xffffffff, useCandidate: true, iceControlled: (1n << 64n) - 1n,
     iceControlling: 5n, mappedAddress: MAPPED, peerAddress: v6, relayedAddress: MAPPED, error: { code: 438, reason: "Stale Nonce" },
     lifetime: 600, channelNumber: 0x4000, networkCost: { id: 7, cost: 10 }, nomination: 3, username: "a:b", realm: "example.org",
-    nonce: "nönce", software: "test", data: Uint8Array.of(0, 255, 128),
+    nonce: "nönce", software: "test", data: Uint8Array.of(0, 255, 128), requestedTransport: 255, requestedFamily: 6,
   };
   const written = ice.writeMessage(message, PASSWORD), read = ice.readMessage(written);
   assert.deepEqual(read, { ...message, hasIntegrity: true, hasFingerprint: true });
   assert.ok(ice.verifyMessage(written, new TextEncoder().encode(PASSWORD)));
   assert.deepEqual(ice.writeMessage(read, PASSWORD), written);
   const least = ice.readMessage(ice.writeMessage({ method: "binding", class: "indication", transaction: ID }));
-  assert.ok(Object.values(least).filter((value) => value === null).length === 16 && !least.hasIntegrity);
+  assert.ok(Object.values(least).filter((value) => value === null).length === 18 && !least.hasIntegrity);
   const long = ice.writeMessage({ ...message, data: new Uint8Array(60000).fill(9) });
   assert.equal(ice.readMessage(long).data.length, 60000);
+});
+
+test("an Allocate request has a transport and a family (RFC 8656, sections 18.6 and 18.7)", () => {
+  const request = { method: "allocate", class: "request", transaction: ID };
+  for (const [requestedFamily, number] of [[4, 1], [6, 2]]) {
+    const written = ice.writeMessage({ ...request, requestedTransport: 17, requestedFamily });
+    assert.deepEqual(written.subarray(20, 36), Uint8Array.of(0, 0x17, 0, 4, number, 0, 0, 0, 0, 0x19, 0, 4, 17, 0, 0, 0));
+    const read = ice.readMessage(written);
+    assert.deepEqual([written.length, read.requestedTransport, read.requestedFamily], [44, 17, requestedFamily]);
+  }
+  const plain = ice.readMessage(ice.writeMessage(request));
+  assert.deepEqual([plain.requestedTransport, plain.requestedFamily], [null, null]);
 });
 
 test("messages that cannot be written", () => {
@@ -86,6 +98,8 @@ test("messages that cannot be written", () => {
   assert.throws(() => ice.writeMessage({ ...message, realm: "\udc00" }), { code: "NotUtf8" });
   assert.throws(() => ice.writeMessage({ ...message, priority: 2 ** 32 }), RangeError);
   assert.throws(() => ice.writeMessage({ ...message, channelNumber: 65536 }), RangeError);
+  assert.throws(() => ice.writeMessage({ ...message, requestedTransport: 256 }), RangeError);
+  assert.throws(() => ice.writeMessage({ ...message, requestedFamily: 5 }), { code: "BadAddress" });
   for (const changed of [{ method: null }, { method: "bind" }, { class: "answer" }]) {
     assert.throws(() => ice.writeMessage({ ...message, ...changed }), TypeError);
   }

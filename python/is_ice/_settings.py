@@ -12,11 +12,7 @@ from ._unique import Unique
 from .address import in_range
 from .candidate import KindPreferences, table_of
 from .errors import done
-from .settings import NO_LIMIT, Settings, settings_from, struct_of_settings
-
-
-def _limit_of(limit: int | None) -> int:
-    return NO_LIMIT if limit is None else in_range(limit, 64, "a limit")
+from .settings import Settings, limit_from, limit_of, settings_from, struct_of_settings
 
 
 @one_call_at_a_time
@@ -79,7 +75,7 @@ class Setters(Unique):
         served. A response counts as ever at the limit, and its mapped address is not listed. Set the limit before the first
         packet.
         """
-        done(self._c.is_ice_set_max_discovered(self._at, _limit_of(limit)))
+        done(self._c.is_ice_set_max_discovered(self._at, limit_of(limit)))
 
     def set_max_candidates(self, limit: int | None) -> None:
         """Limits how many candidates of each side there are when one is added. Default: 100. None: no limit, as in the original.
@@ -88,7 +84,7 @@ class Setters(Unique):
         `remote_candidates`. So the peer's signaling costs no more memory and time. A lower limit removes no candidate, and packets
         bring candidates without regard to it: `set_max_discovered` limits them.
         """
-        done(self._c.is_ice_set_max_candidates(self._at, _limit_of(limit)))
+        done(self._c.is_ice_set_max_candidates(self._at, limit_of(limit)))
 
     def set_timing_advance(self, nanoseconds: int) -> None:
         """Sets the pacing interval Ta: the least time between two timeouts, each of which sends at most one packet. Default: 50 ms."""
@@ -179,8 +175,7 @@ class Setters(Unique):
     @property
     def max_candidates(self) -> int | None:
         """How many candidates of each side there may be when one is added. None: any number."""
-        limit = int(self._status.max_candidates)
-        return None if limit == NO_LIMIT else limit
+        return limit_from(self._status.max_candidates)
 
     @property
     def settings(self) -> Settings:

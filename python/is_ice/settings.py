@@ -13,7 +13,7 @@ from ._library import library
 from .address import in_range
 from .errors import done
 
-NO_LIMIT = (1 << 64) - 1
+_NO_LIMIT = (1 << 64) - 1
 
 
 class Profile(enum.Enum):
@@ -75,7 +75,7 @@ class Settings:
 
     Each field but `profile` and `consent` has a setter that says what it is for: `set_timing_advance`, `set_initial_stun_rto`,
     `set_max_stun_rto`, `set_max_stun_retransmits`, `set_lite_timeout`, `set_max_candidate_pairs`, `set_max_discovered`,
-    `set_max_candidates`, `set_renomination`.
+    `set_max_candidates`, `set_renomination`. Without a limit on candidates it is None.
     """
 
     profile: Profile
@@ -87,7 +87,7 @@ class Settings:
     consent: Consent
     max_pairs: int
     max_discovered: int | None
-    max_candidates: int
+    max_candidates: int | None
     renomination: bool
 
     @staticmethod
@@ -101,6 +101,16 @@ class Settings:
         return settings_from(library.calls.is_ice_modern_settings)
 
 
+def limit_of(limit: int | None) -> int:
+    """Converts to the library's number, which is the greatest one if there is no limit."""
+    return _NO_LIMIT if limit is None else in_range(limit, 64, "a limit")
+
+
+def limit_from(limit: int) -> int | None:
+    """Converts from it."""
+    return None if limit == _NO_LIMIT else limit
+
+
 def settings_from(call: Callable[..., int], *arguments: Any) -> Settings:
     """Returns the settings that a call writes."""
     raw = _abi.AgentSettings()
@@ -108,12 +118,11 @@ def settings_from(call: Callable[..., int], *arguments: Any) -> Settings:
     return Settings(
         Profile(raw.modern), raw.timing_advance, raw.initial_rto, raw.max_rto, raw.max_retransmits, raw.lite_timeout,
         Consent(raw.consent_timeout or None, raw.strict_consent), raw.max_pairs,
-        None if raw.max_discovered == NO_LIMIT else raw.max_discovered, raw.max_candidates, raw.renomination)
+        limit_from(raw.max_discovered), limit_from(raw.max_candidates), raw.renomination)
 
 
 def struct_of_settings(settings: Settings) -> _abi.AgentSettings:
     """Converts to the library's struct. ValueError if a number does not fit into 64 bits."""
-    discovered = NO_LIMIT if settings.max_discovered is None else settings.max_discovered
     return _abi.AgentSettings(
         timing_advance=in_range(settings.timing_advance, 64, "a time"),
         initial_rto=in_range(settings.initial_rto, 64, "a time"),
@@ -122,8 +131,8 @@ def struct_of_settings(settings: Settings) -> _abi.AgentSettings:
         consent_timeout=in_range(settings.consent.timeout or 0, 64, "a time"),
         max_retransmits=in_range(settings.max_retransmits, 64, "a number of checks"),
         max_pairs=in_range(settings.max_pairs, 64, "a limit"),
-        max_discovered=in_range(discovered, 64, "a limit"),
-        max_candidates=in_range(settings.max_candidates, 64, "a limit"),
+        max_discovered=limit_of(settings.max_discovered),
+        max_candidates=limit_of(settings.max_candidates),
         modern=settings.profile is Profile.MODERN,
         strict_consent=settings.consent.strict,
         renomination=settings.renomination,

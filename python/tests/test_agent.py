@@ -513,7 +513,7 @@ class Errors(unittest.TestCase):
             lite_timeout=15 * SECOND, consent=Consent(None, strict=False), max_pairs=100, max_discovered=32, max_candidates=100,
             renomination=False))
         self.assertEqual(Settings.original(), dataclasses.replace(
-            settings, profile=Profile.ORIGINAL, max_rto=3 * SECOND, max_retransmits=9, max_discovered=None, max_candidates=(1 << 64) - 1))
+            settings, profile=Profile.ORIGINAL, max_rto=3 * SECOND, max_retransmits=9, max_discovered=None, max_candidates=None))
 
     def test_settings(self) -> None:
         self.assertRaises(MtuTooSmall, self.agent.set_mtu, 587, 1280)
@@ -546,7 +546,7 @@ class Errors(unittest.TestCase):
             {"profile": Profile.ORIGINAL}, {"profile": Profile.MODERN}, {"timing_advance": most}, {"initial_rto": most}, {"max_rto": most},
             {"max_retransmits": most}, {"lite_timeout": most}, {"consent": Consent(most, strict=True)}, {"consent": Consent(1)},
             {"consent": Consent(None, strict=True)}, {"max_pairs": most}, {"max_discovered": None}, {"max_discovered": 0},
-            {"max_candidates": 0}, {"renomination": True},
+            {"max_candidates": 0}, {"max_candidates": None}, {"renomination": True},
         )
         for change in changes:
             for settings in (Settings.modern(), Settings.original()):
@@ -579,7 +579,7 @@ class Errors(unittest.TestCase):
         self.assertEqual(paced(Profile.MODERN, 7 * ms), (7 * ms, 7 * ms))
         self.assertEqual(paced(Profile.ORIGINAL), (50 * ms, 50 * ms))
 
-    def test_a_controlled_agent_selects_at_once(self) -> None:
+    def test_a_controlled_agent_selects_when_the_nomination_arrives(self) -> None:
         """The request that nominates comes on a valid pair. By the original the agent selects it in the next `handle_timeout`."""
         self.assertEqual(selections(Profile.MODERN), ["handle_packet"])
         self.assertEqual(selections(Profile.ORIGINAL), ["handle_timeout"])

@@ -36,10 +36,10 @@ pub struct Settings {
     pub consent: Consent,
     /// See [`IceAgent::set_max_candidate_pairs`].
     pub max_pairs: usize,
-    /// See [`IceAgent::set_max_discovered`].
+    /// See [`IceAgent::set_max_discovered`]. `None`: no limit.
     pub max_discovered: Option<usize>,
-    /// See [`IceAgent::set_max_candidates`].
-    pub max_candidates: usize,
+    /// See [`IceAgent::set_max_candidates`]. `None`: no limit.
+    pub max_candidates: Option<usize>,
     /// See [`IceAgent::set_renomination`].
     pub renomination: bool,
 }
@@ -93,6 +93,11 @@ pub struct Consent {
     pub strict: bool,
 }
 
+/// A limit as the library has it: the greatest number is none.
+pub(crate) fn limit_of(limit: usize) -> Option<usize> {
+    Some(limit).filter(|limit| *limit != usize::MAX)
+}
+
 impl Settings {
     /// The settings of the original: its behavior and its numbers, without a limit on candidates.
     pub fn original() -> Settings {
@@ -119,8 +124,8 @@ impl Settings {
             lite_timeout: Duration::from_nanos(raw.lite_timeout),
             consent: Consent { timeout, strict: raw.strict_consent },
             max_pairs: raw.max_pairs,
-            max_discovered: (raw.max_discovered != usize::MAX).then_some(raw.max_discovered),
-            max_candidates: raw.max_candidates,
+            max_discovered: limit_of(raw.max_discovered),
+            max_candidates: limit_of(raw.max_candidates),
             renomination: raw.renomination,
         }
     }
@@ -135,7 +140,7 @@ impl Settings {
             max_retransmits: self.max_retransmits,
             max_pairs: self.max_pairs,
             max_discovered: self.max_discovered.unwrap_or(usize::MAX),
-            max_candidates: self.max_candidates,
+            max_candidates: self.max_candidates.unwrap_or(usize::MAX),
             room: [0; 4],
             modern: self.profile == Profile::Modern,
             strict_consent: self.consent.strict,

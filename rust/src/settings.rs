@@ -1,6 +1,7 @@
 //! The settings of an agent.
 
 use crate::agent::{IceAgent, nanoseconds};
+use crate::all_settings::limit_of;
 use crate::creds::IceCreds;
 use crate::error::{CallError, or_panic};
 use crate::ffi;
@@ -75,7 +76,7 @@ impl IceAgent {
 
     /// How many candidates of each side there may be when one is added. `None`: any number.
     pub fn max_candidates(&self) -> Option<usize> {
-        Some(self.status().max_candidates).filter(|max| *max != usize::MAX)
+        limit_of(self.status().max_candidates)
     }
 
     /// Whether the agent is a lite agent.

@@ -51,7 +51,9 @@ impl TransId {
 /// The family that an Allocate request requests (RFC 8656, section 18.6).
 #[derive(Clone, Copy, Debug, PartialEq, Eq)]
 pub enum AddressFamily {
+    /// Which a server allocates without the attribute.
     Ipv4,
+    /// A server may have none: it fails with 440 then.
     Ipv6,
 }
 

@@ -253,7 +253,7 @@ fn the_named_settings_are_as_documented() {
     assert_eq!((modern.max_rto, original.max_rto), (ms(2900), ms(3000)));
     assert_eq!((modern.max_retransmits, original.max_retransmits), (11, 9));
     assert_eq!((modern.max_discovered, original.max_discovered), (Some(32), None));
-    assert_eq!((modern.max_candidates, original.max_candidates), (100, usize::MAX));
+    assert_eq!((modern.max_candidates, original.max_candidates), (Some(100), None));
     for settings in [modern, original] {
         assert_eq!((settings.timing_advance, settings.initial_rto, settings.lite_timeout), (ms(50), ms(250), ms(15_000)));
         assert_eq!(settings.consent, Consent { timeout: None, strict: false });
@@ -271,7 +271,7 @@ fn settings_after(settings: Settings) -> Settings {
 #[test]
 fn settings_are_set() {
     const MOST: Duration = Duration::from_nanos(u64::MAX);
-    let changes: [fn(&mut Settings); 14] = [
+    let changes: [fn(&mut Settings); 15] = [
         |settings| *settings = Settings::original(),
         |settings| settings.profile = Profile::Original,
         |settings| settings.profile = Profile::Modern,
@@ -284,7 +284,8 @@ fn settings_are_set() {
         |settings| settings.consent = Consent { timeout: None, strict: true },
         |settings| settings.max_pairs = usize::MAX,
         |settings| settings.max_discovered = Some(0),
-        |settings| settings.max_candidates = 0,
+        |settings| settings.max_candidates = Some(0),
+        |settings| (settings.max_discovered, settings.max_candidates) = (None, None),
         |settings| settings.renomination = true,
     ];
     for change in changes {

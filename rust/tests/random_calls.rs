@@ -219,9 +219,10 @@ impl Session {
         settings.lite_timeout = self.random.duration();
         let (timeout, strict) = (self.random.duration(), self.random.once_in(2));
         settings.consent = Consent { timeout: self.random.once_in(2).then_some(timeout), strict };
-        let limit = self.random.number();
-        settings.max_discovered = self.random.once_in(2).then_some(limit);
-        (settings.max_pairs, settings.max_candidates) = (self.random.number(), self.random.number());
+        let limits = (self.random.number(), self.random.number());
+        settings.max_discovered = self.random.once_in(2).then_some(limits.0);
+        settings.max_candidates = self.random.once_in(2).then_some(limits.1);
+        settings.max_pairs = self.random.number();
         settings.renomination = self.random.once_in(2);
         settings
     }

@@ -12,15 +12,11 @@ mod glue {
     pub const DATAGRAM_MTU_WARN: usize = 1280;
     pub const REMOTE_PEER_REFLEXIVE_TEMP_FOUNDATION: &str = "tmp_prflx";
 
-    /// An agent with the default rules, or, if IS_ICE_RULES is `original`, with those of the original.
+    /// An agent with the default settings, or, if IS_ICE_SETTINGS is `original`, with those of the original.
     pub fn new_agent(creds: IceCreds) -> IceAgent {
         let mut agent = IceAgent::new(creds);
-        if std::env::var("IS_ICE_RULES").is_ok_and(|rules| rules == "original") {
-            agent.set_rules(Rules::original());
-            agent.set_max_discovered(None);
-            agent.set_max_candidates(None);
-            agent.set_max_stun_rto(Duration::from_secs(3));
-            agent.set_max_stun_retransmits(9);
+        if std::env::var("IS_ICE_SETTINGS").is_ok_and(|settings| settings == "original") {
+            agent.set_settings(Settings::original());
         }
         agent
     }
