@@ -49,8 +49,8 @@
  * time.
  *
  * The caller must keep these rules, which no call checks:
- * - No pointer is null, not even that of a text or buffer of length 0. (GCC and Clang warn about a plain NULL, and
- *   -fsanitize=nonnull-attribute stops at any.)
+ * - No pointer is null, not even that of a text or buffer of length 0; only is_ice_agent_free takes a null one. (GCC and
+ *   Clang warn about a plain NULL, and -fsanitize=nonnull-attribute stops at any.)
  * - A length is at most the number of bytes at its pointer. A bool is 0 or 1.
  * - An is_ice_agent is zeroed once, then only passed to these calls. The caller never writes or copies it.
  * - If a call writes one of its arguments, that argument overlaps no other one.
@@ -99,7 +99,7 @@ enum {
     IS_ICE_BAD_MESSAGE = -15,          /* see is_ice_stun_write, for this and the next */
     IS_ICE_MESSAGE_TOO_LONG = -16,
     IS_ICE_TOO_MANY_CANDIDATES = -17,  /* as many candidates of the side are listed as is_ice_set_max_candidates allows */
-    IS_ICE_LITE_STAYS_CONTROLLED = -18 /* a lite agent that keeps its role was to be controlling: see is_ice_set_settings */
+    IS_ICE_LITE_STAYS_CONTROLLED = -18 /* a lite agent was to be controlling: see is_ice_set_controlling */
 };
 
 /* is_ice_code_text - describes a code for a message: a zero-terminated text with static lifetime. */
@@ -231,7 +231,7 @@ typedef struct is_ice_event {
     uint8_t protocol;
 } is_ice_event;
 
-/* The settings of an agent, and its state. */
+/* The state of an agent, its role, and figures of its settings: see is_ice_agent_settings for the others. */
 typedef struct is_ice_agent_status {
     int32_t state;
     bool controlling;
@@ -340,14 +340,14 @@ typedef struct is_ice_agent_settings {
     uint64_t initial_rto;     /* see is_ice_set_initial_rto */
     uint64_t max_rto;         /* see is_ice_set_max_rto */
     uint64_t lite_timeout;    /* see is_ice_set_lite_timeout */
-    uint64_t consent_timeout; /* so long after its last answered check a pair is removed; 0: by the timing */
+    uint64_t consent_timeout; /* with modern: so long after its last answered check a pair is removed; 0: by the RTOs */
     size_t max_retransmits;   /* see is_ice_set_max_retransmits */
     size_t max_pairs;         /* see is_ice_set_max_pairs */
     size_t max_discovered;    /* see is_ice_set_max_discovered */
     size_t max_candidates;    /* see is_ice_set_max_candidates */
     uint64_t room[4];         /* later versions have fields here: leave it as the library wrote it */
     bool modern;              /* the behavior of this library, and not that of the Rust crate `is` 0.12.0 */
-    bool strict_consent;      /* the other agent's checks do not keep a pair */
+    bool strict_consent;      /* with modern: the other agent's checks do not keep a pair */
     bool renomination;        /* see is_ice_set_renomination */
 } is_ice_agent_settings;
 
@@ -391,8 +391,8 @@ IS_ICE_CALL int32_t is_ice_agent_new(
     uint64_t tie_breaker);
 
 /* is_ice_agent_free - frees the agent, if there is one, with its packets and events. The is_ice_agent then holds none,
- * and may be passed to is_ice_agent_new again. */
-IS_ICE_QUIET_CALL void is_ice_agent_free(is_ice_agent *agent);
+ * and may be passed to is_ice_agent_new again. A null pointer: the call does nothing, as free() does. */
+void is_ice_agent_free(is_ice_agent *agent);
 
 /* ---- settings: at any time. "Value:" at the end of a comment is that of a new agent. Only the calls that set
  * credentials allocate. */
@@ -400,8 +400,8 @@ IS_ICE_QUIET_CALL void is_ice_agent_free(is_ice_agent *agent);
 /* is_ice_set_controlling - makes the agent controlling or controlled. The agent of the side that made the offer is
  * controlling (RFC 8445, section 6.1.1). If both agents claim one role, they resolve the role conflict.
  *
- * IS_ICE_OK. IS_ICE_LITE_STAYS_CONTROLLED: the agent is lite and `modern` of is_ice_set_settings, and `controlling` is true;
- * the role is unchanged. Value: false. */
+ * IS_ICE_OK. IS_ICE_LITE_STAYS_CONTROLLED: the agent is lite and has `modern` of is_ice_set_settings, and `controlling`
+ * is true; the role is unchanged. Value: false. */
 IS_ICE_CALL int32_t is_ice_set_controlling(is_ice_agent *agent, bool controlling);
 
 /* is_ice_role - returns which role the agent has at first (RFC 8445, section 6.1.1): for is_ice_set_controlling. A full
@@ -411,9 +411,9 @@ IS_ICE_CALL int32_t is_ice_set_controlling(is_ice_agent *agent, bool controlling
 IS_ICE_CALL int32_t is_ice_role(bool made_offer, bool lite, bool other_is_lite);
 
 /* is_ice_set_lite - makes the agent a lite agent, or a full one. A lite agent takes only host candidates from the program.
- * It responds to checks and sends none. It has to be controlled, and the other agent a full one: a lite agent that is controlling
- * never finds a path, and no call reports it. So make it lite while it is controlled: with `modern` of is_ice_set_settings
- * it then stays controlled. IS_ICE_OK. Value: false. */
+ * It responds to checks and sends none. It has to be controlled, and the other agent a full one: a lite agent that is
+ * controlling never finds a path, and no call reports it. So make it lite while it is controlled: with `modern` of
+ * is_ice_set_settings it then stays controlled. IS_ICE_OK. Value: false. */
 IS_ICE_QUIET_CALL int32_t is_ice_set_lite(is_ice_agent *agent, bool lite);
 
 /* is_ice_set_renomination - lets each nomination replace the ones before, so that both agents select the same path
@@ -432,13 +432,13 @@ IS_ICE_QUIET_CALL int32_t is_ice_set_renomination(is_ice_agent *agent, bool enab
  * response. A full agent does not use it. IS_ICE_OK. Value: 15 s. */
 IS_ICE_QUIET_CALL int32_t is_ice_set_lite_timeout(is_ice_agent *agent, uint64_t nanoseconds);
 
-/* is_ice_set_tie_breaker - sets the number that decides role conflicts: the greater one keeps its role, except against a
- * lite agent with `modern` of is_ice_set_settings. IS_ICE_OK. Value: that of is_ice_agent_new. */
+/* is_ice_set_tie_breaker - sets the number that decides role conflicts: the greater one keeps its role. A lite agent with
+ * `modern` of is_ice_set_settings keeps its role whatever the numbers are. IS_ICE_OK. Value: that of is_ice_agent_new. */
 IS_ICE_QUIET_CALL int32_t is_ice_set_tie_breaker(is_ice_agent *agent, uint64_t tie_breaker);
 
 /* is_ice_set_max_pairs - limits how many pairs are left when a candidate is added or pairs are formed again: those of
- * the lowest priority are removed then. With `modern` of is_ice_set_settings it is the lowest pair of the kind that has
- * the most, each time. A request of the other agent adds its pair without regard to this limit, which counts the pair
+ * the lowest priority are removed then. With `modern` of is_ice_set_settings, each time the lowest pair of the kind that
+ * has the most is removed. A request of the other agent adds its pair without regard to this limit, which counts the pair
  * when pairs are next formed. IS_ICE_OK. Value: 100. */
 IS_ICE_QUIET_CALL int32_t is_ice_set_max_pairs(is_ice_agent *agent, size_t limit);
 
@@ -481,8 +481,8 @@ IS_ICE_QUIET_CALL int32_t is_ice_set_timing_advance(is_ice_agent *agent, uint64_
 
 /* is_ice_set_initial_rto - sets the time from a pair's first check until the second one is due. It doubles with each
  * further check, up to the limit of is_ice_set_max_rto. If a check has had no response for longer than half that limit,
- * only the checks without a response count, so that checks become more frequent again. Early retransmissions
- * (is_ice_set_settings) have delays of their own. IS_ICE_OK. Value: 250 ms. */
+ * only the checks without a response count, so that checks become more frequent again. Early retransmissions, which
+ * `modern` of is_ice_set_settings brings, have delays of their own. IS_ICE_OK. Value: 250 ms. */
 IS_ICE_QUIET_CALL int32_t is_ice_set_initial_rto(is_ice_agent *agent, uint64_t nanoseconds);
 
 /* is_ice_set_max_rto - sets the longest time from one check of a pair until the next one is due. With the
@@ -493,9 +493,8 @@ IS_ICE_QUIET_CALL int32_t is_ice_set_max_rto(is_ice_agent *agent, uint64_t nanos
 /* is_ice_set_max_retransmits - sets after how many checks in a row without a response a pair is removed. It is not
  * removed while the last of them may still be answered in time, nor within 15 s of a check of the other agent on it.
  * With the default values and few pairs that is up to 29.6 s after its last answered check; with many pairs each check
- * waits for its turn, and the consent_timeout of is_ice_set_settings ends the pair. With early retransmissions
- * (is_ice_set_settings) a pair is not removed within ice_timeout of is_ice_status after the first of its checks without a
- * response, either.
+ * waits for its turn, and the consent_timeout of is_ice_set_settings ends the pair. With `modern` a pair is not removed
+ * within ice_timeout of is_ice_status after the first of its checks without a response, either.
  *
  * IS_ICE_OK. IS_ICE_BAD_LIMIT: the limit is 0. Value: 11. */
 IS_ICE_CALL int32_t is_ice_set_max_retransmits(is_ice_agent *agent, size_t limit);
@@ -838,14 +837,14 @@ IS_ICE_CALL int32_t is_ice_accepts_message(is_ice_agent *agent, const uint8_t *b
  *
  * Call it before packets are polled. While a packet or an early request is queued, the time is one Ta after the last
  * is_ice_handle_timeout call. At that call the state follows, and without `modern` of is_ice_set_settings a controlled
- * agent selects its pair. So it is, with `modern` and renomination, while a selected path is still to be nominated, or its
- * pair is gone and another one may be selected. After packets were polled, it is the time of the next check, or of the end
- * of consent, if that is sooner. A request of the other agent moves up only a time that was computed: with `modern` each
- * call computes it, also while a packet is queued. A packet for which the buffer was too short does not count as queued
- * here. Does not allocate.
+ * agent selects its pair. With `modern` and renomination so it is, too, while a selected path is still to be nominated, or
+ * its pair is gone and another one may be selected. After packets were polled, it is the time of the next check, or of the
+ * end of consent, if that is sooner. A request of the other agent moves up only a time that was computed: with `modern`
+ * each call computes it, also while a packet is queued. A packet for which the buffer was too short does not count as
+ * queued here. Does not allocate.
  *
- * IS_ICE_OK: *at is the time. IS_ICE_NOTHING: no is_ice_handle_timeout call has returned IS_ICE_OK yet (see also
- * `modern` of is_ice_set_settings); *at is unchanged. */
+ * IS_ICE_OK: *at is the time. IS_ICE_NOTHING: no is_ice_handle_timeout call has returned IS_ICE_OK yet; without `modern`
+ * one that served an early request does not count; *at is unchanged. */
 IS_ICE_CALL int32_t is_ice_poll_timeout(is_ice_agent *agent, uint64_t *at);
 
 /* is_ice_poll_timeout_soon - returns this time for an agent that changed since the last is_ice_handle_timeout call: it
@@ -888,7 +887,7 @@ IS_ICE_CALL int32_t is_ice_recreate_pairs(is_ice_agent *agent);
 
 /* ---- queries: they change nothing and do not allocate */
 
-/* is_ice_status - returns the settings of the agent, and its state. IS_ICE_OK. */
+/* is_ice_status - returns the state of the agent, its role, and figures of its settings. IS_ICE_OK. */
 IS_ICE_CALL int32_t is_ice_status(is_ice_agent *agent, is_ice_agent_status *status);
 
 /* is_ice_settings - returns what is set. IS_ICE_OK. */

@@ -71,7 +71,7 @@ class Candidates:
     def with_settings(self, given: Settings) -> Self:
         """Returns the agent with these settings of the library. If an RTO changes, due times are computed again."""
         timing = Timing(given.initial_rto, given.max_rto, given.max_retransmits, given.lite_timeout, given.profile is Profile.MODERN,
-                        given.consent.timeout, given.consent.strict)
+                        given.consent.timeout or None, given.consent.strict)
         return replace(self.with_timing(timing), advance=given.timing_advance, max_pairs=given.max_pairs,
                        max_discovered=given.max_discovered, renominates=given.renomination)
 

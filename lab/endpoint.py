@@ -22,8 +22,7 @@ FIRST_RTO = 500_000_000
 
 def settings_by(s: AgentSettings, settings: Settings) -> Settings:
     """Returns the settings of an agent with the profile and the consent of these."""
-    timeout = None if s.consent_ms is None else nanoseconds(s.consent_ms)
-    return replace(settings, profile=Profile[s.profile.upper()], consent=Consent(timeout, s.strict_consent))
+    return replace(settings, profile=Profile[s.profile.upper()], consent=Consent(nanoseconds(s.consent_ms) or None, s.strict_consent))
 
 
 class Watch(Interface_):

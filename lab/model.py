@@ -59,12 +59,12 @@ class Agent(Candidates):
         return replace(self, state=next_state(self.state, has_nominated(self.pairs), is_possible, self.lite))
 
     def _settled(self, now: int) -> Agent:
-        """Returns it after nomination: by the rule its state is evaluated."""
+        """Returns it after nomination: with `Modern` its state is evaluated."""
         return self._evaluated(now) if self.settles else self
 
     def reselected(self, old: Agent) -> tuple[Agent, tuple[Path, ...]]:
-        """Returns it after a call that added or invalidated a candidate of `old`, with the paths that the call selects: by the rule, if the
-        selected pair is gone, nomination is evaluated, and the state as of the last `handle_timeout`."""
+        """Returns it after a call that added or invalidated a candidate of `old`, with the paths that the call selects: with `Modern`, if
+        the selected pair is gone, nomination is evaluated, and the state as of the last `handle_timeout`."""
         if not (old.settles and old.has_selected and not self.has_selected):
             return self, ()
         new, told = self._nominate()

@@ -48,7 +48,7 @@ class AgentSettings:
     retransmits: int = 9
     max_pairs: int | None = None
     profile: str = "modern"  # or original
-    consent_ms: float | None = 29600.0  # that of the modern settings; None: by the RTOs
+    consent_ms: float = 29600.0  # how long a response keeps a pair with `Modern`, as by the modern settings; 0: by the RTOs
     strict_consent: bool = False
     shuffled: bool = False  # gathers from its interfaces in random order
     stun: bool = True  # gathers server-reflexive candidates

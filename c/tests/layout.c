@@ -57,6 +57,17 @@ static void settings(void)
     is_ice_agent_free(&agent);
 }
 
+/* is_ice_agent_free: at a null pointer it does nothing, and neither does it a second time. */
+static void freed(void)
+{
+    is_ice_agent agent = made();
+    is_ice_agent_status s;
+    is_ice_agent_free(NULL);
+    is_ice_agent_free(&agent);
+    is_ice_agent_free(&agent);
+    HOLD(is_ice_status(&agent, &s) == IS_ICE_NO_AGENT);
+}
+
 /* is_ice_agent_settings: what is set is read, and the room is zero. */
 static void keeps_settings(is_ice_agent *agent, const is_ice_agent_settings *set)
 {
@@ -329,6 +340,7 @@ int main(void)
 {
     offsets();
     settings();
+    freed();
     all_settings();
     candidates();
     alike();

@@ -127,11 +127,11 @@ MOVES = [
 ]
 
 # A lite agent removes a pair 15 s after the last check of the peer, by default, a full one after 11 unanswered checks, which takes about
-# 26 s, or about 20 s with 9 checks. With early retransmissions it takes no less than a whole series of checks, 20.9 s with 9: here,
-# where checks are 2 s apart when the cut begins, one more is sent, and the pair is removed after 23 s. What a controlled agent removed
-# comes back only by an ICE restart: Chromium sends no more checks, and those of Firefox do not nominate again. With a lite agent each
-# check of Chromium nominates, but it sends none any more after 15 s without a response, and no check of the agent makes it begin again.
-# Firefox nominates only once, and still sends checks after 20 s.
+# 26 s, or about 20 s with 9 checks. With Modern it takes no less than a whole series of checks, 20.9 s with 9: here, where checks
+# are 2 s apart when the cut begins, one more is sent, and the pair is removed after 23 s. What a controlled agent removed comes back only
+# by an ICE restart: Chromium sends no more checks, and those of Firefox do not nominate again. With a lite agent each check of Chromium
+# nominates, but it sends none any more after 15 s without a response, and no check of the agent makes it begin again. Firefox nominates
+# only once, and still sends checks after 20 s.
 CUTS = [
     _cut("cut for 8 s, agent controlled", 8, Setup(True), "kept"),
     _cut("cut for 8 s, agent controlling", 8, Setup(False), "kept"),

@@ -10,7 +10,7 @@ export interface AgentSettings {
   maxRto: number;
   /** see is_ice_set_lite_timeout */
   liteTimeout: number;
-  /** so long after its last answered check a pair is removed; 0: by the timing */
+  /** with modern: so long after its last answered check a pair is removed; 0: by the RTOs */
   consentTimeout: number;
   /** see is_ice_set_max_retransmits */
   maxRetransmits: number;
@@ -22,7 +22,7 @@ export interface AgentSettings {
   maxCandidates: number;
   /** the behavior of this library, and not that of the Rust crate `is` 0.12.0 */
   modern: boolean;
-  /** the other agent's checks do not keep a pair */
+  /** with modern: the other agent's checks do not keep a pair */
   strictConsent: boolean;
   /** see is_ice_set_renomination */
   renomination: boolean;

@@ -1,6 +1,6 @@
 """The theorem `completed_nominations_are_selected` (`CompletedNominationsAreSelected`): of a path's nomination and a success response on
-it the second one arrives. Then a controlled agent has selected a best pair in this very call; if it is the nomination, by the rule
-`selects_at_once`."""
+it the second one arrives. Then a controlled agent has selected a best pair in this very call; if it is the nomination, with the profile
+`Modern`."""
 
 from __future__ import annotations
 
@@ -49,7 +49,7 @@ def lacking(x: Execution, c: Choice) -> Lacks:
     """Returns the preconditions that do not hold (`CompletesNomination`)."""
     near, last = x.state(c.at, c.side), x.steps[c.at].after[c.side]
     may_end = c.start is not None and may_end_in(x, c.side, c.path, range(c.start, c.at + 1))
-    return lacks(IsFresh=is_new_agent(x.state(0, c.side)), selects_at_once=not c.is_asked or near.modern,
+    return lacks(IsFresh=is_new_agent(x.state(0, c.side)), modern=not c.is_asked or near.modern,
                  arrives=c.start is not None, controlled=not last.controlling, IsOnlyPair=is_alone(last, c.path), Ends=not may_end)
 
 

@@ -70,9 +70,11 @@ class Rows:
         return None
 
     def _may_suffice(self, place: int, stop: int, end: int) -> bool:
-        """Whether there are enough rounds, if the pair is due before the first one."""
-        later = stop - place - 1
-        return side_rounds_reach(self.x, self.side, True, self.timeouts[place], self.timeouts[place + 1] if later else end, later, end)
+        """Whether there may be enough rounds: if the pair is due before the first one, or if a request was served on it."""
+        first, later = self.timeouts[place], stop - place - 1
+        agent, second = self.x.state(first, self.side), self.timeouts[place + 1] if later else end
+        is_served = agent.modern and any(p.requests for p in agent.pairs)
+        return is_served or side_rounds_reach(self.x, self.side, True, first, second, later, end)
 
     def _path_at(self, place: int, end: int, path: Path | None) -> Path | None:
         lines = [p for p in self.lines(place) if path in (None, p)]

@@ -1,5 +1,5 @@
 """The theorem `consent_holds` (`ConsentHolds`): after each `handle_timeout` call of a full agent that serves no early request each pair
-has consent. Without the rule `consent`, or without a response, that says nothing: so both are required here, too."""
+has consent. With the profile `Original`, or without a response, that says nothing: so both are required here, too."""
 
 from __future__ import annotations
 

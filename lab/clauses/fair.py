@@ -32,9 +32,9 @@ def have_distinct_ids(x: Execution) -> bool:
 
 
 def compares_ties(x: Execution, side: str) -> bool:
-    """Whether the side is never lite, or never has the rule by which a lite agent keeps its role (`ComparesTies`)."""
+    """Whether the side is never lite, or never has the profile `Modern`, by which a lite agent keeps its role (`ComparesTies`)."""
     lite = x.indices(("is_lite", side), lambda s: s.before[side].lite)
-    keeps = x.indices(("keeps_role", side), lambda s: s.before[side].rules.lite_keeps_role)
+    keeps = x.indices(("keeps_role", side), lambda s: s.before[side].modern)
     return not lite or not keeps
 
 

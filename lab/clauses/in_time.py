@@ -14,6 +14,7 @@ from .connections import Rows, has_rounds, side_rounds_reach, succeeds_in
 from .execution import Execution, Lacks, Round, is_in_round, lacks
 from .fair import are_new_agents
 from .opening import least_later, most_rounds
+from .served import least_reaching
 from .staying import may_end_in_rounds
 from .verdict import Verdict, first_that_holds
 
@@ -102,7 +103,19 @@ def choices(x: Execution) -> Iterator[Choice]:
             counts = {least_count(x, side, place, is_early) for is_early in (True, False)} if rows.lines(place) else ()
             lasts = {last for count in counts if count for last in rows.timeouts[place + count - 1:place + count + 1]}
             found += [Choice(side, path, first, last + 1) for last in lasts for path in rows.lines(place)]
-    yield from sorted(found, key=lambda c: c.end)
+    yield from sorted([*found, *served_choices(x)], key=lambda c: c.end)
+
+
+def served_choices(x: Execution) -> Iterator[Choice]:
+    """Proposes each `handle_timeout` call before which a pair is due on which a request was served, with the fewest rounds."""
+    for side in SIDES:
+        row = x.timeouts[side]
+        for place, first in enumerate(row):
+            agent, now = x.state(first, side), x.now(first)
+            due = [p for p in agent.pairs if p.requests and p.due_at(now, agent.timing) < now]
+            most = most_rounds(x, side, place, is_in_round) if due else 0
+            counts = [(p, least_reaching(x, side, p.number, row[place:place + most])) for p in due if most]
+            yield from (Choice(side, agent.path(p), first, row[place + count - 1] + 1) for p, count in counts if count is not None)
 
 
 def verdict_of(x: Execution, c: Choice) -> Verdict:

@@ -39,7 +39,7 @@ class Choice:
         return x.rounds(self.side, self.first, self.following + 1)
 
     def consent(self, x: Execution) -> Consent | None:
-        """Returns the rule of the state before the first call."""
+        """Returns how long a response keeps a pair in the state before the first call."""
         return x.state(self.first, self.side).timing.consent
 
     def pace(self, x: Execution) -> int:

@@ -48,7 +48,7 @@ def kind_in(agent: Agent, pair: Pair) -> int:
 
 
 def takes_turns(x: Execution, side: str, kind: int, number: int, r: Round) -> Lacks:
-    """The rule is set at the `handle_timeout` call, and the pair has this kind (`TakesTurns`)."""
+    """The profile is `Modern` at the `handle_timeout` call, and the pair has this kind (`TakesTurns`)."""
     old, new = x.state(r.moment, side), x.state(r.moment + 1, side)
     return lacks(rule=new.modern, keeps=all(kind_in(old, p) == kind for p in old.pairs if p.number == number))
 

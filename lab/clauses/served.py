@@ -1,4 +1,4 @@
-"""Pairs on which a request was served, by the rule `triggered_checks`: they are urgent, so few rounds suffice for their checks."""
+"""Pairs on which a request was served, with the profile `Modern`: they are urgent, so few rounds suffice for their checks."""
 
 from __future__ import annotations
 
@@ -8,7 +8,7 @@ from .execution import Execution, Lacks, Round, lacks
 
 
 def is_served(agent: Agent, pair: Pair) -> Lacks:
-    """The agent has the rule, a request was served on the pair, and no pair on its path is valid (`IsServed`)."""
+    """The profile is `Modern`, a request was served on the pair, and no pair on its path is valid (`IsServed`)."""
     path = agent.path(pair)
     return lacks(rule=agent.modern, requested=pair.requests > 0,
                  invalid=not any(p.is_valid and agent.path(p) == path for p in agent.pairs))

@@ -1,4 +1,4 @@
-"""The theorem `served_are_checked_soon` (`RoundsReachServed`): by the rule `triggered_checks`, after a request on a path without a valid
+"""The theorem `served_are_checked_soon` (`RoundsReachServed`): with the profile `Modern`, after a request on a path without a valid
 pair, in 2 * m rounds a check is sent on that path, or m of them check the selected pair, or urgent pairs whose turn comes before."""
 
 from __future__ import annotations

@@ -1,4 +1,4 @@
-"""`World::run`, clause `in_time`, of pairs on which a request was served (`ServedRoundsReach`): by the rule `triggered_checks` 2 * m rounds
+"""`World::run`, clause `in_time`, of pairs on which a request was served (`ServedRoundsReach`): with the profile `Modern` 2 * m rounds
 suffice then in either role, if fewer than m of them check other pairs before, however many pairs there are."""
 
 from __future__ import annotations
@@ -6,15 +6,13 @@ from __future__ import annotations
 from collections.abc import Iterator
 
 from ..pairs import Pair
-from ..scenario import SIDES
 from .connections import succeeds_in
-from .execution import Execution, Lacks, Round, fewest, is_in_round, lacks
+from .execution import Execution, Lacks, Round, fewest, lacks
 from .fair import are_new_agents
-from .in_time import Choice, checked_at, delay, verdict_of
-from .opening import most_rounds
+from .in_time import Choice, checked_at, delay, served_choices, verdict_of
 from .progress import is_in_line, is_lasting
 from .selections import are_kept
-from .served import least_reaching, served_rounds_reach
+from .served import served_rounds_reach
 from .staying import may_end_in_rounds
 from .verdict import Verdict, first_that_holds
 
@@ -45,16 +43,7 @@ def lacking(x: Execution, c: Choice) -> Lacks:
 
 def choices(x: Execution) -> Iterator[Choice]:
     """Proposes each such pair that is due before a `handle_timeout`, with the fewest rounds, by the end of the rounds."""
-    found = []
-    for side in SIDES:
-        row = x.timeouts[side]
-        for place, first in enumerate(row):
-            agent, now = x.state(first, side), x.now(first)
-            due = [p for p in agent.pairs if p.requests and p.due_at(now, agent.timing) < now]
-            most = most_rounds(x, side, place, is_in_round) if due else 0
-            counts = [(p, least_reaching(x, side, p.number, row[place:place + most])) for p in due if most]
-            found += [Choice(side, agent.path(p), first, row[place + count - 1] + 1) for p, count in counts if count is not None]
-    yield from sorted(found, key=lambda c: c.end)
+    yield from sorted(served_choices(x), key=lambda c: c.end)
 
 
 def find(x: Execution) -> Verdict:

@@ -1,5 +1,5 @@
-"""`World::run`, clause `selects_in_time`, of pairs on which a request was served (`ServedRoundsSuffice`): by the rule `triggered_checks` k
-is 2 * m then, if fewer than m of the rounds check other pairs before, however many pairs there are."""
+"""`World::run`, clause `selects_in_time`, of pairs on which a request was served (`ServedRoundsSuffice`): with the profile `Modern` k is
+2 * m then, if fewer than m of the rounds check other pairs before, however many pairs there are."""
 
 from __future__ import annotations
 

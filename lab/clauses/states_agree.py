@@ -1,5 +1,5 @@
-"""The theorem `states_agree` (`StatesAgree`): with the profile `Modern`, an agent that is never
-lite is Connected or Completed if and only if the path that it selected last is that of a pair that is valid and nominated."""
+"""The theorem `states_agree` (`StatesAgree`): with the profile `Modern`, an agent that is never lite is Connected or Completed if and
+only if the path that it selected last is that of a pair that is valid and nominated."""
 
 from __future__ import annotations
 

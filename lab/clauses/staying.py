@@ -18,7 +18,7 @@ def is_replaced_by(agent: Agent, pair: Pair, combination: tuple[int, int]) -> bo
 
 
 def is_rival(agent: Agent, pair: Pair, kind: int) -> bool:
-    """Whether a pair of this kind may take the pair's place at the limit: with kinds in turn only one of its own does (`is_rival`)."""
+    """Whether a pair of this kind may take the pair's place at the limit: with `Modern` only one of its own does (`is_rival`)."""
     return not agent.modern or kind == kind_of(agent.local, agent.remote, pair)
 
 
@@ -42,7 +42,7 @@ def rank_count(agent: Agent, combinations: list[tuple[int, int]], pair: Pair) ->
 def most_pairs(agent: Agent, ranked: int) -> int:
     """Returns how many pairs there are at most, if so many rank with the pair that is removed (`most_pairs`).
 
-    With kinds in turn no kind has more pairs than its own."""
+    With `Modern` no kind has more pairs than its own."""
     return COUNT * ranked if agent.modern else ranked
 
 

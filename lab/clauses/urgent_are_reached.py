@@ -1,4 +1,4 @@
-"""The theorem `urgent_are_reached` (`RoundsReachUrgent`): by the rule `triggered_checks` a pair is urgent in 2 * m rounds. Then it is
+"""The theorem `urgent_are_reached` (`RoundsReachUrgent`): with the profile `Modern` a pair is urgent in 2 * m rounds. Then it is
 checked in one of them, or m of them check the selected pair, or urgent pairs whose turn comes before."""
 
 from __future__ import annotations

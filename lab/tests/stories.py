@@ -5,14 +5,14 @@ from __future__ import annotations
 from dataclasses import replace
 from typing import Any
 
-from is_ice import Candidate, DiscoveredRecv, IceConnectionStateChange, IceCreds, NominatedSend, Protocol, SocketAddress, Transmit
+from is_ice import (Candidate, Consent, DiscoveredRecv, IceConnectionStateChange, IceCreds, NominatedSend, Profile, Protocol, Settings,
+                    SocketAddress, Transmit)
 from lab.clauses.execution import Execution
 from lab.clauses.accepted_nominations import Network
-from lab.clock import BEGINNING, MILLISECOND
-from lab.kinds import ORIGINAL, Rules
+from lab.clock import BEGINNING, MILLISECOND, SECOND
 from lab.log import Beginning, Entry, Log
 from lab.model import Agent, Issued
-from lab.pairs import Path
+from lab.pairs import Path, Timing
 from lab.replay import Replay, after_setting, other, replay
 from lab.stun import NOMINATION
 
@@ -22,6 +22,12 @@ USERNAME, XOR_MAPPED_ADDRESS, PRIORITY, USE_CANDIDATE, ICE_CONTROLLED, ICE_CONTR
 TYPES = {"request": 0x0001, "success": 0x0101, "failure": 0x0111}
 LINE = "candidate:1 1 udp {} {} {} typ {}"
 TO_A, TO_B = (B, A), (A, B)  # the paths of b and of a
+# The numbers of the model, with either profile.
+ORIGINAL = Settings(
+    profile=Profile.ORIGINAL, timing_advance=50 * MILLISECOND, initial_rto=250 * MILLISECOND, max_rto=3 * SECOND, max_retransmits=9,
+    lite_timeout=15 * SECOND, consent=Consent(), max_pairs=100, max_discovered=32, max_candidates=100, renomination=False)
+MODERN = replace(ORIGINAL, profile=Profile.MODERN)
+PROFILES = (ORIGINAL, MODERN)
 
 
 def at(time: float) -> int:
@@ -45,15 +51,17 @@ class Story:
     """Two agents with one host candidate each, and the log of what a test lets happen. Times are milliseconds from the beginning."""
 
     def __init__(self, roles: tuple[bool, bool] = (True, False), known: bool = True, hosts: tuple[int, int] = (1, 1),
-                 ties: tuple[int, int] = (10, 5), rules: Rules = ORIGINAL) -> None:
+                 ties: tuple[int, int] = (10, 5), settings: Settings = ORIGINAL) -> None:
         self.log = Log()
         self.agents: dict[str, Agent] = {}
         self.moments: dict[str, list[int]] = {"a": [], "b": []}  # the indices of the `handle_timeout` calls
         self.ids = 0
         for side, role, tie in zip("ab", roles, ties):
             creds = IceCreds(side * 4, side * 22)
-            self.log.sides[side] = Beginning(creds, tie, role, rules)
-            self.agents[side] = Agent(creds, tie, role).with_rules(rules)
+            self.log.sides[side] = Beginning(creds, tie, role, settings.profile is Profile.MODERN)
+            self.agents[side] = Agent(creds, tie, role, timing=Timing(modern=settings.profile is Profile.MODERN))
+            if settings not in PROFILES:
+                self.set(side, "set_settings", settings)
         for side, first, count in zip("ab", (A, B), hosts):
             for n in range(count):
                 self.host(side, first._replace(port=first.port + n), 126 << 24 | (65535 - n) << 8 | 255)

@@ -10,10 +10,9 @@ from lab.clauses.accepted_nominations import Network
 from lab.clauses.selections import are_enough
 from lab.clauses.verdict import Verdict
 from lab.clock import BEGINNING
-from lab.kinds import Rules
 from lab.requests import Request
 from lab.pairs import Check, Pair
-from lab.tests.stories import TO_A, TO_B, A, B, Story, at
+from lab.tests.stories import MODERN, TO_A, TO_B, A, B, Story, at
 
 OUTSIDE = SocketAddress("203.0.113.1", 1000)
 FEW = ["Opens.enough.AreEachPolled.few", "Opens.enough.SideRoundsSuffice", "Opens.enough.ServedRoundsSuffice"]
@@ -172,48 +171,56 @@ class Connecting(Late):
 
 
 class Numbered(unittest.TestCase):
-    """Nominations have numbers. A has two pairs. It selects the lesser one at 60 ms and nominates it at 100 ms, and the greater one at
-    260 and 310 ms. B's checks are answered, and it follows at 520 ms. A's rounds for the greater pair begin at 250 ms, B's at 520 ms."""
+    """Nominations have numbers. A has two pairs. It selects the lesser one at 60 ms and nominates it at 100 ms, and the greater one at 260
+    and 310 ms. B's checks are answered. It selects the lesser pair at 131 ms, and the greater one at 540 ms, when A's second nomination
+    arrives. A's rounds for the greater pair begin at 310 ms, B's at 520 ms. Two pairs take 7 rounds, since every second check may go ahead,
+    and a path that is selected, and whose pair was not checked since, two more. So after its first round A takes 7, since it sent its
+    nomination, and B takes 9, since it selected a path."""
 
-    def story(self, asking: tuple[float, ...], asked: tuple[float, ...]) -> Story:
-        """The log with these later timeouts of A and of B, whose checks are lost."""
-        story = Story(hosts=(2, 1), rules=Rules(numbered_nominations=True))
+    def story(self, asking: int, asked: int) -> Story:
+        """The log with so many later timeouts of A and of B, 50 ms apart, whose checks are lost."""
+        story = Story(hosts=(2, 1), settings=MODERN)
         for side in "ab":
             story.set(side, "set_renomination", True)
         story.timeout("a", 0)
-        for side, time in (("b", 1), ("a", 50), ("b", 61), ("a", 100), ("a", 250), ("a", 310)):
+        for side, time in (("a", 50), ("b", 61), ("a", 100), ("b", 121), ("a", 250)):
             story.exchange(side, time)
-        story.passes("a", *asking)
+        nomination = story.timeout("a", 310)
+        story.passes("a", *(360 + 50 * n for n in range(asking) if n < 3))
         story.exchange("b", 520)
-        story.passes("b", *asked)
+        story.deliver(story.deliver(nomination, "b", 540), "a", 545)
+        for n in range(max(asking - 3, asked)):
+            story.passes("a", *[550 + 50 * n] * (n < asking - 3))
+            story.passes("b", *[570 + 50 * n] * (n < asked))
         return story
 
     def choice(self, n: Network) -> connect.Choice:
         """B's path to A's greater pair, with these rounds."""
-        a, b = ([at for at in n.x.timeouts[side] if n.x.now(at) >= since] for side, since in (("a", at(250)), ("b", at(520))))
+        a, b = ([at for at in n.x.timeouts[side] if n.x.now(at) >= since] for side, since in (("a", at(310)), ("b", at(520))))
         return connect.Choice("b", TO_A, TO_B, a[0], a[0], b[0], b[-1])
 
     def test_with_numbers(self) -> None:
-        n = self.story((360, 410, 460), (570, 620, 670, 720)).network()
+        n = self.story(7, 10).network()
+        self.assertEqual([n.x.time(at) for at in n.x.announces("b")], [at(131), at(540)])
         self.assertEqual(connect.lacking(n, self.choice(n)), [])
         found = connect.find(n)
-        self.assertEqual((found.held, found.is_broken, found.fact), (True, False, at(520)))
+        self.assertEqual((found.held, found.is_broken), (True, False))
 
     def test_each_nomination_of_the_controlling_agent_counts(self) -> None:
-        n = self.story((360, 410), (570, 620, 670, 720)).network()
+        n = self.story(6, 10).network()
         choice = self.choice(n)
         self.assertEqual(connect.lacking(n, choice), ["asking.enough"])
-        self.assertTrue(are_enough(n.x, "a", at(250), n.x.rounds("a", choice.asking, choice.moment), choice.moment))
+        self.assertTrue(are_enough(n.x, "a", at(309), n.x.rounds("a", choice.asking, choice.moment), choice.moment))
 
     def test_each_selection_of_the_controlled_agent_counts(self) -> None:
-        n = self.story((360, 410, 460), (570, 620, 670)).network()
+        n = self.story(7, 9).network()
         choice = self.choice(n)
         self.assertEqual(connect.lacking(n, choice), ["asked.enough"])
         self.assertTrue(are_enough(n.x, "b", at(519), n.x.rounds("b", choice.asked, choice.moment), choice.moment))
 
     def test_checks_in_time(self) -> None:
-        for later, missing in (((360, 410), ["has.enough"]), ((360, 410, 460), [])):
-            n = self.story(later, (570,)).network()
+        for later, missing in ((6, ["has.enough"]), (7, [])):
+            n = self.story(later, 1).network()
             choice = in_time.Choice("a", TO_B, self.choice(n).asking, len(n.x))
             self.assertEqual(in_time.lacking(n.x, choice), missing)
             self.assertFalse(in_time.verdict_of(n.x, choice).is_broken)

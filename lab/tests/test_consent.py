@@ -41,9 +41,9 @@ class Sessions(unittest.TestCase):
             for side, left in self.found(Cell((9, 10), all_work, False)).items():
                 self.assertTrue(all(d.at - d.answered <= CONSENT + 50 * MILLISECOND for d in left), side)
 
-    def test_without_the_rules_a_path_is_kept_too_long(self) -> None:
+    def test_with_the_original_profile_a_path_is_kept_too_long(self) -> None:
         made = Cell((9, 10), False, False).scenario()
-        a, b = (replace(made.side(side), consent_ms=0, selected_first=False) for side in "ab")
+        a, b = (replace(made.side(side), profile="original") for side in "ab")
         told = play((replace(made, a=a, b=b, seconds=80, settle_s=80), range(1)))
         assert isinstance(told, Fault)
         self.assertIn("after the end of consent", told.text)

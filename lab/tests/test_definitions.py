@@ -14,11 +14,10 @@ from lab.clauses.selections import are_each_polled, are_enough, are_kept, is_ans
 from lab.clauses.single import are_plain
 from lab.clauses.staying import may_end_in
 from lab.clock import BEGINNING, MILLISECOND
-from lab.kinds import ORIGINAL, Rules
 from lab.model import Agent
 from lab.requests import Request
 from lab.pairs import Check, Place, Timing
-from lab.tests.stories import LINE, TO_A, TO_B, A, B, Story, at
+from lab.tests.stories import LINE, MODERN, ORIGINAL, TO_A, TO_B, A, B, Story, at
 
 OUTSIDE = SocketAddress("203.0.113.1", 1000)
 REQUEST = Request(BEGINNING, A, B, bytes(12), 1, False, "aaaa", 1, None)
@@ -100,7 +99,7 @@ class Waiting(unittest.TestCase):
         self.assertEqual(self.both(replace(self.agent, queue=(REQUEST,))), (["queue"], ["queue"]))
 
     def test_with_numbers(self) -> None:
-        numbered = replace(self.agent, renominates=True, rules=Rules(numbered_nominations=True), selected=self.pair.number)
+        numbered = replace(self.agent, renominates=True, timing=Timing(modern=True), selected=self.pair.number)
         due = replace(numbered, nomination_due=True)
         self.assertEqual([self.both(agent) for agent in (numbered, due)], [([], []), ([], [])])
         self.assertEqual([is_unanswered(agent, self.pair) for agent in (numbered, due)], [[], ["calm"]])
@@ -162,9 +161,9 @@ class Enough(unittest.TestCase):
         self.assertTrue(suffice_for_due(1, 1, self.one, self.one, []))
 
     def test_nominations_that_may_be_sent_at_once(self) -> None:
-        numbered = replace(self.two, renominates=True, rules=Rules(numbered_nominations=True))
+        numbered = replace(self.two, renominates=True, timing=Timing(modern=True))
         due = replace(numbered, nomination_due=True)
-        unnumbered = (replace(due, renominates=False), replace(due, rules=Rules()))
+        unnumbered = (replace(due, renominates=False), replace(due, timing=Timing()))
         self.assertEqual([nominations_ahead(agent, 2) for agent in (numbered, due, *unnumbered)], [2, 3, 0, 0])
 
     def test_they_count_like_pairs_that_are_added(self) -> None:
@@ -175,7 +174,7 @@ class Enough(unittest.TestCase):
         self.assertTrue(suffices(0, 1, self.one, self.one, self.one, 0, 9, 9))
 
     def test_they_count_twice_if_checks_may_go_ahead(self) -> None:
-        two = replace(self.two, rules=Rules(kinds_in_turn=True))
+        two = replace(self.two, timing=Timing(modern=True))
         self.assertFalse(suffices(0, 1, two, two, two, 7, 1, 9))
         self.assertTrue(suffices(0, 1, two, two, two, 8, 1, 9))
 
@@ -211,7 +210,8 @@ class Kept(unittest.TestCase):
 
     def test_only_calls_that_may_come_in_a_round(self) -> None:
         calls = {"set_ice_lite": False, "set_remote_credentials": IceCreds("bbbb", "b" * 22), "set_initial_stun_rto": 250 * MILLISECOND,
-                 "set_max_stun_rto": 3000 * MILLISECOND, "set_max_stun_retransmits": 9, "set_lite_timeout": 15000 * MILLISECOND}
+                 "set_max_stun_rto": 3000 * MILLISECOND, "set_max_stun_retransmits": 9, "set_lite_timeout": 15000 * MILLISECOND,
+                 "set_settings": ORIGINAL}
         for name, value in calls.items():
             with self.subTest(call=name):
                 story = self.story(0)
@@ -268,8 +268,8 @@ class Fair(unittest.TestCase):
         self.assertEqual(is_fair_world(story.network().x), ["distinct"])
 
     def test_a_lite_agent_that_keeps_its_role(self) -> None:
-        for keeps, lacking in ((True, ["compares"]), (False, [])):
-            story = Story(rules=replace(ORIGINAL, lite_keeps_role=keeps))
+        for settings, lacking in ((MODERN, ["compares"]), (ORIGINAL, [])):
+            story = Story(settings=settings)
             self.assertEqual(is_fair_world(story.altered(1, "b", lite=True).x), lacking)
 
 

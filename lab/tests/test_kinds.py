@@ -4,23 +4,21 @@ import unittest
 from dataclasses import replace
 from itertools import product
 
-import is_ice
-from is_ice import Candidate, IceAgent, IceConnectionState, IceCreds, SocketAddress, line_fields
+from is_ice import Candidate, IceAgent, IceConnectionState, IceCreds, Settings, SocketAddress, line_fields
 from lab import kinds
 from lab.clauses.progress import are_as_many_as_due, are_open_enough, checks_for
 from lab.clauses.staying import combines_with, most_pairs, rank_count
-from lab.clock import BEGINNING, MILLISECOND, Clock
-from lab.kinds import ORIGINAL, Rules, counted_kind, is_public, kind_between, kind_of, reaches_out, turn_of
+from lab.clock import MILLISECOND, Clock
+from lab.kinds import counted_kind, is_public, kind_between, kind_of, reaches_out, turn_of
 from lab.log import Beginning, Log, LoggedAgent
 from lab.pairs import Place, Timing
 from lab.replay import replay
 from lab.states import CHECKING, COMPLETED, CONNECTED, DISCONNECTED, NEW, has_possible, next_state
-from lab.tests.stories import LINE, TO_B, A, B, Story
+from lab.tests.stories import LINE, MODERN, ORIGINAL, TO_B, A, B, Story
 
 V6, OUTSIDE, MAPPED = SocketAddress("fd00::1", 1), SocketAddress("203.0.113.2", 9), SocketAddress("203.0.113.1", 9)
 OWN, THEIRS, OWN_V6 = SocketAddress("192.0.2.1", 9), SocketAddress("192.0.2.2", 9), SocketAddress("2001:db8::1", 1)  # public hosts
 SECOND_A, SECOND_B = A._replace(port=A.port + 1), B._replace(port=B.port + 1)
-TURNS = Rules(kinds_in_turn=True)
 # The first and the last address of each range of IPv4 that is not public (RFC 1918, RFC 6598, loopback, link-local).
 INNER = ("10.0.0.0", "10.255.255.255", "172.16.0.0", "172.31.255.255", "192.168.0.0", "192.168.255.255",
          "100.64.0.0", "100.127.255.255", "127.0.0.0", "127.255.255.255", "169.254.0.0", "169.254.255.255")
@@ -103,7 +101,7 @@ class Public(unittest.TestCase):
         self.assertEqual([kind_between((), place("host", A), place(kind, THEIRS)) for kind in ("prflx", "srflx", "relay")], [1, 3, 5])
 
     def test_the_others_change_their_kind_when_one_comes_or_goes(self) -> None:
-        story = Story(rules=TURNS)
+        story = Story(settings=MODERN)
         found: list[list[int]] = []
 
         def note() -> None:
@@ -127,7 +125,7 @@ class Library(unittest.TestCase):
         clock, log, creds = Clock(), Log(), [IceCreds(side * 4, side * 22) for side in "ab"]
         log.sides = {side: Beginning(own, tie_breaker) for tie_breaker, (side, own) in enumerate(zip("ab", creds))}
         agent = LoggedAgent(IceAgent(creds[0], 0), "a", clock, log)
-        agent.set_rules(replace(is_ice.Rules.original(), kinds_in_turn=True))
+        agent.set_settings(Settings.modern())
         agent.set_remote_credentials(creds[1])
         lines = [agent.add_local_candidate(Candidate.host(SocketAddress(ip, 1))) for ip in local]
         priorities = [line_fields(line).priority for line in lines]
@@ -162,8 +160,8 @@ class Library(unittest.TestCase):
 class Turns(unittest.TestCase):
     """A has two host candidates, and B two host candidates and a server-reflexive one. A sends a check every 50 ms."""
 
-    def story(self, rules: Rules) -> Story:
-        story = Story(hosts=(2, 2), rules=rules)
+    def story(self, settings: Settings = MODERN) -> Story:
+        story = Story(hosts=(2, 2), settings=settings)
         story.remote("a", LINE.format(100 << 24 | 65535 << 8 | 255, OUTSIDE.ip, OUTSIDE.port, "srflx"))
         return story
 
@@ -175,61 +173,62 @@ class Turns(unittest.TestCase):
     def test_every_second_check_is_of_the_next_kind(self) -> None:
         # by priority: A B, A's first and B's second host, A's second and B's first, both second; then the server-reflexive ones
         expected = [(A, B), (A, OUTSIDE), (A, SECOND_B), (SECOND_A, B), (SECOND_A, SECOND_B), (SECOND_A, OUTSIDE)]
-        self.assertEqual(self.checks(self.story(TURNS), 6), expected)
+        self.assertEqual(self.checks(self.story(), 6), expected)
 
-    def test_without_the_rule_by_priority(self) -> None:
+    def test_with_the_original_profile_by_priority(self) -> None:
         first, *middle, fourth, fifth = self.checks(self.story(ORIGINAL), 5)
         self.assertEqual([first, fourth, fifth], [(A, B), (SECOND_A, SECOND_B), (A, OUTSIDE)])
         self.assertEqual(sorted(middle), [(A, SECOND_B), (SECOND_A, B)])
 
     def test_an_earlier_due_time_comes_before_a_greater_priority(self) -> None:
-        # the first pair is due again after 250 ms
+        # the first pair is due again after 250 ms, or with the modern profile after 100 ms
         self.assertEqual(self.checks(self.story(ORIGINAL), 4, apart=100)[-1], (SECOND_A, SECOND_B))
-        self.assertEqual(self.checks(self.story(TURNS), 4, apart=100)[2:], [(A, SECOND_B), (SECOND_A, B)])
+        self.assertEqual(self.checks(self.story(), 4, apart=100)[2:], [(A, SECOND_B), (SECOND_A, B)])
 
     def test_bases_that_reach_the_outside_come_first(self) -> None:
-        story = self.story(TURNS)
+        story = self.story()
         line = LINE.format(100 << 24 | 65535 << 8 | 255, MAPPED.ip, MAPPED.port, "srflx")
         story.local("a", Candidate.server_reflexive(MAPPED, SECOND_A), line)
         self.assertEqual(self.checks(story, 4)[1::2], [(SECOND_A, OUTSIDE), (SECOND_A, B)])
 
     def test_a_public_base_comes_first(self) -> None:
-        story = self.story(TURNS)
+        story = self.story()
         story.host("a", OWN, 126 << 24 | 65000 << 8 | 255)
         self.assertEqual(self.checks(story, 4)[1::2], [(OWN, OUTSIDE), (OWN, B)])
 
     def test_a_remote_public_one_takes_the_turn_of_the_server_reflexive_ones(self) -> None:
-        story = Story(hosts=(2, 2), rules=TURNS)
+        story = Story(hosts=(2, 2), settings=MODERN)
         story.remote("a", LINE.format(126 << 24 | 65000 << 8 | 255, THEIRS.ip, THEIRS.port, "host"))
         story.remote("a", LINE.format(100 << 24 | 65535 << 8 | 255, OUTSIDE.ip, OUTSIDE.port, "srflx"))
         # in between come the pairs with B by priority: A's first and B's second host, and both second
         self.assertEqual(self.checks(story, 6)[1::2], [(A, THEIRS), (SECOND_A, B), (SECOND_A, THEIRS)])
 
-    def test_the_rule_can_be_set_at_any_time(self) -> None:
+    def test_the_profile_can_be_set_at_any_time(self) -> None:
         story = self.story(ORIGINAL)
         self.assertEqual(self.checks(story, 1), [(A, B)])
-        story.set("a", "set_rules", TURNS, 40)
-        self.assertEqual(self.checks(story, 1, 50), [(A, OUTSIDE)])  # without the rule the turn was set too
-        story.set("a", "set_rules", ORIGINAL, 90)
+        story.set("a", "set_settings", MODERN, 40)
+        self.assertEqual(self.checks(story, 1, 50), [(A, OUTSIDE)])  # with the original profile the turn was set too
+        story.set("a", "set_settings", ORIGINAL, 90)
         self.assertEqual(self.checks(story, 3, 100)[-1], (SECOND_A, SECOND_B))
 
     def test_what_a_check_sets(self) -> None:
-        story, seen = self.story(TURNS), []
+        story, seen = self.story(), []
         for n in range(4):
             story.timeout("a", 50 * n)
             seen.append((story.agents["a"].ahead_turn, story.agents["a"].next_kind))
         self.assertEqual(seen, [(True, 0), (False, 4), (True, 4), (False, 8)])
 
     def test_no_turn_once_a_path_is_selected(self) -> None:
-        story = self.story(TURNS)
+        story = self.story()
         story.exchange("a", 0)
-        agent = story.agents["a"]
-        self.assertEqual((agent.state, agent.ahead_turn, agent.is_ahead_turn(BEGINNING)), (CONNECTED, True, False))
-        self.assertEqual(self.checks(story, 2, 50)[0], (A, B))  # the pair that was nominated, and not that of the next kind
-        self.assertEqual((story.agents["a"].ahead_turn, story.agents["a"].next_kind), (True, 0))
+        story.exchange("a", 50)  # the nomination, which goes ahead
+        self.assertEqual((story.agents["a"].state, story.agents["a"].next_kind), (CONNECTED, 8))
+        # Both are in order of due times and priorities: the second one is not of the next kind.
+        self.assertEqual(self.checks(story, 2, 100), [(A, SECOND_B), (SECOND_A, B)])
+        self.assertEqual((story.agents["a"].ahead_turn, story.agents["a"].next_kind), (True, 8))
 
     def test_a_restart_keeps_the_turn(self) -> None:
-        story = self.story(TURNS)
+        story = self.story()
         self.checks(story, 3)
         agent = story.agents["a"].restart(IceCreds("cccc", "c" * 22), True)
         self.assertEqual((agent.ahead_turn, agent.next_kind, agent.state), (True, 4, CHECKING))
@@ -238,8 +237,8 @@ class Turns(unittest.TestCase):
 class Limit(unittest.TestCase):
     """A has three host candidates, and B three host candidates and a server-reflexive one: nine pairs of one kind, three of another."""
 
-    def remotes(self, rules: Rules, limit: int) -> tuple[int, int]:
-        story = Story(hosts=(3, 3), rules=rules)
+    def remotes(self, settings: Settings, limit: int) -> tuple[int, int]:
+        story = Story(hosts=(3, 3), settings=settings)
         story.limit("a", limit)
         story.remote("a", LINE.format(100 << 24 | 65535 << 8 | 255, OUTSIDE.ip, OUTSIDE.port, "srflx"))
         agent = story.agents["a"]
@@ -250,13 +249,13 @@ class Limit(unittest.TestCase):
         return len(hosts), len(reflexive)
 
     def test_the_most_numerous_kind_loses_a_pair(self) -> None:
-        self.assertEqual([self.remotes(TURNS, limit) for limit in (12, 11, 9, 6, 4, 2)], [(9, 3), (8, 3), (6, 3), (3, 3), (2, 2), (1, 1)])
+        self.assertEqual([self.remotes(MODERN, limit) for limit in (12, 11, 9, 6, 4, 2)], [(9, 3), (8, 3), (6, 3), (3, 3), (2, 2), (1, 1)])
 
     def test_a_public_host_is_of_the_same_kind_as_a_server_reflexive_one(self) -> None:
         # Both have nine pairs of private hosts and six of the others, whose kind comes first. So the other kind loses a pair only if it has
         # more. Of the six, those with the server-reflexive candidate have the lower priorities.
         for limit, expected in ((15, [9, 3, 3]), (12, [6, 3, 3]), (11, [6, 3, 2]), (9, [5, 3, 1]), (2, [1, 1, 0])):
-            story = Story(hosts=(3, 3), rules=TURNS)
+            story = Story(hosts=(3, 3), settings=MODERN)
             story.limit("a", limit)
             story.remote("a", LINE.format(126 << 24 | 65000 << 8 | 255, THEIRS.ip, THEIRS.port, "host"))
             story.remote("a", LINE.format(100 << 24 | 65535 << 8 | 255, OUTSIDE.ip, OUTSIDE.port, "srflx"))
@@ -265,7 +264,7 @@ class Limit(unittest.TestCase):
             public = [addresses.count(address) for address in (THEIRS, OUTSIDE)]
             self.assertEqual([len(addresses) - sum(public), *public], expected)
 
-    def test_without_the_rule_the_lowest_one_goes(self) -> None:
+    def test_with_the_original_profile_the_lowest_one_goes(self) -> None:
         self.assertEqual([self.remotes(ORIGINAL, limit) for limit in (12, 11, 9, 6)], [(9, 3), (9, 2), (9, 0), (6, 0)])
 
 
@@ -283,48 +282,45 @@ class States(unittest.TestCase):
                          [True, True, False])
 
     def test_of_two_agents(self) -> None:
-        story = Story(rules=TURNS)
-        states: list[tuple[IceConnectionState, IceConnectionState]] = []
+        for settings, nominated in ((ORIGINAL, CHECKING), (MODERN, COMPLETED)):
+            story = Story(settings=settings)
+            story.exchange("a", 0)
+            self.assertEqual(self.states(story), (COMPLETED, NEW))
+            story.exchange("b", 1)
+            story.exchange("a", 50)
+            self.assertEqual(self.states(story), (COMPLETED, nominated))
+            story.timeout("b", 101)
+            self.assertEqual(self.states(story), (COMPLETED, COMPLETED))
+            story.session()
 
-        def note() -> None:
-            states.append((story.agents["a"].state, story.agents["b"].state))
-
-        note()
-        story.exchange("a", 0)
-        note()
-        story.exchange("b", 1)
-        story.exchange("a", 50)
-        note()
-        story.timeout("b", 101)
-        note()
-        story.session()
-        self.assertEqual(states, [(NEW, NEW), (COMPLETED, NEW), (COMPLETED, CHECKING), (COMPLETED, COMPLETED)])
+    def states(self, story: Story) -> tuple[IceConnectionState, IceConnectionState]:
+        return story.agents["a"].state, story.agents["b"].state
 
 
 class Bounds(unittest.TestCase):
     """If checks may go ahead, each bound on rounds is twice that without."""
 
     def test_checks_for(self) -> None:
-        self.assertEqual((checks_for(ORIGINAL, 3), checks_for(TURNS, 3)), (3, 6))
+        self.assertEqual([checks_for(is_modern, 3) for is_modern in (False, True)], [3, 6])
 
     def test_rounds_for_pairs(self) -> None:
-        for rules, open_rounds, due_rounds in ((ORIGINAL, 3, 2), (TURNS, 7, 4)):
-            agent = Story(hosts=(1, 2), rules=rules).agents["a"]
+        for settings, open_rounds, due_rounds in ((ORIGINAL, 3, 2), (MODERN, 7, 4)):
+            agent = Story(hosts=(1, 2), settings=settings).agents["a"]
             enough = [n for n in range(1, 9) if are_open_enough(agent, agent, n)]
             self.assertEqual(enough, [*range(open_rounds, 9)])
             self.assertEqual([n for n in range(9) if are_as_many_as_due(0, agent, [0] * n)], [*range(due_rounds, 9)])
             more = replace(agent, next_number=agent.next_number + 1)  # a pair was added
-            self.assertEqual(checks_for(rules, 1), min(n for n in range(12) if are_open_enough(agent, more, n)) - open_rounds)
+            self.assertEqual(checks_for(agent.modern, 1), min(n for n in range(12) if are_open_enough(agent, more, n)) - open_rounds)
 
     def test_rivals_at_the_limit(self) -> None:
-        for (rules, ranked, most), kind in product(((ORIGINAL, 2, 2), (TURNS, 1, 16)), ("srflx", "host")):
-            story = Story(rules=rules)
+        for (settings, ranked, most), kind in product(((ORIGINAL, 2, 2), (MODERN, 1, 16)), ("srflx", "host")):
+            story = Story(settings=settings)
             story.remote("a", LINE.format(200 << 24, OUTSIDE.ip, OUTSIDE.port, kind))  # a greater priority, and another kind
             agent = story.agents["a"]
             pair = next(p for p in agent.pairs if agent.path(p) == TO_B)
             self.assertEqual(rank_count(agent, [], pair), ranked)
             self.assertEqual(most_pairs(agent, ranked), most)
-            self.assertEqual(combines_with(agent, pair, (0, 1)), rules is ORIGINAL)
+            self.assertEqual(combines_with(agent, pair, (0, 1)), settings is ORIGINAL)
             self.assertTrue(combines_with(agent, pair, (0, 0)))
 
 

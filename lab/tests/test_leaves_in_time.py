@@ -4,23 +4,23 @@ does not come true."""
 import unittest
 from dataclasses import replace
 
+from is_ice import Settings
 from lab.clauses import leaves_in_time
 from lab.clauses.execution import Execution, Lacks
 from lab.clauses.verdict import Verdict
 from lab.clock import MILLISECOND
-from lab.kinds import ORIGINAL, Rules
-from lab.pairs import Consent, Pair
+from lab.pairs import Consent, Pair, Timing
 from lab.replay import replay
 from lab.states import NEW
 from lab.tests.stories import TO_A, TO_B, Story, at
-from lab.tests.test_theorems import CONSENT, REQUEST, altered
+from lab.tests.test_theorems import CONSENT, REQUEST, STRICT, altered
 
 
 class Left(unittest.TestCase):
     """Consent ends 1 s after the check at 50: the one of A that got a response last."""
 
-    def story(self, consent: Consent = Consent(1000 * MILLISECOND), *times: float) -> Story:
-        story = Story(rules=Rules(consent=consent))
+    def story(self, *times: float, settings: Settings = CONSENT) -> Story:
+        story = Story(settings=settings)
         story.exchange("a", 0)
         story.exchange("a", 50)
         story.passes("a", *(times or (110, 600, 1049, 1050)))
@@ -47,10 +47,10 @@ class Left(unittest.TestCase):
         self.assertEqual(self.lacking(altered(story, 0, "a", next_number=1), 3), ["IsFresh"])
         self.assertEqual(self.lacking(altered(story, first, "a", queue=(REQUEST,)), 3), ["IsLastHeard.queue"])
         self.assertEqual(self.lacking(altered(story, first, "a", peer=None), 3), ["IsLastHeard.peer"])
-        self.assertEqual(self.lacking(altered(story, first, "a", rules=ORIGINAL), 3), ["IsLastHeard.rule"])
+        self.assertEqual(self.lacking(altered(story, first, "a", timing=Timing()), 3), ["IsLastHeard.rule"])
         self.assertEqual(self.lacking(altered(story, first, "a", pairs=()), 3), ["IsLastHeard.responded"])
         self.assertEqual(self.lacking(altered(story, moment, "a", True, state=NEW), 3), ["connected"])
-        lite = Story(rules=CONSENT)
+        lite = Story(settings=CONSENT)
         lite.set("a", "set_ice_lite", True)
         lite.set("a", "set_ice_lite", False)
         lite.exchange("a", 0)
@@ -59,21 +59,21 @@ class Left(unittest.TestCase):
         self.assertEqual(self.lacking(lite.network().x, 2), ["AreNeverLite"])
 
     def test_what_comes_between(self) -> None:
-        for consent, missing in ((Consent(1000 * MILLISECOND), ["IsSilentRound.unasked"]), (Consent(1000 * MILLISECOND, True), [])):
-            asked = self.story(consent, 110)
+        for settings, missing in ((CONSENT, ["IsSilentRound.unasked"]), (STRICT, [])):
+            asked = self.story(110, settings=settings)
             asked.deliver(asked.timeout("b", 300), "a", 305)
             asked.passes("a", 600)
             self.assertEqual(self.lacking(asked.network().x, 2), missing)
-        answered = Story(rules=CONSENT)
+        answered = Story(settings=CONSENT)
         for time in (0, 50, 600):
             answered.exchange("a", time)
         answered.passes("a", 650)
         self.assertEqual(self.lacking(answered.network().x, 1), ["IsSilentRound.unanswered"])
-        changed = self.story(Consent(1000 * MILLISECOND), 110)
+        changed = self.story(110)
         changed.set("a", "set_max_stun_retransmits", 7, 120)
         changed.passes("a", 600)
         self.assertEqual(self.lacking(changed.network().x, 2), ["IsSilentRound.between"])
-        evicted = self.story(Consent(1000 * MILLISECOND), 110)
+        evicted = self.story(110)
         evicted.evict("a", 120)
         evicted.passes("a", 600)
         self.assertEqual(self.lacking(evicted.network().x, 2), ["Ends"])
@@ -87,14 +87,14 @@ class Left(unittest.TestCase):
         self.assertIsNone(until(Consent(10), agent, TO_A, (pair,)))
 
     def test_a_path_that_is_not_left(self) -> None:
-        story = self.story(Consent(1000 * MILLISECOND), 110, 600, 1049, 1050, 1060)
-        kept = self.story(Consent(1000 * MILLISECOND), 110, 600, 1049)
+        story = self.story(110, 600, 1049, 1050, 1060)
+        kept = self.story(110, 600, 1049)
         there, connected = kept.agents["a"].pairs, kept.agents["a"].state
         late = altered(story, story.moments["a"][5], "a", True, pairs=there, state=connected)
         self.assertTrue(leaves_in_time.find(late).is_broken)
 
     def test_a_call_that_comes_too_late(self) -> None:
-        story = self.story(Consent(1000 * MILLISECOND), 110, 600, 5000)
+        story = self.story(110, 600, 5000)
         polls = [n for n, e in enumerate(story.log.entries) if e.side == "a" and e.call == "poll_timeout"]
         story.log.entries[polls[-2]] = replace(story.log.entries[polls[-2]], returned=at(5000))
         broken = leaves_in_time.find(Execution(replay(story.log)))

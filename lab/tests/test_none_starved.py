@@ -9,8 +9,7 @@ from lab.clauses import none_starved_in_time as of
 from lab.clauses.execution import MAX, Execution, Lacks
 from lab.clauses.verdict import Verdict
 from lab.clock import BEGINNING, MILLISECOND
-from lab.kinds import Rules
-from lab.pairs import Consent, Timing
+from lab.pairs import Timing
 from lab.replay import replay
 from lab.requests import Request
 from lab.tests.stories import LINE, TO_B, A, B, Story, at
@@ -60,10 +59,10 @@ class NoneStarved(unittest.TestCase):
         self.assertEqual(of.limit(x, self.choice(x, 4, 2)), at(260 + 4 * 50))
 
     def test_checks_that_go_ahead(self) -> None:
-        self.assertEqual([of.least_rounds(Rules(selected_first=ahead), 9, 9) for ahead in (False, True)], [9, 22])
-        self.assertEqual([of.least_rounds(Rules(selected_first=ahead), 11, 3 * 133) for ahead in (False, True)], [438, 975])
-        self.assertEqual([of.least_rounds(Rules(selected_first=True), 11, checks) for checks in (2 + 133, 8 + 133)], [329, 344])
-        self.assertIsNone(of.least_rounds(Rules(selected_first=True), 2, 9))
+        self.assertEqual([of.least_rounds(ahead, 9, 9) for ahead in (False, True)], [9, 22])
+        self.assertEqual([of.least_rounds(ahead, 11, 3 * 133) for ahead in (False, True)], [438, 975])
+        self.assertEqual([of.least_rounds(True, 11, checks) for checks in (2 + 133, 8 + 133)], [329, 344])
+        self.assertIsNone(of.least_rounds(True, 2, 9))
 
     def test_the_delay(self) -> None:
         x = limited(0, 51, 251, 302, 752).network().x
@@ -93,7 +92,8 @@ class NoneStarved(unittest.TestCase):
     def test_all_pairs_have_consent(self) -> None:
         story = limited()
         pair = story.session().steps[story.moments["a"][2]].before["a"].pairs[0]
-        fields = {"pairs": (replace(pair, state="succeeded", consented=BEGINNING),), "timing": Timing(consent=Consent(MILLISECOND, True))}
+        fields = {"pairs": (replace(pair, state="succeeded", consented=BEGINNING),),
+                  "timing": Timing(modern=True, limit=MILLISECOND, strict=True)}
         self.assertEqual(self.altered(story, 2, **fields), ["consents"])
 
     def test_the_pair_waits(self) -> None:

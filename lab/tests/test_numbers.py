@@ -1,14 +1,12 @@
 """Tests nominations with numbers (draft-thatcher-ice-renomination) in the model: a controlled agent with two valid pairs."""
 
 import unittest
+from dataclasses import replace
 
 from is_ice import Candidate, Protocol, SocketAddress, Transmit
-from lab.clock import BEGINNING, MILLISECOND
-from lab.kinds import Rules
 from lab.stun import NOMINATION, nomination_of
-from lab.tests.stories import ICE_CONTROLLING, PRIORITY, USE_CANDIDATE, USERNAME, A, B, Story, message
+from lab.tests.stories import ICE_CONTROLLING, PRIORITY, USE_CANDIDATE, USERNAME, MODERN, ORIGINAL, A, B, Story, message
 
-NUMBERED = Rules(selects_at_once=True, numbered_nominations=True)
 SECOND_B = B._replace(port=B.port + 1)
 
 
@@ -16,7 +14,7 @@ class Followed(unittest.TestCase):
     """Both pairs of side b are valid. Each test nominates them by requests of side a."""
 
     def setUp(self) -> None:
-        self.story = Story(hosts=(1, 2), rules=NUMBERED)
+        self.story = Story(hosts=(1, 2), settings=MODERN)
         for side in "ab":
             self.story.set(side, "set_renomination", True)
         for time in (0, 50):
@@ -48,10 +46,12 @@ class Followed(unittest.TestCase):
         for local in (B, SECOND_B, B):
             self.assertEqual(self.nominate(local, None), local)
 
-    def test_without_the_setting_they_are_ignored(self) -> None:
-        self.story.set("b", "set_rules", Rules(selects_at_once=True))
+    def test_with_the_original_profile_they_are_ignored(self) -> None:
+        self.story.set("b", "set_settings", replace(ORIGINAL, renomination=True))
         for local, number in ((B, 2), (SECOND_B, 1), (B, 0)):
-            self.assertEqual(self.nominate(local, number), local)
+            self.nominate(local, number)
+            self.story.timeout("b", self.time)  # which selects the path that was nominated last
+            self.assertEqual(self.selected(), local)
 
     def test_use_candidate_counts_as_1(self) -> None:
         for local, number, expected in ((B, None, B), (SECOND_B, 2, SECOND_B), (B, None, SECOND_B), (B, 2, SECOND_B), (B, 3, B)):
@@ -65,12 +65,9 @@ class Followed(unittest.TestCase):
         self.nominate(B, 1)
         self.assertEqual(self.nominate(SECOND_B, 2), SECOND_B)
         self.story.timeout("b", 150)
-        self.assertFalse(self.story.agents["b"].is_pressing)
         self.story.invalidate("b", Candidate.host(SECOND_B), 160)
-        last, next_one = (BEGINNING + time * MILLISECOND for time in (150, 200))
-        self.assertEqual((self.story.agents["b"].last, self.story.agents["b"].poll_timeout(False)[1]), (last, next_one))
-        self.story.timeout("b", 200)
         self.assertEqual(self.selected(), B)
+        self.story.session()
 
     def test_a_restart_forgets_them(self) -> None:
         self.nominate(B, 1)

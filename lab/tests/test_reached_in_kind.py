@@ -8,18 +8,16 @@ from typing import Any
 from lab.clauses import reached_in_kind as of
 from lab.clauses.execution import Execution, Lacks
 from lab.clauses.reached_in_turn import Choice
-from lab.kinds import Rules
+from lab.pairs import Timing
 from lab.replay import replay
-from lab.tests.stories import Story, at
-
-IN_TURN = Rules(kinds_in_turn=True, triggered_checks=4)
+from lab.tests.stories import MODERN, Story, at
 
 
 class InKind(unittest.TestCase):
     """A has four pairs of one kind, and sends a check of one of them every 50 ms, in the order of their priorities. None is answered."""
 
-    def story(self, rules: Rules = IN_TURN) -> Story:
-        story = Story(hosts=(2, 2), rules=rules)
+    def story(self) -> Story:
+        story = Story(hosts=(2, 2), settings=MODERN)
         story.passes("a", *range(0, 600, 50))
         return story
 
@@ -62,8 +60,8 @@ class InKind(unittest.TestCase):
         story = self.story()
         moments, c = story.moments["a"], self.choice(story, self.last(story))
         self.assertEqual(self.lacking(self.altered(story, 0, next_number=1), c), ["IsFresh"])
-        self.assertEqual(self.lacking(self.altered(story, moments[2], rules=Rules(kinds_in_turn=True)), c), ["TakesTurnsAmong.urgent"])
-        without = self.altered(story, moments[2] + 1, rules=Rules(triggered_checks=4))
+        self.assertEqual(self.lacking(self.altered(story, moments[2], timing=Timing()), c), ["TakesTurnsAmong.urgent"])
+        without = self.altered(story, moments[2] + 1, timing=Timing())
         self.assertEqual(self.lacking(without, c), ["TakesTurnsAmong.turns.rule"])
         self.assertEqual(self.lacking(story.network().x, self.choice(story, c.pair, 7)), ["enough"])
 

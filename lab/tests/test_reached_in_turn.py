@@ -8,18 +8,16 @@ from typing import Any
 from lab.clauses import reached_in_turn as of
 from lab.clauses.execution import Execution, Lacks
 from lab.clauses.verdict import Verdict
-from lab.kinds import ORIGINAL, Rules
+from lab.pairs import Timing
 from lab.replay import replay
-from lab.tests.stories import Story, at
-
-IN_TURN = Rules(kinds_in_turn=True)
+from lab.tests.stories import MODERN, Story, at
 
 
 class Turns(unittest.TestCase):
     """A has four pairs of one kind, and sends a check of one of them every 50 ms, in the order of their priorities. None is answered."""
 
-    def story(self, rules: Rules = IN_TURN) -> Story:
-        story = Story(hosts=(2, 2), rules=rules)
+    def story(self) -> Story:
+        story = Story(hosts=(2, 2), settings=MODERN)
         story.passes("a", *range(0, 300, 50))
         return story
 
@@ -70,7 +68,7 @@ class Turns(unittest.TestCase):
         self.assertFalse(of.is_delayed(self.altered(story, first, pairs=greater), "a", kind, order[3], r))
 
     def test_an_urgent_pair_is_a_delay(self) -> None:
-        story = self.story(Rules(kinds_in_turn=True, triggered_checks=4))
+        story = self.story()
         first, order = story.moments["a"][1], self.order(story)
         pairs = tuple(replace(p, requests=int(p.number == order[1])) for p in story.network().x.state(first, "a").pairs)
         x = self.altered(story, first, pairs=pairs)
@@ -81,7 +79,7 @@ class Turns(unittest.TestCase):
         order, moments = self.order(story), story.moments["a"]
         c = self.choice(story, order[3])
         self.assertEqual(self.lacking(self.altered(story, 0, next_number=1), c), ["IsFresh"])
-        self.assertEqual(self.lacking(self.altered(story, moments[1] + 1, rules=ORIGINAL), c), ["TakesTurns.rule"])
+        self.assertEqual(self.lacking(self.altered(story, moments[1] + 1, timing=Timing()), c), ["TakesTurns.rule"])
         self.assertEqual(self.lacking(story.network().x, self.choice(story, order[3], 1)), ["enough"])
         self.assertEqual(self.lacking(story.network().x, self.choice(story, order[3], first=0)), ["IsPassing.late"])
 

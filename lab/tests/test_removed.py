@@ -3,13 +3,11 @@
 import unittest
 from dataclasses import replace
 
-from is_ice import Candidate, CheckState, IceCreds, MediaPath, Protocol, Removal, RemovedPair
+from is_ice import Candidate, CheckState, Consent, IceCreds, MediaPath, Protocol, Removal, RemovedPair
 from lab.clock import MILLISECOND
-from lab.kinds import Rules
-from lab.pairs import Consent
 from lab.removed import LIMIT, why_expired
 from lab.replay import replay
-from lab.tests.stories import LINE, TO_B, A, B, Story
+from lab.tests.stories import LINE, MODERN, PROFILES, TO_B, A, B, Story
 
 PATH = MediaPath(*TO_B, Protocol.UDP)
 
@@ -30,7 +28,7 @@ class Reasons(unittest.TestCase):
         self.assertEqual(story.agents["a"].removed[0].listed().path, PATH)
 
     def test_without_consent(self) -> None:
-        story = Story(rules=Rules(consent=Consent(1000 * MILLISECOND)))
+        story = Story(settings=replace(MODERN, consent=Consent(1000 * MILLISECOND)))
         story.exchange("a", 0)
         story.timeout("a", 1000)
         self.assertEqual(self.listed(story), [(Removal.CONSENT_LOST, CheckState.SUCCEEDED, 1, 1)])
@@ -44,8 +42,8 @@ class Reasons(unittest.TestCase):
         self.assertEqual(why_expired(story.agents["a"].pairs[0], False), Removal.NO_RESPONSE)
 
     def test_at_the_limit(self) -> None:
-        for rules in (Rules(), Rules(kinds_in_turn=True)):
-            story = Story(rules=rules)
+        for settings in PROFILES:
+            story = Story(settings=settings)
             story.limit("a", 1)
             story.remote("a", LINE.format(1, "10.9.9.9", 9, "host"))
             self.assertEqual(self.listed(story), [(Removal.EVICTED, CheckState.WAITING, 0, 0)])

@@ -13,10 +13,9 @@ from lab.clauses import (
 from lab.clauses.execution import Execution, Lacks
 from lab.clauses.accepted_nominations import Network
 from lab.clauses.verdict import Verdict
-from lab.kinds import Rules
 from lab.pairs import Path
 from lab.scenario import SIDES
-from lab.tests.stories import TO_B, A, Story
+from lab.tests.stories import MODERN, ORIGINAL, TO_B, A, Story
 
 C = TypeVar("C")
 
@@ -25,7 +24,7 @@ def random_story(seed: int) -> Story:
     """Timeouts of both sides, packets that are lost, delayed or delivered, and perhaps a role conflict, added candidates, or nominations
     with numbers."""
     random = Random(seed)
-    story = Story(roles=(True, seed % 3 == 0), hosts=(1 + seed % 2, 1), rules=Rules(numbered_nominations=seed % 4 > 1))
+    story = Story(roles=(True, seed % 3 == 0), hosts=(1 + seed % 2, 1), settings=MODERN if seed % 4 > 1 else ORIGINAL)
     for side in "ab" if seed % 4 > 1 else "":
         story.set(side, "set_renomination", True)
     waiting: list[tuple[float, str, Transmit]] = []
@@ -50,7 +49,7 @@ def random_limited(seed: int) -> Execution:
     """Timeouts of A, which limits its pairs to 1 and what packets bring to 1, and perhaps an added candidate. Its checks are lost, or one
     is answered."""
     random = Random(seed)
-    story = Story(hosts=(0, 1), known=False, rules=Rules(selected_first=seed % 6 == 0))
+    story = Story(hosts=(0, 1), known=False, settings=MODERN if seed % 6 == 0 else ORIGINAL)
     story.set("a", "set_max_discovered", 1)
     story.limit("a", 1)
     story.host("a", A, 1 << 24)

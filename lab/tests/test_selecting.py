@@ -5,15 +5,15 @@ import unittest
 from dataclasses import replace
 from typing import Any
 
-from is_ice import SocketAddress
+from is_ice import Settings, SocketAddress
 from lab.clauses import by_number, nominations, of_use, one_path, successes
 from lab.clauses.accepted_nominations import Network
 from lab.clauses.execution import Execution, Lacks
 from lab.clauses.verdict import Verdict
 from lab.clock import MILLISECOND
-from lab.kinds import Rules
+from lab.pairs import Timing
 from lab.replay import replay
-from lab.tests.stories import TO_A, TO_B, Story, at
+from lab.tests.stories import MODERN, ORIGINAL, TO_A, TO_B, Story, at
 from lab.tests.test_theorems import REQUEST, altered, answered, without_selections
 
 OUTSIDE = SocketAddress("203.0.113.1", 1000)
@@ -120,7 +120,7 @@ class OfUse(unittest.TestCase):
             self.assertFalse(of_use.find(Execution(session)).is_broken)
 
     def test_a_path_is_selected_since_the_selected_pair_is_gone(self) -> None:
-        numbered: dict[str, Any] = {"renominates": True, "rules": Rules(numbered_nominations=True)}
+        numbered: dict[str, Any] = {"renominates": True, "timing": Timing(modern=True)}
         unnumbered: dict[str, Any] = {}
         for fields in (numbered, unnumbered):
             session = self.story().session()
@@ -217,8 +217,8 @@ class OnePath(unittest.TestCase):
 
 
 class ByNumber(unittest.TestCase):
-    def story(self, numbers: bool = True) -> Story:
-        return renominated(Story(rules=Rules(numbered_nominations=numbers)))
+    def story(self, settings: Settings = MODERN) -> Story:
+        return renominated(Story(settings=settings))
 
     def lacking(self, n: Network) -> Lacks:
         """Of B's last choice."""
@@ -233,13 +233,13 @@ class ByNumber(unittest.TestCase):
     def test_the_preconditions(self) -> None:
         story = self.story()
         end = story.moments["b"][-1] + 1
-        self.assertEqual(self.lacking(self.story(numbers=False).network()), ["LeadsByNumber"])
+        self.assertEqual(self.lacking(self.story(ORIGINAL).network()), ["LeadsByNumber"])
         self.assertEqual(self.lacking(story.altered(end, "b", numbers_seen=False)), ["LeadsByNumber"])
         self.assertEqual(self.lacking(story.altered(end, "b", controlling=True)), ["LeadsByNumber"])
         self.assertEqual(by_number.find(Story().network()).failed, "IsNominated.handed")
 
     def test_the_same_number_on_another_path(self) -> None:
-        n, choice = replayed(Story(rules=Rules(numbered_nominations=True)))
+        n, choice = replayed(Story(settings=MODERN))
         self.assertEqual(by_number.lacking(n, choice), ["LeadsByNumber"])
 
     def test_a_side_that_selects_another_path_or_none(self) -> None:

@@ -12,7 +12,6 @@ from lab.clauses.courses_select_in_time import Choice, limit, selected_at, trip
 from lab.clauses.execution import MAX, Execution, Lacks
 from lab.clauses.verdict import Verdict
 from lab.clock import BEGINNING, MILLISECOND
-from lab.kinds import Rules
 from lab.pairs import Check, Timing
 from lab.replay import replay
 from lab.requests import Request
@@ -131,7 +130,7 @@ class SelectsInTime(unittest.TestCase):
         pairs = story.session().steps[story.moments["a"][0]].before["a"].pairs
         silent = replace(pairs[3], due=BEGINNING, checks=tuple(Check(bytes(12), BEGINNING, False, True) for _ in range(9)))
         cases: tuple[tuple[dict[str, Any], str], ...] = (
-            ({"renominates": True, "rules": Rules(numbered_nominations=True), "selected": 0, "nomination_due": True}, "calm"),
+            ({"renominates": True, "timing": Timing(modern=True), "selected": 0, "nomination_due": True}, "calm"),
             ({"pairs": (replace(pairs[0], state="succeeded"), *pairs[1:])}, "invalid"), ({"pairs": (*pairs[:3], silent)}, "young"))
         for fields, missing in cases:
             self.assertEqual(self.altered(story, **fields), [f"IsUnanswered.{missing}"])

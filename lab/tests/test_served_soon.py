@@ -17,20 +17,18 @@ from lab.clauses.reached_in_turn import Choice
 from lab.clauses.selects_in_time import selected_at
 from lab.clauses.urgent_are_reached import reached_at
 from lab.clauses.verdict import Verdict
-from lab.kinds import ORIGINAL, Rules
+from lab.pairs import Timing
 from lab.replay import replay
-from lab.tests.stories import Story, at
-
-TRIGGERED = Rules(triggered_checks=4)
+from lab.tests.stories import MODERN, Story, at
 
 
 class Served(unittest.TestCase):
-    """A has nine pairs, and sends a check every 50 ms. At 60 ms a check of B arrives, on a pair of which A checked none. If `answers`, A
-    gets responses to its next two checks."""
+    """A has nine pairs. It sends three checks, and from 100 ms on one every 50 ms, of which the first goes ahead. At 60 ms a check of B
+    arrives, on a pair of which A checked none. If `answers`, A gets responses to its next two checks."""
 
-    def story(self, rules: Rules = TRIGGERED, answers: bool = False) -> Story:
-        story = Story(hosts=(3, 3), rules=rules)
-        story.passes("a", 0, 50)
+    def story(self, answers: bool = False) -> Story:
+        story = Story(hosts=(3, 3), settings=MODERN)
+        story.passes("a", 0, 25, 50)
         check = [story.timeout("b", time) for time in range(30, 60, 5)][5]
         story.deliver(check, "a", 60)
         if answers:
@@ -43,10 +41,10 @@ class Served(unittest.TestCase):
 
     def pair(self, story: Story) -> int:
         """The number of the pair on which the request was served."""
-        agent = story.network().x.state(story.moments["a"][2], "a")
+        agent = story.network().x.state(story.moments["a"][3], "a")
         return next(p.number for p in agent.pairs if p.requests)
 
-    def choice(self, story: Story, rounds: int = 2, delays: int = 1, first: int = 2) -> Choice:
+    def choice(self, story: Story, rounds: int = 2, delays: int = 1, first: int = 3) -> Choice:
         """So many rounds from one of the `handle_timeout` calls on."""
         moments = story.moments["a"]
         return Choice("a", self.pair(story), moments[first], moments[first + rounds - 1] + 1, delays)
@@ -75,22 +73,22 @@ class Served(unittest.TestCase):
         story = self.story()
         moments, c = story.moments["a"], self.choice(story)
         self.assertEqual(checked.lacking(self.altered(story, 0, next_number=1), c), ["IsFresh"])
-        self.assertEqual(checked.lacking(self.altered(story, moments[2], rules=ORIGINAL), c), ["IsServed.rule"])
-        self.assertEqual(checked.lacking(self.with_pair(story, moments[2], requests=0), c), ["IsServed.requested"])
-        self.assertEqual(checked.lacking(self.with_pair(story, moments[2], state="succeeded"), c), ["IsServed.invalid"])
-        self.assertEqual(checked.lacking(self.with_pair(story, moments[2], due=at(100)), c), ["IsPassing.late"])
+        self.assertEqual(checked.lacking(self.altered(story, moments[3], timing=Timing()), c), ["IsServed.rule"])
+        self.assertEqual(checked.lacking(self.with_pair(story, moments[3], requests=0), c), ["IsServed.requested"])
+        self.assertEqual(checked.lacking(self.with_pair(story, moments[3], state="succeeded"), c), ["IsServed.invalid"])
+        self.assertEqual(checked.lacking(self.with_pair(story, moments[3], due=at(100)), c), ["IsPassing.late"])
         self.assertEqual(checked.lacking(story.network().x, self.choice(story, 1)), ["enough"])
 
     def test_a_timeout_selects_a_path(self) -> None:
         story = self.story()
         x, c = story.network().x, self.choice(story)
-        step = x.steps[story.moments["a"][3]]
+        step = x.steps[story.moments["a"][4]]
         x.steps[step.at] = replace(step, selected=(x.state(c.first, "a").path(x.state(c.first, "a").pairs[0]),))
         self.assertEqual(checked.lacking(x, c), ["quiet"])
 
     # ---- in rounds of a controlling agent without a valid pair
 
-    def few(self, story: Story, count: int = 3, first: int = 2) -> reached.Choice:
+    def few(self, story: Story, count: int = 3, first: int = 3) -> reached.Choice:
         """So many rounds from one of the `handle_timeout` calls on, of which one may check another pair before."""
         return reached.Choice("a", self.pair(story), story.moments["a"][first], count)
 
@@ -110,10 +108,10 @@ class Served(unittest.TestCase):
         story = self.story()
         moments, c = story.moments["a"], self.few(story)
         self.assertEqual(reached.lacking(self.altered(story, 0, next_number=1), c), ["IsFresh"])
-        self.assertEqual(reached.lacking(self.altered(story, moments[2], controlling=False), c), ["controlling"])
-        self.assertEqual(reached.lacking(self.altered(story, moments[2], rules=ORIGINAL), c), ["SufficesForServed.IsServed.rule"])
-        self.assertEqual(reached.lacking(self.with_pair(story, moments[2], requests=0), c), ["SufficesForServed.IsServed.requested"])
-        self.assertEqual(reached.lacking(self.with_pair(story, moments[2], state="succeeded"), c),
+        self.assertEqual(reached.lacking(self.altered(story, moments[3], controlling=False), c), ["controlling"])
+        self.assertEqual(reached.lacking(self.altered(story, moments[3], timing=Timing()), c), ["SufficesForServed.IsServed.rule"])
+        self.assertEqual(reached.lacking(self.with_pair(story, moments[3], requests=0), c), ["SufficesForServed.IsServed.requested"])
+        self.assertEqual(reached.lacking(self.with_pair(story, moments[3], state="succeeded"), c),
                          ["IsUnanswered.invalid", "SufficesForServed.IsServed.invalid"])
         self.assertEqual(reached.lacking(story.network().x, self.few(story, 2)), ["SufficesForServed.few"])
 
@@ -121,9 +119,9 @@ class Served(unittest.TestCase):
         """The pair that is checked at 150 ms is the selected one, so four rounds have to follow the first."""
         story = self.story()
         x, c = story.network().x, self.few(story)
-        later = x.state(story.moments["a"][3], "a")
-        sent = next(p.number for p in later.pairs if x.steps[story.moments["a"][3]].checks("a", later.path(p)))
-        x = self.altered(story, story.moments["a"][3], selected=sent)
+        later = x.state(story.moments["a"][4], "a")
+        sent = next(p.number for p in later.pairs if x.steps[story.moments["a"][4]].checks("a", later.path(p)))
+        x = self.altered(story, story.moments["a"][4], selected=sent)
         self.assertEqual(reached.lacking(x, c), ["SufficesForServed.few"])
 
     # ---- in time, in either role
@@ -131,23 +129,24 @@ class Served(unittest.TestCase):
     def timed(self, story: Story, count: int = 2) -> OfPath:
         """So many rounds from the `handle_timeout` call at 100 ms on."""
         moments = story.moments["a"]
-        agent = story.network().x.state(moments[2], "a")
+        agent = story.network().x.state(moments[3], "a")
         path = next(agent.path(p) for p in agent.pairs if p.number == self.pair(story))
-        return OfPath("a", path, moments[2], moments[2 + count - 1] + 1)
+        return OfPath("a", path, moments[3], moments[3 + count - 1] + 1)
 
     def test_the_pair_is_checked_in_time(self) -> None:
         story = self.story()
         x, c = story.network().x, self.timed(story)
         self.assertEqual(soon.lacking(x, c), [])
         found = soon.find(x)
-        self.assertEqual((found.since, found.bound, found.fact), (at(100), at(150), at(100)))
+        # Until there is a path, the agent asks for a call after 10 ms. So this caller is 40 ms late.
+        self.assertEqual((found.since, found.bound, found.fact), (at(100), at(100 + 50 + 40), at(100)))
 
     def test_the_preconditions_of_a_check_in_time(self) -> None:
         story = self.story()
         moments, c = story.moments["a"], self.timed(story)
-        self.assertEqual(soon.lacking(self.altered(story, moments[2], rules=ORIGINAL), c), ["has.enough.IsServed.rule"])
-        self.assertEqual(soon.lacking(self.with_pair(story, moments[2], requests=0), c), ["has.enough.IsServed.requested"])
-        self.assertEqual(soon.lacking(self.with_pair(story, moments[2], due=at(100)), c), ["has.enough.late"])
+        self.assertEqual(soon.lacking(self.altered(story, moments[3], timing=Timing()), c), ["has.enough.IsServed.rule"])
+        self.assertEqual(soon.lacking(self.with_pair(story, moments[3], requests=0), c), ["has.enough.IsServed.requested"])
+        self.assertEqual(soon.lacking(self.with_pair(story, moments[3], due=at(100)), c), ["has.enough.late"])
         self.assertEqual(soon.lacking(story.network().x, self.timed(story, 1)), ["has.enough.few"])
 
     # ---- in time, in the controlling role
@@ -155,7 +154,7 @@ class Served(unittest.TestCase):
     def in_time(self, story: Story) -> InTime:
         """The same rounds, and those up to the response."""
         moments = story.moments["a"]
-        return InTime("a", self.pair(story), moments[2], 3, moments[5])
+        return InTime("a", self.pair(story), moments[3], 3, moments[6])
 
     def test_the_response_selects_a_path(self) -> None:
         story = self.story(answers=True)
@@ -169,7 +168,7 @@ class Served(unittest.TestCase):
         self.assertEqual(selected.lacking(story.network(), self.in_time(story)), ["AreAnsweredWithin"])
         story = self.story(answers=True)
         moments, c = story.moments["a"], self.in_time(story)
-        lacks = selected.lacking(Network(self.with_pair(story, moments[2], requests=0)), c)
+        lacks = selected.lacking(Network(self.with_pair(story, moments[3], requests=0)), c)
         self.assertEqual(lacks, ["enough.IsServed.requested"])
 
 

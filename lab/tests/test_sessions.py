@@ -65,7 +65,7 @@ class Scenarios(unittest.TestCase):
         nat = {"name": "n", "inner": "i"}
         tables: tuple[tuple[dict[str, Any], str], ...] = (
             ({"a": side}, "side b has no interface"), ({**sides, "speed": 1}, "speed is not known"),
-            ({**sides, "b": {**side, "rules": "odd"}}, "rules is modern or original"),
+            ({**sides, "b": {**side, "profile": "odd"}}, "profile is modern or original"),
             ({**sides, "nat": [nat]}, "outside is missing"),
             ({**sides, "nat": [{**nat, "outside": "192.0.2.1", "mapping": "odd"}]}, "mapping is one of"))
         for table, word in tables:

@@ -1,20 +1,17 @@
-"""Tests when the state is evaluated, which sources are reported and which candidates are invalidated: three rules, each on its own, on logs
-of two agents. The model has to foresee each call (`Story.session`)."""
+"""Tests when the state is evaluated, which sources are reported and which candidates are invalidated, by either profile, on logs of two
+agents. The model has to foresee each call (`Story.session`)."""
 
 import unittest
 from dataclasses import replace
 
-from is_ice import Candidate, DiscoveredRecv, IceCreds, NominatedSend, Protocol, SocketAddress
+from is_ice import Candidate, DiscoveredRecv, IceCreds, NominatedSend, Protocol, Settings, SocketAddress
 from lab.clauses.staying import may_end_in
 from lab.clock import BEGINNING
-from lab.kinds import Rules
 from lab.pairs import Check, Pair, Path
 from lab.replay import replay
 from lab.states import CHECKING, COMPLETED, CONNECTED, DISCONNECTED, NEW
-from lab.tests.stories import LINE, TO_A, TO_B, A, B, Story, at
+from lab.tests.stories import LINE, MODERN, ORIGINAL, PROFILES, TO_A, TO_B, A, B, Story, at
 
-SETTLED = Rules(state_after_nomination=True)
-AT_ONCE = Rules(selects_at_once=True)
 SECOND_A = A._replace(port=A.port + 1)
 OUTSIDE = SocketAddress("203.0.113.9", 9)
 GREAT = 126 << 24 | 65535 << 8 | 255  # the priority of the first host candidate
@@ -29,18 +26,26 @@ def selections(story: Story, side: str) -> list[tuple[int, str, Path]]:
 
 class AfterNomination(unittest.TestCase):
     def test_a_request_that_selects_a_path(self) -> None:
-        for rules, expected in ((AT_ONCE, CHECKING), (replace(SETTLED, selects_at_once=True), COMPLETED)):
-            story = Story(rules=rules)
-            story.exchange("a", 0)
-            story.exchange("b", 20)
-            story.deliver(story.timeout("a", 50), "b", 60)
-            self.assertEqual((story.agents["b"].state, selections(story, "b")), (expected, [(at(60), "handle_packet", TO_A)]))
-            story.timeout("b", 70)
-            self.assertEqual(story.agents["b"].state, COMPLETED)
-            story.session()
+        story = Story(settings=MODERN)
+        story.exchange("a", 0)
+        story.exchange("b", 20)
+        story.deliver(story.timeout("a", 50), "b", 60)
+        self.assertEqual((story.agents["b"].state, selections(story, "b")), (COMPLETED, [(at(60), "handle_packet", TO_A)]))
+        story.timeout("b", 70)
+        self.assertEqual(story.agents["b"].state, COMPLETED)
+        story.session()
 
     def test_a_request_that_selects_none(self) -> None:
-        story = Story(rules=SETTLED)
+        story = Story(settings=MODERN)
+        story.exchange("a", 0)
+        story.timeout("b", 20)
+        story.deliver(story.timeout("a", 50), "b", 60)  # B's pair is not valid yet
+        self.assertEqual((story.agents["b"].state, selections(story, "b")), (CHECKING, []))
+        story.exchange("b", 120)
+        self.assertEqual((story.agents["b"].state, selections(story, "b")), (COMPLETED, [(at(130), "handle_packet", TO_A)]))
+
+    def test_with_the_original_profile_the_next_timeout_selects(self) -> None:
+        story = Story(settings=ORIGINAL)
         story.exchange("a", 0)
         story.exchange("b", 20)
         story.deliver(story.timeout("a", 50), "b", 60)
@@ -49,7 +54,7 @@ class AfterNomination(unittest.TestCase):
         self.assertEqual((story.agents["b"].state, selections(story, "b")), (COMPLETED, [(at(70), "handle_timeout", TO_A)]))
 
     def test_by_the_time_of_the_request_or_of_a_later_timeout(self) -> None:
-        story = Story(rules=replace(SETTLED, selects_at_once=True))
+        story = Story(settings=MODERN)
         story.exchange("a", 0)
         story.exchange("b", 20)
         check = story.timeout("a", 50)
@@ -60,14 +65,14 @@ class AfterNomination(unittest.TestCase):
             self.assertEqual((new.state, paths), (expected, (TO_A,)))
 
     def test_the_first_timeout_begins_the_session(self) -> None:
-        story = Story(rules=SETTLED, hosts=(0, 1))
+        story = Story(settings=MODERN, hosts=(0, 1))
         self.assertEqual(story.agents["a"].state, NEW)
         story.timeout("a", 0)
         self.assertEqual(story.agents["a"].state, CHECKING)
         story.session()
 
     def test_so_does_one_that_serves_an_early_request(self) -> None:
-        story = Story(rules=SETTLED, known=False)
+        story = Story(settings=MODERN, known=False)
         story.know("a")
         story.deliver(story.timeout("a", 0), "b", 5)
         story.meet("b", 10)
@@ -77,8 +82,8 @@ class AfterNomination(unittest.TestCase):
         story.session()
 
     def test_not_at_a_timeout_that_serves_an_early_request(self) -> None:
-        for rules, expected in ((Rules(), DISCONNECTED), (SETTLED, CHECKING)):
-            story = Story(rules=rules, known=False)
+        for settings, expected in ((ORIGINAL, DISCONNECTED), (MODERN, CHECKING)):
+            story = Story(settings=settings, known=False)
             story.know("a")
             story.timeout("b", 0)
             story.deliver(story.timeout("a", 20), "b", 25)
@@ -91,7 +96,7 @@ class AfterNomination(unittest.TestCase):
             story.session()
 
     def test_an_early_request_leaves_the_time_of_the_last_call(self) -> None:
-        story = Story(rules=Rules(timeout_after_requests=True), known=False)
+        story = Story(settings=MODERN, known=False)
         story.know("a")
         for time in (0, 250):
             story.deliver(story.timeout("a", time), "b", time + 5)
@@ -105,8 +110,8 @@ class AfterNomination(unittest.TestCase):
 class Reselected(unittest.TestCase):
     """A selected one of its two pairs by 60. Both are valid."""
 
-    def story(self, rules: Rules = SETTLED) -> Story:
-        story = Story(rules=rules, hosts=(2, 1))
+    def story(self, settings: Settings = MODERN) -> Story:
+        story = Story(settings=settings, hosts=(2, 1))
         for time in (0, 50, 100):
             story.exchange("a", time)
         self.assertEqual(selections(story, "a"), [(at(10), "handle_packet", TO_B)])
@@ -119,8 +124,8 @@ class Reselected(unittest.TestCase):
         self.assertEqual(selections(story, "a")[1:], [(at(120), "invalidate_candidate", (SECOND_A, B))])
         self.assertEqual((state, story.agents["a"].state), (CONNECTED, COMPLETED))
 
-    def test_not_without_the_rule(self) -> None:
-        story = self.story(Rules())
+    def test_with_the_original_profile_at_the_next_timeout(self) -> None:
+        story = self.story(ORIGINAL)
         story.invalidate("a", Candidate.host(A), 120)
         self.assertEqual(selections(story, "a")[1:], [])
         story.timeout("a", 150)
@@ -134,22 +139,22 @@ class Reselected(unittest.TestCase):
         self.assertEqual((selections(story, "a")[1:], story.agents["a"].state), ([], COMPLETED))
 
     def test_without_another_path_the_state_changes(self) -> None:
-        for rules, expected in ((SETTLED, DISCONNECTED), (Rules(), CONNECTED)):
-            story = self.story(rules)
+        for settings, expected in ((MODERN, DISCONNECTED), (ORIGINAL, CONNECTED)):
+            story = self.story(settings)
             for own in (A, SECOND_A):
                 story.invalidate("a", Candidate.host(own), 120)
             self.assertEqual(story.agents["a"].state, expected)
             story.session()
 
     def test_a_candidate_that_evicts_the_selected_pair(self) -> None:
-        story = Story(rules=SETTLED)
+        story = Story(settings=MODERN)
         story.exchange("a", 0)
         story.evict("a", 20)
         self.assertEqual((story.agents["a"].state, story.agents["a"].has_selected), (CHECKING, False))
         story.session()
 
     def test_a_candidate_that_replaces_the_selected_pair(self) -> None:
-        story = Story(rules=SETTLED, known=False)
+        story = Story(settings=MODERN, known=False)
         story.know("b")
         story.meet("a")
         story.deliver(story.timeout("b", 0), "a", 5)  # its sender becomes a peer-reflexive candidate, of lower priority
@@ -159,7 +164,7 @@ class Reselected(unittest.TestCase):
         self.assertTrue(story.agents["a"].state.is_connected())
 
     def test_a_local_candidate_that_replaces_that_of_the_selected_pair(self) -> None:
-        story = Story(rules=SETTLED)
+        story = Story(settings=MODERN)
         story.exchange("a", 0)
         story.host("a", A, GREAT + 256, 20)
         self.assertEqual((story.agents["a"].state, selections(story, "a")[1:]), (CHECKING, []))
@@ -178,8 +183,6 @@ class Reselected(unittest.TestCase):
 
 
 class Sources(unittest.TestCase):
-    SERVED = Rules(discovered_if_served=True)
-
     def found(self, story: Story, side: str) -> list[tuple[int, SocketAddress]]:
         """When the side reported which source."""
         story.session()
@@ -187,25 +190,25 @@ class Sources(unittest.TestCase):
         return [(e.time, e.returned.source) for e in events if isinstance(e.returned, DiscoveredRecv)]
 
     def test_a_source_is_reported_once(self) -> None:
-        for rules in (Rules(), self.SERVED):
-            story = Story(rules=rules)
+        for settings in PROFILES:
+            story = Story(settings=settings)
             story.exchange("a", 0)
             story.exchange("a", 50)
             self.assertEqual((self.found(story, "b"), self.found(story, "a")), ([(at(5), A)], [(at(10), B)]))
 
     def test_a_request_that_is_dropped(self) -> None:
-        for rules, expected in ((Rules(), [(at(5), A)]), (self.SERVED, [])):
-            story = Story(rules=rules, hosts=(1, 0))
+        for settings, expected in ((ORIGINAL, [(at(5), A)]), (MODERN, [])):
+            story = Story(settings=settings, hosts=(1, 0))
             story.remote("a", LINE.format(GREAT, B.ip, B.port, "host"))
             self.assertIsNone(story.deliver(story.timeout("a", 0), "b", 5))
             self.assertEqual(self.found(story, "b"), expected)
 
     def test_an_early_request_and_a_role_conflict_are_not_dropped(self) -> None:
-        early = Story(rules=self.SERVED, known=False)
+        early = Story(settings=MODERN, known=False)
         early.know("a")
         early.deliver(early.timeout("a", 0), "b", 5)
         self.assertEqual(self.found(early, "b"), [(at(5), A)])
-        conflict = Story(roles=(True, True), ties=(5, 10), rules=self.SERVED)
+        conflict = Story(roles=(True, True), ties=(5, 10), settings=MODERN)
         conflict.deliver(conflict.timeout("a", 0), "b", 5)
         self.assertEqual(self.found(conflict, "b"), [(at(5), A)])
 
@@ -225,7 +228,7 @@ class Sources(unittest.TestCase):
         self.assertEqual(agent.recreate().sources, (B,))
 
     def test_the_log_shows_a_difference(self) -> None:
-        story = Story(rules=self.SERVED)
+        story = Story(settings=MODERN)
         story.exchange("a", 0)
         last = len(story.log.entries) - 1
         self.assertEqual(story.log.entries[last].returned, DiscoveredRecv(Protocol.UDP, B))
@@ -236,24 +239,22 @@ class Sources(unittest.TestCase):
 class Invalidated(unittest.TestCase):
     """A's host candidate is replaced by one of greater priority, so two of its candidates are alike, and the first is discarded."""
 
-    LISTED = Rules(invalidates_listed=True)
-
-    def story(self, rules: Rules) -> Story:
-        story = Story(rules=rules)
+    def story(self, settings: Settings) -> Story:
+        story = Story(settings=settings)
         story.host("a", A, GREAT + 256, 10)
         self.assertEqual([c.is_discarded for c in story.agents["a"].local], [True, False])
         return story
 
     def test_one_that_is_listed(self) -> None:
-        for rules, expected in ((self.LISTED, [True, True]), (Rules(), [True, False])):
-            story = self.story(rules)
+        for settings, expected in ((MODERN, [True, True]), (ORIGINAL, [True, False])):
+            story = self.story(settings)
             story.invalidate("a", Candidate.host(A), 20)
             self.assertEqual([c.is_discarded for c in story.agents["a"].local], expected)
-            self.assertEqual(bool(story.agents["a"].pairs), rules != self.LISTED)
+            self.assertEqual(bool(story.agents["a"].pairs), settings is ORIGINAL)
             story.session()
 
     def test_each_of_two(self) -> None:
-        story = self.story(self.LISTED)
+        story = self.story(MODERN)
         story.host("a", A, GREAT, 15)  # the first one is enabled again
         self.assertEqual([c.is_discarded for c in story.agents["a"].local], [False, False])
         for expected in ([True, False], [True, True], [True, True]):
@@ -263,8 +264,8 @@ class Invalidated(unittest.TestCase):
         story.session()
 
     def test_a_remote_one(self) -> None:
-        for rules, expected in ((self.LISTED, [True, True]), (Rules(), [True, False])):
-            story = Story(rules=rules)
+        for settings, expected in ((MODERN, [True, True]), (ORIGINAL, [True, False])):
+            story = Story(settings=settings)
             start = story.end
             story.invalidate("a", Candidate.host(B), 10)
             self.assertEqual(story.agents["a"].pairs, ())
@@ -272,11 +273,11 @@ class Invalidated(unittest.TestCase):
             story.know("a", 20)  # without a pair it comes as another one
             story.invalidate("a", Candidate.host(B), 30)
             self.assertEqual([c.is_discarded for c in story.agents["a"].remote], expected)
-            self.assertEqual(bool(story.agents["a"].pairs), rules != self.LISTED)
+            self.assertEqual(bool(story.agents["a"].pairs), settings is ORIGINAL)
             story.session()
 
     def test_a_local_one_comes_first(self) -> None:
-        story = Story(rules=self.LISTED)
+        story = Story(settings=MODERN)
         story.remote("a", LINE.format(GREAT, A.ip, A.port, "host"))
         agent = story.agents["a"]
         self.assertEqual(agent.to_discard(Candidate.host(A)), (0, None))
@@ -284,7 +285,7 @@ class Invalidated(unittest.TestCase):
         self.assertEqual(agent.to_discard(Candidate.host(OUTSIDE)), (None, None))
 
     def test_the_log_shows_a_difference(self) -> None:
-        story = self.story(self.LISTED)
+        story = self.story(MODERN)
         story.invalidate("a", Candidate.host(A), 20)
         found = next(n for n, e in enumerate(story.log.entries) if e.call == "invalidate_candidate")
         story.log.entries[found] = replace(story.log.entries[found], returned=False)

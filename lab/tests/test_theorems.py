@@ -6,7 +6,8 @@ from collections.abc import Callable
 from dataclasses import replace
 from typing import Any
 
-from is_ice import Candidate, NominatedSend
+from is_ice import Candidate, NominatedSend, Settings
+from is_ice import Consent as Setting
 from lab.clauses import (
     completed_nominations_are_selected, connected_are_answered, connected_have_consent, consent_ends_in_time, consent_holds, in_time,
     run_connected, run_connected_answered, run_in_time, states_agree, valid_have_consented)
@@ -14,16 +15,14 @@ from lab.clauses.execution import Execution, Lacks
 from lab.clauses.progress import has_selected
 from lab.clauses.verdict import Verdict
 from lab.clock import BEGINNING, MILLISECOND
-from lab.kinds import ORIGINAL, Rules
 from lab.pairs import Consent, Pair, Timing
 from lab.replay import replay
 from lab.requests import Request
-from lab.tests.stories import TO_A, TO_B, A, B, Story, at
+from lab.tests.stories import MODERN, ORIGINAL, TO_A, TO_B, A, B, Story, at
 
 REQUEST = Request(BEGINNING, A, B, bytes(12), 1, False, "aaaa", 1, None)
-CONSENT = Rules(consent=Consent(1000 * MILLISECOND))
-AT_ONCE = Rules(selects_at_once=True)
-SETTLED = Rules(selects_at_once=True, state_after_nomination=True)
+CONSENT, STRICT = (replace(MODERN, consent=Setting(1000 * MILLISECOND, strict)) for strict in (False, True))
+BRIEF = replace(MODERN, consent=Setting(30 * MILLISECOND))
 
 
 def altered(story: Story, index: int, side: str, is_after: bool = False, **fields: Any) -> Execution:
@@ -43,9 +42,9 @@ def without_selections(story: Story, side: str) -> Execution:
     return Execution(replay(story.log))
 
 
-def answered(rules: Rules = CONSENT) -> Story:
+def answered(settings: Settings = CONSENT) -> Story:
     """A's check at 0 is answered at 10, and so is the one at 50, which nominates the pair, at 60. A timeout follows at 110."""
-    story = Story(rules=rules)
+    story = Story(settings=settings)
     story.exchange("a", 0)
     story.exchange("a", 50)
     story.timeout("a", 110)
@@ -83,11 +82,11 @@ class Consents(unittest.TestCase):
         self.assertEqual((broken.bound, broken.is_broken), (at(1050), True))
 
     def test_a_check_of_the_peer_keeps_it_unless_consent_is_strict(self) -> None:
-        for strict in (False, True):
-            story = answered(Rules(consent=Consent(1000 * MILLISECOND, strict)))
+        for settings in (CONSENT, STRICT):
+            story = answered(settings)
             story.deliver(story.timeout("b", 900), "a", 905)
             story.timeout("a", 1050)
-            self.assertEqual(bool(story.agents["a"].pairs), not strict)
+            self.assertEqual(bool(story.agents["a"].pairs), settings is CONSENT)
             self.assertFalse(consent_holds.find(story.network().x).is_broken)
 
 
@@ -100,7 +99,8 @@ class Ends(unittest.TestCase):
     def test_the_next_timeout_comes_before_consent_ends(self) -> None:
         x = answered().network().x
         self.assertEqual(self.lacking(x), [])
-        self.assertEqual(consent_ends_in_time.find(x), Verdict("", at(0), at(1000), at(50)))
+        # Until the nomination is sent, the agent asks for a call after 10 ms. So this caller is 40 ms late.
+        self.assertEqual(consent_ends_in_time.find(x), Verdict("", at(0), at(1000 + 40), at(50)))
 
     def test_the_preconditions(self) -> None:
         story = answered()
@@ -108,31 +108,43 @@ class Ends(unittest.TestCase):
         self.assertEqual(self.lacking(altered(story, first, "a", lite=True)), ["IsMaintained.full"])
         self.assertEqual(self.lacking(altered(story, first, "a", queue=(REQUEST,))), ["IsMaintained.unqueued"])
         self.assertEqual(self.lacking(altered(story, first, "a", timing=Timing())), ["rule"])
-        lost = Story(rules=CONSENT)
+        lost = Story(settings=CONSENT)
         lost.passes("a", 0, 50)
         self.assertEqual(self.lacking(lost.network().x), ["responded"])
-        changed = Story(rules=CONSENT)
+        changed = Story(settings=CONSENT)
         changed.exchange("a", 0)
         changed.set("a", "set_max_stun_retransmits", 7, 20)
         changed.exchange("a", 50)
         self.assertEqual(self.lacking(changed.network().x), ["between"])
-        only = Story(rules=CONSENT)
+        only = Story(settings=CONSENT)
         only.timeout("a", 0)
         self.assertEqual(consent_ends_in_time.find(only.network().x).failed, "IsFollowed.prompt")
 
-    def test_the_pacing_interval_and_the_delay(self) -> None:
-        story = Story(rules=Rules(consent=Consent(30 * MILLISECOND)))
+    def nominated(self) -> Story:
+        """A's second check, at 20, nominates the pair. Consent ends at 50, and the next call is due at 70."""
+        story = Story(settings=BRIEF)
         story.exchange("a", 0)
-        story.timeout("a", 57)  # 7 ms after the time that was returned
-        self.assertEqual(consent_ends_in_time.find(story.network().x), Verdict("", at(0), at(57), at(57)))
-        slow = Story(rules=Rules(consent=Consent(30 * MILLISECOND)))
-        slow.exchange("a", 0)
-        slow.set("a", "set_timing_advance", 80 * MILLISECOND, 20)
-        slow.timeout("a", 57)
-        self.assertEqual(consent_ends_in_time.find(slow.network().x).bound, at(87))
+        story.exchange("a", 20)
+        return story
+
+    def bound(self, story: Story) -> int:
+        """By when the call after the one at 20 comes."""
+        x = story.network().x
+        choices = [c for c in consent_ends_in_time.choices(x) if c.side == "a" and c.moment == story.moments["a"][1]]
+        self.assertEqual(consent_ends_in_time.lacking(x, choices[-1]), [])
+        return consent_ends_in_time.bound(x, choices[-1])
+
+    def test_the_pacing_interval_and_the_delay(self) -> None:
+        story = self.nominated()
+        story.timeout("a", 77)  # 7 ms after the time that was returned
+        self.assertEqual(self.bound(story), at(77))
+        slow = self.nominated()
+        slow.set("a", "set_timing_advance", 80 * MILLISECOND, 40)
+        slow.timeout("a", 77)
+        self.assertEqual(self.bound(slow), at(20 + 80 + 7))
 
     def test_a_time_that_is_too_late(self) -> None:
-        story = Story(rules=CONSENT)
+        story = Story(settings=CONSENT)
         story.exchange("a", 0)
         story.timeout("a", 5000)
         polls = [n for n, e in enumerate(story.log.entries) if e.side == "a" and e.call == "poll_timeout"]
@@ -158,7 +170,7 @@ class Valid(unittest.TestCase):
     def test_a_new_agent_that_is_never_lite(self) -> None:
         story = answered()
         self.assertEqual(valid_have_consented.find(altered(story, 0, "a", next_number=1)).failed, "IsFresh")
-        lite = Story(rules=CONSENT)
+        lite = Story(settings=CONSENT)
         lite.set("a", "set_ice_lite", True)
         lite.set("a", "set_ice_lite", False)
         lite.exchange("a", 0)
@@ -199,12 +211,12 @@ class Connected(unittest.TestCase):
             self.assertEqual(self.lacking(altered(story, 0, "a", next_number=1), of), ["IsFresh"])
             self.assertEqual(self.lacking(altered(story, last, "a", queue=(REQUEST,)), of), ["unqueued"])
             self.assertEqual(self.lacking(altered(story, last, "a", lite=True), of), ["full"])
-            lost = Story(rules=CONSENT)
+            lost = Story(settings=CONSENT)
             lost.timeout("a", 0)
             self.assertEqual(self.lacking(lost.network().x, of), ["connected"])
         self.assertEqual(self.lacking(answered(ORIGINAL).network().x), [])
         self.assertEqual(self.lacking(answered(ORIGINAL).network().x, self.answered), ["rule"])
-        lite = Story(rules=CONSENT)
+        lite = Story(settings=CONSENT)
         lite.set("a", "set_ice_lite", True)
         lite.set("a", "set_ice_lite", False)
         lite.exchange("a", 0)
@@ -245,9 +257,9 @@ class ConnectedOfRun(Connected):
 class Completed(unittest.TestCase):
     of = completed_nominations_are_selected
 
-    def nominated_last(self, rules: Rules = AT_ONCE, between: Callable[[Story], None] = lambda story: None) -> Story:
+    def nominated_last(self, settings: Settings = MODERN, between: Callable[[Story], None] = lambda story: None) -> Story:
         """B's check is answered at 30, and A's nomination arrives at 55."""
-        story = Story(rules=rules)
+        story = Story(settings=settings)
         story.exchange("a", 0)
         story.exchange("b", 20)
         between(story)
@@ -277,13 +289,13 @@ class Completed(unittest.TestCase):
     def test_the_preconditions(self) -> None:
         story = self.nominated_last()
         self.assertEqual(self.lacking(altered(story, 0, "b", next_number=1)), ["IsFresh"])
-        self.assertEqual(self.lacking(self.nominated_last(ORIGINAL).network().x), ["selects_at_once"])
+        self.assertEqual(self.lacking(self.nominated_last(ORIGINAL).network().x), ["modern"])
         self.assertEqual(self.lacking(altered(story, self.last(story), "b", True, controlling=True)), ["controlled"])
         pair = story.agents["b"].pairs[0]
         two = altered(story, self.last(story), "b", True, pairs=(pair, replace(pair, number=9)))
         self.assertEqual(self.lacking(two), ["IsOnlyPair"])
         self.assertEqual(self.lacking(self.nominated_last(between=lambda story: story.evict("b", 40)).network().x), ["Ends"])
-        alone = Story(rules=AT_ONCE)
+        alone = Story(settings=MODERN)
         alone.exchange("a", 0)
         alone.exchange("a", 50)
         self.assertEqual(self.lacking(alone.network().x), ["arrives"])
@@ -305,8 +317,8 @@ class Agree(unittest.TestCase):
 
     of = states_agree
 
-    def story(self, rules: Rules = SETTLED) -> Story:
-        story = Story(rules=rules)
+    def story(self, settings: Settings = MODERN) -> Story:
+        story = Story(settings=settings)
         story.exchange("a", 0)
         story.exchange("b", 20)
         story.exchange("a", 50)
@@ -326,27 +338,26 @@ class Agree(unittest.TestCase):
     def test_the_preconditions(self) -> None:
         story = self.story()
         self.assertEqual(self.lacking(altered(story, 0, "b", next_number=1)), ["IsFresh"])
-        for rules, missing in ((AT_ONCE, "state_after_nomination"), (Rules(state_after_nomination=True), "selects_at_once")):
-            self.assertEqual(self.lacking(self.story(rules).network().x), [f"HaveRulesAlong.{missing}"])
-        lite = Story(rules=SETTLED)
+        self.assertEqual(self.lacking(self.story(ORIGINAL).network().x), ["IsModernAlong"])
+        lite = Story(settings=MODERN)
         lite.set("b", "set_ice_lite", True)
         lite.set("b", "set_ice_lite", False)
         lite.timeout("b", 0)
         self.assertEqual(self.lacking(lite.network().x), ["AreNeverLite"])
 
     def test_before_the_session(self) -> None:
-        x = Story(rules=ORIGINAL).network().x
+        x = Story(settings=ORIGINAL).network().x
         self.assertEqual(self.lacking(x), [])
         self.assertFalse(self.of.find(x).is_broken)
 
-    def test_the_rules_count_once_the_session_has_begun(self) -> None:
-        late = Story(rules=ORIGINAL)
-        late.set("b", "set_rules", SETTLED)
+    def test_the_profile_counts_once_the_session_has_begun(self) -> None:
+        late = Story(settings=ORIGINAL)
+        late.set("b", "set_settings", MODERN)
         late.timeout("b", 0)
         self.assertEqual(self.lacking(late.network().x), [])
-        late.set("b", "set_rules", AT_ONCE, 10)
-        late.set("b", "set_rules", SETTLED, 20)
-        self.assertEqual(self.lacking(late.network().x), ["HaveRulesAlong.state_after_nomination"])
+        late.set("b", "set_settings", ORIGINAL, 10)
+        late.set("b", "set_settings", MODERN, 20)
+        self.assertEqual(self.lacking(late.network().x), ["IsModernAlong"])
 
     def test_a_pair_that_is_removed(self) -> None:
         story = self.story()

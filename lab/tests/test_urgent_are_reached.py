@@ -10,20 +10,18 @@ from lab.clauses.execution import Execution, Lacks
 from lab.clauses.reached_in_turn import Choice
 from lab.clauses.served import is_overtaken
 from lab.clauses.verdict import Verdict
-from lab.kinds import ORIGINAL, Rules
+from lab.pairs import Timing
 from lab.replay import replay
-from lab.tests.stories import Story, at
-
-TRIGGERED = Rules(triggered_checks=4)
+from lab.tests.stories import MODERN, Story, at
 
 
 class Urgent(unittest.TestCase):
-    """A has nine pairs, and sends a check every 50 ms. At 60 ms two checks of B arrive, on pairs of which A checked none. No check of A is
-    answered."""
+    """A has nine pairs. It sends three checks, and from 100 ms on one every 50 ms, of which the first goes ahead. At 60 ms two checks of B
+    arrive, on pairs of which A checked none. No check of A is answered."""
 
-    def story(self, rules: Rules = TRIGGERED) -> Story:
-        story = Story(hosts=(3, 3), rules=rules)
-        story.passes("a", 0, 50)
+    def story(self) -> Story:
+        story = Story(hosts=(3, 3), settings=MODERN)
+        story.passes("a", 0, 25, 50)
         checks = [story.timeout("b", time) for time in range(30, 60, 5)]
         for check in checks[4:]:
             story.deliver(check, "a", 60)
@@ -31,12 +29,12 @@ class Urgent(unittest.TestCase):
         return story
 
     def urgent(self, story: Story) -> list[int]:
-        """The numbers of the urgent pairs of A at its third `handle_timeout`, in the order of their turns."""
-        first = story.moments["a"][2]
+        """The numbers of the urgent pairs of A at its fourth `handle_timeout`, in the order of their turns."""
+        first = story.moments["a"][3]
         agent = story.network().x.state(first, "a")
         return [p.number for p in sorted(agent.pairs, key=lambda p: agent.place_in_order(p, at(100), True)) if p.is_urgent]
 
-    def choice(self, story: Story, pair: int, rounds: int = 2, delays: int = 1, first: int = 2) -> Choice:
+    def choice(self, story: Story, pair: int, rounds: int = 2, delays: int = 1, first: int = 3) -> Choice:
         """So many rounds from one of the `handle_timeout` calls on."""
         moments = story.moments["a"]
         return Choice("a", pair, moments[first], moments[first + rounds - 1] + 1, delays)
@@ -68,7 +66,7 @@ class Urgent(unittest.TestCase):
 
     def test_a_pair_that_is_not_urgent_is_not_before_it(self) -> None:
         story = self.story()
-        first, (leading, following) = story.moments["a"][2], self.urgent(story)
+        first, (leading, following) = story.moments["a"][3], self.urgent(story)
         r = self.choice(story, following).rounds(story.network().x)[0]
         self.assertTrue(is_overtaken(story.network().x, "a", following, r))
         self.assertFalse(is_overtaken(story.network().x, "a", leading, r))  # it is the pair itself
@@ -77,7 +75,7 @@ class Urgent(unittest.TestCase):
 
     def test_the_selected_pair_is_before_it(self) -> None:
         story = self.story()
-        first, (leading, following) = story.moments["a"][2], self.urgent(story)
+        first, (leading, following) = story.moments["a"][3], self.urgent(story)
         r = self.choice(story, following).rounds(story.network().x)[0]
         pairs = tuple(replace(p, requests=0) for p in story.network().x.state(first, "a").pairs)
         x = self.altered(story, first, pairs=pairs, selected=leading)
@@ -88,16 +86,16 @@ class Urgent(unittest.TestCase):
         moments, (_, following) = story.moments["a"], self.urgent(story)
         c = self.choice(story, following)
         self.assertEqual(self.lacking(self.altered(story, 0, next_number=1), c), ["IsFresh"])
-        self.assertEqual(self.lacking(self.altered(story, moments[3], rules=ORIGINAL), c), ["PutsUrgentFirst.rule"])
-        self.assertEqual(self.lacking(self.with_pair(story, moments[3], following, requests=0), c), ["PutsUrgentFirst.urgent"])
-        self.assertEqual(self.lacking(self.with_pair(story, moments[2], following, due=at(100)), c), ["IsPassing.late"])
+        self.assertEqual(self.lacking(self.altered(story, moments[4], timing=Timing()), c), ["PutsUrgentFirst.rule"])
+        self.assertEqual(self.lacking(self.with_pair(story, moments[4], following, requests=0), c), ["PutsUrgentFirst.urgent"])
+        self.assertEqual(self.lacking(self.with_pair(story, moments[3], following, due=at(100)), c), ["IsPassing.late"])
         self.assertEqual(self.lacking(story.network().x, self.choice(story, following, 1)), ["enough"])
 
     def test_a_path_is_selected(self) -> None:
         story = self.story()
         _, following = self.urgent(story)
         x, c = story.network().x, self.choice(story, following)
-        step = x.steps[story.moments["a"][3]]
+        step = x.steps[story.moments["a"][4]]
         x.steps[step.at] = replace(step, selected=(x.state(c.first, "a").path(x.state(c.first, "a").pairs[0]),))
         self.assertEqual(self.lacking(x, c), ["PutsUrgentFirst.quiet"])
 

@@ -30,7 +30,7 @@ class Declarations(unittest.TestCase):
     def test_each_number_has_a_member(self) -> None:
         enums: dict[str, list[type[IntEnum]]] = {"PAIR_": [CheckState], "REMOVED_": [Removal], "TCP_": [TcpType],
                                                  "STUN_": [StunMethod, StunClass, StunText]}
-        others = {"PAIR_IDS_EXHAUSTED", "TCP_UNSTATED", "STUN_REQUEST_LENGTH", "STUN_WRITE_LENGTH"}
+        others = {"PAIR_IDS_EXHAUSTED", "TCP_UNSTATED", "STUN_REQUEST_LENGTH", "STUN_UDP", "STUN_WRITE_LENGTH"}
         for prefix, kinds in enums.items():
             names = {prefix + ("DATA_INDICATION" if member is StunMethod.DATA else member.name) for kind in kinds for member in kind}
             self.assertEqual(names, {name for name in vars(_abi) if name.startswith(prefix)} - others)

@@ -6,13 +6,13 @@ use crate::error::{CallError, found, or_panic};
 use crate::event::{IceAgentEvent, IceAgentStats, IceConnectionState, MediaPath};
 use crate::ffi;
 use crate::ids::TransIds;
-use crate::logs::{Pii, is_heard, logged, role_name};
+use crate::logs::{Pii, is_heard, logged};
 use crate::pair::CandidatePair;
 use crate::preference::LocalPreference;
 use crate::proto::{address_of, number_of, protocol_of, socket_of};
-use crate::removed::{RemovedPair, new_ones};
 use crate::stun::{StunMessage, StunPacket};
 use crate::types::{Protocol, Sha1HmacProvider, Transmit};
+use crate::watched::{Seen, log_rejected, log_sent};
 use std::fmt;
 use std::net::SocketAddr;
 use std::sync::{Arc, Mutex, OnceLock, PoisonError};
@@ -202,13 +202,18 @@ impl IceAgent {
     /// [`CallError::PriorityTooHigh`], [`CallError::TooManyCandidates`].
     pub fn try_add_local_candidate(&mut self, c: Candidate) -> Result<Option<&Candidate>, CallError> {
         self.prefer(&c)?;
-        let (given, mut index) = (c.as_gathered(), 0);
+        let (given, mut index, before) = (c.as_gathered(), 0, Seen::heard(self));
         let is_added = self.tell(|agent| known(ffi::is_ice_add_local(agent, &given, &mut index)))?;
         if !is_added {
-            logged!(debug, "Reject redundant candidate, or one that is not for this agent: {:?}", Pii(&c));
+            if let Some(before) = before {
+                before.log_rejected_local(&c);
+            }
             return Ok(None);
         }
         logged!(debug, "Add local candidate ({index}): {:?}", Pii(&c));
+        if let Some(before) = before {
+            before.log_added_local(self, &c);
+        }
         self.added = Some(Box::new(self.local_candidate(index).map_err(CallError::of)?));
         Ok(self.added.as_deref())
     }
@@ -243,7 +248,7 @@ impl IceAgent {
     ///
     /// [`CallError::OutOfMemory`], [`CallError::PairIdsExhausted`], [`CallError::BadCandidate`], [`CallError::TooManyCandidates`].
     pub fn try_add_remote_candidate(&mut self, c: Candidate) -> Result<bool, CallError> {
-        let mut index = 0;
+        let (mut index, before) = (0, Seen::heard(self));
         let code = ffi::is_ice_add_remote(self.held(), c.text().as_bytes(), &mut index);
         match code {
             ffi::OK => logged!(debug, "Add remote candidate ({index}): {:?}", Pii(&c)),
@@ -251,6 +256,9 @@ impl IceAgent {
             ffi::OTHER_COMPONENT => logged!(debug, "Reject candidate for component other than 1: {:?}", Pii(&c)),
             ffi::OTHER_UFRAG => logged!(debug, "Reject candidate with ufrag mismatch: {:?}", Pii(&c)),
             _ => {}
+        }
+        if let Some(before) = before.filter(|_| code == ffi::OK) {
+            before.log_added_remote(self, &c);
         }
         found(code)
     }
@@ -274,14 +282,15 @@ impl IceAgent {
     ///
     /// [`CallError::OutOfMemory`].
     pub fn try_invalidate_candidate(&mut self, c: &Candidate) -> Result<bool, CallError> {
+        let before = Seen::heard(self);
         let is_removed = match c.given() {
             Some(given) => self.tell(|agent| known(ffi::is_ice_invalidate_local(agent, &given))),
             None => self.tell(|agent| ffi::is_ice_invalidate(agent, c.text().as_bytes())),
         }?;
-        if is_removed {
-            logged!(debug, "Candidate to discard {:?}", Pii(c));
-        } else {
+        if !is_removed {
             logged!(debug, "No local or remote candidate found: {:?}", Pii(c));
+        } else if let Some(before) = before {
+            before.log_discarded(self, c);
         }
         Ok(is_removed)
     }
@@ -379,13 +388,23 @@ impl IceAgent {
     ///
     /// [`CallError::OutOfMemory`], [`CallError::PairIdsExhausted`].
     pub fn try_recreate_candidate_pairs(&mut self) -> Result<(), CallError> {
-        self.tell(|agent| ffi::is_ice_recreate_pairs(agent)).map(drop)
+        let before = Seen::heard(self);
+        self.tell(|agent| ffi::is_ice_recreate_pairs(agent))?;
+        if let Some(before) = before {
+            before.log_reformed(self);
+        }
+        Ok(())
     }
 
     /// Whether the message is for this agent, from any source.
     pub fn accepts_message(&self, message: &StunMessage<'_>) -> bool {
+        logged!(trace, "Check if accepts message: {:?}", Pii(message));
         let is_accepted = self.ask(|agent| ffi::is_ice_accepts_message(agent, message.bytes())) == ffi::OK;
-        logged!(trace, "Message {}: {:?}", if is_accepted { "accepted" } else { "rejected" }, Pii(message));
+        if is_accepted {
+            logged!(trace, "Message accepted");
+        } else if is_heard() {
+            log_rejected(self, message);
+        }
         is_accepted
     }
 
@@ -430,18 +449,16 @@ impl IceAgent {
     ) -> Result<bool, CallError> {
         self.forget_added();
         let now = self.time(now);
-        let (source, destination) = (address_of(source), address_of(destination));
-        let before = is_heard().then(|| self.controlling());
-        let is_accepted =
-            self.tell(|agent| match ffi::is_ice_handle_packet(agent, now, number_of(proto), &source, &destination, bytes) {
-                ffi::UNPARSED => ffi::NOTHING,
-                code => code,
-            })?;
-        if !is_accepted {
-            logged!(debug, "Message not accepted");
-        }
-        if let Some(before) = before.filter(|before| *before != self.controlling()) {
-            logged!(debug, "Switch role: {} -> {}", role_name(before), role_name(!before));
+        let before = Seen::heard(self);
+        let (from, to) = (address_of(source), address_of(destination));
+        let is_accepted = self.tell(|agent| match ffi::is_ice_handle_packet(agent, now, number_of(proto), &from, &to, bytes) {
+            ffi::UNPARSED => ffi::NOTHING,
+            code => code,
+        })?;
+        match before {
+            Some(before) if is_accepted => before.log_accepted(self, (proto, destination, source), bytes),
+            Some(_) => logged!(debug, "Message not accepted"),
+            None => {}
         }
         Ok(is_accepted)
     }
@@ -465,20 +482,12 @@ impl IceAgent {
         let id = self.ids.next().ok_or(CallError::NoRandomBytes)?;
         self.forget_added();
         let now = self.time(now);
-        let before: Option<Vec<_>> = is_heard().then(|| self.removed_pairs().collect());
+        let before = Seen::heard(self);
         self.tell(|agent| ffi::is_ice_handle_timeout(agent, now, &id))?;
         if let Some(before) = before {
-            self.log_removals(&before);
+            before.log_timeout(self);
         }
         Ok(())
-    }
-
-    /// Logs the pairs that were removed since these were listed.
-    fn log_removals(&self, before: &[RemovedPair]) {
-        let listed: Vec<_> = self.removed_pairs().collect();
-        for pair in new_ones(before, &listed) {
-            logged!(debug, "Remove failed pair: {:?}", Pii(pair));
-        }
     }
 
     /// The next packet to send.
@@ -488,8 +497,11 @@ impl IceAgent {
         let (source, destination) = (socket_of(&packet.source), socket_of(&packet.destination));
         #[allow(clippy::useless_conversion)] // the contents are a type of its own in str0m_proto
         let transmit = Transmit { proto: protocol_of(packet.protocol), source, destination, contents: contents.into() };
-        if is_heard() && transmit.contents.len() > self.mtu_warn() {
-            logged!(warn, "ICE above MTU {}: {}", self.mtu_warn(), transmit.contents.len());
+        if is_heard() {
+            if transmit.contents.len() > self.mtu_warn() {
+                logged!(warn, "ICE above MTU {}: {}", self.mtu_warn(), transmit.contents.len());
+            }
+            log_sent(&transmit, self.controlling());
         }
         logged!(trace, "Poll transmit: {:?}", Pii(&transmit));
         Some(transmit)

@@ -46,6 +46,7 @@ mod stun_texts;
 mod stun_timing;
 #[cfg(not(str0m_types))]
 mod types;
+mod watched;
 #[cfg(str0m_types)]
 use str0m_proto as types;
 

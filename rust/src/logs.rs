@@ -1,11 +1,14 @@
-//! Events for the crate `tracing`, with the words and the target of the original's. Only the package in str0m/ has that crate: in the other
+//! Events for the crate `tracing`, with the words and the targets of the original's. Only the package in str0m/ has that crate: in the other
 //! ones nothing is logged.
 
 use std::fmt;
 
-/// Logs an event of a level, as `logged!(debug, "max_rto = {timeout:?}")`.
+/// Logs an event of a level, as `logged!(debug, "max_rto = {timeout:?}")`; of a pair as `logged!(pair debug, ..)`.
 #[cfg(str0m_types)]
 macro_rules! logged {
+    (pair $level:ident, $($words:tt)*) => {
+        tracing::$level!(target: "is::pair", $($words)*)
+    };
     ($level:ident, $($words:tt)*) => {
         tracing::$level!(target: "is::agent", $($words)*)
     };
@@ -13,6 +16,9 @@ macro_rules! logged {
 
 #[cfg(not(str0m_types))]
 macro_rules! logged {
+    (pair $level:ident, $($words:tt)*) => {
+        logged!($level, $($words)*)
+    };
     ($level:ident, $($words:tt)*) => {
         if false {
             let _ = format_args!($($words)*);
@@ -25,7 +31,7 @@ pub(crate) use logged;
 /// Whether anybody listens to what only a comparison of two states shows.
 pub(crate) fn is_heard() -> bool {
     #[cfg(str0m_types)]
-    return tracing::enabled!(target: "is::agent", tracing::Level::DEBUG);
+    return tracing::enabled!(target: "is::agent", tracing::Level::DEBUG) || tracing::enabled!(target: "is::pair", tracing::Level::DEBUG);
     #[cfg(not(str0m_types))]
     false
 }

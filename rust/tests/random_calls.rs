@@ -5,7 +5,7 @@
 
 mod random;
 
-use is::stun::{BindingResponse, StunMessage, StunMessageBuilder, StunPacket, StunTiming, TransId};
+use is::stun::{AddressFamily, BindingResponse, StunMessage, StunMessageBuilder, StunPacket, StunTiming, TransId};
 use is::{Candidate, CandidateKind, DefaultSha1HmacProvider, IceAgent, IceAgentEvent, IceCreds, Sha1HmacProvider, TcpType};
 use is::{Consent, KindPreferences, PreferenceTable, Profile, Protocol, SessionLog, Settings};
 use random::Random;
@@ -254,7 +254,8 @@ impl Session {
             14 => agent.set_controlling(flag),
             15 => _ = black_box(agent.try_set_local_credentials(creds)),
             16 => _ = black_box(agent.try_set_remote_credentials(creds)),
-            17 => _ = black_box(agent.try_set_settings(settings)),
+            17 if flag || settings.max_retransmits == 0 => _ = black_box(agent.try_set_settings(settings)),
+            17 => agent.set_settings(settings),
             18 => agent.set_max_candidates(flag.then_some(number)),
             _ => {
                 agent.set_local_credentials(self::creds("near"));
@@ -452,7 +453,7 @@ impl Session {
         };
         let (username, realm, nonce, data) = texts;
         for _ in 0..self.random.below(6) {
-            builder = match self.random.below(16) {
+            builder = match self.random.below(18) {
                 0 => builder.username(username),
                 1 => builder.error_code(number as u16, realm),
                 2 => builder.channel_number(number as u16),
@@ -468,6 +469,8 @@ impl Session {
                 12 => builder.ice_controlled(number as u64),
                 13 => builder.ice_controlling(number as u64),
                 14 => builder.network_cost(number as u16, 7),
+                15 => builder.requested_transport(number as u8),
+                16 => builder.requested_family(if number % 2 == 0 { AddressFamily::Ipv4 } else { AddressFamily::Ipv6 }),
                 _ => builder.nomination(number as u32),
             };
         }

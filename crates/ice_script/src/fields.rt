@@ -104,15 +104,6 @@ impl<'a> Fields<'a> {
         }
     }
 
-    /// The object that a field has, or nothing if it is null.
-    pub fn object_or_null(&self, field: Field) -> Result<Option<Fields<'a>>, Stop> {
-        match self.object.get(field.0) {
-            Some(Value::Null) => Ok(None),
-            Some(object) if object.is_object() => Ok(Some(Fields::new(self.alloc, object))),
-            _ => Err(self.bad(field)),
-        }
-    }
-
     /// A whole number of 64 bits, or nothing if it is null.
     pub fn number_or_null(&self, field: Field) -> Result<Option<u64>, Stop> {
         match self.object.get(field.0) {

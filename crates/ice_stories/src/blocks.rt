@@ -8,16 +8,7 @@ pub fn is_played(line: &str) -> bool {
     };
     !matches!(
         first,
-        "#" | ""
-            | "?"
-            | "story"
-            | "clause"
-            | "session"
-            | "setup"
-            | "agent"
-            | "world"
-            | "asserts"
-            | "candidate"
+        "#" | "" | "?" | "story" | "agent" | "world" | "asserts" | "candidate"
     )
 }
 

@@ -5,7 +5,6 @@
 mod blocks;
 mod messages;
 mod names;
-mod progress;
 mod report;
 mod rows;
 mod solo;
@@ -32,10 +31,6 @@ fn play_block<W: Write>(
         story::play(alloc, file, block, name, output)
     } else if let Some(name) = blocks::after(block, "script") {
         transcript::play(alloc, block, name, output)
-    } else if let Some(name) = blocks::after(block, "clause") {
-        progress::clauses::play(alloc, file, block, name, output)
-    } else if let Some(name) = blocks::after(block, "session") {
-        progress::sessions::play(alloc, file, block, name, output)
     } else {
         Ok(!has_words(block))
     }

@@ -32,41 +32,10 @@ pub fn home(side: Side) -> SocketAddr {
     }
 }
 
-/// The address of the side as the other one sees it through NATs.
-pub fn mapped(side: Side) -> SocketAddr {
-    match side {
-        Side::A => at(101, 1000),
-        Side::B => at(102, 2000),
-    }
-}
-
-/// An address at which neither has a candidate.
-pub fn unknown() -> SocketAddr {
-    at(5, 2000)
-}
-
 pub fn other(side: Side) -> Side {
     match side {
         Side::A => Side::B,
         Side::B => Side::A,
-    }
-}
-
-/// The value of the side.
-pub fn of<T: Copy>(side: Side, both: [T; 2]) -> T {
-    let [a, b] = both;
-    match side {
-        Side::A => a,
-        Side::B => b,
-    }
-}
-
-/// The same values, with a new one for the side.
-pub fn with<T: Copy>(side: Side, both: [T; 2], value: T) -> [T; 2] {
-    let [a, b] = both;
-    match side {
-        Side::A => [value, b],
-        Side::B => [a, value],
     }
 }
 

@@ -57,7 +57,7 @@ impl fmt::Display for IdText {
     }
 }
 
-pub fn class_text(class: Class) -> &'static str {
+fn class_text(class: Class) -> &'static str {
     match class {
         Class::Request => "request",
         Class::Indication => "indication",
@@ -78,7 +78,7 @@ impl fmt::Display for MessageText {
 }
 
 /// Which agents are controlling.
-pub fn roles_text(roles: [bool; 2]) -> &'static str {
+fn roles_text(roles: [bool; 2]) -> &'static str {
     match roles {
         [true, true] => "A and B",
         [true, false] => "A",

@@ -11,14 +11,14 @@ use std::alloc::Global;
 
 /// How the agents begin, A's values first.
 #[derive(Clone, Copy)]
-pub struct Start {
-    pub tie_breakers: [u64; 2],
-    pub controlling: [bool; 2],
+struct Start {
+    tie_breakers: [u64; 2],
+    controlling: [bool; 2],
 }
 
 impl Start {
     /// By the line `world TIE-BREAKER ROLE TIE-BREAKER ROLE`, A's first.
-    pub fn of(block: &str) -> Option<Start> {
+    fn of(block: &str) -> Option<Start> {
         let mut words = after(block, "world")?.split_whitespace();
         let a_number = words.next()?.parse::<u64>().ok()?;
         let a_controls = words.next()? == "controlling";
@@ -56,7 +56,7 @@ fn world_of(alloc: Global, start: Start) -> Option<Two> {
 }
 
 /// The log of the events between two new agents.
-pub fn log_of(alloc: Global, start: Start, events: Vec<WorldEvent>) -> Option<WorldLog> {
+fn log_of(alloc: Global, start: Start, events: Vec<WorldEvent>) -> Option<WorldLog> {
     match world_of(alloc, start) {
         Some(mut world) => Some(world.run(events, &mut random(Side::A), &mut random(Side::B))),
         None => None,

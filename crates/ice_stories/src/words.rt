@@ -7,14 +7,14 @@ use std::net::SocketAddr;
 
 /// A packet that was sent arrives.
 #[derive(Clone, Copy)]
-pub struct Arrival {
-    pub packet: usize,
-    pub ms: u64,
-    pub way: Path,
+struct Arrival {
+    packet: usize,
+    ms: u64,
+    way: Path,
 }
 
 /// What follows the `@` of a word, as `50` or `50;from=10.0.0.3:3000;to=A`: a time, and where the path is not the usual one.
-pub fn time_and_path(text: &str, usual: Path) -> Option<(u64, Path)> {
+fn time_and_path(text: &str, usual: Path) -> Option<(u64, Path)> {
     let mut way = usual;
     let mut ms = None;
     for part in text.split(';') {
@@ -176,7 +176,7 @@ pub fn call_of(alloc: Global, file: &str, word: &str) -> Option<(Side, Call)> {
 }
 
 /// Packet 0 of the other agent arrives at B in `B<0@10`.
-pub fn arrival_of(word: &str) -> Option<Arrival> {
+fn arrival_of(word: &str) -> Option<Arrival> {
     let (who, rest) = word.split_once('<')?;
     let (packet, rest) = rest.split_once('@')?;
     let (ms, way) = time_and_path(rest, back(path_of(side_of(who)?)))?;
@@ -188,7 +188,7 @@ pub fn arrival_of(word: &str) -> Option<Arrival> {
 }
 
 /// The event of an arrival between two agents.
-pub fn delivery(arrival: Arrival) -> WorldEvent {
+fn delivery(arrival: Arrival) -> WorldEvent {
     WorldEvent::Deliver {
         packet: arrival.packet,
         now: time(arrival.ms),

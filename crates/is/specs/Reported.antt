@@ -10,7 +10,7 @@ use Rattle.is_theorems.specs.Logs.{Logged, NeverLite, NominatedByPeer}
 use Rattle.is_theorems.specs.Polled.{IsSelectedSince, IsAnsweredSince, IsControlledSinceRestart}
 use Rattle.is_theorems.specs.Reporting.{selecting}
 use Rattle.is_theorems.specs.Runs.{AtEach, Point, shared_run}
-use Rattle.is_theorems.specs.Settings.{settings_of, settings_along}
+use Rattle.is_theorems.specs.Settings.{all_settings_of, settings_along}
 use Rattle.is.specs.Floods.{AfterEach}
 use Rattle.is.specs.Sides.{own_log}
 use Rattle.is.specs.World.{WorldRecord, LoggedEvent, at, Streams}
@@ -46,7 +46,7 @@ module _ {H P : Type 0} (mac : H → List ℕ → List ℕ → List ℕ) (answer
 
   -- After each call the settings are those that the calls set last.
   abbrev pub SettingsAreThoseSet : AgentRecord H P → Stream → List (Logged P) → Type 0
-  SettingsAreThoseSet first s log = AtEach mac answers first s log (λ before mid x after. settings_of after ≡ settings_along (settings_of first) (x ∷ before))
+  SettingsAreThoseSet first s log = AtEach mac answers first s log (λ before mid x after. all_settings_of after ≡ settings_along (all_settings_of first) (x ∷ before))
 
   -- ---- two agents
 
@@ -64,4 +64,4 @@ module _ {H P : Type 0} (mac : H → List ℕ → List ℕ → List ℕ) (answer
   -- A side's settings are those that its calls set last.
   abbrev pub BothKeepSettings : WorldRecord H P → Streams → List (LoggedEvent P) → Type 0
   BothKeepSettings first s log =
-      AfterEach mac answers first s log (λ part side a. settings_of a ≡ settings_along (settings_of (at side first)) (own_log side [] part))
+      AfterEach mac answers first s log (λ part side a. all_settings_of a ≡ settings_along (all_settings_of (at side first)) (own_log side [] part))

@@ -235,7 +235,7 @@ pub fn run<H: Sha1HmacProvider + Drop, P: LocalPreference, R: Rng>(
     // A `NominatedSend` that waits after a call waited before it, or reports a path that the call selects.
     ensures events { QueuedAreSelected H.mac P.answers (record_of agent.old) (R.stream rng.old) (log_of calls.items result) }
 
-    // The settings, rules among them, are those that the calls set last, whatever was received.
+    // The settings are those that the calls set last, whatever was received.
     ensures settings { SettingsAreThoseSet H.mac P.answers (record_of agent.old) (R.stream rng.old) (log_of calls.items result) }
 {
     // the lemmas on which the clauses after the first one rest

@@ -15,6 +15,7 @@ pub mod Adding
 pub mod Rejections
 pub mod Credentials
 pub mod Making
+pub mod Freeing
 pub mod Clock
 pub mod Packets
 pub mod Accepting

@@ -1,9 +1,14 @@
 //! Agents: made and freed.
 
+ghost use denote.RawPtr.{Testable};
+ghost use Rattle.std.specs.Borrow.{full_share, sem};
 ghost use Rattle.std.specs.Prelude.{◌≡◌, None, false, IfOk, IfErr, MatchBool};
+ghost use Rattle.std.specs.Ptr.{lies_at, if_non_null};
 ghost use Rattle.is_rules.specs.Fitting.{are_too_long};
 ghost use Rattle.is_c.specs.Codes.{OUT_OF_MEMORY, CREDENTIALS_TOO_LONG};
 ghost use Rattle.is_c.specs.Making.{fresh_home, MakesAt};
+ghost use Rattle.is_c.specs.Freeing.{freed_at};
+ghost use Rattle.is_c.specs.contracts.slot.Slot.{the_row as slot_row};
 ghost use Rattle.is_c.specs.Held.{home_of, held_by};
 ghost use Rattle.is_c.specs.Limits.{CANDIDATE_LIMIT};
 
@@ -70,11 +75,24 @@ pub extern "C" fn is_ice_agent_new(
 }
 
 /// Frees the agent of a slot, if it holds one.
-#[unsafe(no_mangle)]
-pub extern "C" fn is_ice_agent_free(alloc: Global, slot: &mut Slot)
+pub(crate) fn free(alloc: Global, slot: &mut Slot)
     ensures { held_by slot.new ≡ None }
 {
     drop(slot.take(alloc));
+}
+
+/// Frees the agent of a slot, if it holds one. At a null pointer it does nothing, as `free` of C does.
+#[unsafe(no_mangle)]
+pub unsafe extern "C" fn is_ice_agent_free(alloc: Global, slot: *mut Slot)
+    ghost held: { Slot }
+    requires testable { Testable slot }
+    requires* memory { sem 𝓛 (if_non_null slot (lies_at slot_row full_share slot held)) }
+    ensures* freed { sem 𝓛 (if_non_null slot (freed_at slot)) }
+{
+    if slot.is_null() {
+        return;
+    }
+    free(alloc, &mut *slot);
 }
 
 /// The version of this interface. The header has the same number.

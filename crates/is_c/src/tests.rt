@@ -20,7 +20,7 @@ use crate::credentials::{
     is_ice_local_pass, is_ice_local_ufrag, is_ice_make_credentials, is_ice_set_remote_credentials,
 };
 use crate::events::{Event, is_ice_poll_event};
-use crate::making::{is_ice_agent_free, is_ice_agent_new};
+use crate::making::{free, is_ice_agent_new};
 use crate::packets::{
     Packet, is_ice_handle_packet, is_ice_handle_timeout, is_ice_poll_timeout, is_ice_poll_transmit,
 };
@@ -33,6 +33,7 @@ use crate::settings::{
     is_ice_set_preference_table,
 };
 use crate::slot::Slot;
+use std::alloc::Global;
 
 const REQUEST: [u8; 100] = [
     0x00, 0x01, 0x00, 0x50, 0x21, 0x12, 0xa4, 0x42, 0x6a, 0x75, 0x63, 0x31, 0x35, 0x75, 0x78, 0x55,
@@ -90,6 +91,26 @@ fn no_event() -> Event {
     }
 }
 
+/// Passes the first packet that an agent has to another one, to which it comes at this time. Whether that one accepted it.
+fn passes(alloc: Global, from: &mut Slot, to: &mut Slot, now: u64) -> bool {
+    let mut packet = no_packet();
+    let mut buffer = [0; 200];
+    let sent = is_ice_poll_transmit(alloc, from, &mut buffer, &mut packet);
+    let bytes = buffer.get(..packet.length).unwrap_or(&[]);
+    let source = packet.source;
+    let destination = packet.destination;
+    let taken = is_ice_handle_packet(
+        alloc,
+        to,
+        now,
+        packet.protocol,
+        &source,
+        &destination,
+        bytes,
+    );
+    sent == codes::OK && taken == codes::OK
+}
+
 #[test]
 fn a_request_is_replied_to(rt: HostRuntime) {
     let alloc = rt.alloc();
@@ -135,7 +156,7 @@ fn a_request_is_replied_to(rt: HostRuntime) {
     assert!(rt; viable == codes::NOTHING);
     let deadline = is_ice_poll_timeout(alloc, &mut slot, &mut at);
     assert!(rt; deadline == codes::NOTHING);
-    is_ice_agent_free(alloc, &mut slot);
+    free(alloc, &mut slot);
     let gone = is_ice_poll_timeout(alloc, &mut slot, &mut at);
     assert!(rt; gone == codes::NO_AGENT);
 }
@@ -175,7 +196,7 @@ fn requests_bring_as_many_candidates_as_the_limit(rt: HostRuntime) {
     let served = is_ice_poll_transmit(alloc, &mut slot, &mut buffer, &mut packet);
     assert!(rt; served == codes::OK);
     assert!(rt; packet.destination.port == 2001);
-    is_ice_agent_free(alloc, &mut slot);
+    free(alloc, &mut slot);
 }
 
 #[test]
@@ -206,7 +227,7 @@ fn a_check_has_the_random_bytes_as_its_id(rt: HostRuntime) {
     assert!(rt; buffer[8..20] == id[..]);
     let gone = is_ice_invalidate(alloc, &mut slot, line);
     assert!(rt; gone == codes::OK);
-    is_ice_agent_free(alloc, &mut slot);
+    free(alloc, &mut slot);
 }
 
 #[test]
@@ -241,7 +262,7 @@ fn credentials_are_made_and_reported(rt: HostRuntime) {
     let reported = is_ice_local_ufrag(alloc, &mut slot, &mut text[..3], &mut length);
     assert!(rt; reported == codes::BUFFER_TOO_SHORT);
     assert!(rt; length == 4);
-    is_ice_agent_free(alloc, &mut slot);
+    free(alloc, &mut slot);
 }
 
 #[test]
@@ -279,7 +300,7 @@ fn settings_and_lines_are_reported(rt: HostRuntime) {
     assert!(rt; line[51..85] == b" 10.0.0.1 1000 typ host ufrag AAAA"[..]);
     let after = is_ice_local_candidate(alloc, &mut slot, 1, &mut line, &mut length);
     assert!(rt; after == codes::NOTHING);
-    is_ice_agent_free(alloc, &mut slot);
+    free(alloc, &mut slot);
 }
 
 #[test]
@@ -341,7 +362,7 @@ fn a_table_gives_the_preference(rt: HostRuntime) {
     let reported = is_ice_local_candidate(alloc, &mut slot, index, &mut line, &mut length);
     assert!(rt; reported == codes::OK);
     assert!(rt; line[41..51] == b"2113994751"[..]);
-    is_ice_agent_free(alloc, &mut slot);
+    free(alloc, &mut slot);
 }
 
 #[test]
@@ -385,5 +406,5 @@ fn an_added_candidate_has_its_index(rt: HostRuntime) {
     let cut = is_ice_add_remote(alloc, &mut slot, &second[..9], &mut index);
     assert!(rt; cut == codes::BAD_CANDIDATE);
     assert!(rt; index == NO_INDEX);
-    is_ice_agent_free(alloc, &mut slot);
+    free(alloc, &mut slot);
 }

@@ -15,3 +15,4 @@ pub mod PathAndTradeEffects
 pub mod ExternalViews
 pub mod QueuedSelections
 pub mod KeptSettings
+pub mod SettingsInTurn

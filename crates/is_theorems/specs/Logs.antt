@@ -1,7 +1,7 @@
 -- The log of an execution, newest entry first, and its properties: which paths were answered, which the peer nominated, and which
 -- responses were sent. Nothing here names an abstract state.
-use Rattle.std.specs.Prelude.{◌≡◌, ℕ, ◌==◌, ◌⊎◌, ◌&&◌, not, Bool, true, false, List, [], ◌∷◌, ◌++◌, Option, Some, None, if◌then◌else◌}
-use Rattle.std.specs.Option.{option_or, option_map_or}
+use Rattle.std.specs.Prelude.{◌≡◌, ℕ, ◌⊎◌, ◌&&◌, Bool, true, false, List, [], ◌∷◌, ◌++◌, Option, Some, None, if◌then◌else◌}
+use Rattle.std.specs.Option.{option_or}
 use Rattle.is_stun.specs.declared.header.Class.TheVariants as class
 use Rattle.is_stun.specs.declared.header.Method.TheVariants.{Binding}
 use Rattle.is_stun.specs.Integrity.{IsSignedBy}
@@ -14,6 +14,8 @@ use Rattle.is_rules.specs.Emitted.{issued_as, reversed}
 use Rattle.is_rules.specs.Answers.{goes_back}
 use Rattle.is_rules.specs.Steps.{Call, SetRenomination, SetProfile}
 use Rattle.is_rules.specs.Brought.{Brings}
+use Rattle.is_rules.specs.Request.{request_in}
+use Rattle.is_rules.specs.Serving.{as_taken}
 use Rattle.is_rules.specs.Owed.{Transaction, request_of, reply_of}
 use Rattle.is_rules.specs.Effects.{lite_set_by, remote_after, clears, last_of}
 
@@ -39,25 +41,18 @@ NeverLite [] = Unit {0}
 NeverLite (x ∷ before) = (lite_set_by x.call false ≡ false) × NeverLite before
 
 -- renomination, and the profile `Modern`, as the log set them last; a newly created agent has neither
-abbrev pub renomination_set_by : {P : Type 0} → Call P → Bool → Bool
-renomination_set_by (SetRenomination renominates) old = renominates
-renomination_set_by _ old = old
-
-abbrev pub numbering_set_by : {P : Type 0} → Call P → Bool → Bool
-numbering_set_by (SetProfile profile) old = is_modern_profile profile
+abbrev pub numbering_set_by : {P : Type 0} → Call P → Bool × Bool → Bool × Bool
+numbering_set_by (SetRenomination renominates) old = (renominates, old.1)
+numbering_set_by (SetProfile profile) old = (old.0, is_modern_profile profile)
 numbering_set_by _ old = old
 
-abbrev pub renominates_of : {P : Type 0} → List (Logged P) → Bool
-renominates_of [] = false
-renominates_of (x ∷ before) = renomination_set_by x.call (renominates_of before)
-
-abbrev pub numbering_of : {P : Type 0} → List (Logged P) → Bool
-numbering_of [] = false
+abbrev pub numbering_of : {P : Type 0} → List (Logged P) → Bool × Bool
+numbering_of [] = (false, false)
 numbering_of (x ∷ before) = numbering_set_by x.call (numbering_of before)
 
 -- With both, nominations have numbers (NOMINATION).
 abbrev pub has_numbers : {P : Type 0} → List (Logged P) → Bool
-has_numbers log = renominates_of log && numbering_of log
+has_numbers log = (numbering_of log).0 && (numbering_of log).1
 
 -- A Binding request with this ID was sent on the path since the last clear.
 abbrev pub IsSent : {P : Type 0} → List (Logged P) → Path → List ℕ → Type 0
@@ -99,17 +94,12 @@ module _ {H P : Type 0} (mac : H → List ℕ → List ℕ → List ℕ) (provid
   abbrev pub IsAnsweredBy : Logged P → List (Logged P) → Path → Type 0
   IsAnsweredBy x before path = AnswersAt x before path ⊎ Answered before path
 
--- A request nominates its pair by USE-CANDIDATE. If nominations have numbers it does by a NOMINATION above 0, and by USE-CANDIDATE only
--- without NOMINATION.
-abbrev pub asks : Bool → Message → Bool
-asks false m = m.attributes.use_candidate
-asks true m = option_map_or (λ n. not (n == 0)) m.attributes.nomination m.attributes.use_candidate
-
--- This entry accepted a Binding request that nominates its pair so. It was received on the reverse path.
+-- This entry accepted a Binding request that nominates its pair: by USE-CANDIDATE, or, if nominations have numbers, by a NOMINATION above 0,
+-- and by USE-CANDIDATE only without NOMINATION. It was received on the reverse path.
 abbrev pub AsksAt : {P : Type 0} → Bool → Logged P → Path → Type 0
 AsksAt numbered x path =
     (at : ℕ) × (by : Path) × (m : Message) × Brings x.call x.entry at by m × (m.method ≡ Binding) × (m.class ≡ class.Request)
-    × (asks numbered m ≡ true) × (reversed by ≡ path)
+    × ((as_taken numbered (request_in at by m)).use_candidate ≡ true) × (reversed by ≡ path)
 
 -- An entry of the log did so.
 abbrev pub AskedBy : {P : Type 0} → Bool → List (Logged P) → Path → Type 0
@@ -117,7 +107,7 @@ AskedBy numbered [] path = ⊥
 AskedBy numbered (x ∷ before) path = AsksAt numbered x path ⊎ AskedBy numbered before path
 
 -- The peer nominated the path: at some call one of its requests, accepted by then, nominates the path as the settings before this call take
--- requests. With the original rules, or without renomination, that is a request with USE-CANDIDATE.
+-- requests. With the profile `Original`, or without renomination, that is a request with USE-CANDIDATE.
 abbrev pub NominatedByPeer : {P : Type 0} → List (Logged P) → Path → Type 0
 NominatedByPeer [] path = ⊥
 NominatedByPeer (x ∷ before) path = AskedBy (has_numbers before) (x ∷ before) path ⊎ NominatedByPeer before path

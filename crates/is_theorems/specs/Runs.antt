@@ -78,7 +78,7 @@ module _ {H P : Type 0} (mac : H → List ℕ → List ℕ → List ℕ) (answer
   PathsAreNominatedByPeer first s log =
       (before : List (Logged P)) (mid after : AgentRecord H P) (x : Logged P) (point : Point first s log before mid x after)
       → IsControlledSince mac answers first (x ∷ before) after
-      (shared_run first s (x ∷ before) after point.following (run_to first s log before mid x after point))
+      (mid, point.at, point.following, shared_run first s before mid point.at point.led, point.given, point.step)
       → (path : Path) → Has x.entry.emitted.selected_paths (Some path) → NominatedByPeer (x ∷ before) path
 
   -- The path that was selected last is that of an eligible pair with the greatest stored priority. If the agent follows its peer,

@@ -1,46 +1,30 @@
 -- The settings of an agent: each changes only if the caller sets it.
-use Rattle.std.specs.Prelude.{◌≡◌, ℕ, Bool, List, [], ◌∷◌, Option, Some, if◌then◌else◌}
+use Rattle.std.specs.Prelude.{◌≡◌, ℕ, ◌<◌, Bool, List, [], ◌∷◌, map, Option, Some, if◌then◌else◌}
 use Rattle.rand_core.specs.Stream.{Stream}
-use Rattle.is_stun.specs.declared.timing.ConsentSetting.{ConsentSetting}
-use Rattle.is_stun.specs.declared.timing.Profile.{Profile}
 use Rattle.is_candidate.specs.Candidates.{CandidateRecord}
+use Rattle.is_rules.specs.declared.settings.Settings.{Settings}
 use Rattle.is_rules.specs.Agent.{AgentRecord}
+use Rattle.is_rules.specs.Settings.{settings_of, with_settings}
 use Rattle.is_rules.specs.Steps.{Call, SetMtu, SetControlTieBreaker, SetMaxCandidatePairs, SetMaxDiscovered, SetIceLite, SetRenomination, SetProfile, SetConsent, SetTimingAdvance}
-use Rattle.is_rules.specs.Steps.{SetInitialStunRto, SetMaxStunRto, SetMaxStunRetransmits, SetLiteTimeout, SetLocalPreference, Answer, is_done, Entry, Step}
+use Rattle.is_rules.specs.Steps.{SetInitialStunRto, SetMaxStunRto, SetMaxStunRetransmits, SetLiteTimeout, SetLocalPreference, Answer, Done, is_done, Entry, quiet, Step}
+use Rattle.is_theorems.specs.Exchange.{Course}
 use Rattle.is_theorems.specs.Logs.{Logged}
 
--- What the caller sets and nothing else changes. Credentials and the role are not among it: ICE restarts and role conflicts change them.
+-- What the caller sets and nothing else changes: all that `set_settings` sets, as one value, and what only a setter of its own sets.
+-- Credentials and the role are not among it: ICE restarts and role conflicts change them.
 pub record SettingsRecord (P : Type 0) : Type 0 where
-  pub profile : Profile
-  pub consent : ConsentSetting
+  pub settings : Settings
   pub lite : Bool
-  pub renominates : Bool
   pub tie_breaker : ℕ
-  pub max_pairs : ℕ
-  pub max_discovered : Option ℕ
-  pub timing_advance : ℕ
-  pub initial_rto : ℕ
-  pub max_rto : ℕ
-  pub max_retransmits : ℕ
-  pub lite_timeout : ℕ
   pub mtu : ℕ
   pub mtu_warn : ℕ
   pub preference : Option P
 
-abbrev pub settings_of : {H P : Type 0} → AgentRecord H P → SettingsRecord P
-settings_of a = record {
-  profile = a.timing.profile;
-  consent = a.timing.consent;
+abbrev pub all_settings_of : {H P : Type 0} → AgentRecord H P → SettingsRecord P
+all_settings_of a = record {
+  settings = settings_of a;
   lite = a.lite;
-  renominates = a.renominates;
   tie_breaker = a.tie_breaker;
-  max_pairs = a.max_pairs;
-  max_discovered = a.max_discovered;
-  timing_advance = a.timing_advance;
-  initial_rto = a.timing.initial_rto.0;
-  max_rto = a.timing.max_rto.0;
-  max_retransmits = a.timing.max_retransmits;
-  lite_timeout = a.timing.lite_timeout.0;
   mtu = a.mtu;
   mtu_warn = a.mtu_warn;
   preference = a.preference;
@@ -48,18 +32,18 @@ settings_of a = record {
 
 -- A setter sets its own setting, and only if it returns Ok. Any other call leaves all.
 abbrev pub settings_after : {P : Type 0} → Call P → Answer → SettingsRecord P → SettingsRecord P
-settings_after (SetProfile profile) answer old = record old { profile = profile }
-settings_after (SetConsent consent) answer old = record old { consent = consent }
+settings_after (SetProfile profile) answer old = record old { settings = record old.settings { profile = profile } }
+settings_after (SetTimingAdvance by) answer old = record old { settings = record old.settings { timing_advance = record { 0 = by } } }
+settings_after (SetInitialStunRto rto) answer old = record old { settings = record old.settings { initial_rto = record { 0 = rto } } }
+settings_after (SetMaxStunRto rto) answer old = record old { settings = record old.settings { max_rto = record { 0 = rto } } }
+settings_after (SetMaxStunRetransmits n) answer old = if is_done answer then record old { settings = record old.settings { max_retransmits = n } } else old
+settings_after (SetLiteTimeout by) answer old = record old { settings = record old.settings { lite_timeout = record { 0 = by } } }
+settings_after (SetConsent consent) answer old = record old { settings = record old.settings { consent = consent } }
+settings_after (SetMaxCandidatePairs limit) answer old = record old { settings = record old.settings { max_pairs = limit } }
+settings_after (SetMaxDiscovered limit) answer old = record old { settings = record old.settings { max_discovered = limit } }
+settings_after (SetRenomination renominates) answer old = record old { settings = record old.settings { renomination = renominates } }
 settings_after (SetIceLite lite) answer old = record old { lite = lite }
-settings_after (SetRenomination renominates) answer old = record old { renominates = renominates }
 settings_after (SetControlTieBreaker tie_breaker) answer old = record old { tie_breaker = tie_breaker }
-settings_after (SetMaxCandidatePairs limit) answer old = record old { max_pairs = limit }
-settings_after (SetMaxDiscovered limit) answer old = record old { max_discovered = limit }
-settings_after (SetTimingAdvance by) answer old = record old { timing_advance = by }
-settings_after (SetInitialStunRto rto) answer old = record old { initial_rto = rto }
-settings_after (SetMaxStunRto rto) answer old = record old { max_rto = rto }
-settings_after (SetMaxStunRetransmits limit) answer old = if is_done answer then record old { max_retransmits = limit } else old
-settings_after (SetLiteTimeout by) answer old = record old { lite_timeout = by }
 settings_after (SetMtu mtu warn) answer old = if is_done answer then record old { mtu = mtu; mtu_warn = warn } else old
 settings_after (SetLocalPreference object) answer old = record old { preference = Some object }
 settings_after _ answer old = old
@@ -73,4 +57,21 @@ settings_along first (x ∷ before) = settings_after x.call x.entry.answer (sett
 abbrev pub SettingsAreSet : {H P : Type 0} → (H → List ℕ → List ℕ → List ℕ) → (P → CandidateRecord → ℕ → ℕ → Type 0) → Type 0
 SettingsAreSet {H = H} {P = P} mac answers =
     (old new : AgentRecord H P) (s t : Stream) (call : Call P) (e : Entry) → Step mac answers old s call e new t
-    → settings_of new ≡ settings_after call e.answer (settings_of old)
+    → all_settings_of new ≡ settings_after call e.answer (all_settings_of old)
+
+-- The theorem: `set_settings` sets all of its value, and leaves the others.
+abbrev pub AllAreSet : Type 0 → Type 0 → Type 0
+AllAreSet H P = (old : AgentRecord H P) (s : Settings) → all_settings_of (with_settings s old) ≡ record (all_settings_of old) { settings = s }
+
+-- the setters of all that `set_settings` sets, in an order in which they may be called
+abbrev pub setters_of : {P : Type 0} → Settings → List (Call P)
+setters_of s =
+    SetProfile s.profile ∷ SetConsent s.consent ∷ SetMaxStunRetransmits s.max_retransmits ∷ SetLiteTimeout s.lite_timeout.0
+    ∷ SetInitialStunRto s.initial_rto.0 ∷ SetMaxStunRto s.max_rto.0 ∷ SetTimingAdvance s.timing_advance.0
+    ∷ SetMaxCandidatePairs s.max_pairs ∷ SetMaxDiscovered s.max_discovered ∷ SetRenomination s.renomination ∷ []
+
+-- The theorem: `set_settings` is an execution of these setters. So what holds of executions holds of agents whose settings are set at once.
+abbrev pub AllAreSetInTurn : {H P : Type 0} → (H → List ℕ → List ℕ → List ℕ) → (P → CandidateRecord → ℕ → ℕ → Type 0) → Type 0
+AllAreSetInTurn {H = H} {P = P} mac answers =
+    (old : AgentRecord H P) (s : Settings) (random : Stream) → 0 < s.max_retransmits
+    → Course mac answers (map (λ call. (call, quiet Done)) (setters_of s)) old (with_settings s old)

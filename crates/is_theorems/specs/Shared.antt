@@ -7,11 +7,12 @@ use Rattle.is_pair.specs.Pairs.{PairRecord}
 use Rattle.is_rules.specs.declared.credentials.IceCreds.{IceCreds}
 use Rattle.is_rules.specs.declared.emitted.Path.{Path}
 use Rattle.is_rules.specs.Agent.{AgentRecord, fresh}
+use Rattle.is_rules.specs.Effects.{clears}
 use Rattle.is_rules.specs.Nominating.{is_eligible}
 use Rattle.is_rules.specs.Points.{HasSelected, IsNominationPoint}
 use Rattle.is_rules.specs.Sound.{GivesBased}
 use Rattle.is_rules.specs.Steps.{Step}
-use Rattle.is_theorems.specs.Logs.{Logged, clears_at, NeverLite, last_selected, IsAnsweredBy, NominatedByPeer}
+use Rattle.is_theorems.specs.Logs.{Logged, NeverLite, last_selected, IsAnsweredBy, NominatedByPeer}
 
 module _ {H P : Type 0} where
   -- The agent is newly created, in either role.
@@ -36,7 +37,7 @@ module _ {H P : Type 0} where
     abbrev pub IsControlledSince : (first : AgentRecord H P) (log : List (Logged P)) (last : AgentRecord H P) → SharedRun first log last → Type 0
     IsControlledSince first [] last run = last.controlling ≡ false
     IsControlledSince first (x ∷ before) last run =
-        (last.controlling ≡ false) × ((clears_at x ≡ true) ⊎ IsControlledSince first before run.0 run.3)
+        (last.controlling ≡ false) × ((clears x.call x.entry.answer ≡ true) ⊎ IsControlledSince first before run.0 run.3)
 
     -- ---- the theorems. They speak of the last call of an execution, and so of each call: what leads up to one is an execution, too.
 

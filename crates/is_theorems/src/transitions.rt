@@ -2,7 +2,7 @@
 
 ghost use Rattle.is_theorems.specs.Reporting.{EventsAreSelected};
 ghost use Rattle.is_theorems.specs.RoleView.{RoleTheorem};
-ghost use Rattle.is_theorems.specs.Settings.{SettingsAreSet};
+ghost use Rattle.is_theorems.specs.Settings.{SettingsAreSet, AllAreSet, AllAreSetInTurn};
 ghost use Rattle.is_rules.specs.Effects.{RejectionKeeps, PathTheorem, TradeTheorem};
 ghost use Rattle.is_rules.specs.Sound.{FreshIsSound};
 
@@ -44,4 +44,14 @@ pub fn events_are_selected<H: Sha1HmacProvider, P: LocalPreference>()
 /// A call changes the settings only as its setter says, whatever the agent receives.
 pub fn settings_are_set<H: Sha1HmacProvider, P: LocalPreference>()
     ensures { SettingsAreSet H.mac P.answers }
+{}
+
+/// `set_settings` sets all of its value at once, and leaves what else the caller sets.
+pub fn all_settings_are_set<H: Sha1HmacProvider, P: LocalPreference>()
+    ensures { AllAreSet H P }
+{}
+
+/// `set_settings` does what the setters of its fields do, one after another.
+pub fn all_settings_are_set_in_turn<H: Sha1HmacProvider, P: LocalPreference>()
+    ensures { AllAreSetInTurn H.mac P.answers }
 {}

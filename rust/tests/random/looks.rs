@@ -45,6 +45,7 @@ pub fn look_at_message(m: &StunMessage<'_>, random: &mut Random) {
     black_box((m.xor_relayed_address(), m.software(), m.ice_controlled(), m.ice_controlling(), m.network_cost(), m.has_integrity()));
     black_box((m.nomination(), m.has_fingerprint(), m.is_signed_by(PASSWORD.as_bytes()), m.verify(b"", no_hmac), format!("{m:?}").len()));
     black_box((m.is_binding_request(), m.is_successful_binding_response(), m.is_failed_binding_response(), m.is_allocate_request()));
+    black_box((m.requested_transport(), m.requested_family()));
     black_box((m.is_create_permission_request(), m.is_channel_bind_request(), m.is_refresh_request(), m.is_send_indication()));
     if let (Some(username), Some((receiver, sender))) = (m.username(), m.split_username()) {
         assert_eq!(format!("{receiver}:{sender}"), username);

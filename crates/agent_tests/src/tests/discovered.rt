@@ -1,4 +1,4 @@
-//! The rule `discovered_if_served`: which packets report their source.
+//! Which packets report their source with the profile `Modern`.
 
 use super::step::Call::*;
 use super::step::Count::*;

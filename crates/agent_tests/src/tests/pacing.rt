@@ -12,7 +12,7 @@ use super::*;
 use is::Profile;
 
 #[test]
-fn early_pacing_is_shorter(rt: HostRuntime) -> Result<(), Fail> {
+fn until_it_is_settled_the_interval_is_shorter(rt: HostRuntime) -> Result<(), Fail> {
     play(rt.alloc(), &PACED)
 }
 

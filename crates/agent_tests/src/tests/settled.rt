@@ -1,5 +1,5 @@
-//! The rule `state_after_nomination`: the agent is Connected or Completed if and only if the path of the last `NominatedSend` is that
-//! of a pair that can be used.
+//! The connection state with the profile `Modern`: the agent is Connected or Completed if and only if the path of the last
+//! `NominatedSend` is that of a pair that can be used.
 
 use super::step::Call::*;
 use super::step::Emitted::*;

@@ -13,7 +13,7 @@ use Rattle.is_theorems.specs.Logs.{NeverLite}
 use Rattle.is_theorems.specs.Polled.{IsControlledSinceRestart, WaitingAreSelected, WaitingAreAnswered, WaitingAreNominatedByPeer}
 use Rattle.is_theorems.specs.Reporting.{EventsAreSelected, selecting}
 use Rattle.is_theorems.specs.Runs.{IsFresh, Point, Run, shared_run}
-use Rattle.is_theorems.specs.Settings.{SettingsRecord, settings_of, settings_after, settings_along, SettingsAreSet}
+use Rattle.is_theorems.specs.Settings.{SettingsRecord, all_settings_of, settings_after, settings_along, SettingsAreSet}
 use Rattle.is_theorems.specs.Shared.{SharedRun}
 use Rattle.is.specs.declared.world_events.Side.{Side}
 use Rattle.is.specs.AcceptedNominationsIn.{Occurrence}
@@ -83,8 +83,8 @@ module _ {H P : Type 0} (mac : H → List ℕ → List ℕ → List ℕ) (answer
   -- ---- settings
 
   settings_last : SettingsAreSet {H = H} {P = P} mac answers → (first last : AgentRecord H P) (log : List (agent.Logged P)) → SharedRun mac answers first log last
-      → settings_of last ≡ settings_along (settings_of first) log
-  settings_last law first last [] run = ap (λ (a : AgentRecord H P). settings_of a) run
+      → all_settings_of last ≡ settings_along (all_settings_of first) log
+  settings_last law first last [] run = ap (λ (a : AgentRecord H P). all_settings_of a) run
   settings_last law first last (x ∷ before) (mid, s, t, run, given, step) =
       law mid last s t x.call x.entry step
       ∙ ap (λ (k : SettingsRecord P). settings_after x.call x.entry.answer k) (settings_last law first mid before run)

@@ -5,7 +5,7 @@ use crate::agent_settings::{
     is_ice_settings,
 };
 use crate::codes;
-use crate::making::{is_ice_agent_free, is_ice_agent_new};
+use crate::making::{free, is_ice_agent_new};
 use crate::slot::Slot;
 
 /// The numbers of the original, and of RFC 8445, sections 14.2 and 14.3.
@@ -98,7 +98,7 @@ fn settings_are_set_and_read(rt: HostRuntime) {
         assert!(rt; asked == codes::OK);
         assert!(rt; are_same(&settings, &wanted));
     }
-    is_ice_agent_free(alloc, &mut slot);
+    free(alloc, &mut slot);
 }
 
 #[test]
@@ -114,5 +114,5 @@ fn without_a_check_nothing_is_set(rt: HostRuntime) {
     let asked = is_ice_settings(alloc, &mut slot, &mut settings);
     assert!(rt; asked == codes::OK);
     assert!(rt; are_same(&settings, &MODERN));
-    is_ice_agent_free(alloc, &mut slot);
+    free(alloc, &mut slot);
 }

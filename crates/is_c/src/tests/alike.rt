@@ -5,7 +5,7 @@ use crate::address::Address;
 use crate::candidate::LocalCandidate;
 use crate::candidates::{is_ice_add_local, is_ice_alike_local, is_ice_invalidate_local};
 use crate::codes;
-use crate::making::{is_ice_agent_free, is_ice_agent_new};
+use crate::making::{free, is_ice_agent_new};
 use crate::session::is_ice_restart;
 use crate::slot::Slot;
 use std::alloc::Global;
@@ -68,7 +68,7 @@ fn alike_are_those_of_one_kind_and_version(rt: HostRuntime) {
     assert!(rt; count(alloc, &mut slot, &seen(2)) == 0);
     assert!(rt; adds(alloc, &mut slot, &over_tcp));
     assert!(rt; count(alloc, &mut slot, &own) == 2);
-    is_ice_agent_free(alloc, &mut slot);
+    free(alloc, &mut slot);
 }
 
 #[test]
@@ -90,7 +90,7 @@ fn those_that_were_discarded_are_alike(rt: HostRuntime) {
     let dropped = is_ice_restart(alloc, &mut slot, b"DDDD", b"SSSS", false);
     assert!(rt; dropped == codes::OK);
     assert!(rt; count(alloc, &mut slot, &own) == 0);
-    is_ice_agent_free(alloc, &mut slot);
+    free(alloc, &mut slot);
 }
 
 #[test]
@@ -120,5 +120,5 @@ fn what_is_no_candidate_is_not_counted(rt: HostRuntime) {
     let bad = is_ice_alike_local(alloc, &mut slot, &unspecified, &mut count);
     assert!(rt; bad == codes::BAD_CANDIDATE);
     assert!(rt; count == 7);
-    is_ice_agent_free(alloc, &mut slot);
+    free(alloc, &mut slot);
 }

@@ -4,7 +4,7 @@ use super::{REQUEST, address, host, no_packet};
 use crate::candidates::is_ice_add_local;
 use crate::codes;
 use crate::credentials::is_ice_set_remote_credentials;
-use crate::making::{is_ice_agent_free, is_ice_agent_new};
+use crate::making::{free, is_ice_agent_new};
 use crate::packets::{
     is_ice_handle_packet, is_ice_handle_timeout, is_ice_poll_timeout, is_ice_poll_timeout_soon,
     is_ice_poll_transmit,
@@ -96,7 +96,7 @@ fn each_timeout_serves_an_early_request(rt: HostRuntime) {
     assert!(rt; sent_to(alloc, &mut slot) == 2000);
     assert!(rt; sent_to(alloc, &mut slot) == 2001);
     assert!(rt; sent_to(alloc, &mut slot) == 0);
-    is_ice_agent_free(alloc, &mut slot);
+    free(alloc, &mut slot);
 }
 
 #[test]
@@ -120,5 +120,5 @@ fn an_agent_that_changed_has_a_timeout_soon(rt: HostRuntime) {
     assert!(rt; paced == codes::OK);
     assert!(rt; later(alloc, &mut slot) == 2 * MS);
     assert!(rt; soon(alloc, &mut slot) == 2 * MS);
-    is_ice_agent_free(alloc, &mut slot);
+    free(alloc, &mut slot);
 }

@@ -9,7 +9,7 @@ use crate::fields::{
 };
 use crate::infos::{is_ice_json_refusal, is_ice_line_from_json};
 use crate::lines::is_ice_line_with_ufrag;
-use crate::making::{is_ice_agent_free, is_ice_agent_new};
+use crate::making::{free, is_ice_agent_new};
 use crate::mdns::{is_ice_line_name, is_ice_line_with_address};
 use crate::slot::Slot;
 
@@ -178,7 +178,7 @@ fn listed_candidates_have_fields(rt: HostRuntime) {
     assert!(rt; fields.local.port == 44323);
     assert!(rt; fields.foundation_length == 10);
     assert!(rt; fields.ufrag_length == 0);
-    is_ice_agent_free(alloc, &mut slot);
+    free(alloc, &mut slot);
 }
 
 #[test]

@@ -4,7 +4,7 @@ use super::{address, host};
 use crate::candidates::{is_ice_add_local, is_ice_add_remote, is_ice_invalidate};
 use crate::codes;
 use crate::infos::{is_ice_json_refusal, is_ice_line_from_json};
-use crate::making::{is_ice_agent_free, is_ice_agent_new};
+use crate::making::{free, is_ice_agent_new};
 use crate::settings::is_ice_set_max_candidates;
 use crate::slot::Slot;
 
@@ -35,7 +35,7 @@ fn at_the_limit_none_is_added(rt: HostRuntime) {
     assert!(rt; gone == codes::OK);
     let added = is_ice_add_remote(alloc, &mut slot, ANOTHER, &mut index);
     assert!(rt; added == codes::OK);
-    is_ice_agent_free(alloc, &mut slot);
+    free(alloc, &mut slot);
 }
 
 #[test]

@@ -2,14 +2,14 @@
 
 use super::agent_settings::ORIGINAL;
 use super::selected::is_at;
-use super::stun::{no_message, no_texts};
-use super::{REQUEST, address, host, no_packet};
+use super::stun::no_texts;
+use super::{REQUEST, address, host, no_packet, passes};
 use crate::address::Address;
 use crate::agent_settings::is_ice_set_settings;
 use crate::candidates::{is_ice_add_local, is_ice_add_remote, is_ice_invalidate};
 use crate::codes;
 use crate::credentials::is_ice_set_remote_credentials;
-use crate::making::{is_ice_agent_free, is_ice_agent_new};
+use crate::making::{free, is_ice_agent_new};
 use crate::packets::{is_ice_handle_packet, is_ice_handle_timeout, is_ice_poll_transmit};
 use crate::paths::MediaPath;
 use crate::removed::{Removed, is_ice_removed_at, is_ice_removed_count};
@@ -19,7 +19,7 @@ use crate::settings::{
 };
 use crate::slot::Slot;
 use crate::stun_client::Transaction;
-use crate::stun_message::Number;
+use crate::stun_message::{Message, Number};
 use crate::stun_write::is_ice_stun_write;
 use std::alloc::Global;
 
@@ -118,6 +118,28 @@ fn checks(alloc: Global, slot: &mut Slot, now: u64, id: &[u8]) -> bool {
     timed == codes::OK && sent == codes::OK && is_at(&packet.destination, 2, 2000)
 }
 
+/// Makes a timeout, and returns whether a pair was removed at it and at none before.
+fn fails(alloc: Global, slot: &mut Slot, now: u64) -> bool {
+    let before = count(alloc, slot);
+    let timed = is_ice_handle_timeout(alloc, slot, now, b"twelve third");
+    before == 0 && timed == codes::OK && count(alloc, slot) == 1
+}
+
+/// Adds the candidate of this line. Whether it was added.
+fn signals(alloc: Global, slot: &mut Slot, line: &[u8]) -> bool {
+    let mut index = 9;
+    is_ice_add_remote(alloc, slot, line, &mut index) == codes::OK
+}
+
+/// The removed pair with this index; the unset one if there is none.
+fn removed_at(alloc: Global, slot: &mut Slot, index: usize) -> Removed {
+    let mut removed = unset();
+    match is_ice_removed_at(alloc, slot, index, &mut removed) {
+        codes::OK => removed,
+        _ => unset(),
+    }
+}
+
 fn count(alloc: Global, slot: &mut Slot) -> usize {
     let mut count = 99;
     match is_ice_removed_count(alloc, slot, &mut count) {
@@ -131,22 +153,12 @@ fn count(alloc: Global, slot: &mut Slot) -> usize {
 fn a_pair_without_a_response_is_removed(rt: HostRuntime) {
     let alloc = rt.alloc();
     let mut slot = Slot::empty(alloc);
-    let mut removed = unset();
-    let mut index = 9;
     assert!(rt; begins(alloc, &mut slot, true));
-    let added = is_ice_add_remote(alloc, &mut slot, PEER, &mut index);
-    assert!(rt; added == codes::OK);
+    assert!(rt; signals(alloc, &mut slot, PEER));
     assert!(rt; checks(alloc, &mut slot, 0, b"twelve bytes"));
     assert!(rt; checks(alloc, &mut slot, 250 * MS, b"twelve other"));
-    assert!(rt; count(alloc, &mut slot) == 0);
-    let none = is_ice_removed_at(alloc, &mut slot, 0, &mut removed);
-    assert!(rt; none == codes::NOTHING);
-    assert!(rt; is_unset(&removed));
-    let failed = is_ice_handle_timeout(alloc, &mut slot, 750 * MS, b"twelve third");
-    assert!(rt; failed == codes::OK);
-    assert!(rt; count(alloc, &mut slot) == 1);
-    let one = is_ice_removed_at(alloc, &mut slot, 0, &mut removed);
-    assert!(rt; one == codes::OK);
+    assert!(rt; fails(alloc, &mut slot, 750 * MS));
+    let removed = removed_at(alloc, &mut slot, 0);
     assert!(rt; is_of(&removed, 2, NO_RESPONSE));
     assert!(rt; removed.checks_sent == 2);
     assert!(rt; removed.responses == 0);
@@ -158,68 +170,86 @@ fn a_pair_without_a_response_is_removed(rt: HostRuntime) {
     let again = is_ice_restart(alloc, &mut slot, b"CCCC", b"RRRR", true);
     assert!(rt; again == codes::OK);
     assert!(rt; count(alloc, &mut slot) == 0);
-    is_ice_agent_free(alloc, &mut slot);
+    free(alloc, &mut slot);
+}
+
+/// An error response to the check with the ID "twelve bytes".
+fn error_response(code: u64) -> Message {
+    let none = Number {
+        value: 0,
+        is_set: false,
+    };
+    let nowhere = Address {
+        family: 0,
+        bytes: [0; 16],
+        port: 0,
+        flow: 0,
+        scope: 0,
+    };
+    Message {
+        priority: none,
+        controlled: none,
+        controlling: none,
+        error_code: Number {
+            value: code,
+            is_set: true,
+        },
+        lifetime: none,
+        channel_number: none,
+        network_id: none,
+        network_cost: none,
+        nomination: none,
+        mapped: nowhere,
+        peer: nowhere,
+        relayed: nowhere,
+        id: Transaction {
+            bytes: *b"twelve bytes",
+        },
+        method: 1,
+        class: 3,
+        use_candidate: false,
+        has_integrity: true,
+        has_fingerprint: true,
+        requested_transport: 0,
+        requested_family: 0,
+    }
+}
+
+/// The peer with the password QQQQ responds to the agent. Whether its message was accepted.
+fn responds(alloc: Global, slot: &mut Slot, now: u64, message: &Message) -> bool {
+    let mut buffer = [0; 100];
+    let mut length = 0;
+    let wrote = is_ice_stun_write(message, &no_texts(), b"", b"QQQQ", &mut buffer, &mut length);
+    let bytes = buffer.get(..length).unwrap_or(&[]);
+    let taken = is_ice_handle_packet(alloc, slot, now, 0, &peer(), &own(), bytes);
+    wrote == codes::OK && taken == codes::OK
 }
 
 #[test]
 fn an_error_response_leaves_its_code(rt: HostRuntime) {
     let alloc = rt.alloc();
     let mut slot = Slot::empty(alloc);
-    let mut removed = unset();
-    let mut index = 9;
-    let mut response = [0; 100];
-    let mut length = 0;
-    let unset_number = Number {
-        value: 0,
-        is_set: false,
-    };
-    let mut message = no_message();
-    message.priority = unset_number;
-    message.controlled = unset_number;
-    message.controlling = unset_number;
-    message.lifetime = unset_number;
-    message.channel_number = unset_number;
-    message.network_id = unset_number;
-    message.network_cost = unset_number;
-    message.nomination = unset_number;
-    message.mapped.family = 0;
-    message.peer.family = 0;
-    message.relayed.family = 0;
-    message.requested_transport = 0;
-    message.requested_family = 0;
-    message.use_candidate = false;
-    message.error_code.value = 400;
-    message.id = Transaction {
-        bytes: *b"twelve bytes",
-    };
-    message.method = 1;
-    message.class = 3;
     assert!(rt; begins(alloc, &mut slot, true));
-    let added = is_ice_add_remote(alloc, &mut slot, PEER, &mut index);
-    assert!(rt; added == codes::OK);
+    assert!(rt; signals(alloc, &mut slot, PEER));
     assert!(rt; checks(alloc, &mut slot, 0, b"twelve bytes"));
-    let wrote = is_ice_stun_write(
-        &message,
-        &no_texts(),
-        b"",
-        b"QQQQ",
-        &mut response,
-        &mut length,
-    );
-    assert!(rt; wrote == codes::OK);
-    let bytes = response.get(..length).unwrap_or(&[]);
-    let taken = is_ice_handle_packet(alloc, &mut slot, 10 * MS, 0, &peer(), &own(), bytes);
-    assert!(rt; taken == codes::OK);
+    assert!(rt; responds(alloc, &mut slot, 10 * MS, &error_response(400)));
     assert!(rt; checks(alloc, &mut slot, 250 * MS, b"twelve other"));
-    let failed = is_ice_handle_timeout(alloc, &mut slot, 750 * MS, b"twelve third");
-    assert!(rt; failed == codes::OK);
-    let one = is_ice_removed_at(alloc, &mut slot, 0, &mut removed);
-    assert!(rt; one == codes::OK);
+    assert!(rt; fails(alloc, &mut slot, 750 * MS));
+    let removed = removed_at(alloc, &mut slot, 0);
     assert!(rt; is_of(&removed, 2, NO_RESPONSE));
     assert!(rt; removed.error == 400);
     assert!(rt; removed.checks_sent == 2);
     assert!(rt; removed.responses == 0);
-    is_ice_agent_free(alloc, &mut slot);
+    free(alloc, &mut slot);
+}
+
+/// A controlled agent at 10.0.0.2:2000, whose peer is AAAA with the password PPPP. Whether it was made.
+fn is_peer(alloc: Global, slot: &mut Slot) -> bool {
+    let mut index = 9;
+    let made = is_ice_agent_new(alloc, slot, b"BBBB", b"QQQQ", 2);
+    let known = is_ice_set_remote_credentials(alloc, slot, b"AAAA", b"PPPP");
+    let added = is_ice_add_local(alloc, slot, &host(peer()), &mut index);
+    made == codes::OK && known == codes::OK && added == codes::OK
 }
 
 // Consent ends 29.6 s after the last answered check was sent (RFC 7675, section 5.1, has 30 s at most).
@@ -228,45 +258,23 @@ fn a_pair_that_lost_consent_is_removed(rt: HostRuntime) {
     let alloc = rt.alloc();
     let mut near = Slot::empty(alloc);
     let mut far = Slot::empty(alloc);
-    let mut removed = unset();
-    let mut packet = no_packet();
-    let mut index = 9;
-    let mut buffer = [0; 200];
     assert!(rt; begins(alloc, &mut near, false));
-    let made = is_ice_agent_new(alloc, &mut far, b"BBBB", b"QQQQ", 2);
-    assert!(rt; made == codes::OK);
-    let known = is_ice_set_remote_credentials(alloc, &mut far, b"AAAA", b"PPPP");
-    assert!(rt; known == codes::OK);
-    let added = is_ice_add_local(alloc, &mut far, &host(peer()), &mut index);
-    assert!(rt; added == codes::OK);
-    let added = is_ice_add_remote(alloc, &mut near, PEER, &mut index);
-    assert!(rt; added == codes::OK);
+    assert!(rt; is_peer(alloc, &mut far));
+    assert!(rt; signals(alloc, &mut near, PEER));
     let begun = is_ice_handle_timeout(alloc, &mut near, 0, b"twelve bytes");
     assert!(rt; begun == codes::OK);
-    let sent = is_ice_poll_transmit(alloc, &mut near, &mut buffer, &mut packet);
-    assert!(rt; sent == codes::OK);
-    let check = &buffer[..packet.length];
-    let taken = is_ice_handle_packet(alloc, &mut far, 10 * MS, 0, &own(), &peer(), check);
-    assert!(rt; taken == codes::OK);
-    let sent = is_ice_poll_transmit(alloc, &mut far, &mut buffer, &mut packet);
-    assert!(rt; sent == codes::OK);
-    let reply = &buffer[..packet.length];
-    let taken = is_ice_handle_packet(alloc, &mut near, 20 * MS, 0, &peer(), &own(), reply);
-    assert!(rt; taken == codes::OK);
+    assert!(rt; passes(alloc, &mut near, &mut far, 10 * MS));
+    assert!(rt; passes(alloc, &mut far, &mut near, 20 * MS));
     assert!(rt; checks(alloc, &mut near, 29_599 * MS, b"twelve other"));
-    assert!(rt; count(alloc, &mut near) == 0);
-    let lost = is_ice_handle_timeout(alloc, &mut near, 29_600 * MS, b"twelve third");
-    assert!(rt; lost == codes::OK);
-    assert!(rt; count(alloc, &mut near) == 1);
-    let one = is_ice_removed_at(alloc, &mut near, 0, &mut removed);
-    assert!(rt; one == codes::OK);
+    assert!(rt; fails(alloc, &mut near, 29_600 * MS));
+    let removed = removed_at(alloc, &mut near, 0);
     assert!(rt; is_of(&removed, 2, CONSENT_LOST));
     assert!(rt; removed.checks_sent == 2);
     assert!(rt; removed.responses == 1);
     assert!(rt; removed.state == 2);
     assert!(rt; removed.error == 0);
-    is_ice_agent_free(alloc, &mut near);
-    is_ice_agent_free(alloc, &mut far);
+    free(alloc, &mut near);
+    free(alloc, &mut far);
 }
 
 /// An agent that the request is for, at 10.0.0.1:1000. Whether it took the request at the time 0.
@@ -289,20 +297,15 @@ fn is_asked(alloc: Global, slot: &mut Slot, lite: bool) -> bool {
 fn a_lite_agent_removes_the_pair_of_a_silent_peer(rt: HostRuntime) {
     let alloc = rt.alloc();
     let mut slot = Slot::empty(alloc);
-    let mut removed = unset();
     assert!(rt; is_asked(alloc, &mut slot, true));
     let kept = is_ice_handle_timeout(alloc, &mut slot, 14_999 * MS, b"twelve bytes");
     assert!(rt; kept == codes::OK);
-    assert!(rt; count(alloc, &mut slot) == 0);
-    let gone = is_ice_handle_timeout(alloc, &mut slot, 15_000 * MS, b"twelve other");
-    assert!(rt; gone == codes::OK);
-    assert!(rt; count(alloc, &mut slot) == 1);
-    let one = is_ice_removed_at(alloc, &mut slot, 0, &mut removed);
-    assert!(rt; one == codes::OK);
+    assert!(rt; fails(alloc, &mut slot, 15_000 * MS));
+    let removed = removed_at(alloc, &mut slot, 0);
     assert!(rt; is_of(&removed, 2, PEER_SILENT));
     assert!(rt; removed.checks_sent == 0);
     assert!(rt; removed.responses == 0);
-    is_ice_agent_free(alloc, &mut slot);
+    free(alloc, &mut slot);
 }
 
 // The request comes before its candidate is signaled, whose priority is greater than that of the request.
@@ -310,52 +313,55 @@ fn a_lite_agent_removes_the_pair_of_a_silent_peer(rt: HostRuntime) {
 fn a_signaled_candidate_replaces_a_pair(rt: HostRuntime) {
     let alloc = rt.alloc();
     let mut slot = Slot::empty(alloc);
-    let mut removed = unset();
-    let mut index = 9;
     assert!(rt; is_asked(alloc, &mut slot, false));
     assert!(rt; count(alloc, &mut slot) == 0);
-    let added = is_ice_add_remote(alloc, &mut slot, PEER, &mut index);
-    assert!(rt; added == codes::OK);
+    assert!(rt; signals(alloc, &mut slot, PEER));
     assert!(rt; count(alloc, &mut slot) == 1);
-    let one = is_ice_removed_at(alloc, &mut slot, 0, &mut removed);
-    assert!(rt; one == codes::OK);
+    let removed = removed_at(alloc, &mut slot, 0);
     assert!(rt; is_of(&removed, 2, REPLACED));
     assert!(rt; removed.checks_sent == 0);
-    is_ice_agent_free(alloc, &mut slot);
+    free(alloc, &mut slot);
+}
+
+/// The better of two pairs evicted the other one, and was then invalidated. Whether all that was done.
+fn evicts(alloc: Global, slot: &mut Slot) -> bool {
+    let limited = is_ice_set_max_pairs(alloc, slot, 1);
+    let added = signals(alloc, slot, OTHER) && signals(alloc, slot, PEER);
+    let gone = is_ice_invalidate(alloc, slot, PEER);
+    limited == codes::OK && added && gone == codes::OK
 }
 
 #[test]
 fn removed_pairs_are_in_the_order_of_their_removal(rt: HostRuntime) {
     let alloc = rt.alloc();
     let mut slot = Slot::empty(alloc);
-    let mut removed = unset();
-    let mut index = 9;
     assert!(rt; begins(alloc, &mut slot, false));
-    let limited = is_ice_set_max_pairs(alloc, &mut slot, 1);
-    assert!(rt; limited == codes::OK);
-    let added = is_ice_add_remote(alloc, &mut slot, OTHER, &mut index);
-    assert!(rt; added == codes::OK);
-    let added = is_ice_add_remote(alloc, &mut slot, PEER, &mut index);
-    assert!(rt; added == codes::OK);
-    let gone = is_ice_invalidate(alloc, &mut slot, PEER);
-    assert!(rt; gone == codes::OK);
+    assert!(rt; evicts(alloc, &mut slot));
     assert!(rt; count(alloc, &mut slot) == 2);
+    let first = removed_at(alloc, &mut slot, 0);
+    assert!(rt; is_of(&first, 3, EVICTED));
+    assert!(rt; first.checks_sent == 0);
+    assert!(rt; first.state == 0);
+    // The local candidate, of the controlling agent, has a priority that is greater by 1 (RFC 8445, section 6.1.2.3).
+    assert!(rt; first.priority == (2130706174 << 32) + 2 * 2130706175 + 1);
+    let second = removed_at(alloc, &mut slot, 1);
+    assert!(rt; is_of(&second, 2, INVALIDATED));
+    free(alloc, &mut slot);
+}
+
+#[test]
+fn past_the_last_there_is_none(rt: HostRuntime) {
+    let alloc = rt.alloc();
+    let mut slot = Slot::empty(alloc);
+    let mut removed = unset();
+    assert!(rt; begins(alloc, &mut slot, false));
+    assert!(rt; evicts(alloc, &mut slot));
     let past = is_ice_removed_at(alloc, &mut slot, 2, &mut removed);
     assert!(rt; past == codes::NOTHING);
     let past = is_ice_removed_at(alloc, &mut slot, usize::MAX, &mut removed);
     assert!(rt; past == codes::NOTHING);
     assert!(rt; is_unset(&removed));
-    let first = is_ice_removed_at(alloc, &mut slot, 0, &mut removed);
-    assert!(rt; first == codes::OK);
-    assert!(rt; is_of(&removed, 3, EVICTED));
-    assert!(rt; removed.checks_sent == 0);
-    assert!(rt; removed.state == 0);
-    // The local candidate, of the controlling agent, has a priority that is greater by 1 (RFC 8445, section 6.1.2.3).
-    assert!(rt; removed.priority == (2130706174 << 32) + 2 * 2130706175 + 1);
-    let second = is_ice_removed_at(alloc, &mut slot, 1, &mut removed);
-    assert!(rt; second == codes::OK);
-    assert!(rt; is_of(&removed, 2, INVALIDATED));
-    is_ice_agent_free(alloc, &mut slot);
+    free(alloc, &mut slot);
 }
 
 #[test]

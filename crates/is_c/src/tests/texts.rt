@@ -9,7 +9,7 @@ use crate::lines::{
     is_ice_candidate_line, is_ice_candidate_preference, is_ice_line_preference,
     is_ice_line_with_ufrag,
 };
-use crate::making::{is_ice_agent_free, is_ice_agent_new};
+use crate::making::{free, is_ice_agent_new};
 use crate::pairs::{Pair, is_ice_find_pair};
 use crate::questions::is_ice_local_candidate;
 use crate::slot::Slot;
@@ -167,7 +167,7 @@ fn an_agent_lists_the_tcp_type(rt: HostRuntime) {
     let reported = is_ice_local_candidate(alloc, &mut slot, 1, &mut text, &mut length);
     assert!(rt; reported == codes::OK);
     assert!(rt; text[..length].ends_with(b" tcptype so ufrag AAAA"));
-    is_ice_agent_free(alloc, &mut slot);
+    free(alloc, &mut slot);
 }
 
 #[test]
@@ -215,5 +215,5 @@ fn the_pair_of_a_candidate_is_found(rt: HostRuntime) {
     assert!(rt; found == codes::OK);
     assert!(rt; (pair.local, pair.remote) == (0, 1));
     assert!(rt; pair.state == 0);
-    is_ice_agent_free(alloc, &mut slot);
+    free(alloc, &mut slot);
 }

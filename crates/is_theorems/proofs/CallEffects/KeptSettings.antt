@@ -32,21 +32,21 @@ use Rattle.is_rules.specs.Roles.{conflict_of, switched, keeps_role}
 use Rattle.is_rules.specs.Settling.{loses_selected, Reselects}
 use Rattle.is_rules.specs.Serving.{is_misled, names_another, pair_served, request_counted, selects_at_requests, with_sender, with_sender_at, Drops, Queues, RecordsAndResponds, FindsOrAddsPair, AddsUnknownSender, CountsAndServes, ResolvesRoleConflictBy, ResolvesRoleConflict, Serves}
 use Rattle.is_rules.specs.Steps.{SetMtu, SetControlTieBreaker, SetMaxCandidatePairs, SetMaxDiscovered, SetIceLite, SetRenomination, SetProfile, SetConsent, SetTimingAdvance, SetInitialStunRto, SetMaxStunRto, SetMaxStunRetransmits, SetLiteTimeout, SetLocalPreference, SetControlling, SetLocalCredentials, SetRemoteCredentials, SkipPairIds, AddLocalCandidate, AddRemoteCandidate, InvalidateCandidate, RestartIce, RecreateCandidatePairs, ReceivePacket, HandleTimeout, PollTransmit, PollTimeout, PollEvent, Entry, Becomes, Receives, NotCalled, Done, Rejected, is_done, quiet}
-use Rattle.is_rules.specs.Settings.{with_retransmits}
+use Rattle.is_rules.specs.Settings.{settings_of, with_retransmits}
 use Rattle.is_rules.specs.Timeouts.{at_request, at_timeout, is_expired, expired_gone, timeout_begun, RemovesExpired, MaintainsPairs, ServesQueued}
 use Rattle.is_rules.specs.Queue.{request_at}
 use Rattle.is_theorems.proofs.CallEffects.AddedCandidates.{by_adding_local, by_adding_remote, by_waking}
 use Rattle.is_theorems.proofs.RuleEffects.UnchangedSettings.{either}
 use Rattle.is_theorems.proofs.RuleEffects.NominatedPairs.{SelectsPath, selects_path}
 use Rattle.is_theorems.proofs.CallEffects.FailedCallsAndNewAgents.{mtu_kept, controlling_kept, local_kept, remote_kept, restart_kept, recreation_kept, enrolment_kept, storing_kept}
-use Rattle.is_theorems.specs.Settings.{SettingsRecord, settings_of, SettingsAreSet}
+use Rattle.is_theorems.specs.Settings.{SettingsRecord, all_settings_of, SettingsAreSet}
 
 module _ {H P : Type 0} where
   abbrev Same : AgentRecord H P → AgentRecord H P → Type 0
-  Same old new = settings_of new ≡ settings_of old
+  Same old new = all_settings_of new ≡ all_settings_of old
 
   made-of : (old new : AgentRecord H P) → new ≡ old → Same old new
-  made-of old new made = ap (λ (a : AgentRecord H P). settings_of a) made
+  made-of old new made = ap (λ (a : AgentRecord H P). all_settings_of a) made
 
   -- ---- nomination
 
@@ -184,27 +184,27 @@ module _ {H P : Type 0} where
   invalidates old new None None found h = kept-of old new h.1
 
   -- a setter that may fail, and the limit of no retransmits, with which it is not called
-  set-if : (set left : SettingsRecord P) (new : AgentRecord H P) (e : Entry) → e ≡ quiet Done → settings_of new ≡ set
-      → settings_of new ≡ (if is_done e.answer then set else left)
-  set-if set left new e is made = subst (λ (x : Entry). settings_of new ≡ (if is_done x.answer then set else left)) (sym is) made
+  set-if : (set left : SettingsRecord P) (new : AgentRecord H P) (e : Entry) → e ≡ quiet Done → all_settings_of new ≡ set
+      → all_settings_of new ≡ (if is_done e.answer then set else left)
+  set-if set left new e is made = subst (λ (x : Entry). all_settings_of new ≡ (if is_done x.answer then set else left)) (sym is) made
 
-  left-if : (set left : SettingsRecord P) (new : AgentRecord H P) (e : Entry) (error : IceError) → e ≡ quiet (Rejected error) → settings_of new ≡ left
-      → settings_of new ≡ (if is_done e.answer then set else left)
-  left-if set left new e error is made = subst (λ (x : Entry). settings_of new ≡ (if is_done x.answer then set else left)) (sym is) made
+  left-if : (set left : SettingsRecord P) (new : AgentRecord H P) (e : Entry) (error : IceError) → e ≡ quiet (Rejected error) → all_settings_of new ≡ left
+      → all_settings_of new ≡ (if is_done e.answer then set else left)
+  left-if set left new e error is made = subst (λ (x : Entry). all_settings_of new ≡ (if is_done x.answer then set else left)) (sym is) made
 
   retransmits : (b : Bool) (n : ℕ) (old new : AgentRecord H P) (s t : Stream) (e : Entry)
       → MatchBool b ((e ≡ quiet NotCalled) × (new ≡ old) × (t ≡ s)) (Becomes (with_retransmits n old) s e new t)
-      → settings_of new ≡ (if is_done e.answer then record (settings_of old) { max_retransmits = n } else settings_of old)
+      → all_settings_of new ≡ (if is_done e.answer then record (all_settings_of old) { settings = record (settings_of old) { max_retransmits = n } } else all_settings_of old)
   retransmits true n old new s t e h =
-      subst (λ (x : Entry). settings_of new ≡ (if is_done x.answer then record (settings_of old) { max_retransmits = n } else settings_of old)) (sym h.0) (made-of old new h.1)
-  retransmits false n old new s t e h = set-if (record (settings_of old) { max_retransmits = n }) (settings_of old) new e h.0 (made-of _ new h.1)
+      subst (λ (x : Entry). all_settings_of new ≡ (if is_done x.answer then record (all_settings_of old) { settings = record (settings_of old) { max_retransmits = n } } else all_settings_of old)) (sym h.0) (made-of old new h.1)
+  retransmits false n old new s t e h = set-if (record (all_settings_of old) { settings = record (settings_of old) { max_retransmits = n } }) (all_settings_of old) new e h.0 (made-of _ new h.1)
 
   module _ (mac : H → List ℕ → List ℕ → List ℕ) (answers : P → CandidateRecord → ℕ → ℕ → Type 0) where
     pub settings-are-set : SettingsAreSet {H = H} {P = P} mac answers
     settings-are-set old new s t (SetMtu target warn) e (Ok _, reported, h, drawn) =
-        search (set-if (record (settings_of old) { mtu = target; mtu_warn = warn }) (settings_of old) new e reported (made-of _ new h.1))
+        search (set-if (record (all_settings_of old) { mtu = target; mtu_warn = warn }) (all_settings_of old) new e reported (made-of _ new h.1))
     settings-are-set old new s t (SetMtu target warn) e (Err error, reported, h, drawn) =
-        search (left-if (record (settings_of old) { mtu = target; mtu_warn = warn }) (settings_of old) new e error reported (kept-of old new (mtu_kept old new target warn error h)))
+        search (left-if (record (all_settings_of old) { mtu = target; mtu_warn = warn }) (all_settings_of old) new e error reported (kept-of old new (mtu_kept old new target warn error h)))
     settings-are-set old new s t (SetControlTieBreaker tie) e h = search (made-of _ new h.1)
     settings-are-set old new s t (SetMaxCandidatePairs n) e h = search (made-of _ new h.1)
     settings-are-set old new s t (SetMaxDiscovered limit) e h = search (made-of _ new h.1)

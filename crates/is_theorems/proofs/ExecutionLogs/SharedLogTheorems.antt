@@ -5,7 +5,6 @@ use Rattle.is_proto.specs.Lists.{Has}
 use Rattle.is_candidate.specs.Candidates.{CandidateRecord}
 use Rattle.is_pair.specs.Pairs.{PairRecord, is_valid, is_nominated}
 use Rattle.is_pair.specs.Checks.{Check}
-use Rattle.is_stun.specs.Message.{Message}
 use Rattle.is_stun.specs.Integrity.{IsSignedBy}
 use Rattle.is_stun.specs.Timing.{is_modern, is_modern_profile}
 use Rattle.is_rules.specs.declared.emitted.Path.{Path}
@@ -19,9 +18,9 @@ use Rattle.is_rules.specs.Sound.{IsSound}
 use Rattle.is_rules.specs.Brought.{IsBrought, IsKept, IsValidOn, IsNominatedOn, IsAnswered, IsNominatedByPeer}
 use Rattle.is_rules.specs.Points.{HasSelected, IsNominationPoint}
 use Rattle.is_rules.specs.Effects.{remote_after, lite_set_by, PathEffect, PathTheorem}
-use Rattle.is_theorems.specs.Logs.{Logged, clears_at, remote_of, NeverLite, IsSent, last_selected, AnswersAt, Answered, IsAnsweredBy, asks, AsksAt, AskedBy, NominatedByPeer}
-use Rattle.is_theorems.specs.Logs.{renomination_set_by, renominates_of, numbering_set_by, numbering_of, has_numbers}
-use Rattle.is_theorems.specs.Settings.{SettingsRecord, settings_of, settings_after}
+use Rattle.is_theorems.specs.Logs.{Logged, clears_at, remote_of, NeverLite, IsSent, last_selected, AnswersAt, Answered, IsAnsweredBy, AsksAt, AskedBy, NominatedByPeer}
+use Rattle.is_theorems.specs.Logs.{numbering_set_by, numbering_of, has_numbers}
+use Rattle.is_theorems.specs.Settings.{SettingsRecord, all_settings_of, settings_after}
 use Rattle.is_theorems.specs.Shared.{IsNewlyCreated, SharedRun, IsControlledSince, SelectionsAreAnswered, SelectionsAreNominatedByPeer, SelectionsAreTop}
 use Rattle.is_theorems.proofs.PathSelection.SelectedPairIsNominated.{IsNamed, names-best, names-next}
 use Rattle.is_theorems.proofs.CallEffects.FailedCallsAndNewAgents.{fresh_sound}
@@ -35,32 +34,19 @@ emitted_apart false f g = g refl
 true_false : {A : Type 0} (b : Bool) → b ≡ true → b ≡ false → A
 true_false b h k = let wrong : true ≡ false = sym h ∙ k in absurd (cc)
 
--- a request that asks as the agent takes it
-asks_as_taken : (numbered : Bool) (at : ℕ) (by : Path) (m : Message) → (as_taken numbered (request_in at by m)).use_candidate ≡ true → asks numbered m ≡ true
-asks_as_taken false at by m is = search is
-asks_as_taken true at by m is = search is
-
 -- ---- whether nominations have numbers, by the calls
 
-pub renomination_set : {P : Type 0} (call : Call P) (answer : Answer) (s : SettingsRecord P) → (settings_after call answer s).renominates ≡ renomination_set_by call s.renominates
-renomination_set (SetMtu mtu warn) answer s = by (is_done answer) where
-  by : (b : Bool) → (if b then record s { mtu = mtu; mtu_warn = warn } else s).renominates ≡ s.renominates
-  by true = refl
-  by false = refl
-renomination_set (SetMaxStunRetransmits limit) answer s = by (is_done answer) where
-  by : (b : Bool) → (if b then record s { max_retransmits = limit } else s).renominates ≡ s.renominates
-  by true = refl
-  by false = refl
-renomination_set _ answer s = refl
+abbrev numbering-in : {P : Type 0} → SettingsRecord P → Bool × Bool
+numbering-in s = (s.settings.renomination, is_modern_profile s.settings.profile)
 
 pub numbering_set : {P : Type 0} (call : Call P) (answer : Answer) (s : SettingsRecord P)
-    → is_modern_profile (settings_after call answer s).profile ≡ numbering_set_by call (is_modern_profile s.profile)
+    → numbering-in (settings_after call answer s) ≡ numbering_set_by call (numbering-in s)
 numbering_set (SetMtu mtu warn) answer s = by (is_done answer) where
-  by : (b : Bool) → is_modern_profile (if b then record s { mtu = mtu; mtu_warn = warn } else s).profile ≡ is_modern_profile s.profile
+  by : (b : Bool) → numbering-in (if b then record s { mtu = mtu; mtu_warn = warn } else s) ≡ numbering-in s
   by true = refl
   by false = refl
 numbering_set (SetMaxStunRetransmits limit) answer s = by (is_done answer) where
-  by : (b : Bool) → is_modern_profile (if b then record s { max_retransmits = limit } else s).profile ≡ is_modern_profile s.profile
+  by : (b : Bool) → numbering-in (if b then record s { settings = record s.settings { max_retransmits = limit } } else s) ≡ numbering-in s
   by true = refl
   by false = refl
 numbering_set _ answer s = refl
@@ -82,13 +68,9 @@ module _ {H P : Type 0} where
         based = s.based;
       })
 
-  renominates-next : (call : Call P) (answer : Answer) (old new : AgentRecord H P) → settings_of new ≡ settings_after call answer (settings_of old)
-      → new.renominates ≡ renomination_set_by call old.renominates
-  renominates-next call answer old new is = ap (λ (s : SettingsRecord P). s.renominates) is ∙ renomination_set call answer (settings_of old)
-
-  numbering-next : (call : Call P) (answer : Answer) (old new : AgentRecord H P) → settings_of new ≡ settings_after call answer (settings_of old)
-      → is_modern new.timing ≡ numbering_set_by call (is_modern old.timing)
-  numbering-next call answer old new is = ap (λ (s : SettingsRecord P). is_modern_profile s.profile) is ∙ numbering_set call answer (settings_of old)
+  numbering-next : (call : Call P) (answer : Answer) (old new : AgentRecord H P) → all_settings_of new ≡ settings_after call answer (all_settings_of old)
+      → (new.renominates, is_modern new.timing) ≡ numbering_set_by call (old.renominates, is_modern old.timing)
+  numbering-next call answer old new is = ap (λ (s : SettingsRecord P). numbering-in s) is ∙ numbering_set call answer (all_settings_of old)
 
 module _ {H P : Type 0} (mac : H → List ℕ → List ℕ → List ℕ) (answers : P → CandidateRecord → ℕ → ℕ → Type 0) (law : PathTheorem {H = H} {P = P} mac answers) where
   -- what the abstract state implies about the log
@@ -99,8 +81,7 @@ module _ {H P : Type 0} (mac : H → List ℕ → List ℕ → List ℕ) (answer
     pub lite_is : NeverLite log → a.lite ≡ false
     pub sent : (path : Path) (id : List ℕ) (controlling : Bool) → IsKept a path id controlling → IsSent log path id
     pub valid : NeverLite log → (path : Path) → IsValidOn a path → Answered mac provider log path
-    pub renominates_is : a.renominates ≡ renominates_of log
-    pub numbering_is : is_modern a.timing ≡ numbering_of log
+    pub numbering_is : (a.renominates, is_modern a.timing) ≡ numbering_of log
     pub queued : (numbered : Bool) (q : RequestRecord) → Has a.queue q → (as_taken numbered q).use_candidate ≡ true → AskedBy numbered log (reversed q.path)
     -- `selected_pair` names the pair that was selected last
     pub named : IsNamed (last_selected log) a
@@ -113,7 +94,6 @@ module _ {H P : Type 0} (mac : H → List ℕ → List ℕ → List ℕ) (answer
     lite_is = λ _. refl;
     sent = λ path id role k. absurd k.2;
     valid = λ _ path k. absurd k.1;
-    renominates_is = refl;
     numbering_is = refl;
     queued = λ numbered q has. absurd has;
     named = λ p has. absurd has;
@@ -141,11 +121,11 @@ module _ {H P : Type 0} (mac : H → List ℕ → List ℕ → List ℕ) (answer
         → AskedBy numbered (x ∷ before) (reversed q.path)
     queued_asks numbered q (inl was) uses = inr (h.queued numbered q was uses)
     queued_asks numbered q (inr (at, by, m, brings, request, is)) uses =
-        let asked : asks numbered m ≡ true = asks_as_taken numbered at by m (subst (λ (y : RequestRecord). (as_taken numbered y).use_candidate ≡ true) is uses) in
+        let asked : (as_taken numbered (request_in at by m)).use_candidate ≡ true = subst (λ (y : RequestRecord). (as_taken numbered y).use_candidate ≡ true) is uses in
         inl (subst (λ (y : RequestRecord). AsksAt numbered x (reversed y.path)) (sym is) (at, by, m, brings, (f.accepted at by m brings).0, request, asked, search))
 
     numbers_is : numbers old ≡ has_numbers before
-    numbers_is = ap (λ b. b && is_modern old.timing) h.renominates_is ∙ ap (λ b. renominates_of before && b) h.numbering_is
+    numbers_is = ap (λ (set : Bool × Bool). set.0 && set.1) h.numbering_is
 
     asked_now : (path : Path) → IsNominatedByPeer old x.call x.entry path → NominatedByPeer (x ∷ before) path
     asked_now path (q, serving, uses, on) =
@@ -158,7 +138,7 @@ module _ {H P : Type 0} (mac : H → List ℕ → List ℕ → List ℕ) (answer
     no_checks : (cs : List Check) (c : Check) → Has cs c → cs ≡ [] → ⊥
     no_checks cs c has none = subst (λ (ks : List Check). Has ks c) none has
 
-    holds_next : settings_of new ≡ settings_after x.call x.entry.answer (settings_of old) → IsSound new → Holds provider (x ∷ before) new
+    holds_next : all_settings_of new ≡ settings_after x.call x.entry.answer (all_settings_of old) → IsSound new → Holds provider (x ∷ before) new
     holds_next set sound = record {
       sound = sound;
       provider_is = f.provider ∙ h.provider_is;
@@ -170,8 +150,7 @@ module _ {H P : Type 0} (mac : H → List ℕ → List ℕ → List ℕ) (answer
       valid = λ never_lite path k. emitted_apart (clears_at x)
           (λ clear. true_false (is_valid k.0) k.2 (f.cleared_pairs clear k.0 k.1).1)
           (λ kept. elim (f.valid (lite_before never_lite) path k) [ inl was ↦ inr (kept, h.valid never_lite.1 path was) | inr now ↦ inl (answers_at path now) ]);
-      renominates_is = renominates-next x.call x.entry.answer old new set ∙ ap (λ b. renomination_set_by x.call b) h.renominates_is;
-      numbering_is = numbering-next x.call x.entry.answer old new set ∙ ap (λ b. numbering_set_by x.call b) h.numbering_is;
+      numbering_is = numbering-next x.call x.entry.answer old new set ∙ ap (λ (s : Bool × Bool). numbering_set_by x.call s) h.numbering_is;
       queued = λ numbered q has uses. queued_asks numbered q (f.queue q has) uses;
       named = names-next mac old new x.call x.entry (last_selected before) f h.sound h.named;
     }

@@ -14,12 +14,11 @@ mod triggered;
 
 use is_candidate::CandidateKind;
 use is_pair::pair::{CandidatePair, PairId};
-use is_proto::{Duration, IceError, Instant};
+use is_proto::{Duration, Instant};
 use is_stun::stun::{StunTiming, TransId};
 use rand_core::SeedableRng;
 use rand_pcg::Pcg32;
 use std::alloc::Global;
-use std::test::Fail;
 
 /// So many milliseconds after the beginning.
 fn at(millis: u64) -> Instant {
@@ -77,23 +76,45 @@ impl Path {
         }
     }
 
-    fn check(&mut self, now: Instant) -> Result<TransId, IceError> {
+    /// Sends a check.
+    fn check(&mut self, now: Instant) -> Option<TransId> {
         self.pair
             .new_attempt(now, &self.timing, true, &mut self.rng)
+            .ok()
     }
 
-    fn answer(&mut self, now: Instant, id: TransId) -> Result<(), Fail> {
+    /// Whether a check is sent.
+    fn checks(&mut self, now: Instant) -> bool {
+        self.check(now).is_some()
+    }
+
+    /// Whether the response to this check is taken.
+    fn takes(&mut self, now: Instant, id: Option<TransId>) -> bool {
+        let Some(id) = id else {
+            return false;
+        };
         if !self.keeps(id) {
-            return Err(Fail::from("the check was forgotten"));
+            return false;
         }
         self.pair.record_binding_response(now, id, 0);
-        Ok(())
+        true
     }
 
-    /// A check, and its response.
-    fn check_answered(&mut self, sent: u64, received: u64) -> Result<(), Fail> {
-        let id = self.check(at(sent))?;
-        self.answer(at(received), id)
+    /// Whether a check is sent, and its response taken.
+    fn is_answered(&mut self, sent: u64, received: u64) -> bool {
+        let id = self.check(at(sent));
+        self.takes(at(received), id)
+    }
+
+    /// Whether a copy takes the place of the pair.
+    fn is_copied(&mut self) -> bool {
+        match self.pair.try_clone() {
+            Ok(copy) => {
+                self.pair = copy;
+                true
+            }
+            Err(_) => false,
+        }
     }
 
     fn keeps(&self, id: TransId) -> bool
@@ -102,12 +123,13 @@ impl Path {
         self.pair.binding_attempt(id).is_some()
     }
 
-    fn nominate(&mut self) -> Result<(), Fail> {
+    /// Whether the pair is nominated now, and was not before.
+    fn is_nominated_now(&mut self, force: bool) -> bool {
         if self.pair.is_nominated() {
-            return Err(Fail::from("the pair was nominated before"));
+            return false;
         }
-        self.pair.nominate(false);
-        Ok(())
+        self.pair.nominate(force);
+        true
     }
 
     fn due(&mut self, now: Instant) -> Instant {

@@ -76,6 +76,17 @@ fn a_lite_agent_that_is_to_be_controlling_goes_on() {
 #[derive(Clone, Default)]
 struct Lines(Arc<Mutex<Vec<String>>>);
 
+impl Lines {
+    /// Each of these is the beginning of a line, and all lines have a target of the original's.
+    fn have(&self, beginnings: &[&str]) {
+        let lines = self.0.lock().unwrap();
+        assert!(lines.iter().all(|line| matches!(line.split(' ').nth(1), Some("is::agent" | "is::pair"))), "{lines:#?}");
+        for beginning in beginnings {
+            assert!(lines.iter().any(|line| line.starts_with(beginning)), "{beginning}\n{lines:#?}");
+        }
+    }
+}
+
 struct Message(String);
 
 impl Visit for Message {
@@ -124,9 +135,7 @@ fn a_session_is_logged() {
         let added = sides[0].ice.local_candidates().next().unwrap();
         assert!(sides[0].ice.invalidate_candidate(&added) && !sides[0].ice.invalidate_candidate(&added));
     });
-    let lines = lines.0.lock().unwrap();
-    assert!(lines.iter().all(|line| line.split(' ').nth(1) == Some("is::agent")), "{lines:?}");
-    for line in [
+    lines.have(&[
         "DEBUG is::agent Set remote credentials: IceCreds { ufrag: ",
         "DEBUG is::agent Add local candidate (0): Candidate",
         "DEBUG is::agent Add remote candidate (0): Candidate",
@@ -134,12 +143,83 @@ fn a_session_is_logged() {
         "DEBUG is::agent State change: Checking",
         "TRACE is::agent Poll transmit: Transmit",
         "TRACE is::agent Handle receive: StunMessage",
-        "TRACE is::agent Message accepted: StunMessage",
+        "TRACE is::agent Message accepted",
+        "DEBUG is::agent Add new pair 10.0.0.1:5000 -> 10.0.0.2:5000 CandidatePair",
+        "TRACE is::agent Handle next triggered pair: 10.0.0.1:5000 -> 10.0.0.2:5000 CandidatePair",
+        "TRACE is::pair Check state: Waiting -> InProgress",
+        "TRACE is::pair Sending binding request: 10.0.0.",
+        "TRACE is::agent Send STUN request: (10.0.0.1:5000, 10.0.0.2:5000) StunMessage",
+        "TRACE is::agent Remote candidate for STUN request found",
+        "TRACE is::agent Found existing pair for STUN request: 10.0.0.",
+        "TRACE is::pair Recorded binding request: 10.0.0.",
+        "TRACE is::agent Send STUN reply: (10.0.0.2:5000, 10.0.0.1:5000) StunMessage",
+        "TRACE is::agent Found local candidate for mapped address: 10.0.0.1:5000",
+        "TRACE is::pair Recorded binding response: 10.0.0.",
+        "TRACE is::pair Check state: InProgress -> Succeeded",
+        "DEBUG is::pair Nominated pair: 10.0.0.",
+        "TRACE is::agent Nominating best candidate: 10.0.0.",
+        "TRACE is::agent Binding request sent USE-CANDIDATE",
         "TRACE is::agent Poll event: NominatedSend",
-        "DEBUG is::agent Candidate to discard Candidate",
+        "DEBUG is::agent Local candidate to discard Candidate",
         "DEBUG is::agent No local or remote candidate found: Candidate",
-    ] {
-        assert!(lines.iter().any(|logged| logged.starts_with(line)), "{line}\n{lines:#?}");
-    }
+    ]);
+    let lines = lines.0.lock().unwrap();
     assert!(!lines.iter().any(|line| line.contains("pass: \"") && !line.contains("pass: \"..\"")));
+}
+
+/// Passes all that one side sends to the other one, as if it had been sent to this address.
+fn pass(sides: &mut [Rtc; 2], from: usize, to: &str, now: Instant) {
+    while let Some(sent) = sides[from].ice.poll_transmit() {
+        let received = Receive { proto: sent.proto, source: sent.source, destination: at(to), contents: &sent.contents };
+        sides[1 - from].handle(now, received);
+    }
+}
+
+#[test]
+fn what_packets_do_is_logged() {
+    let (lines, now, ms) = (Lines::default(), Instant::now(), Duration::from_millis);
+    tracing::subscriber::with_default(lines.clone(), || {
+        // Both claim to be controlling, and the second one does not know the first one yet.
+        let mut sides = [Rtc::new(true), Rtc::new(true)];
+        for (tie_breaker, side) in sides.iter_mut().enumerate() {
+            side.ice.set_control_tie_breaker(tie_breaker as u64);
+            side.add_host(at(&format!("10.0.0.{}:5000", tie_breaker + 1)), Protocol::Udp).unwrap();
+        }
+        let creds = [sides[0].ice.local_credentials().clone(), sides[1].ice.local_credentials().clone()];
+        let known = is::Candidate::host(at("10.0.0.2:5000"), "udp").unwrap();
+        sides[0].ice.set_remote_credentials(creds[1].clone());
+        sides[0].ice.add_remote_candidate(known.clone());
+        sides[0].ice.handle_timeout(now);
+        sides[1].ice.handle_timeout(now);
+        pass(&mut sides, 0, "10.0.0.2:5000", now);
+        sides[1].ice.set_remote_credentials(creds[0].clone());
+        sides[1].ice.handle_timeout(now + ms(50));
+        pass(&mut sides, 1, "10.0.0.1:5000", now + ms(50));
+        // A request to an address that is no candidate's, one to another agent, and a redundant candidate.
+        sides[0].ice.handle_timeout(now + ms(500));
+        pass(&mut sides, 0, "10.0.0.9:5000", now + ms(500));
+        sides[0].ice.handle_timeout(now + ms(1500));
+        let mut others = [Rtc::new(true), Rtc::new(false)];
+        others[0].ice.set_remote_credentials(is::IceCreds::new());
+        others[0].add_host(at("10.0.0.3:5000"), Protocol::Udp).unwrap();
+        others[0].ice.add_remote_candidate(known);
+        others[0].ice.handle_timeout(now);
+        pass(&mut others, 0, "10.0.0.2:5000", now);
+        assert!(sides[0].add_host(at("10.0.0.1:5000"), Protocol::Udp).is_none());
+        others[1].ice.set_ice_lite(true);
+        let mapped = is::Candidate::server_reflexive(at("192.0.2.1:1"), at("10.0.0.4:1"), "udp").unwrap();
+        assert!(others[1].ice.add_local_candidate(mapped).is_none());
+    });
+    lines.have(&[
+        "DEBUG is::agent Enqueue STUN request due to missing remote credentials: StunMessage",
+        "TRACE is::agent Stop timeout due to missing remote credentials",
+        "DEBUG is::agent Handle enqueued STUN request: 0 wait",
+        "DEBUG is::agent Reply 487 Role Conflict (keep controlling role): (10.0.0.2:5000, 10.0.0.1:5000)",
+        "DEBUG is::agent Got 487 Role Conflict, switching from controlling",
+        "DEBUG is::agent Switch role: controlling -> controlled",
+        "DEBUG is::agent Discarding STUN request on unknown interface: 10.0.0.9:5000",
+        "TRACE is::agent Message rejected, local user mismatch: ",
+        "DEBUG is::agent Reject redundant candidate, current: Candidate",
+        "DEBUG is::agent Reject non-host candidate due to ice-lite mode: Candidate",
+    ]);
 }

@@ -8,12 +8,11 @@ use super::at;
 use is_candidate::CandidateKind;
 use is_pair::checklist::{Checklist, PairPriority, PairTest, Removal};
 use is_pair::pair::{CandidatePair, PairId};
-use is_proto::{Duration, IceError, Instant};
+use is_proto::{Duration, Instant};
 use is_stun::stun::{ConsentSetting, Profile, StunTiming, TransId};
 use rand_core::SeedableRng;
 use rand_pcg::Pcg32;
 use std::alloc::Global;
-use std::test::Fail;
 
 #[derive(Clone, Copy)]
 struct Any;
@@ -76,43 +75,69 @@ impl Paths {
         }
     }
 
-    /// Adds one more pair; if that fails, none is added.
-    fn add(&mut self, alloc: Global, prio: u64) -> Result<(), IceError> {
+    /// Whether one more pair is added; if not, there is none.
+    fn adds(&mut self, alloc: Global, prio: u64) -> bool {
         let Some(next) = self.next.checked_add(1) else {
-            return Err(IceError::PairIdsExhausted);
+            return false;
         };
-        self.list.reserve(1)?;
+        if self.list.reserve(1).is_err() {
+            return false;
+        }
         let id = PairId(self.next);
         let host = CandidateKind::Host;
         let pair = CandidatePair::new(alloc, id, 0, host, 0, host, prio);
         self.list.add(pair);
         self.next = next;
-        Ok(())
+        true
+    }
+
+    /// Whether pairs with these priorities are added.
+    fn adds_all(&mut self, alloc: Global, prios: &[u64]) -> bool {
+        for prio in prios {
+            if !self.adds(alloc, *prio) {
+                return false;
+            }
+        }
+        true
     }
 
     /// Sends a check of the pair with the number. Its id is the one that a generator with this seed gives. If that
     /// fails, there is no check.
-    fn check(&mut self, number: u64, millis: u64, seed: u64) -> Result<TransId, IceError> {
-        self.list.reserve_check(self.timing.max_retransmits)?;
-        let mut rng = Pcg32::seed_from_u64(seed);
-        if self.list.get(number).is_none() {
-            return Ok(TransId::new(&mut rng));
+    fn check(&mut self, number: u64, millis: u64, seed: u64) -> Option<TransId> {
+        if self
+            .list
+            .reserve_check(self.timing.max_retransmits)
+            .is_err()
+        {
+            return None;
         }
+        if self.list.get(number).is_none() {
+            return None;
+        }
+        let mut rng = Pcg32::seed_from_u64(seed);
         let now = at(millis);
-        Ok(
+        Some(
             self.list
                 .new_attempt(number, now, &self.timing, true, &mut rng),
         )
     }
 
-    /// The response to the check with this id.
-    fn answer(&mut self, id: TransId, millis: u64) -> Result<(), Fail> {
+    /// Whether a check is sent.
+    fn checks(&mut self, number: u64, millis: u64, seed: u64) -> bool {
+        self.check(number, millis, seed).is_some()
+    }
+
+    /// Whether the response to the check with this id is taken.
+    fn takes(&mut self, id: Option<TransId>, millis: u64) -> bool {
+        let Some(id) = id else {
+            return false;
+        };
         let Some(pair) = self.list.awaiting(id, &Any) else {
-            return Err(Fail::from("the check was forgotten"));
+            return false;
         };
         let number = pair.id().0;
         self.list.record_binding_response(number, at(millis), id);
-        Ok(())
+        true
     }
 
     /// The earliest time at which a pair is due, or its consent ends.
@@ -124,13 +149,16 @@ impl Paths {
         self.list.remove(number, Removal::Replaced);
     }
 
-    fn awaiting(&self, id: TransId) -> Option<u64> {
-        self.list.awaiting(id, &Any).map(|pair| pair.id().0)
+    fn awaiting(&self, id: Option<TransId>) -> Option<u64> {
+        self.list.awaiting(id?, &Any).map(|pair| pair.id().0)
     }
 
     /// Whether the id is pending on the pair with the number.
-    fn keeps(&self, id: TransId, number: u64) -> bool {
-        self.list.has_awaiting(id, &Numbered(number))
+    fn keeps(&self, id: Option<TransId>, number: u64) -> bool {
+        match id {
+            Some(id) => self.list.has_awaiting(id, &Numbered(number)),
+            None => false,
+        }
     }
 
     fn greatest(&self) -> Option<u64> {
@@ -142,94 +170,91 @@ impl Paths {
     }
 }
 
-/// Pairs with these priorities.
-fn paths_of(alloc: Global, max_retransmits: usize, prios: &[u64]) -> Result<Paths, IceError>
-    requires { 0 < max_retransmits }
-{
-    let mut paths = Paths::new(alloc, max_retransmits);
-    for prio in prios {
-        paths.add(alloc, *prio)?;
-    }
-    Ok(paths)
-}
-
 #[test]
-fn an_id_of_two_pairs_names_both(rt: HostRuntime) -> Result<(), Fail> {
-    let mut paths = paths_of(rt.alloc(), 9, &[50, 60])?;
-    let id = paths.check(0, 0, 1)?;
-    assert!(rt; paths.check(1, 50, 1)? == id);
+fn an_id_of_two_pairs_names_both(rt: HostRuntime) {
+    let mut paths = Paths::new(rt.alloc(), 9);
+    assert!(rt; paths.adds_all(rt.alloc(), &[50, 60]));
+    let id = paths.check(0, 0, 1);
+    assert!(rt; paths.check(1, 50, 1) == id);
     assert!(rt; paths.keeps(id, 0) && paths.keeps(id, 1));
     paths.remove(0);
     assert!(rt; paths.awaiting(id) == Some(1));
     paths.remove(1);
     assert!(rt; paths.awaiting(id).is_none());
-    Ok(())
 }
 
 #[test]
-fn an_id_that_was_cut_is_found_no_more(rt: HostRuntime) -> Result<(), Fail> {
-    let mut paths = paths_of(rt.alloc(), 1, &[50, 60])?;
-    let first = paths.check(0, 0, 1)?;
+fn an_id_that_was_cut_is_found_no_more(rt: HostRuntime) {
+    let mut paths = Paths::new(rt.alloc(), 1);
+    assert!(rt; paths.adds_all(rt.alloc(), &[50, 60]));
+    let first = paths.check(0, 0, 1);
     assert!(rt; paths.awaiting(first) == Some(0));
-    let second = paths.check(0, 250, 2)?;
+    let second = paths.check(0, 250, 2);
     assert!(rt; paths.awaiting(first).is_none());
     assert!(rt; paths.awaiting(second) == Some(0));
-    Ok(())
+}
+
+/// Whether one of the pairs 1 and 2 is the greatest, and without it the other one.
+fn are_greatest(paths: &mut Paths) -> bool {
+    match paths.greatest() {
+        Some(1) => {
+            paths.remove(1);
+            paths.greatest() == Some(2)
+        }
+        Some(2) => {
+            paths.remove(2);
+            paths.greatest() == Some(1)
+        }
+        _ => false,
+    }
 }
 
 #[test]
-fn the_order_follows_the_priorities(rt: HostRuntime) -> Result<(), Fail> {
-    let mut paths = paths_of(rt.alloc(), 9, &[50, 70, 70, 60])?;
+fn the_order_follows_the_priorities(rt: HostRuntime) {
+    let mut paths = Paths::new(rt.alloc(), 9);
+    assert!(rt; paths.adds_all(rt.alloc(), &[50, 70, 70, 60]));
     assert!(rt; paths.least() == Some(0));
-    let first = paths.greatest().ok_or("none is greatest")?;
-    assert!(rt; first == 1 || first == 2);
-    paths.remove(first);
-    assert!(rt; paths.greatest() == Some(3 - first));
+    assert!(rt; are_greatest(&mut paths));
     paths.list.set_priorities(&ByNumber);
     assert!(rt; paths.greatest() == Some(3));
     assert!(rt; paths.least() == Some(0));
     paths.list.evict(1);
     assert!(rt; paths.least() == Some(3));
-    Ok(())
 }
 
 /// The first pair has a response to its check at 0 s, and is due at 250 ms. The second pair has none: it is due at 100, 200 and 400 ms.
 #[test]
-fn the_end_of_consent_is_an_earliest_time(rt: HostRuntime) -> Result<(), Fail> {
-    let mut paths = paths_of(rt.alloc(), 9, &[50, 60])?;
+fn the_end_of_consent_is_an_earliest_time(rt: HostRuntime) {
+    let mut paths = Paths::new(rt.alloc(), 9);
+    assert!(rt; paths.adds_all(rt.alloc(), &[50, 60]));
     paths.timing.profile = Profile::Modern;
     paths.timing.consent = ConsentSetting {
         timeout: Some(Duration::from_millis(230)),
         strict: true,
     };
-    let first = paths.check(0, 0, 1)?;
-    paths.answer(first, 50)?;
-    paths.check(1, 0, 2)?;
+    let first = paths.check(0, 0, 1);
+    assert!(rt; paths.takes(first, 50));
+    assert!(rt; paths.checks(1, 0, 2));
     assert!(rt; paths.next_call(50) == at(100));
-    paths.check(1, 100, 3)?;
-    paths.check(1, 200, 4)?;
+    assert!(rt; paths.checks(1, 100, 3) && paths.checks(1, 200, 4));
     assert!(rt; paths.next_call(200) == at(230));
     paths.timing.profile = Profile::Original;
     assert!(rt; paths.next_call(200) == at(250));
-    Ok(())
 }
 
 /// Run with each allocation failing in turn: a call that failed can be repeated.
 #[test]
-fn a_failed_allocation_leaves_the_pairs(rt: HostRuntime) -> Result<(), Fail> {
+fn a_failed_allocation_leaves_the_pairs(rt: HostRuntime) {
     let mut paths = Paths::new(rt.alloc(), 9);
-    if paths.add(rt.alloc(), 50).is_err() {
+    if !paths.adds(rt.alloc(), 50) {
         assert!(rt; paths.list.is_empty());
         assert!(rt; paths.greatest().is_none());
-        paths.add(rt.alloc(), 50)?;
+        assert!(rt; paths.adds(rt.alloc(), 50));
     }
     for seed in 0..6 {
-        if paths.check(0, 50, seed).is_err() {
-            paths.check(0, 50, seed)?;
-        }
+        assert!(rt; paths.checks(0, 50, seed) || paths.checks(0, 50, seed));
     }
     let id = TransId::new(&mut Pcg32::seed_from_u64(3));
-    assert!(rt; paths.keeps(id, 0));
+    assert!(rt; paths.keeps(Some(id), 0));
     assert!(rt; paths.greatest() == Some(0));
-    Ok(())
 }

@@ -6,7 +6,6 @@ use is_pair::take_over;
 use is_proto::{Duration, Instant};
 use is_stun::stun::{ConsentSetting, Profile};
 use std::alloc::Global;
-use std::test::Fail;
 
 /// How long a response keeps a pair, in milliseconds.
 const CONSENT: u64 = 29_600;
@@ -43,88 +42,79 @@ fn ends_at(path: &Path, end: u64) -> bool {
 }
 
 #[test]
-fn a_response_keeps_a_pair_for_the_timeout(rt: HostRuntime) -> Result<(), Fail> {
+fn a_response_keeps_a_pair_for_the_timeout(rt: HostRuntime) {
     for strict in [false, true] {
         let mut path = path_with(rt.alloc(), strict);
-        path.check_answered(0, 50)?;
+        assert!(rt; path.is_answered(0, 50));
         assert!(rt; ends_at(&path, CONSENT));
     }
-    Ok(())
 }
 
 /// The clock starts when the check was sent, not when its response arrived.
 #[test]
-fn a_later_response_to_the_same_check_renews_nothing(rt: HostRuntime) -> Result<(), Fail> {
+fn a_later_response_to_the_same_check_renews_nothing(rt: HostRuntime) {
     let mut path = path_with(rt.alloc(), true);
-    let id = path.check(at(0))?;
-    path.answer(at(50), id)?;
-    path.answer(at(20_000), id)?;
+    let id = path.check(at(0));
+    assert!(rt; path.takes(at(50), id));
+    assert!(rt; path.takes(at(20_000), id));
     assert!(rt; ends_at(&path, CONSENT));
-    Ok(())
 }
 
 /// The response to an earlier check arrives after that to a later one.
 #[test]
-fn of_two_responses_that_of_the_later_check_counts(rt: HostRuntime) -> Result<(), Fail> {
+fn of_two_responses_that_of_the_later_check_counts(rt: HostRuntime) {
     let mut path = path_with(rt.alloc(), true);
-    let first = path.check(at(0))?;
-    path.check_answered(1000, 1050)?;
-    path.answer(at(1100), first)?;
+    let first = path.check(at(0));
+    assert!(rt; path.is_answered(1000, 1050));
+    assert!(rt; path.takes(at(1100), first));
     assert!(rt; ends_at(&path, 1000 + CONSENT));
-    Ok(())
 }
 
 #[test]
-fn the_checks_of_the_peer_keep_a_pair_unless_consent_is_strict(
-    rt: HostRuntime,
-) -> Result<(), Fail> {
+fn the_checks_of_the_peer_keep_a_pair_unless_consent_is_strict(rt: HostRuntime) {
     let heard = 20_000;
     let mut path = path_with(rt.alloc(), false);
-    path.check_answered(0, 50)?;
+    assert!(rt; path.is_answered(0, 50));
     path.pair.increase_remote_binding_requests(at(heard));
     assert!(rt; ends_at(&path, heard + HEARD));
     let mut path = path_with(rt.alloc(), true);
-    path.check_answered(0, 50)?;
+    assert!(rt; path.is_answered(0, 50));
     path.pair.increase_remote_binding_requests(at(heard));
     assert!(rt; ends_at(&path, CONSENT));
-    Ok(())
 }
 
 #[test]
-fn without_a_response_consent_does_not_end(rt: HostRuntime) -> Result<(), Fail> {
+fn without_a_response_consent_does_not_end(rt: HostRuntime) {
     let mut path = path_with(rt.alloc(), true);
-    path.check(at(0))?;
+    assert!(rt; path.checks(at(0)));
     assert!(rt; stays(&path, at(CONSENT)));
     assert!(rt; stays(&path, Instant(u64::MAX)));
-    Ok(())
 }
 
 #[test]
-fn by_the_original_consent_does_not_end(rt: HostRuntime) -> Result<(), Fail> {
+fn by_the_original_consent_does_not_end(rt: HostRuntime) {
     let mut path = Path::new(rt.alloc());
-    path.check_answered(0, 50)?;
+    assert!(rt; path.is_answered(0, 50));
     assert!(rt; stays(&path, at(10 * CONSENT)));
-    Ok(())
 }
 
 #[test]
-fn a_pair_that_replaces_another_has_the_later_consent(rt: HostRuntime) -> Result<(), Fail> {
+fn a_pair_that_replaces_another_has_the_later_consent(rt: HostRuntime) {
     let mut old = path_with(rt.alloc(), true);
-    old.check_answered(2000, 2050)?;
+    assert!(rt; old.is_answered(2000, 2050));
     let mut new = path_with(rt.alloc(), true);
     take_over(&mut new.pair, &old.pair, false);
     assert!(rt; ends_at(&new, 2000 + CONSENT));
-    new.check_answered(3000, 3050)?;
+    assert!(rt; new.is_answered(3000, 3050));
     take_over(&mut new.pair, &old.pair, false);
     assert!(rt; ends_at(&new, 3000 + CONSENT));
-    Ok(())
 }
 
 /// An ICE-lite agent sends no checks, so its pairs are kept by those of the peer.
 #[test]
-fn an_ice_lite_pair_needs_no_consent(rt: HostRuntime) -> Result<(), Fail> {
+fn an_ice_lite_pair_needs_no_consent(rt: HostRuntime) {
     let mut path = path_with(rt.alloc(), true);
-    path.check_answered(0, 50)?;
+    assert!(rt; path.is_answered(0, 50));
     path.pair.increase_remote_binding_requests(at(CONSENT));
     let expired = Expired {
         lite: true,
@@ -133,5 +123,4 @@ fn an_ice_lite_pair_needs_no_consent(rt: HostRuntime) -> Result<(), Fail> {
         consent: path.timing.consent(),
     };
     assert!(rt; !expired.passes(&path.pair));
-    Ok(())
 }

@@ -6,7 +6,6 @@ use is_pair::take_over;
 use is_proto::{Duration, Instant};
 use is_stun::stun::Profile;
 use std::alloc::Global;
-use std::test::Fail;
 
 /// How long a whole series of checks takes, in milliseconds: 0.5, 1 and 2 s, five times 3 s to the ninth one, and 3 s more.
 const SERIES: u64 = 21_500;
@@ -19,26 +18,43 @@ fn early_path(alloc: Global) -> Path {
 }
 
 /// A check at this time, and when the next one is due.
-fn next_after(path: &mut Path, now: Instant) -> Result<Instant, Fail> {
-    path.check(now)?;
-    Ok(path.due(now))
+fn next_after(path: &mut Path, now: Instant) -> Option<Instant> {
+    if path.checks(now) {
+        Some(path.due(now))
+    } else {
+        None
+    }
 }
 
 /// So many checks when they are due, the first at this time; returns when the next one is due.
-fn due_after(path: &mut Path, start: Instant, count: usize) -> Result<Instant, Fail> {
+fn due_after(path: &mut Path, start: Instant, count: usize) -> Option<Instant> {
     let mut now = start;
     for _ in 0..count {
         now = next_after(path, now)?;
     }
-    Ok(now)
+    Some(now)
 }
 
-/// So many checks, all at this time, in milliseconds.
-fn check_often(path: &mut Path, count: usize, now: u64) -> Result<(), Fail> {
-    for _ in 0..count {
-        path.check(at(now))?;
+/// Checks when they are due, the first at this time; whether the next ones are due at these times, in milliseconds.
+fn are_due(path: &mut Path, start: Instant, times: &[u64]) -> bool {
+    let mut now = start;
+    for time in times {
+        if next_after(path, now) != Some(at(*time)) {
+            return false;
+        }
+        now = at(*time);
     }
-    Ok(())
+    true
+}
+
+/// Whether so many checks are sent, all at this time, in milliseconds.
+fn checks_often(path: &mut Path, count: usize, now: u64) -> bool {
+    for _ in 0..count {
+        if !path.checks(at(now)) {
+            return false;
+        }
+    }
+    true
 }
 
 /// The pair is possible until this time, in milliseconds, and not from then on.
@@ -48,257 +64,233 @@ fn ends_at(path: &Path, end: u64) -> bool {
 }
 
 /// Checks when they are due, from the beginning until this time, at most a hundred; returns how many, and when the next one is due.
-fn check_until(path: &mut Path, end: Instant) -> Result<(usize, Instant), Fail> {
+fn check_until(path: &mut Path, end: Instant) -> Option<(usize, Instant)> {
     let mut now = at(0);
     for count in 0..100 {
         if now >= end {
-            return Ok((count, now));
+            return Some((count, now));
         }
         now = next_after(path, now)?;
     }
-    Err(Fail::from("there are more than a hundred checks"))
+    None
 }
 
 /// Checks when they are due, as long as the pair is possible, at most a hundred; returns how many, and when it is not.
-fn check_until_removed(path: &mut Path, start: Instant) -> Result<(usize, Instant), Fail> {
+fn check_until_removed(path: &mut Path, start: Instant) -> Option<(usize, Instant)> {
     let mut now = start;
     for count in 0..100 {
         if !path.is_possible(now) {
-            return Ok((count, now));
+            return Some((count, now));
         }
         now = next_after(path, now)?;
     }
-    Err(Fail::from("the pair is checked for ever"))
+    None
 }
 
 // ---- when checks are due
 
+static FIRST: [u64; 12] = [
+    100, 200, 400, 750, 1100, 1450, 1800, 2150, 2500, 2850, 3200, 3550,
+];
+
 /// Two retransmissions after 100 ms each, one after 200 ms, and the others after 350 ms, more than nine of them.
 #[test]
-fn checks_without_a_response_are_repeated_early(rt: HostRuntime) -> Result<(), Fail> {
+fn checks_without_a_response_are_repeated_early(rt: HostRuntime) {
     let mut path = early_path(rt.alloc());
-    let mut now = path.due(at(0));
-    assert!(rt; now == at(0));
-    for next in [
-        100, 200, 400, 750, 1100, 1450, 1800, 2150, 2500, 2850, 3200, 3550,
-    ] {
-        now = next_after(&mut path, now)?;
-        assert!(rt; now == at(next));
-    }
-    Ok(())
+    assert!(rt; path.due(at(0)) == at(0));
+    assert!(rt; are_due(&mut path, at(0), &FIRST));
 }
 
 /// Just before its end the second early retransmission still follows, after 100 ms. Then the RTO counts: 500 ms after the second check.
 #[test]
-fn after_a_whole_series_the_rto_counts(rt: HostRuntime) -> Result<(), Fail> {
+fn after_a_whole_series_the_rto_counts(rt: HostRuntime) {
     for (sent, due) in [(SERIES - 1, SERIES + 99), (SERIES, SERIES + 500)] {
         let mut path = early_path(rt.alloc());
-        path.check(at(0))?;
-        assert!(rt; next_after(&mut path, at(sent))? == at(due));
+        assert!(rt; path.checks(at(0)));
+        assert!(rt; next_after(&mut path, at(sent)) == Some(at(due)));
     }
-    Ok(())
 }
 
 #[test]
-fn after_a_response_the_delays_are_the_usual_ones(rt: HostRuntime) -> Result<(), Fail> {
+fn after_a_response_the_delays_are_the_usual_ones(rt: HostRuntime) {
     let mut path = early_path(rt.alloc());
-    path.check(at(0))?;
-    path.check_answered(100, 150)?;
+    assert!(rt; path.checks(at(0)));
+    assert!(rt; path.is_answered(100, 150));
     assert!(rt; path.due(at(150)) == at(600));
-    assert!(rt; next_after(&mut path, at(600))? == at(1600));
-    assert!(rt; next_after(&mut path, at(1600))? == at(3600));
-    Ok(())
+    assert!(rt; next_after(&mut path, at(600)) == Some(at(1600)));
+    assert!(rt; next_after(&mut path, at(1600)) == Some(at(3600)));
 }
 
 #[test]
-fn a_response_to_the_first_check_ends_early_retransmissions(rt: HostRuntime) -> Result<(), Fail> {
+fn a_response_to_the_first_check_ends_early_retransmissions(rt: HostRuntime) {
     let mut path = early_path(rt.alloc());
-    path.check_answered(0, 50)?;
+    assert!(rt; path.is_answered(0, 50));
     assert!(rt; path.due(at(50)) == at(250));
-    assert!(rt; next_after(&mut path, at(250))? == at(750));
-    Ok(())
+    assert!(rt; next_after(&mut path, at(250)) == Some(at(750)));
 }
 
 /// Nine checks were sent before. The delay after nine pending transactions is 3 s.
 #[test]
-fn a_response_to_a_later_check_ends_them_too(rt: HostRuntime) -> Result<(), Fail> {
+fn a_response_to_a_later_check_ends_them_too(rt: HostRuntime) {
     let mut path = early_path(rt.alloc());
-    assert!(rt; check_until(&mut path, at(2500))? == (9, at(2500)));
-    path.check_answered(2500, 2550)?;
+    assert!(rt; check_until(&mut path, at(2500)) == Some((9, at(2500))));
+    assert!(rt; path.is_answered(2500, 2550));
     assert!(rt; path.due(at(2550)) == at(5500));
-    assert!(rt; next_after(&mut path, at(5500))? == at(8500));
-    Ok(())
+    assert!(rt; next_after(&mut path, at(5500)) == Some(at(8500)));
 }
 
 // ---- nominations
 
+static NOMINATING: [u64; 10] = [
+    70100, 70200, 70400, 70750, 71100, 71450, 71800, 72150, 75150, 78150,
+];
+
 /// Until nine of them have no response: then the RTO counts, 3 s.
 #[test]
-fn a_check_that_nominates_is_repeated_early(rt: HostRuntime) -> Result<(), Fail> {
+fn a_check_that_nominates_is_repeated_early(rt: HostRuntime) {
     let mut path = early_path(rt.alloc());
-    path.check_answered(0, 50)?;
-    path.nominate()?;
+    assert!(rt; path.is_answered(0, 50));
+    assert!(rt; path.is_nominated_now(false));
     assert!(rt; path.due(at(70000)) == at(10000));
-    let mut now = at(70000);
-    for next in [
-        70100, 70200, 70400, 70750, 71100, 71450, 71800, 72150, 75150, 78150,
-    ] {
-        now = next_after(&mut path, now)?;
-        assert!(rt; now == at(next));
-    }
-    Ok(())
+    assert!(rt; are_due(&mut path, at(70000), &NOMINATING));
 }
 
 /// From then on each delay depends on the number of pending transactions, here two and three.
 #[test]
-fn the_response_to_a_nomination_ends_early_retransmissions(rt: HostRuntime) -> Result<(), Fail> {
+fn the_response_to_a_nomination_ends_early_retransmissions(rt: HostRuntime) {
     let mut path = early_path(rt.alloc());
-    path.check_answered(0, 50)?;
-    path.nominate()?;
-    path.check_answered(1000, 1050)?;
+    assert!(rt; path.is_answered(0, 50));
+    assert!(rt; path.is_nominated_now(false));
+    assert!(rt; path.is_answered(1000, 1050));
     assert!(rt; path.due(at(1050)) == at(1500));
-    assert!(rt; next_after(&mut path, at(1500))? == at(2500));
-    Ok(())
+    assert!(rt; next_after(&mut path, at(1500)) == Some(at(2500)));
 }
 
 /// The nominating checks are sent at 1, 1.1, 1.2, 1.4 and 1.75 s, then every 0.35 s until the ninth at 3.15 s, and then every 3 s. After
 /// fifteen of them the first one that is stored was sent at 2.45 s, a whole series before 23.95 s.
 #[test]
-fn a_nominated_pair_ends_by_the_clock(rt: HostRuntime) -> Result<(), Fail> {
+fn a_nominated_pair_ends_by_the_clock(rt: HostRuntime) {
     let mut path = early_path(rt.alloc());
-    path.check_answered(0, 50)?;
-    path.nominate()?;
-    assert!(rt; check_until_removed(&mut path, at(1000))? == (15, at(24_150)));
-    Ok(())
+    assert!(rt; path.is_answered(0, 50));
+    assert!(rt; path.is_nominated_now(false));
+    assert!(rt; check_until_removed(&mut path, at(1000)) == Some((15, at(24_150))));
 }
 
 // ---- when a pair without a response ends
 
 /// Not by the number of its checks.
 #[test]
-fn a_pair_without_a_response_is_kept_for_a_whole_series(rt: HostRuntime) -> Result<(), Fail> {
+fn a_pair_without_a_response_is_kept_for_a_whole_series(rt: HostRuntime) {
     for count in [9, 10, 13, 30] {
         let mut path = early_path(rt.alloc());
-        check_often(&mut path, count, 0)?;
+        assert!(rt; checks_often(&mut path, count, 0));
         assert!(rt; ends_at(&path, SERIES));
     }
-    Ok(())
 }
 
 /// Though it is the tenth last, and no longer stored, also in a copy.
 #[test]
-fn the_series_begins_at_the_first_check(rt: HostRuntime) -> Result<(), Fail> {
+fn the_series_begins_at_the_first_check(rt: HostRuntime) {
     let mut path = early_path(rt.alloc());
-    path.check(at(0))?;
-    check_often(&mut path, 9, 10_000)?;
+    assert!(rt; path.checks(at(0)));
+    assert!(rt; checks_often(&mut path, 9, 10_000));
     assert!(rt; ends_at(&path, SERIES));
-    path.pair = path.pair.try_clone()?;
+    assert!(rt; path.is_copied());
     assert!(rt; ends_at(&path, SERIES));
-    Ok(())
 }
 
 /// The response to the last check may still come for 3 s.
 #[test]
-fn the_last_response_is_waited_for(rt: HostRuntime) -> Result<(), Fail> {
+fn the_last_response_is_waited_for(rt: HostRuntime) {
     let mut path = early_path(rt.alloc());
-    path.check(at(0))?;
-    check_often(&mut path, 9, SERIES - 1)?;
+    assert!(rt; path.checks(at(0)));
+    assert!(rt; checks_often(&mut path, 9, SERIES - 1));
     assert!(rt; ends_at(&path, SERIES + 2999));
-    Ok(())
 }
 
 #[test]
-fn eight_checks_end_no_pair(rt: HostRuntime) -> Result<(), Fail> {
+fn eight_checks_end_no_pair(rt: HostRuntime) {
     let mut path = early_path(rt.alloc());
-    check_often(&mut path, 8, 0)?;
+    assert!(rt; checks_often(&mut path, 8, 0));
     assert!(rt; path.is_possible(at(1_000_000)));
-    Ok(())
 }
 
 /// The fourth check is sent at 0.4 s, and sixty more every 0.35 s until 21.4 s. The next one is due at 21.75 s, while the response to that one
 /// may still come. It is the last one, and is waited for by the RTO, 3 s.
 #[test]
-fn a_pair_without_a_response_has_65_checks(rt: HostRuntime) -> Result<(), Fail> {
+fn a_pair_without_a_response_has_65_checks(rt: HostRuntime) {
     let mut path = early_path(rt.alloc());
-    assert!(rt; check_until_removed(&mut path, at(0))? == (65, at(24_750)));
-    Ok(())
+    assert!(rt; check_until_removed(&mut path, at(0)) == Some((65, at(24_750))));
 }
 
 /// A check from the peer at 21 s keeps it until 36 s, and the response to the last check, at 33.75 s, may come until 36.75 s.
 #[test]
-fn a_pair_that_is_still_heard_goes_on_with_the_rto(rt: HostRuntime) -> Result<(), Fail> {
+fn a_pair_that_is_still_heard_goes_on_with_the_rto(rt: HostRuntime) {
     let mut path = early_path(rt.alloc());
-    let (count, mut now) = check_until(&mut path, at(SERIES))?;
-    assert!(rt; count == 64 && now == at(21_750));
+    assert!(rt; check_until(&mut path, at(SERIES)) == Some((64, at(21_750))));
     path.pair.increase_remote_binding_requests(at(21_000));
-    assert!(rt; path.is_possible(now));
-    now = next_after(&mut path, now)?;
-    assert!(rt; now == at(24_750) && path.is_possible(now));
-    assert!(rt; due_after(&mut path, now, 4)? == at(36_750));
+    assert!(rt; path.is_possible(at(21_750)));
+    assert!(rt; next_after(&mut path, at(21_750)) == Some(at(24_750)));
+    assert!(rt; path.is_possible(at(24_750)));
+    assert!(rt; due_after(&mut path, at(24_750), 4) == Some(at(36_750)));
     assert!(rt; ends_at(&path, 36_750));
-    Ok(())
 }
 
 /// With one check a whole series takes 250 ms. The first three are sent at 0, 100 and 200 ms; the next one is due at 400 ms, and by then the
 /// RTO counts, 250 ms.
 #[test]
-fn with_one_retransmit_there_are_four_checks(rt: HostRuntime) -> Result<(), Fail> {
+fn with_one_retransmit_there_are_four_checks(rt: HostRuntime) {
     let mut path = Path::impatient(rt.alloc());
     path.timing.profile = Profile::Modern;
-    assert!(rt; check_until_removed(&mut path, at(0))? == (4, at(650)));
-    Ok(())
+    assert!(rt; check_until_removed(&mut path, at(0)) == Some((4, at(650))));
 }
 
 /// With two checks it takes 1 s. Five are sent by 0.75 s; the next one is due at 1.1 s, and by then the RTO counts, 500 ms.
 #[test]
-fn few_retransmits_end_as_well(rt: HostRuntime) -> Result<(), Fail> {
+fn few_retransmits_end_as_well(rt: HostRuntime) {
     let mut path = early_path(rt.alloc());
     path.timing.max_retransmits = 2;
-    assert!(rt; check_until_removed(&mut path, at(0))? == (6, at(1600)));
-    Ok(())
+    assert!(rt; check_until_removed(&mut path, at(0)) == Some((6, at(1600))));
 }
 
 /// It has a series of its own.
 #[test]
-fn a_pair_that_replaces_another_begins_again(rt: HostRuntime) -> Result<(), Fail> {
+fn a_pair_that_replaces_another_begins_again(rt: HostRuntime) {
     let mut old = early_path(rt.alloc());
-    check_often(&mut old, 9, 0)?;
+    assert!(rt; checks_often(&mut old, 9, 0));
     let mut new = early_path(rt.alloc());
     take_over(&mut new.pair, &old.pair, false);
-    assert!(rt; next_after(&mut new, at(20_000))? == at(20_100));
-    check_often(&mut new, 8, 20_100)?;
+    assert!(rt; next_after(&mut new, at(20_000)) == Some(at(20_100)));
+    assert!(rt; checks_often(&mut new, 8, 20_100));
     assert!(rt; ends_at(&new, 20_000 + SERIES));
-    Ok(())
 }
 
 // ---- when others end
 
 /// The delays are the usual ones, and a whole series has to pass from the first check without a response on.
 #[test]
-fn after_a_response_a_whole_series_passes(rt: HostRuntime) -> Result<(), Fail> {
+fn after_a_response_a_whole_series_passes(rt: HostRuntime) {
     for (sent, received, later, end) in [
         (0, 50, 100, 100 + SERIES),
         (20_000, 20_050, 20_100, 20_100 + SERIES),
     ] {
         let mut path = early_path(rt.alloc());
-        path.check(at(0))?;
-        path.check_answered(sent, received)?;
-        check_often(&mut path, 9, later)?;
+        assert!(rt; path.checks(at(0)));
+        assert!(rt; path.is_answered(sent, received));
+        assert!(rt; checks_often(&mut path, 9, later));
         assert!(rt; ends_at(&path, end));
     }
-    Ok(())
 }
 
 /// By the original the number of checks counts.
 #[test]
-fn by_the_original_a_pair_has_nine_checks(rt: HostRuntime) -> Result<(), Fail> {
+fn by_the_original_a_pair_has_nine_checks(rt: HostRuntime) {
     for (profile, end) in [(Profile::Original, 3000), (Profile::Modern, SERIES)] {
         let mut path = Path::new(rt.alloc());
         path.timing.profile = profile;
-        check_often(&mut path, 8, 0)?;
+        assert!(rt; checks_often(&mut path, 8, 0));
         assert!(rt; path.is_possible(at(1_000_000)));
-        path.check(at(0))?;
+        assert!(rt; path.checks(at(0)));
         assert!(rt; ends_at(&path, end));
     }
-    Ok(())
 }

@@ -9,11 +9,11 @@ use std::test::Fail;
 /// A path that was checked at the beginning, and is due for its next check after 250 ms.
 fn due_path(alloc: Global) -> Result<Path, Fail> {
     let mut path = Path::new(alloc);
-    path.check(at(0))?;
-    if path.due(at(0)) != at(250) {
-        return Err(Fail::from("the pair is not due 250 ms after its check"));
+    if path.checks(at(0)) && path.due(at(0)) == at(250) {
+        Ok(path)
+    } else {
+        Err(Fail::from("the pair is not due 250 ms after its check"))
     }
-    Ok(path)
 }
 
 /// When the path is due after a request at this time, with the profile `Modern`.
@@ -54,74 +54,63 @@ fn only_the_first_request_triggers_a_check(rt: HostRuntime) -> Result<(), Fail> 
 }
 
 #[test]
-fn a_request_on_a_valid_pair_moves_nothing(rt: HostRuntime) -> Result<(), Fail> {
+fn a_request_on_a_valid_pair_moves_nothing(rt: HostRuntime) {
     let mut path = Path::new(rt.alloc());
-    path.check_answered(0, 50)?;
+    assert!(rt; path.is_answered(0, 50));
     assert!(rt; path.due(at(50)) == at(250));
     assert!(rt; due_after_request(&mut path, at(100)) == at(250));
-    Ok(())
 }
 
 /// A due time that is not fixed yet is not fixed by a request either.
 #[test]
-fn a_due_time_that_is_not_fixed_is_not_moved(rt: HostRuntime) -> Result<(), Fail> {
+fn a_due_time_that_is_not_fixed_is_not_moved(rt: HostRuntime) {
     let mut path = Path::new(rt.alloc());
-    path.check(at(0))?;
+    assert!(rt; path.checks(at(0)));
     assert!(rt; due_after_request(&mut path, at(100)) == at(250));
-    Ok(())
 }
 
 #[test]
-fn a_pair_with_a_request_is_urgent_until_it_is_valid(rt: HostRuntime) -> Result<(), Fail> {
+fn a_pair_with_a_request_is_urgent_until_it_is_valid(rt: HostRuntime) {
     let mut path = Path::new(rt.alloc());
     assert!(rt; !is_urgent(&path.pair));
     path.pair.increase_remote_binding_requests(at(0));
     assert!(rt; is_urgent(&path.pair));
-    let id = path.check(at(10))?;
+    let id = path.check(at(10));
     assert!(rt; is_urgent(&path.pair));
-    path.answer(at(20), id)?;
+    assert!(rt; path.takes(at(20), id));
     assert!(rt; !is_urgent(&path.pair));
     path.pair.increase_remote_binding_requests(at(30));
     assert!(rt; !is_urgent(&path.pair));
-    Ok(())
 }
 
 #[test]
-fn a_pair_without_a_request_is_not_urgent(rt: HostRuntime) -> Result<(), Fail> {
+fn a_pair_without_a_request_is_not_urgent(rt: HostRuntime) {
     let mut path = Path::new(rt.alloc());
-    path.check(at(0))?;
+    assert!(rt; path.checks(at(0)));
     assert!(rt; !is_urgent(&path.pair));
-    path.check_answered(100, 150)?;
+    assert!(rt; path.is_answered(100, 150));
     assert!(rt; !is_urgent(&path.pair));
-    Ok(())
 }
 
 #[test]
-fn a_nominated_pair_is_urgent_until_a_nominating_check_is_answered(
-    rt: HostRuntime,
-) -> Result<(), Fail> {
+fn a_nominated_pair_is_urgent_until_a_nominating_check_is_answered(rt: HostRuntime) {
     let mut path = Path::new(rt.alloc());
-    let before = path.check(at(0))?;
-    path.answer(at(50), before)?;
-    path.nominate()?;
+    let before = path.check(at(0));
+    assert!(rt; path.takes(at(50), before));
+    assert!(rt; path.is_nominated_now(false));
     assert!(rt; is_urgent(&path.pair));
-    let nominating = path.check(at(100))?;
-    path.answer(at(110), before)?;
+    let nominating = path.check(at(100));
+    assert!(rt; path.takes(at(110), before));
     assert!(rt; is_urgent(&path.pair));
-    path.answer(at(150), nominating)?;
+    assert!(rt; path.takes(at(150), nominating));
     assert!(rt; !is_urgent(&path.pair));
-    Ok(())
 }
 
 /// A nomination that succeeds at once sends no check.
 #[test]
-fn a_forced_nomination_is_not_urgent(rt: HostRuntime) -> Result<(), Fail> {
+fn a_forced_nomination_is_not_urgent(rt: HostRuntime) {
     let mut path = Path::new(rt.alloc());
-    path.check_answered(0, 50)?;
-    if path.pair.is_nominated() {
-        return Err(Fail::from("the pair was nominated before"));
-    }
-    path.pair.nominate(true);
+    assert!(rt; path.is_answered(0, 50));
+    assert!(rt; path.is_nominated_now(true));
     assert!(rt; !is_urgent(&path.pair));
-    Ok(())
 }

@@ -68,35 +68,76 @@ const RFC_ID: [u8; 12] = [
     0xb7, 0xe7, 0xa7, 0x01, 0xbc, 0x34, 0xd6, 0x86, 0xfa, 0x87, 0xdf, 0xae,
 ];
 
+/// What the attributes of a check say.
+struct Check {
+    username: &'static str,
+    network_cost: Option<(u16, u16)>,
+    controlling: Option<u64>,
+    controlled: Option<u64>,
+    nominates: bool,
+    nomination: Option<u32>,
+    prio: u32,
+}
+
+/// Whether the message is a Binding request by which its sender checks so.
+fn is_check(read: &StunMessage<'_>, check: &Check) -> bool {
+    read.is_binding_request()
+        && read.username() == Some(check.username)
+        && read.network_cost() == check.network_cost
+        && read.ice_controlling() == check.controlling
+        && read.ice_controlled() == check.controlled
+        && read.use_candidate() == check.nominates
+        && read.nomination() == check.nomination
+        && read.prio() == Some(check.prio)
+}
+
+/// Whether the message is of this class and transaction of Binding.
+fn is_binding(read: &StunMessage<'_>, class: Class, id: TransId) -> bool {
+    read.method() == Method::Binding && read.class() == class && read.trans_id() == id
+}
+
+static BROWSER_CHECK: Check = Check {
+    username: "p9KA:SQAt",
+    network_cost: Some((1, 10)),
+    controlling: Some(0x6eeec6e97d18395c),
+    controlled: None,
+    nominates: true,
+    nomination: None,
+    prio: 1853824767,
+};
+
 #[test]
 fn reads_the_request_of_a_browser(rt: HostRuntime) -> Result<(), Fail> {
     let request = StunMessage::parse(&BROWSER_REQUEST)?;
-    assert!(rt; request.is_binding_request());
-    assert!(rt; request.method() == Method::Binding);
-    assert!(rt; request.class() == Class::Request);
-    assert!(rt; request.trans_id() == TransId(*b"juc15uxUngGc"));
-    assert!(rt; request.username() == Some("p9KA:SQAt"));
+    assert!(rt; is_binding(&request, Class::Request, TransId(*b"juc15uxUngGc")));
+    assert!(rt; is_check(&request, &BROWSER_CHECK));
     assert!(rt; request.split_username() == Some(("p9KA", "SQAt")));
-    assert!(rt; request.network_cost() == Some((1, 10)));
-    assert!(rt; request.ice_controlling() == Some(0x6eeec6e97d18395c));
-    assert!(rt; request.ice_controlled().is_none());
-    assert!(rt; request.use_candidate());
-    assert!(rt; request.prio() == Some(1853824767));
+    Ok(())
+}
+
+#[test]
+fn verifies_the_request_of_a_browser(rt: HostRuntime) -> Result<(), Fail> {
+    let request = StunMessage::parse(&BROWSER_REQUEST)?;
     assert!(rt; request.verify(BROWSER_PASSWORD, &DefaultSha1HmacProvider));
     assert!(rt; !request.verify(b"xJcE9AQAR7kczUDVOXRUCL", &DefaultSha1HmacProvider));
     Ok(())
 }
 
+static BROWSER_NOMINATES: Check = Check {
+    username: "pRdju0uwy9CxN4AE:f5ab",
+    network_cost: Some((0, 999)),
+    controlling: Some(0x2ae604f9496e27dc),
+    controlled: None,
+    nominates: false,
+    nomination: Some(1),
+    prio: 0x6e001eff,
+};
+
 #[test]
 fn reads_the_nomination_of_a_browser(rt: HostRuntime) -> Result<(), Fail> {
     let request = StunMessage::parse(&BROWSER_NOMINATION)?;
-    assert!(rt; request.is_binding_request());
+    assert!(rt; is_check(&request, &BROWSER_NOMINATES));
     assert!(rt; request.split_username() == Some(("pRdju0uwy9CxN4AE", "f5ab")));
-    assert!(rt; request.nomination() == Some(1));
-    assert!(rt; !request.use_candidate());
-    assert!(rt; request.network_cost() == Some((0, 999)));
-    assert!(rt; request.ice_controlling() == Some(0x2ae604f9496e27dc));
-    assert!(rt; request.prio() == Some(0x6e001eff));
     Ok(())
 }
 
@@ -111,32 +152,42 @@ fn a_number_of_another_length_is_skipped(rt: HostRuntime) -> Result<(), Fail> {
     Ok(())
 }
 
+static RFC_CHECK: Check = Check {
+    username: "evtj:h6vY",
+    network_cost: None,
+    controlling: None,
+    controlled: Some(0x932ff9b151263b36),
+    nominates: false,
+    nomination: None,
+    prio: 0x6e0001ff,
+};
+
 #[test]
 fn reads_the_sample_request(rt: HostRuntime) -> Result<(), Fail> {
     let request = StunMessage::parse(&RFC_REQUEST)?;
-    assert!(rt; request.is_binding_request());
-    assert!(rt; request.trans_id() == TransId(RFC_ID));
-    assert!(rt; request.username() == Some("evtj:h6vY"));
-    assert!(rt; request.prio() == Some(0x6e0001ff));
-    assert!(rt; request.ice_controlled() == Some(0x932ff9b151263b36));
+    assert!(rt; is_binding(&request, Class::Request, TransId(RFC_ID)));
+    assert!(rt; is_check(&request, &RFC_CHECK));
     assert!(rt; request.software().is_none());
     assert!(rt; request.verify(RFC_PASSWORD, &DefaultSha1HmacProvider));
     Ok(())
 }
 
+/// Whether the bytes are a sample response with this mapped address.
+fn is_sample(bytes: &[u8], address: SocketAddr) -> bool {
+    let Ok(read) = StunMessage::parse(bytes) else {
+        return false;
+    };
+    is_binding(&read, Class::Success, TransId(RFC_ID))
+        && read.is_successful_binding_response()
+        && read.mapped_address() == Some(address)
+        && read.verify(RFC_PASSWORD, &DefaultSha1HmacProvider)
+}
+
 #[test]
-fn reads_the_sample_responses(rt: HostRuntime) -> Result<(), Fail> {
-    let ipv4 = StunMessage::parse(&RFC_IPV4_RESPONSE)?;
-    assert!(rt; ipv4.is_successful_binding_response());
-    assert!(rt; ipv4.trans_id() == TransId(RFC_ID));
+fn reads_the_sample_responses(rt: HostRuntime) {
     let address = SocketAddr::V4(SocketAddrV4::new(Ipv4Addr::new(192, 0, 2, 1), 32853));
-    assert!(rt; ipv4.mapped_address() == Some(address));
-    assert!(rt; ipv4.verify(RFC_PASSWORD, &DefaultSha1HmacProvider));
-    let ipv6 = StunMessage::parse(&RFC_IPV6_RESPONSE)?;
-    assert!(rt; ipv6.is_successful_binding_response());
+    assert!(rt; is_sample(&RFC_IPV4_RESPONSE, address));
     let ip = Ipv6Addr::new(0x2001, 0xdb8, 0x1234, 0x5678, 0x11, 0x2233, 0x4455, 0x6677);
     let address = SocketAddr::V6(SocketAddrV6::new(ip, 32853, 0, 0));
-    assert!(rt; ipv6.mapped_address() == Some(address));
-    assert!(rt; ipv6.verify(RFC_PASSWORD, &DefaultSha1HmacProvider));
-    Ok(())
+    assert!(rt; is_sample(&RFC_IPV6_RESPONSE, address));
 }

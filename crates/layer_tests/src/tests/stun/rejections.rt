@@ -13,16 +13,16 @@ const UNNAMED: [u8; 20] = [
     0x6e, 0x67, 0x47, 0x63,
 ];
 
+/// The same header for a REALM of 132 bytes, with what is before its value.
+const REALM_FRONT: [u8; 24] = [
+    0x00, 0x02, 0x00, 136, 0x21, 0x12, 0xa4, 0x42, 0x6a, 0x75, 0x63, 0x31, 0x35, 0x75, 0x78, 0x55,
+    0x6e, 0x67, 0x47, 0x63, 0x00, 0x14, 0x00, 132,
+];
+
 /// The same with a REALM of 132 letters, which can be parsed, but is too long to be written.
 fn unnamed_with_realm() -> [u8; 156] {
     let mut bytes = [b'a'; 156];
-    for (to, from) in bytes.iter_mut().zip(UNNAMED) {
-        *to = from;
-    }
-    bytes[3] = 136;
-    for (to, from) in bytes.iter_mut().skip(20).zip([0x00, 0x14, 0x00, 132]) {
-        *to = from;
-    }
+    bytes[..24].copy_from_slice(&REALM_FRONT);
     bytes
 }
 
@@ -41,26 +41,51 @@ fn an_unknown_method_is_not_written(rt: HostRuntime) -> Result<(), Fail> {
     Ok(())
 }
 
+/// Whether writing the message into an empty buffer fails with this error.
+fn fails(message: StunMessage<'_>, error: StunError) -> bool {
+    rejection_of(message, &mut []) == Some(error)
+}
+
 /// Each error is tested against the next ones in the order: in an empty buffer all messages are too long.
 #[test]
-fn the_first_error_is_reported(rt: HostRuntime) -> Result<(), Fail> {
+fn an_unknown_method_is_reported_first(rt: HostRuntime) -> Result<(), Fail> {
     let bytes = unnamed_with_realm();
-    assert!(rt;
-        rejection_of(StunMessage::parse(&bytes)?, &mut []) == Some(StunError::UnknownMethod)
-    );
-    let text = str::from_utf8(&bytes[24..]).unwrap_or("");
+    assert!(rt; fails(StunMessage::parse(&bytes)?, StunError::UnknownMethod));
+    Ok(())
+}
+
+#[test]
+fn a_value_that_is_too_long_is_reported_next(rt: HostRuntime) {
+    let bytes = [b'a'; 129];
+    let text = str::from_utf8(&bytes).unwrap_or("");
     let failure = Builder::new().binding().failure();
     let full = failure.data(&[0; 65535]);
-    for (message, error) in [
-        (full.error_code(700, text), StunError::ValueTooLong),
-        (full.realm(text), StunError::ValueTooLong),
-        (failure.error_code(700, text), StunError::ValueTooLong),
-        (full.error_code(700, ""), StunError::BadErrorCode),
-        (failure.error_code(700, ""), StunError::BadErrorCode),
-        (full, StunError::MessageTooLong),
-        (failure, StunError::BufferTooShort),
-    ] {
-        assert!(rt; rejection_of(message.build(ID), &mut []) == Some(error));
-    }
-    Ok(())
+    assert!(rt;
+        fails(
+            full.error_code(700, text).build(ID),
+            StunError::ValueTooLong
+        )
+    );
+    assert!(rt; fails(full.realm(text).build(ID), StunError::ValueTooLong));
+    assert!(rt;
+        fails(
+            failure.error_code(700, text).build(ID),
+            StunError::ValueTooLong
+        )
+    );
+}
+
+#[test]
+fn an_error_code_is_reported_before_lengths_of_messages(rt: HostRuntime) {
+    let failure = Builder::new().binding().failure();
+    let full = failure.data(&[0; 65535]);
+    assert!(rt; fails(full.error_code(700, "").build(ID), StunError::BadErrorCode));
+    assert!(rt;
+        fails(
+            failure.error_code(700, "").build(ID),
+            StunError::BadErrorCode
+        )
+    );
+    assert!(rt; fails(full.build(ID), StunError::MessageTooLong));
+    assert!(rt; fails(failure.build(ID), StunError::BufferTooShort));
 }

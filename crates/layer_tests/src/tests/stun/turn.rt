@@ -99,33 +99,58 @@ fn an_allocate_request_has_a_transport_and_a_family(rt: HostRuntime) -> Result<(
         transport: Some(17),
         family: Some(AddressFamily::Ipv6),
     };
+    let mut buf = [0; 44];
+    assert!(rt; len_with(&requested, &mut buf) == Some(44));
+    assert!(rt; buf.starts_with(&ALLOCATE));
+    assert!(rt; Requested::of(&buf) == requested);
+    assert!(rt; StunMessage::parse_any(&buf)?.is_allocate_request());
+    Ok(())
+}
+
+/// The length of the Allocate request that requests this.
+fn len_with(requested: &Requested, buf: &mut [u8]) -> Option<usize> {
     let message = Builder::new()
         .allocate()
         .request()
         .build(TransId(id_of(&ALLOCATE)));
-    let mut buf = [0; 44];
-    let len = message.to_bytes_with(&requested, None, &mut buf, &DefaultSha1HmacProvider)?;
-    assert!(rt; len == 44);
-    assert!(rt; buf.starts_with(&ALLOCATE));
-    assert!(rt; Requested::of(&buf) == requested);
-    assert!(rt; StunMessage::parse_any(&buf)?.is_allocate_request());
-    // A family that RFC 8656 does not define, and a value of three bytes.
+    message
+        .to_bytes_with(requested, None, buf, &DefaultSha1HmacProvider)
+        .ok()
+}
+
+/// A family that RFC 8656 does not define, and a value of three bytes.
+#[test]
+fn other_values_request_nothing(rt: HostRuntime) {
     let mut other = ALLOCATE;
     other[24] = 3;
     other[31] = 3;
     assert!(rt; Requested::of(&other) == Requested::default());
-    Ok(())
+}
+
+/// RFC 8656, section 12.4: the number, the length, the data, and padding over TCP.
+static CHANNEL_DATA: [u8; 8] = [0x40, 0x01, 0x00, 0x03, 7, 8, 9, 0];
+
+/// Bytes that are no ChannelData: cut ones, and numbers out of range.
+static NO_CHANNEL_DATA: [&[u8]; 4] = [
+    &[0x40, 0x01, 0x00, 0x03, 7, 8],
+    &[0x40, 0x01, 0x00],
+    &[0x50, 0, 0, 0],
+    &[0x3f, 0xff, 0, 0],
+];
+
+fn is_channel_data(bytes: &[u8], number: u16, data: &[u8]) -> bool {
+    match read_channel_data(bytes) {
+        Some((from, found)) => from == number && found == data,
+        None => false,
+    }
 }
 
 #[test]
 fn channel_data_is_read(rt: HostRuntime) {
-    // RFC 8656, section 12.4: the number, the length, the data, and padding over TCP.
-    let bytes = [0x40, 0x01, 0x00, 0x03, 7, 8, 9, 0];
-    assert!(rt; read_channel_data(&bytes) == Some((0x4001, [7, 8, 9].as_slice())));
+    assert!(rt; is_channel_data(&CHANNEL_DATA, 0x4001, &[7, 8, 9]));
+    assert!(rt; is_channel_data(&[0x4f, 0xff, 0, 0], 0x4fff, &[]));
     assert!(rt; channel_header(0x4001, 3) == [0x40, 0x01, 0x00, 0x03]);
-    assert!(rt; read_channel_data(&bytes[..6]).is_none());
-    assert!(rt; read_channel_data(&bytes[..3]).is_none());
-    assert!(rt; read_channel_data(&[0x4f, 0xff, 0, 0]) == Some((0x4fff, [].as_slice())));
-    assert!(rt; read_channel_data(&[0x50, 0, 0, 0]).is_none());
-    assert!(rt; read_channel_data(&[0x3f, 0xff, 0, 0]).is_none());
+    for bytes in &NO_CHANNEL_DATA {
+        assert!(rt; read_channel_data(bytes).is_none());
+    }
 }

@@ -63,6 +63,32 @@ impl Side {
     fn success(&self, mapped: SocketAddr) -> StunMessage<'static> {
         StunMessage::binding_reply(self.id(), mapped)
     }
+
+    /// Whether a packet is due at this time, and sent then.
+    fn sends_at(&mut self, millis: u64) -> bool {
+        self.step() == (Some(at(millis)), true)
+    }
+
+    /// Whether the server's response to the last packet counts.
+    fn is_answered(&mut self, now: u64, mapped: SocketAddr) -> bool {
+        let response = self.success(mapped);
+        self.hear(now, address(1), response) == Received::Own
+    }
+
+    /// Whether the server's error response to the last packet counts.
+    fn gets_error(&mut self, now: u64, code: u16) -> bool {
+        let error = Builder::new()
+            .binding()
+            .failure()
+            .error_code(code, "")
+            .build(self.id());
+        self.hear(now, address(1), error) == Received::Own
+    }
+
+    /// Whether this is the next event.
+    fn reports(&mut self, event: Option<StunEvent>) -> bool {
+        self.client.poll_event() == event
+    }
 }
 
 /// RFC 8489, section 6.2.1: with an RTO of 500 ms a request is sent at these times, and times out after 39500 ms.
@@ -70,11 +96,10 @@ impl Side {
 fn requests_are_sent_at_the_times_of_the_rfc(rt: HostRuntime) {
     let mut side = Side::new(ClientTiming::rfc());
     for millis in [0, 500, 1500, 3500, 7500, 15500, 31500] {
-        assert!(rt; side.step() == (Some(at(millis)), true));
-        assert!(rt; side.client.poll_event().is_none());
+        assert!(rt; side.sends_at(millis) && side.reports(None));
     }
     assert!(rt; side.step() == (Some(at(39500)), false));
-    assert!(rt; side.client.poll_event() == Some(StunEvent::Failed(None)));
+    assert!(rt; side.reports(Some(StunEvent::Failed(None))));
     assert!(rt; side.client.poll_timeout().is_none());
 }
 
@@ -95,71 +120,70 @@ fn nothing_is_due_before_its_time(rt: HostRuntime) {
     assert!(rt; side.id() == first);
 }
 
+/// What does not count, after the first packet: the response from elsewhere, media, and messages of other kinds.
 #[test]
 fn only_the_response_of_the_server_counts(rt: HostRuntime) {
     let mut side = Side::new(ClientTiming::rfc());
-    let (_, sent) = side.step();
-    assert!(rt; sent);
-    let mapped = address(77);
-    let response = side.success(mapped);
+    assert!(rt; side.sends_at(0));
+    let response = side.success(address(77));
     assert!(rt; side.hear(10, address(2), response) == Received::Other);
     assert!(rt; side.client.receive(at(10), address(1), b"media") == Received::Unparsed);
-    let other = StunMessage::binding_reply(TransId([9; 12]), mapped);
+    assert!(rt; side.hear(10, address(1), response) == Received::Own);
+    assert!(rt; side.client.mapped() == Some(address(77)));
+    assert!(rt; side.reports(Some(StunEvent::Mapped(address(77)))));
+    assert!(rt; side.reports(None));
+    assert!(rt; side.hear(20, address(1), response) == Received::Unasked);
+}
+
+#[test]
+fn other_messages_of_the_server_count_for_nothing(rt: HostRuntime) {
+    let mut side = Side::new(ClientTiming::rfc());
+    assert!(rt; side.sends_at(0));
+    let other = StunMessage::binding_reply(TransId([9; 12]), address(77));
     assert!(rt; side.hear(10, address(1), other) == Received::Unasked);
     let bare = Builder::new().binding().success().build(side.id());
     assert!(rt; side.hear(10, address(1), bare) == Received::Malformed);
     let request = Builder::new().binding().request().build(side.id());
     assert!(rt; side.hear(10, address(1), request) == Received::Unasked);
     assert!(rt; side.client.mapped().is_none());
-    assert!(rt; side.hear(10, address(1), response) == Received::Own);
-    assert!(rt; side.client.mapped() == Some(mapped));
-    assert!(rt; side.client.poll_event() == Some(StunEvent::Mapped(mapped)));
-    assert!(rt; side.client.poll_event().is_none());
-    assert!(rt; side.hear(20, address(1), response) == Received::Unasked);
 }
 
 #[test]
 fn a_mapping_is_kept_and_reported_if_it_changes(rt: HostRuntime) {
     let mut side = Side::new(ClientTiming::rfc());
-    let (_, sent) = side.step();
-    assert!(rt; sent);
+    assert!(rt; side.sends_at(0) && side.is_answered(100, address(77)));
+    assert!(rt; side.reports(Some(StunEvent::Mapped(address(77)))));
+    assert!(rt; side.sends_at(20100) && side.is_answered(20200, address(77)));
+    assert!(rt; side.reports(None));
+    assert!(rt; side.sends_at(40200) && side.is_answered(40300, address(78)));
+    assert!(rt; side.reports(Some(StunEvent::Mapped(address(78)))));
+}
+
+#[test]
+fn each_request_has_an_id_of_its_own(rt: HostRuntime) {
+    let mut side = Side::new(ClientTiming::rfc());
+    assert!(rt; side.sends_at(0) && side.is_answered(100, address(77)));
     let first = side.id();
-    let response = side.success(address(77));
-    assert!(rt; side.hear(100, address(1), response) == Received::Own);
-    assert!(rt; side.client.poll_event() == Some(StunEvent::Mapped(address(77))));
-    assert!(rt; side.step() == (Some(at(20100)), true));
+    assert!(rt; side.sends_at(20100));
     assert!(rt; side.id() != first);
-    let same = side.success(address(77));
-    assert!(rt; side.hear(20200, address(1), same) == Received::Own);
-    assert!(rt; side.client.poll_event().is_none());
-    assert!(rt; side.step() == (Some(at(40200)), true));
-    let changed = side.success(address(78));
-    assert!(rt; side.hear(40300, address(1), changed) == Received::Own);
-    assert!(rt; side.client.poll_event() == Some(StunEvent::Mapped(address(78))));
-    // An error, or silence, ends nothing once there was an answer.
-    assert!(rt; side.step() == (Some(at(60300)), true));
-    let error = Builder::new()
-        .binding()
-        .failure()
-        .error_code(500, "")
-        .build(side.id());
-    assert!(rt; side.hear(60400, address(1), error) == Received::Own);
-    assert!(rt; side.client.poll_event().is_none());
-    assert!(rt; side.client.poll_timeout() == Some(at(80400)));
+}
+
+/// Nor does silence.
+#[test]
+fn an_error_ends_nothing_once_there_was_an_answer(rt: HostRuntime) {
+    let mut side = Side::new(ClientTiming::rfc());
+    assert!(rt; side.sends_at(0) && side.is_answered(100, address(77)));
+    assert!(rt; side.reports(Some(StunEvent::Mapped(address(77)))));
+    assert!(rt; side.sends_at(20100) && side.gets_error(20200, 500));
+    assert!(rt; side.reports(None));
+    assert!(rt; side.client.poll_timeout() == Some(at(40200)));
 }
 
 #[test]
 fn an_error_ends_the_first_request(rt: HostRuntime) {
     let mut side = Side::new(ClientTiming::rfc());
-    let (_, sent) = side.step();
-    assert!(rt; sent);
-    let error = Builder::new()
-        .binding()
-        .failure()
-        .error_code(300, "")
-        .build(side.id());
-    assert!(rt; side.hear(10, address(1), error) == Received::Own);
-    assert!(rt; side.client.poll_event() == Some(StunEvent::Failed(Some(300))));
+    assert!(rt; side.sends_at(0) && side.gets_error(10, 300));
+    assert!(rt; side.reports(Some(StunEvent::Failed(Some(300)))));
     assert!(rt; side.client.poll_timeout().is_none());
     side.client.start(at(20));
     assert!(rt; side.client.poll_timeout().is_none());

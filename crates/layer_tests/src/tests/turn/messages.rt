@@ -63,53 +63,94 @@ fn keys_are_those_of_the_rfcs(rt: HostRuntime) {
 
 /// RFC 8656, sections 17 and 18, attribute by attribute.
 #[test]
-fn requests_have_the_types_of_the_rfc(rt: HostRuntime) -> Result<(), Fail> {
+fn an_allocate_request_is_that_of_the_rfc(rt: HostRuntime) {
     let mut buf = [0; 60];
     let allocate = Request::Allocate(600, Some(AddressFamily::Ipv6));
     assert!(rt; written(&allocate, None, &mut buf) == Some(52));
     assert!(rt; buf.starts_with(&ALLOCATE));
+}
+
+#[test]
+fn a_refresh_request_has_its_lifetime(rt: HostRuntime) -> Result<(), Fail> {
+    let mut buf = [0; 36];
     assert!(rt; written(&Request::Refresh(0), None, &mut buf) == Some(36));
-    assert!(rt; parsed(&buf, 36)?.is_refresh_request());
-    assert!(rt; parsed(&buf, 36)?.lifetime() == Some(0));
-    assert!(rt; written(&Request::CreatePermission(peer()), None, &mut buf) == Some(40));
-    assert!(rt; parsed(&buf, 40)?.is_create_permission_request());
-    assert!(rt; parsed(&buf, 40)?.xor_peer_address() == Some(peer()));
-    assert!(rt; written(&Request::ChannelBind(0x4001, peer()), None, &mut buf) == Some(48));
-    assert!(rt; parsed(&buf, 48)?.is_channel_bind_request());
-    assert!(rt; parsed(&buf, 48)?.channel_number() == Some(0x4001));
-    let mut short = [0; 51];
-    let sent = write_send(peer(), b"media", &ID, &mut buf)?;
-    assert!(rt; sent == 52);
-    assert!(rt; parsed(&buf, 52)?.is_send_indication());
-    assert!(rt; parsed(&buf, 52)?.data() == Some(b"media".as_slice()));
-    assert!(rt; write_send(peer(), b"media", &ID, &mut short) == Err(StunError::BufferTooShort));
+    let read = StunMessage::parse_any(&buf)?;
+    assert!(rt; read.is_refresh_request() && read.lifetime() == Some(0));
     Ok(())
 }
 
 #[test]
-fn a_challenge_makes_the_key(rt: HostRuntime) -> Result<(), Fail> {
-    let Some(mut credentials) = credentials() else {
-        return Ok(());
-    };
+fn a_permission_is_for_a_peer(rt: HostRuntime) -> Result<(), Fail> {
+    let mut buf = [0; 40];
+    assert!(rt; written(&Request::CreatePermission(peer()), None, &mut buf) == Some(40));
+    let read = StunMessage::parse_any(&buf)?;
+    assert!(rt; read.is_create_permission_request() && read.xor_peer_address() == Some(peer()));
+    Ok(())
+}
+
+#[test]
+fn a_channel_is_bound_to_its_number(rt: HostRuntime) -> Result<(), Fail> {
+    let mut buf = [0; 48];
+    assert!(rt; written(&Request::ChannelBind(0x4001, peer()), None, &mut buf) == Some(48));
+    let read = StunMessage::parse_any(&buf)?;
+    assert!(rt; read.is_channel_bind_request() && read.channel_number() == Some(0x4001));
+    Ok(())
+}
+
+#[test]
+fn a_send_indication_has_its_data(rt: HostRuntime) -> Result<(), Fail> {
+    let mut buf = [0; 52];
+    assert!(rt; write_send(peer(), b"media", &ID, &mut buf) == Ok(52));
+    let read = StunMessage::parse_any(&buf)?;
+    assert!(rt; read.is_send_indication() && read.data() == Some(b"media".as_slice()));
+    let mut short = [0; 51];
+    assert!(rt; write_send(peer(), b"media", &ID, &mut short) == Err(StunError::BufferTooShort));
+    Ok(())
+}
+
+/// A Refresh request with these credentials.
+fn refresh_with(credentials: &Credentials, buf: &mut [u8]) -> usize {
+    written(&Request::Refresh(600), Some(credentials), buf).unwrap_or(0)
+}
+
+/// Whether the request is signed with the key of the RFC for this nonce.
+fn is_signed(message: &StunMessage<'_>, nonce: &str) -> bool {
+    message.verify(&KEY, &DefaultSha1HmacProvider)
+        && message.username() == Some("user")
+        && message.realm() == Some("realm")
+        && message.nonce() == Some(nonce)
+}
+
+/// Whether the request that is written with the credentials is signed for this nonce.
+fn signs(credentials: &Credentials, nonce: &str) -> bool {
     let mut buf = [0; 200];
-    assert!(rt; written(&Request::Refresh(600), Some(&credentials), &mut buf) == Some(36));
-    assert!(rt; !credentials.take_challenge(Some("realm"), None));
-    assert!(rt; credentials.take_challenge(Some("realm"), Some("nonce")));
-    let len = written(&Request::Refresh(600), Some(&credentials), &mut buf).unwrap_or(0);
-    let message = parsed(&buf, len)?;
-    assert!(rt; message.verify(&KEY, &DefaultSha1HmacProvider));
-    assert!(rt; message.username() == Some("user"));
-    assert!(rt; message.realm() == Some("realm"));
-    assert!(rt; message.nonce() == Some("nonce"));
-    assert!(rt; value_of(&buf, 0x0022).is_none());
-    // Once the password is forgotten, the realm stays, and the nonce may change.
-    credentials.confirm();
-    assert!(rt; !credentials.take_challenge(Some("other"), Some("new")));
-    assert!(rt; credentials.take_challenge(Some("realm"), Some("new")));
-    let len = written(&Request::Refresh(600), Some(&credentials), &mut buf).unwrap_or(0);
-    let message = parsed(&buf, len)?;
-    assert!(rt; message.verify(&KEY, &DefaultSha1HmacProvider));
-    assert!(rt; message.nonce() == Some("new"));
+    let len = refresh_with(credentials, &mut buf);
+    match parsed(&buf, len) {
+        Ok(message) => is_signed(&message, nonce) && value_of(&buf, 0x0022).is_none(),
+        Err(_) => false,
+    }
+}
+
+#[test]
+fn a_challenge_makes_the_key(rt: HostRuntime) -> Result<(), Fail> {
+    let mut known = credentials().ok_or("the credentials are too long")?;
+    let mut buf = [0; 36];
+    assert!(rt; refresh_with(&known, &mut buf) == 36);
+    assert!(rt; !known.take_challenge(Some("realm"), None));
+    assert!(rt; known.take_challenge(Some("realm"), Some("nonce")));
+    assert!(rt; signs(&known, "nonce"));
+    Ok(())
+}
+
+/// Once the password is forgotten, the realm stays, and the nonce may change.
+#[test]
+fn a_later_challenge_changes_the_nonce_only(rt: HostRuntime) -> Result<(), Fail> {
+    let mut known = credentials().ok_or("the credentials are too long")?;
+    assert!(rt; known.take_challenge(Some("realm"), Some("nonce")));
+    known.confirm();
+    assert!(rt; !known.take_challenge(Some("other"), Some("new")));
+    assert!(rt; known.take_challenge(Some("realm"), Some("new")));
+    assert!(rt; signs(&known, "new"));
     Ok(())
 }
 
@@ -134,30 +175,41 @@ fn verdict_of(code: u16, signs: bool, was_signed: bool, is_confirmed: bool) -> O
     Some(verdict_on(&message, Some(&known), own, true, &DefaultSha1HmacProvider))
 }
 
+/// A code, whether the response is signed, whether the request was, whether the client got a signed one before, and what the response is.
+static VERDICTS: [(u16, bool, bool, bool, Verdict); 8] = [
+    (437, true, true, true, Verdict::Genuine),
+    (437, false, true, true, Verdict::Unauthentic),
+    (437, false, true, false, Verdict::Hint),
+    (437, true, false, false, Verdict::Unauthentic),
+    (401, false, false, false, Verdict::Challenge),
+    (438, false, true, true, Verdict::Challenge),
+    (300, false, false, false, Verdict::Redirect),
+    (300, false, true, true, Verdict::Unauthentic),
+];
+
 #[test]
-fn only_signed_responses_are_genuine(rt: HostRuntime) -> Result<(), Fail> {
-    assert!(rt; verdict_of(437, true, true, true) == Some(Verdict::Genuine));
-    assert!(rt; verdict_of(437, false, true, true) == Some(Verdict::Unauthentic));
-    assert!(rt; verdict_of(437, false, true, false) == Some(Verdict::Hint));
-    assert!(rt; verdict_of(437, true, false, false) == Some(Verdict::Unauthentic));
-    assert!(rt; verdict_of(401, false, false, false) == Some(Verdict::Challenge));
-    assert!(rt; verdict_of(438, false, true, true) == Some(Verdict::Challenge));
-    assert!(rt; verdict_of(300, false, false, false) == Some(Verdict::Redirect));
-    assert!(rt; verdict_of(300, false, true, true) == Some(Verdict::Unauthentic));
+fn only_signed_responses_are_genuine(rt: HostRuntime) {
+    for (code, signs, was_signed, is_confirmed, verdict) in &VERDICTS {
+        assert!(rt; verdict_of(*code, *signs, *was_signed, *is_confirmed) == Some(*verdict));
+    }
+}
+
+/// What a response is to a client without credentials.
+fn plain_verdict(response: StunMessage<'_>) -> Option<Verdict> {
     let mut buf = [0; 60];
+    let len = response
+        .to_bytes(None, &mut buf, &DefaultSha1HmacProvider)
+        .ok()?;
+    let message = parsed(&buf, len).ok()?;
+    Some(verdict_on(&message, None, None, true, &DefaultSha1HmacProvider))
+}
+
+#[test]
+fn an_error_needs_a_code(rt: HostRuntime) {
     let bare = Builder::new().refresh().failure().build(ID);
-    let len = bare.to_bytes(None, &mut buf, &DefaultSha1HmacProvider)?;
-    let message = parsed(&buf, len)?;
-    assert!(rt;
-        verdict_on(&message, None, None, true, &DefaultSha1HmacProvider) == Verdict::Malformed
-    );
+    assert!(rt; plain_verdict(bare) == Some(Verdict::Malformed));
     let success = StunMessage::binding_reply(ID, peer());
-    let len = success.to_bytes(None, &mut buf, &DefaultSha1HmacProvider)?;
-    let message = parsed(&buf, len)?;
-    assert!(rt;
-        verdict_on(&message, None, None, true, &DefaultSha1HmacProvider) == Verdict::Genuine
-    );
-    Ok(())
+    assert!(rt; plain_verdict(success) == Some(Verdict::Genuine));
 }
 
 fn is_channel_data(incoming: Incoming<'_>, number: u16, contents: &[u8]) -> bool {
@@ -175,34 +227,49 @@ fn is_data_of(incoming: Incoming<'_>, peer: SocketAddr, contents: &[u8]) -> bool
 }
 
 #[test]
-fn datagrams_of_a_server_are_distinguished(rt: HostRuntime) -> Result<(), Fail> {
-    let mut buf = [0; 60];
+fn channel_data_is_distinguished(rt: HostRuntime) {
     let channel = [0x40, 0x01, 0x00, 0x02, 7, 8];
     assert!(rt; is_channel_data(read_incoming(&channel), 0x4001, &[7, 8]));
     assert!(rt; matches!(read_incoming(&channel[..5]), Incoming::Unparsed));
     assert!(rt; matches!(read_incoming(b""), Incoming::Unparsed));
-    let data = Builder::new()
-        .data()
-        .indication()
-        .xor_peer_address(peer())
-        .data(b"media")
-        .build(ID);
-    let len = data.to_bytes(None, &mut buf, &DefaultSha1HmacProvider)?;
-    assert!(rt; is_data_of(read_incoming(&buf[..len]), peer(), b"media"));
-    // The same with a top bit that no STUN message has.
+}
+
+/// A Data indication from the peer.
+fn data_indication() -> Builder<'static, HasClass> {
+    Builder::new().data().indication().xor_peer_address(peer())
+}
+
+/// The length of the message, written without a password.
+fn plain_len(message: StunMessage<'_>, buf: &mut [u8]) -> usize {
+    message
+        .to_bytes(None, buf, &DefaultSha1HmacProvider)
+        .unwrap_or(0)
+}
+
+/// With a top bit that no STUN message has, it is none.
+#[test]
+fn data_of_a_peer_is_distinguished(rt: HostRuntime) {
+    let mut buf = [0; 52];
+    let data = data_indication().data(b"media").build(ID);
+    assert!(rt; plain_len(data, &mut buf) == 52);
+    assert!(rt; is_data_of(read_incoming(&buf), peer(), b"media"));
     buf[0] |= 0x80;
-    assert!(rt; matches!(read_incoming(&buf[..len]), Incoming::Unparsed));
-    let bare = Builder::new()
-        .data()
-        .indication()
-        .xor_peer_address(peer())
-        .build(ID);
-    let len = bare.to_bytes(None, &mut buf, &DefaultSha1HmacProvider)?;
-    assert!(rt; matches!(read_incoming(&buf[..len]), Incoming::Malformed));
-    let success = StunMessage::binding_reply(ID, peer());
-    let len = success.to_bytes(None, &mut buf, &DefaultSha1HmacProvider)?;
-    assert!(rt; matches!(read_incoming(&buf[..len]), Incoming::Response(_)));
-    let sent = write_send(peer(), b"media", &ID, &mut buf)?;
-    assert!(rt; matches!(read_incoming(&buf[..sent]), Incoming::Unasked));
-    Ok(())
+    assert!(rt; matches!(read_incoming(&buf), Incoming::Unparsed));
+}
+
+#[test]
+fn an_indication_without_data_is_malformed(rt: HostRuntime) {
+    let mut buf = [0; 40];
+    assert!(rt; plain_len(data_indication().build(ID), &mut buf) == 40);
+    assert!(rt; matches!(read_incoming(&buf), Incoming::Malformed));
+}
+
+#[test]
+fn responses_are_distinguished_from_what_no_server_sends(rt: HostRuntime) {
+    let mut buf = [0; 40];
+    assert!(rt; plain_len(StunMessage::binding_reply(ID, peer()), &mut buf) == 40);
+    assert!(rt; matches!(read_incoming(&buf), Incoming::Response(_)));
+    let mut sent = [0; 52];
+    assert!(rt; write_send(peer(), b"media", &ID, &mut sent) == Ok(52));
+    assert!(rt; matches!(read_incoming(&sent), Incoming::Unasked));
 }

@@ -1,4 +1,4 @@
-//! What an agent does beyond the original's behavior: triggered checks, and selection at a request.
+//! What an agent does with the profile `Modern`: triggered checks, and selection at a request.
 
 use super::step::Call::*;
 use super::step::Emitted::*;
