@@ -42,13 +42,13 @@ abbrev pub IsNeverLite : {P : Type 0} → Side → List (LoggedEvent P) → Type
 IsNeverLite side log = AllByRecursion (λ x. StaysFull side x.event) log
 
 -- The side does not get the profile by which a lite agent keeps its role.
-abbrev pub LeavesRule : {P : Type 0} → Side → Event P → Type 0
-LeavesRule side (world.Call s (agent.SetProfile profile)) = s ≡ side → is_modern_profile profile ≡ false
-LeavesRule side _ = Unit {0}
+abbrev pub StaysOriginal : {P : Type 0} → Side → Event P → Type 0
+StaysOriginal side (world.Call s (agent.SetProfile profile)) = s ≡ side → is_modern_profile profile ≡ false
+StaysOriginal side _ = Unit {0}
 
 -- The side is never made lite, or never gets that profile. So it keeps its role only by its tie-breaker.
 abbrev pub ComparesTies : {P : Type 0} → Side → List (LoggedEvent P) → Type 0
-ComparesTies side log = IsNeverLite side log ⊎ AllByRecursion (λ x. LeavesRule side x.event) log
+ComparesTies side log = IsNeverLite side log ⊎ AllByRecursion (λ x. StaysOriginal side x.event) log
 
 -- Both agents are newly created, no packet is in flight, `greater` has the greater tie-breaker, no two checks have the same ID, and
 -- neither agent is a lite one that keeps its role.

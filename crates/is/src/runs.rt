@@ -171,8 +171,8 @@ pub fn run<H: Sha1HmacProvider + Drop, P: LocalPreference, R: Rng>(
     // A path in time: a controlling agent without a valid pair selects its first path in a round that begins at most k pacing intervals, k
     // times δ and one round trip after the first, with the same caller, unless a candidate that is added in the rounds may remove a pair of
     // the path. Precondition: k rounds after the first suffice for the check of a pair that is due by it, and each check on the pair's path
-    // is answered within a round trip. If only packets and polls come in the rounds, k is as in `rounds`, otherwise as in `due_rounds`. By the
-    // rule `triggered_checks` k is 2 * m, however many pairs there are, if a request was served on the pair, and fewer than m of the k rounds
+    // is answered within a round trip. If only packets and polls come in the rounds, k is as in `rounds`, otherwise as in `due_rounds`. With
+    // the profile `Modern` k is 2 * m, however many pairs there are, if a request was served on the pair, and fewer than m of the k rounds
     // check the selected pair or urgent pairs before it.
     ensures selects_in_time { IsFresh (record_of agent.old)
         → RoundsSelectInTime H.mac P.answers (record_of agent.old) (R.stream rng.old) (log_of calls.items result) }

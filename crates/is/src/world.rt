@@ -156,8 +156,8 @@ impl<H: Sha1HmacProvider + Drop, P: LocalPreference> TwoAgents<H, P> {
         // success response at any time while the check is pending, also through NATs. Both agents know each other, their roles
         // differ, and the check reaches the other agent. Then the controlling agent selects a path by then, whatever else happens.
         // Candidates may be added in the rounds, if there are 2n - 1 for n pairs in all, and one more for each pair that is added,
-        // unless an added candidate may remove a pair of the path. If checks may go ahead, it is 2n rounds, or 4n - 1 and two more. By the
-        // rule `triggered_checks` it is 2 * m after the first, however many pairs there are, if a request was served on the pair, and fewer
+        // unless an added candidate may remove a pair of the path. If checks may go ahead, it is 2n rounds, or 4n - 1 and two more. With the
+        // profile `Modern` it is 2 * m after the first, however many pairs there are, if a request was served on the pair, and fewer
         // than m of them check the selected pair or urgent pairs before it.
         ensures rounds { DeliveredRoundsSelect H.mac P.answers (world_of self.old) (sources (R.stream rng_a.old) (S.stream rng_b.old)) (logged events.items result.entries.items) }
 

@@ -74,9 +74,10 @@ impl<H: Sha1HmacProvider + Drop, P: LocalPreference> Agent<H, P> {
     /// Discards a candidate that is no longer usable, for example because its interface was removed. It discards the first
     /// local candidate that equals this one in address, base, protocol, kind and related address, if that one is not
     /// discarded; else the first such remote candidate, likewise. With the profile `Modern` those that are discarded are
-    /// passed over. The pairs of the discarded candidate are removed. Returns whether there was one. With `Modern`, another path is selected at once if the selected one is lost.
+    /// passed over. The pairs of the discarded candidate are removed. Returns whether there was one. With `Modern` another path is
+    /// selected at once if the selected one is lost.
     ///
-    /// Fails with `OutOfMemory`, only by that rule. The agent is then unchanged.
+    /// Fails with `OutOfMemory`, only with `Modern`. The agent is then unchanged.
     pub fn invalidate_candidate(&mut self, candidate: &Candidate) -> Result<bool, IceError>
         ensures { ReselectsAfter (Invalidates (record_of self.old) candidate.now result) (record_of self.old) (emitted_of self.new)
             (record_of self.new) }

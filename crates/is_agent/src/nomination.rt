@@ -42,7 +42,7 @@ impl<H: Sha1HmacProvider + Drop, P: LocalPreference> Agent<H, P> {
         self.nomination_due = true;
     }
 
-    /// Nominations have numbers: with renomination, by the agent's rules.
+    /// Nominations have numbers: with renomination and the profile `Modern`.
     pub(crate) fn numbers(&self) -> bool
         ensures { result ≡ numbers (record_of self.now) }
     {

@@ -25,7 +25,7 @@ impl<H: Sha1HmacProvider + Drop, P: LocalPreference> Agent<H, P> {
         }
     }
 
-    /// The agent never changes its role: it is lite, and its rules say so.
+    /// The agent never changes its role: it is lite, and its profile is `Modern`.
     pub(crate) fn keeps_role(&self) -> bool
         ensures { result ≡ keeps_role (record_of self.now) }
     {

@@ -19,7 +19,7 @@ use is_rules::states::same_state;
 use std::alloc::AllocError;
 
 impl<H: Sha1HmacProvider + Drop, P: LocalPreference> Agent<H, P> {
-    /// The agent has the rule, and its session has begun.
+    /// The profile is `Modern`, and the session has begun.
     fn settles(&self) -> bool
         ensures { result ≡ settles (record_of self.now) }
     {

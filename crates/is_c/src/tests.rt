@@ -33,6 +33,7 @@ use crate::settings::{
     is_ice_set_preference_table,
 };
 use crate::slot::Slot;
+use early::{sent_to, takes};
 use std::alloc::Global;
 
 const REQUEST: [u8; 100] = [
@@ -111,36 +112,76 @@ fn passes(alloc: Global, from: &mut Slot, to: &mut Slot, now: u64) -> bool {
     sent == codes::OK && taken == codes::OK
 }
 
+/// The agent that the request is for, at 10.0.0.1:1000. Whether it was made.
+fn serves(alloc: Global, slot: &mut Slot) -> bool {
+    let mut index = 9;
+    let made = is_ice_agent_new(alloc, slot, b"p9KA", b"xJcE9AQAR7kczUDVOXRUCl", 1);
+    let known = is_ice_set_remote_credentials(alloc, slot, b"SQAt", b"x");
+    let added = is_ice_add_local(alloc, slot, &host(address(1, 1000)), &mut index);
+    made == codes::OK && known == codes::OK && added == codes::OK
+}
+
+/// An agent AAAA at no address. Whether it was made.
+fn is_new(alloc: Global, slot: &mut Slot) -> bool {
+    is_ice_agent_new(alloc, slot, b"AAAA", b"PPPP", 1) == codes::OK
+}
+
+/// Adds the host candidate at 10.0.0.`last`:1000. The code, and the index.
+fn gathers(alloc: Global, slot: &mut Slot, last: u8) -> (i32, usize) {
+    let mut index = 9;
+    let code = is_ice_add_local(alloc, slot, &host(address(last, 1000)), &mut index);
+    (code, index)
+}
+
+/// Adds the candidate of this line. The code, and the index.
+fn signals(alloc: Global, slot: &mut Slot, line: &[u8]) -> (i32, usize) {
+    let mut index = 9;
+    let code = is_ice_add_remote(alloc, slot, line, &mut index);
+    (code, index)
+}
+
 #[test]
-fn a_request_is_replied_to(rt: HostRuntime) {
+fn a_slot_holds_one_agent(rt: HostRuntime) {
+    let alloc = rt.alloc();
+    let mut slot = Slot::empty(alloc);
+    let mut at = 7;
+    assert!(rt; serves(alloc, &mut slot));
+    let again = is_ice_agent_new(alloc, &mut slot, b"p9KA", b"x", 1);
+    assert!(rt; again == codes::HAS_AGENT);
+    assert!(rt; gathers(alloc, &mut slot, 1) == (codes::NOTHING, 0));
+    let deadline = is_ice_poll_timeout(alloc, &mut slot, &mut at);
+    assert!(rt; deadline == codes::NOTHING);
+    free(alloc, &mut slot);
+    let gone = is_ice_poll_timeout(alloc, &mut slot, &mut at);
+    assert!(rt; gone == codes::NO_AGENT);
+    assert!(rt; at == 7);
+}
+
+#[test]
+fn a_packet_is_accepted_or_not(rt: HostRuntime) {
     let alloc = rt.alloc();
     let own = address(1, 1000);
     let peer = address(2, 2000);
     let mut slot = Slot::empty(alloc);
-    let mut packet = no_packet();
-    let mut event = no_event();
-    let mut at = 7;
-    let mut index = 9;
-    let mut buffer = [0; 64];
-    let made = is_ice_agent_new(alloc, &mut slot, b"p9KA", b"xJcE9AQAR7kczUDVOXRUCl", 1);
-    assert!(rt; made == codes::OK);
-    let again = is_ice_agent_new(alloc, &mut slot, b"p9KA", b"x", 1);
-    assert!(rt; again == codes::HAS_AGENT);
-    let reported = is_ice_set_remote_credentials(alloc, &mut slot, b"SQAt", b"x");
-    assert!(rt; reported == codes::OK);
-    let added = is_ice_add_local(alloc, &mut slot, &host(own), &mut index);
-    assert!(rt; added == codes::OK);
-    let known = is_ice_add_local(alloc, &mut slot, &host(own), &mut index);
-    assert!(rt; known == codes::NOTHING);
-    assert!(rt; index == 0);
+    assert!(rt; serves(alloc, &mut slot));
     let cut = is_ice_handle_packet(alloc, &mut slot, 0, 0, &peer, &own, &REQUEST[..99]);
     assert!(rt; cut == codes::UNPARSED);
     let mine = is_ice_accepts_packet(alloc, &mut slot, 0, &peer, &own, &REQUEST);
     assert!(rt; mine == codes::OK);
     let answer = is_ice_accepts_message(alloc, &mut slot, &REPLY);
     assert!(rt; answer == codes::NOTHING);
-    let taken = is_ice_handle_packet(alloc, &mut slot, 0, 0, &peer, &own, &REQUEST);
-    assert!(rt; taken == codes::OK);
+    free(alloc, &mut slot);
+}
+
+#[test]
+fn a_request_is_replied_to(rt: HostRuntime) {
+    let alloc = rt.alloc();
+    let mut slot = Slot::empty(alloc);
+    let mut packet = no_packet();
+    let mut event = no_event();
+    let mut buffer = [0; 64];
+    assert!(rt; serves(alloc, &mut slot));
+    assert!(rt; takes(alloc, &mut slot, 0, 2000));
     let short = is_ice_poll_transmit(alloc, &mut slot, &mut buffer[..63], &mut packet);
     assert!(rt; short == codes::BUFFER_TOO_SHORT);
     assert!(rt; packet.length == 64);
@@ -152,50 +193,28 @@ fn a_request_is_replied_to(rt: HostRuntime) {
     assert!(rt; heard == codes::OK);
     assert!(rt; event.kind == 3);
     assert!(rt; event.source.port == 2000);
-    let viable = is_ice_has_viable_remote(alloc, &mut slot, &peer);
+    let viable = is_ice_has_viable_remote(alloc, &mut slot, &address(2, 2000));
     assert!(rt; viable == codes::NOTHING);
-    let deadline = is_ice_poll_timeout(alloc, &mut slot, &mut at);
-    assert!(rt; deadline == codes::NOTHING);
     free(alloc, &mut slot);
-    let gone = is_ice_poll_timeout(alloc, &mut slot, &mut at);
-    assert!(rt; gone == codes::NO_AGENT);
 }
 
 #[test]
 fn requests_bring_as_many_candidates_as_the_limit(rt: HostRuntime) {
     let alloc = rt.alloc();
-    let own = address(1, 1000);
-    let first = address(2, 2000);
-    let second = address(2, 2001);
     let mut slot = Slot::empty(alloc);
-    let mut packet = no_packet();
-    let mut index = 9;
-    let mut buffer = [0; 64];
     let none = is_ice_set_max_discovered(alloc, &mut slot, 1);
     assert!(rt; none == codes::NO_AGENT);
-    let made = is_ice_agent_new(alloc, &mut slot, b"p9KA", b"xJcE9AQAR7kczUDVOXRUCl", 1);
-    assert!(rt; made == codes::OK);
-    let reported = is_ice_set_remote_credentials(alloc, &mut slot, b"SQAt", b"x");
-    assert!(rt; reported == codes::OK);
-    let added = is_ice_add_local(alloc, &mut slot, &host(own), &mut index);
-    assert!(rt; added == codes::OK);
+    assert!(rt; serves(alloc, &mut slot));
     let set = is_ice_set_max_discovered(alloc, &mut slot, 1);
     assert!(rt; set == codes::OK);
-    let taken = is_ice_handle_packet(alloc, &mut slot, 0, 0, &first, &own, &REQUEST);
-    assert!(rt; taken == codes::OK);
-    let served = is_ice_poll_transmit(alloc, &mut slot, &mut buffer, &mut packet);
-    assert!(rt; served == codes::OK);
-    let taken = is_ice_handle_packet(alloc, &mut slot, 0, 0, &second, &own, &REQUEST);
-    assert!(rt; taken == codes::OK);
-    let dropped = is_ice_poll_transmit(alloc, &mut slot, &mut buffer, &mut packet);
-    assert!(rt; dropped == codes::NOTHING);
+    assert!(rt; takes(alloc, &mut slot, 0, 2000));
+    assert!(rt; sent_to(alloc, &mut slot) == 2000);
+    assert!(rt; takes(alloc, &mut slot, 0, 2001));
+    assert!(rt; sent_to(alloc, &mut slot) == 0);
     let set = is_ice_set_max_discovered(alloc, &mut slot, usize::MAX);
     assert!(rt; set == codes::OK);
-    let taken = is_ice_handle_packet(alloc, &mut slot, 0, 0, &second, &own, &REQUEST);
-    assert!(rt; taken == codes::OK);
-    let served = is_ice_poll_transmit(alloc, &mut slot, &mut buffer, &mut packet);
-    assert!(rt; served == codes::OK);
-    assert!(rt; packet.destination.port == 2001);
+    assert!(rt; takes(alloc, &mut slot, 0, 2001));
+    assert!(rt; sent_to(alloc, &mut slot) == 2001);
     free(alloc, &mut slot);
 }
 
@@ -231,12 +250,10 @@ fn a_check_has_the_random_bytes_as_its_id(rt: HostRuntime) {
 }
 
 #[test]
-fn credentials_are_made_and_reported(rt: HostRuntime) {
+fn credentials_are_made(rt: HostRuntime) {
     let alloc = rt.alloc();
-    let mut slot = Slot::empty(alloc);
     let mut ufrag = [0; 16];
     let mut pass = [0; 22];
-    let mut length = 0;
     let few = is_ice_make_credentials(alloc, &[0; 37], &mut ufrag, &mut pass);
     assert!(rt; few == codes::TOO_FEW_RANDOM_BYTES);
     let short = is_ice_make_credentials(alloc, &[26; 38], &mut ufrag, &mut pass[..21]);
@@ -245,23 +262,32 @@ fn credentials_are_made_and_reported(rt: HostRuntime) {
     let drawn = is_ice_make_credentials(alloc, &[26; 38], &mut ufrag, &mut pass);
     assert!(rt; drawn == codes::OK);
     assert!(rt; ufrag[..] == b"aaaaaaaaaaaaaaaa"[..]);
-    let made = is_ice_agent_new(alloc, &mut slot, &ufrag, b"\xff", 1);
+    assert!(rt; pass[..] == b"aaaaaaaaaaaaaaaaaaaaaa"[..]);
+}
+
+#[test]
+fn credentials_are_reported(rt: HostRuntime) {
+    let alloc = rt.alloc();
+    let mut slot = Slot::empty(alloc);
+    let mut length = 0;
+    let pass = b"xJcE9AQAR7kczUDVOXRUCl";
+    let made = is_ice_agent_new(alloc, &mut slot, b"p9KA", b"\xff", 1);
     assert!(rt; made == codes::NOT_UTF8);
-    let made = is_ice_agent_new(alloc, &mut slot, &ufrag, &pass, 1);
-    assert!(rt; made == codes::OK);
+    assert!(rt; serves(alloc, &mut slot));
     let mut text = [7; 22];
     let reported = is_ice_local_ufrag(alloc, &mut slot, &mut text, &mut length);
     assert!(rt; reported == codes::OK);
-    assert!(rt; length == 16);
-    assert!(rt; text[16..] == [7; 6]);
+    assert!(rt; length == 4);
+    assert!(rt; text[..4] == b"p9KA"[..]);
+    assert!(rt; text[4..] == [7; 18]);
     let reported = is_ice_local_pass(alloc, &mut slot, &mut text, &mut length);
     assert!(rt; reported == codes::OK);
     assert!(rt; text[..] == pass[..]);
-    let again = is_ice_restart(alloc, &mut slot, b"CCCC", b"RRRR", true);
+    let again = is_ice_restart(alloc, &mut slot, b"CCCCCC", b"RRRR", true);
     assert!(rt; again == codes::OK);
     let reported = is_ice_local_ufrag(alloc, &mut slot, &mut text[..3], &mut length);
     assert!(rt; reported == codes::BUFFER_TOO_SHORT);
-    assert!(rt; length == 4);
+    assert!(rt; length == 6);
     free(alloc, &mut slot);
 }
 
@@ -330,13 +356,17 @@ fn a_failure_needs_a_message_and_room(rt: HostRuntime) {
     assert!(rt; none == codes::NOTHING);
 }
 
+/// Writes the local candidate with this index. Whether there is one.
+fn lists(alloc: Global, slot: &mut Slot, index: usize, line: &mut [u8; 100]) -> bool {
+    let mut length = 0;
+    is_ice_local_candidate(alloc, slot, index, line, &mut length) == codes::OK
+}
+
 #[test]
 fn a_table_gives_the_preference(rt: HostRuntime) {
     let alloc = rt.alloc();
     let mut slot = Slot::empty(alloc);
     let mut line = [0; 100];
-    let mut length = 0;
-    let mut index = 9;
     let kinds = KindPreferences {
         host: 256,
         peer_reflexive: 0,
@@ -347,64 +377,50 @@ fn a_table_gives_the_preference(rt: HostRuntime) {
         v4: kinds,
         v6: kinds,
     };
-    let made = is_ice_agent_new(alloc, &mut slot, b"AAAA", b"PPPP", 1);
-    assert!(rt; made == codes::OK);
+    assert!(rt; is_new(alloc, &mut slot));
     let set = is_ice_set_preference_table(alloc, &mut slot, &table);
     assert!(rt; set == codes::OK);
-    let first = is_ice_add_local(alloc, &mut slot, &host(address(1, 1000)), &mut index);
-    assert!(rt; first == codes::OK);
-    let reported = is_ice_local_candidate(alloc, &mut slot, 0, &mut line, &mut length);
-    assert!(rt; reported == codes::OK);
+    assert!(rt; gathers(alloc, &mut slot, 1) == (codes::OK, 0));
+    assert!(rt; lists(alloc, &mut slot, 0, &mut line));
     assert!(rt; line[41..51] == b"2113995007"[..]);
-    let second = is_ice_add_local(alloc, &mut slot, &host(address(3, 1000)), &mut index);
-    assert!(rt; second == codes::OK);
-    assert!(rt; index == 1);
-    let reported = is_ice_local_candidate(alloc, &mut slot, index, &mut line, &mut length);
-    assert!(rt; reported == codes::OK);
+    assert!(rt; gathers(alloc, &mut slot, 3) == (codes::OK, 1));
+    assert!(rt; lists(alloc, &mut slot, 1, &mut line));
     assert!(rt; line[41..51] == b"2113994751"[..]);
     free(alloc, &mut slot);
 }
+
+const FIRST: &[u8] = b"candidate:1 1 udp 2130706175 10.0.0.2 2000 typ host";
+
+const SECOND: &[u8] = b"candidate:2 1 udp 2130706174 10.0.0.3 2000 typ host";
 
 #[test]
 fn an_added_candidate_has_its_index(rt: HostRuntime) {
     let alloc = rt.alloc();
     let mut slot = Slot::empty(alloc);
-    let mut index = 9;
-    let first = b"candidate:1 1 udp 2130706175 10.0.0.2 2000 typ host";
-    let second = b"candidate:2 1 udp 2130706174 10.0.0.3 2000 typ host";
-    let none = is_ice_add_remote(alloc, &mut slot, first, &mut index);
-    assert!(rt; none == codes::NO_AGENT);
-    assert!(rt; index == 9);
-    let made = is_ice_agent_new(alloc, &mut slot, b"AAAA", b"PPPP", 1);
-    assert!(rt; made == codes::OK);
-    let added = is_ice_add_local(alloc, &mut slot, &host(address(1, 1000)), &mut index);
-    assert!(rt; added == codes::OK);
-    let added = is_ice_add_remote(alloc, &mut slot, first, &mut index);
-    assert!(rt; added == codes::OK);
-    assert!(rt; index == 0);
-    let added = is_ice_add_remote(alloc, &mut slot, second, &mut index);
-    assert!(rt; added == codes::OK);
-    assert!(rt; index == 1);
-    let known = is_ice_add_remote(alloc, &mut slot, first, &mut index);
-    assert!(rt; known == codes::NOTHING);
-    assert!(rt; index == 0);
-    let gone = is_ice_invalidate(alloc, &mut slot, first);
+    assert!(rt; signals(alloc, &mut slot, FIRST) == (codes::NO_AGENT, 9));
+    assert!(rt; is_new(alloc, &mut slot));
+    assert!(rt; gathers(alloc, &mut slot, 1) == (codes::OK, 0));
+    assert!(rt; signals(alloc, &mut slot, FIRST) == (codes::OK, 0));
+    assert!(rt; signals(alloc, &mut slot, SECOND) == (codes::OK, 1));
+    assert!(rt; signals(alloc, &mut slot, FIRST) == (codes::NOTHING, 0));
+    let gone = is_ice_invalidate(alloc, &mut slot, FIRST);
     assert!(rt; gone == codes::OK);
-    let known = is_ice_add_remote(alloc, &mut slot, second, &mut index);
-    assert!(rt; known == codes::NOTHING);
-    assert!(rt; index == 0);
+    assert!(rt; signals(alloc, &mut slot, SECOND) == (codes::NOTHING, 0));
+    free(alloc, &mut slot);
+}
+
+#[test]
+fn a_candidate_that_is_not_added_has_no_index(rt: HostRuntime) {
+    let alloc = rt.alloc();
+    let mut slot = Slot::empty(alloc);
     let other = b"candidate:1 2 udp 2130706175 10.0.0.4 2000 typ host";
-    let ignored = is_ice_add_remote(alloc, &mut slot, other, &mut index);
-    assert!(rt; ignored == codes::OTHER_COMPONENT);
-    assert!(rt; index == NO_INDEX);
+    let old = b"candidate:1 1 udp 2130706175 10.0.0.4 2000 typ host ufrag CCCC";
+    assert!(rt; is_new(alloc, &mut slot));
+    assert!(rt; signals(alloc, &mut slot, other) == (codes::OTHER_COMPONENT, NO_INDEX));
     let met = is_ice_set_remote_credentials(alloc, &mut slot, b"BBBB", b"QQQQ");
     assert!(rt; met == codes::OK);
-    let old = b"candidate:1 1 udp 2130706175 10.0.0.4 2000 typ host ufrag CCCC";
-    let ignored = is_ice_add_remote(alloc, &mut slot, old, &mut index);
-    assert!(rt; ignored == codes::OTHER_UFRAG);
-    assert!(rt; index == NO_INDEX);
-    let cut = is_ice_add_remote(alloc, &mut slot, &second[..9], &mut index);
-    assert!(rt; cut == codes::BAD_CANDIDATE);
-    assert!(rt; index == NO_INDEX);
+    assert!(rt; signals(alloc, &mut slot, old) == (codes::OTHER_UFRAG, NO_INDEX));
+    // An error leaves the index.
+    assert!(rt; signals(alloc, &mut slot, &FIRST[..9]) == (codes::BAD_CANDIDATE, 9));
     free(alloc, &mut slot);
 }

@@ -36,7 +36,7 @@ use Rattle.is.specs.declared.world_events.Side.{Side}
 use Rattle.is.specs.declared.world_events.Side.TheVariants.{A, B}
 use Rattle.is.specs.World as world
 use Rattle.is.specs.World.{WorldRecord, InFlightRecord, Event, Outcome, LoggedEvent, other, in_world, plain, read_unless, moved_by, PolledInto, TakesTurn, Persists, Polls, Delivers, Happens, Streams}
-use Rattle.is.specs.WorldRoles.{Makes, StaysFull, IsNeverLite, LeavesRule}
+use Rattle.is.specs.WorldRoles.{Makes, StaysFull, IsNeverLite, StaysOriginal}
 use Rattle.is.proofs.ExternalViews.NetworkModel as seen
 use Rattle.is.proofs.ExternalViews.NetworkModel.{InFlight, Seen, Roles, Moved, Emitted, Kind, Still, Move, Moves, IsAwaited, Happening, emitted_of, NeverLite}
 
@@ -204,7 +204,7 @@ module _ {H P : Type 0} where
 
 -- ---- an agent that keeps its role only by its tie-breaker
 
--- it is not lite, or does not have the rule
+-- it is not lite, or does not have the profile `Modern`
 abbrev pub Compares : {H P : Type 0} → Bool → AgentRecord H P → Type 0
 Compares true a = a.lite ≡ false
 Compares false a = is_modern a.timing ≡ false
@@ -212,7 +212,7 @@ Compares false a = is_modern a.timing ≡ false
 -- an event that leaves it so
 abbrev pub Leaves : {P : Type 0} → Bool → Side → Event P → Type 0
 Leaves true side event = StaysFull side event
-Leaves false side event = LeavesRule side event
+Leaves false side event = StaysOriginal side event
 
 abbrev pub BothCompare : {H P : Type 0} → (Side → Bool) → WorldRecord H P → Type 0
 BothCompare how w = (side : Side) → Compares (how side) (world.at side w)
@@ -235,7 +235,7 @@ called_full : {P : Type 0} (side : Side) (c : agent.Call P) → StaysFull side (
 called_full side (agent.SetIceLite lite) full = full refl
 called_full side c full = refl
 
-called_off : {P : Type 0} (side : Side) (c : agent.Call P) → LeavesRule side (world.Call side c) → keeping_set_by c false ≡ false
+called_off : {P : Type 0} (side : Side) (c : agent.Call P) → StaysOriginal side (world.Call side c) → keeping_set_by c false ≡ false
 called_off side (agent.SetProfile profile) off = off refl
 called_off side c off = refl
 

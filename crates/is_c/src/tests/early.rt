@@ -46,7 +46,7 @@ fn later(alloc: Global, slot: &mut Slot) -> u64 {
 }
 
 /// A request of a peer SQAt arrives at 10.0.0.1:1000 from this port of 10.0.0.2. Whether it was accepted.
-fn takes(alloc: Global, slot: &mut Slot, now: u64, port: u16) -> bool {
+pub(super) fn takes(alloc: Global, slot: &mut Slot, now: u64, port: u16) -> bool {
     let peer = address(2, port);
     let own = address(1, 1000);
     is_ice_handle_packet(alloc, slot, now, 0, &peer, &own, &REQUEST) == codes::OK
@@ -57,7 +57,7 @@ fn times_out(alloc: Global, slot: &mut Slot, now: u64) -> bool {
 }
 
 /// The port to which the next packet goes; 0 if there is none.
-fn sent_to(alloc: Global, slot: &mut Slot) -> u16 {
+pub(super) fn sent_to(alloc: Global, slot: &mut Slot) -> u16 {
     let mut packet = no_packet();
     let mut buffer = [0; 200];
     match is_ice_poll_transmit(alloc, slot, &mut buffer, &mut packet) {

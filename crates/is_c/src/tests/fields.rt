@@ -1,17 +1,17 @@
 //! The fields of a candidate, username fragments that are no word, and mDNS names.
 
-use super::{address, host};
+use super::{address, gathers, host, is_new, signals};
 use crate::address::Address;
-use crate::candidates::{is_ice_add_local, is_ice_add_remote};
 use crate::codes;
 use crate::fields::{
     Fields, is_ice_candidate_fields, is_ice_line_fields, is_ice_local_fields, is_ice_remote_fields,
 };
 use crate::infos::{is_ice_json_refusal, is_ice_line_from_json};
 use crate::lines::is_ice_line_with_ufrag;
-use crate::making::{free, is_ice_agent_new};
+use crate::making::free;
 use crate::mdns::{is_ice_line_name, is_ice_line_with_address};
 use crate::slot::Slot;
+use std::alloc::Global;
 
 // The server-reflexive candidate of RFC 8839, appendix A, with two spaces, an extension and a username fragment.
 const REFLEXIVE: &[u8] =
@@ -48,7 +48,7 @@ pub(super) fn starts_with(address: &Address, octets: [u8; 4]) -> bool {
 }
 
 #[test]
-fn a_line_has_fields(rt: HostRuntime) {
+fn a_line_is_printed(rt: HostRuntime) {
     let alloc = rt.alloc();
     let mut text = [0; 120];
     let mut length = 0;
@@ -57,6 +57,22 @@ fn a_line_has_fields(rt: HostRuntime) {
     assert!(rt; read == codes::OK);
     assert!(rt; length == PRINTED.len());
     assert!(rt; text.starts_with(PRINTED));
+}
+
+/// The fields of the candidate of a line; `no_fields` if it is none.
+fn fields_of(alloc: Global, line: &[u8]) -> Fields {
+    let mut text = [0; 120];
+    let mut length = 0;
+    let mut fields = no_fields();
+    match is_ice_line_fields(alloc, line, &mut text, &mut length, &mut fields) {
+        codes::OK => fields,
+        _ => no_fields(),
+    }
+}
+
+#[test]
+fn a_line_has_addresses(rt: HostRuntime) {
+    let fields = fields_of(rt.alloc(), REFLEXIVE);
     assert!(rt; fields.address.family == 4);
     assert!(rt; fields.address.port == 45664);
     assert!(rt; starts_with(&fields.address, [192, 0, 2, 3]));
@@ -65,6 +81,11 @@ fn a_line_has_fields(rt: HostRuntime) {
     assert!(rt; starts_with(&fields.local, [0, 0, 0, 0]));
     assert!(rt; fields.related.port == 8998);
     assert!(rt; starts_with(&fields.related, [203, 0, 113, 141]));
+}
+
+#[test]
+fn a_line_has_fields(rt: HostRuntime) {
+    let fields = fields_of(rt.alloc(), REFLEXIVE);
     assert!(rt; fields.foundation_length == 1);
     assert!(rt; fields.ufrag_length == 4);
     assert!(rt; fields.priority == 1694498815);
@@ -106,15 +127,22 @@ fn an_error_leaves_the_fields(rt: HostRuntime) {
     let bad = is_ice_line_fields(alloc, b"candidate:1 x", &mut text, &mut length, &mut fields);
     assert!(rt; bad == codes::BAD_CANDIDATE);
     assert!(rt; length == 5);
+    assert!(rt; fields.kind == 99);
+}
+
+#[test]
+fn what_has_no_room_or_no_meaning_leaves_the_fields(rt: HostRuntime) {
+    let alloc = rt.alloc();
     let mut brief = [7; 95];
+    let mut length = 5;
+    let mut fields = no_fields();
     let short = is_ice_line_fields(alloc, REFLEXIVE, &mut brief, &mut length, &mut fields);
     assert!(rt; short == codes::BUFFER_TOO_SHORT);
     assert!(rt; length == PRINTED.len());
     assert!(rt; brief[0] == 7);
-    assert!(rt; fields.kind == 99);
     let mut prflx = host(address(1, 1000));
     prflx.kind = 3;
-    let unknown = is_ice_candidate_fields(alloc, &prflx, &mut text, &mut length, &mut fields);
+    let unknown = is_ice_candidate_fields(alloc, &prflx, &mut brief, &mut length, &mut fields);
     assert!(rt; unknown == codes::BAD_ADDRESS);
     assert!(rt; fields.kind == 99);
 }
@@ -144,28 +172,35 @@ fn a_gathered_candidate_has_fields(rt: HostRuntime) {
 }
 
 #[test]
-fn listed_candidates_have_fields(rt: HostRuntime) {
+fn what_is_not_listed_has_no_fields(rt: HostRuntime) {
     let alloc = rt.alloc();
     let mut slot = Slot::empty(alloc);
     let mut text = [0; 120];
     let mut length = 0;
-    let mut index = 9;
     let mut fields = no_fields();
     let none = is_ice_local_fields(alloc, &mut slot, 0, &mut text, &mut length, &mut fields);
     assert!(rt; none == codes::NO_AGENT);
     let none = is_ice_remote_fields(alloc, &mut slot, 0, &mut text, &mut length, &mut fields);
     assert!(rt; none == codes::NO_AGENT);
-    let made = is_ice_agent_new(alloc, &mut slot, b"AAAA", b"PPPP", 1);
-    assert!(rt; made == codes::OK);
+    assert!(rt; is_new(alloc, &mut slot));
     let none = is_ice_local_fields(alloc, &mut slot, 0, &mut text, &mut length, &mut fields);
     assert!(rt; none == codes::NOTHING);
     let none = is_ice_remote_fields(alloc, &mut slot, 0, &mut text, &mut length, &mut fields);
     assert!(rt; none == codes::NOTHING);
     assert!(rt; fields.kind == 99);
-    let added = is_ice_add_local(alloc, &mut slot, &host(address(1, 1000)), &mut index);
-    assert!(rt; added == codes::OK);
-    let added = is_ice_add_remote(alloc, &mut slot, HOST, &mut index);
-    assert!(rt; added == codes::OK);
+    free(alloc, &mut slot);
+}
+
+#[test]
+fn listed_candidates_have_fields(rt: HostRuntime) {
+    let alloc = rt.alloc();
+    let mut slot = Slot::empty(alloc);
+    let mut text = [0; 120];
+    let mut length = 0;
+    let mut fields = no_fields();
+    assert!(rt; is_new(alloc, &mut slot));
+    assert!(rt; gathers(alloc, &mut slot, 1) == (codes::OK, 0));
+    assert!(rt; signals(alloc, &mut slot, HOST) == (codes::OK, 0));
     let read = is_ice_local_fields(alloc, &mut slot, 0, &mut text, &mut length, &mut fields);
     assert!(rt; read == codes::OK);
     assert!(rt; fields.address.port == 1000);

@@ -71,6 +71,11 @@ fn a_message_is_read_strictly_or_not(rt: HostRuntime) {
     assert!(rt; message.mapped.port == 32853);
     assert!(rt; message.requested_transport == 0);
     assert!(rt; message.requested_family == 0);
+}
+
+#[test]
+fn what_ice_sends_is_read_strictly(rt: HostRuntime) {
+    let mut message = no_message();
     let strict = is_ice_stun_read_strict(&REPLY, &mut message);
     assert!(rt; strict == codes::OK);
     assert!(rt; message.has_integrity);
@@ -127,7 +132,19 @@ fn a_nomination_has_a_number(rt: HostRuntime) {
     assert!(rt; read == codes::OK);
     assert!(rt; message.nomination.is_set);
     assert!(rt; message.nomination.value == 0x12345678);
-    message.nomination.value = 0x100000000;
+}
+
+#[test]
+fn the_number_of_a_nomination_has_32_bits(rt: HostRuntime) {
+    let mut message = no_message();
+    let mut written = [7; 49];
+    let mut length = 48;
+    let read = is_ice_stun_read(&PLAIN, &mut message);
+    assert!(rt; read == codes::OK);
+    message.nomination = Number {
+        value: 0x100000000,
+        is_set: true,
+    };
     let code = is_ice_stun_write(&message, &no_texts(), b"", b"", &mut written, &mut length);
     assert!(rt; code == codes::BAD_MESSAGE);
     assert!(rt; length == 48);
@@ -147,6 +164,13 @@ fn a_username_names_receiver_and_sender(rt: HostRuntime) {
     assert!(rt; named == codes::OK);
     assert!(rt; text[..receiver] == b"p9KA"[..]);
     assert!(rt; text[receiver + 1..length] == b"SQAt"[..]);
+}
+
+#[test]
+fn the_first_colon_ends_the_receiver(rt: HostRuntime) {
+    let mut text = [7; 9];
+    let mut length = 5;
+    let mut receiver = 5;
     let named = is_ice_stun_username(&TWO_COLONS, &mut text, &mut length, &mut receiver);
     assert!(rt; named == codes::OK);
     assert!(rt; length == 6);
