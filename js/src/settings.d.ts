@@ -20,7 +20,8 @@ export class Settings {
   setIceLite(enabled: boolean): void;
   /** Lets each nomination replace the ones before, so that both agents select the same path. Set it at both agents or at none. */
   setRenomination(enabled: boolean): void;
-  /** Sets those that are named, and leaves the others as they are. TypeError for a name that is no setting. `BadLimit`: no check may be sent. */
+  /** Sets those that are named, and leaves the others as they are. TypeError for a name that is no setting.
+   * `BadLimit`: no check may be sent. */
   setSettings(settings: Partial<AgentSettings>): void;
   /** Sets the number that decides role conflicts: the agent with the greater one keeps its role. */
   setControlTieBreaker(tieBreaker: bigint | number): void;

@@ -45,7 +45,7 @@ class Closing(unittest.IsolatedAsyncioTestCase):
                 event = asyncio.ensure_future(a.get_event())
                 await asyncio.sleep(0)
                 with self.assertRaises(asyncio.TimeoutError):
-                    await within(a.close(), 0.1)
+                    await asyncio.wait_for(a.close(), 0.1)
                 self.assertIsInstance(await within(event, 1), ConnectionClosed)
                 await within(a.close(), 2)
                 self.assertIsNone(await a.get_event())
