@@ -18,7 +18,7 @@ from is_ice import HasAgent, NominatedSend, SocketAddress
 from is_ice.connection import ConnectionClosed
 from is_ice.gather import Allocation
 
-from pairs import add_candidates, agent, aioice, close, gather, join, other_tasks, within
+from pairs import PATIENCE, add_candidates, agent, aioice, close, gather, join, other_tasks, within
 
 
 async def ended_by_cancelling(call: Awaitable[object], steps: int) -> bool:
@@ -150,7 +150,7 @@ class Closing(unittest.IsolatedAsyncioTestCase):
         server.close()
         start = time.monotonic()
         await a.close()
-        self.assertLess(time.monotonic() - start, 2)
+        self.assertLess(time.monotonic() - start, 2 * PATIENCE)
         await asyncio.sleep(0.05)
         self.assertEqual(other_tasks(), set())
 
