@@ -18,8 +18,8 @@ WINDOWS_CC, WINDOWS_CXX = "x86_64-w64-mingw32-gcc", "x86_64-w64-mingw32-g++"
 STRICT = ["-Wall", "-Wextra", "-Werror"]
 # Programs that print the same on each system.
 WINDOWS_PROGRAMS = ("examples/request", "tests/layout", "tests/texts", "tests/stun", "tests/odd_texts", "tests/threads")
-# The cases of c/tests/connect.py without `options`, since wine binds at any address; those of chat.py without `network`, since wine's server
-# is in no namespace. Programs start slowly under wine.
+# The cases of c/tests/connect.py without `options`, since wine binds at any address; those of chat.py without `network`, since wine's
+# server is in no namespace. Programs start slowly under wine.
 WINDOWS_CASES = ("roles", "families", "interfaces", "trickle", "removed", "restart", "lite", "renomination", "reflexive", "silent_server",
                  "mdns", "replay", "errors", "long_candidate", "late")
 WINDOWS_CHATS = ("--case", "chat", "--case", "loss")
