@@ -1,6 +1,8 @@
 """Installs the release files for other machines than Linux on x86-64, and runs programs over them in emulators."""
+import contextlib
 import pathlib
 import shutil
+import subprocess
 import sys
 import zipfile
 
@@ -16,8 +18,8 @@ WINDOWS_CC, WINDOWS_CXX = "x86_64-w64-mingw32-gcc", "x86_64-w64-mingw32-g++"
 STRICT = ["-Wall", "-Wextra", "-Werror"]
 # Programs that print the same on each system.
 WINDOWS_PROGRAMS = ("examples/request", "tests/layout", "tests/texts", "tests/stun", "tests/odd_texts", "tests/threads")
-# The cases of c/tests/connect.py without `options`, which has the words of Linux; those of chat.py without `network`, which needs a network
-# namespace. Programs start slowly under wine.
+# The cases of c/tests/connect.py without `options`, since wine binds at any address; those of chat.py without `network`, since wine's
+# server is in no namespace. Programs start slowly under wine.
 WINDOWS_CASES = ("roles", "families", "interfaces", "trickle", "removed", "restart", "lite", "renomination", "reflexive", "silent_server",
                  "mdns", "replay", "errors", "long_candidate", "late")
 WINDOWS_CHATS = ("--case", "chat", "--case", "loss")
@@ -123,6 +125,16 @@ def step_windows(place, out):
     return f"two.c, two.cpp and {len(WINDOWS_PROGRAMS)} programs of c/ under wine"
 
 
+@contextlib.contextmanager
+def wine_kept(program, env):
+    """Keeps wine running: the first program starts its services, which hold that program's output open until the last one ends."""
+    pipe = subprocess.PIPE
+    with subprocess.Popen(["wine", program, "controlled", "-l"], env=env, stdin=pipe, stdout=pipe, stderr=subprocess.DEVNULL) as first:
+        first.stdout.readline()  # now it runs
+        yield
+        first.stdin.close()
+
+
 def step_windows_sockets(place, out):
     """The programs of the zip that open sockets: the tests of c/ for peers and chats, under wine."""
     root, env = windows_zip(place, out)
@@ -130,9 +142,10 @@ def step_windows_sockets(place, out):
         (root / name).write_text(f"#!/bin/sh\nexec wine '{root / name}.exe' \"$@\"\n")
         (root / name).chmod(0o755)
     tests = top / "c" / "tests"
-    said = run(sys.executable, tests / "connect.py", root / "peer", *WINDOWS_CASES, env={**env, **PATIENCE}).splitlines()[-1]
-    for chat in ("chat", "chat_cxx"):
-        run(sys.executable, tests / "chat.py", *WINDOWS_CHATS, root / chat, env={**env, **PATIENCE})
+    with wine_kept(root / "chat.exe", env):
+        said = run(sys.executable, tests / "connect.py", root / "peer", *WINDOWS_CASES, env={**env, **PATIENCE}).splitlines()[-1]
+        for chat in ("chat", "chat_cxx"):
+            run(sys.executable, tests / "chat.py", *WINDOWS_CHATS, root / chat, env={**env, **PATIENCE})
     return f"peers: {said}; chats in C and C++ that restart and lose their peer"
 
 

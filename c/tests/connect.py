@@ -165,6 +165,7 @@ def removed():
     b.hears("signal " + a.says("signal "))
     address = a.says("source ")
     a.hears(candidate)
+    time.sleep(0.2)  # the pair is replaced when pairs are formed next
     a.hears("/pairs")
     said = a.says("removed from 127.0.0.1:")
     if not re.search(rf" to {re.escape(address)} [a-z ]+ sent \d+ answered \d+: replaced$", said):

@@ -5,8 +5,8 @@ from __future__ import annotations
 import asyncio
 import os
 import unittest
-from collections.abc import Callable
-from typing import Any
+from collections.abc import Awaitable, Callable
+from typing import Any, TypeVar
 
 from is_ice.connection import Connection
 from is_ice.mdns import Mdns
@@ -16,6 +16,9 @@ try:
 except ImportError:
     aioice = None
 
+T = TypeVar("T")
+# How many times as long as usual the tests wait, as in an emulator.
+PATIENCE = float(os.environ.get("IS_ICE_PATIENCE", "1"))
 LOOPBACK = ["127.0.0.1"]
 NOBODY = "candidate:1 1 udp 2130706431 127.0.0.1 9 typ host"
 HIDDEN = "candidate:1 1 udp 2130706431 3f2b8c1e-5c1e-4b0a-9f5e-1f2e3d4c5b6a.local {port} typ host"
@@ -23,6 +26,11 @@ HIDDEN = "candidate:1 1 udp 2130706431 3f2b8c1e-5c1e-4b0a-9f5e-1f2e3d4c5b6a.loca
 
 def agent(controlling: bool, **more: Any) -> Connection:
     return Connection(controlling, addresses=LOOPBACK, **more)
+
+
+async def within(awaited: Awaitable[T], seconds: float) -> T:
+    """Waits so long, or longer as IS_ICE_PATIENCE says; asyncio.TimeoutError if that does not suffice."""
+    return await asyncio.wait_for(awaited, seconds * PATIENCE)
 
 
 async def gather(a: Any, b: Any) -> None:
@@ -52,9 +60,9 @@ async def talk(a: Any, b: Any) -> None:
         # media, and bytes that begin as STUN or nothing
         for data in (b"\x80 data", b"hello", b"\x01", b"\x00\x01\x00\x00" + bytes(40), bytes([255]) * 9000):
             await one.send(data)
-            assert await asyncio.wait_for(other.recv(), 2) == data
+            assert await within(other.recv(), 2) == data
         await one.sendto(b"\x80 to", 1)
-        assert await asyncio.wait_for(other.recvfrom(), 2) == (b"\x80 to", 1)
+        assert await within(other.recvfrom(), 2) == (b"\x80 to", 1)
 
 
 async def until(condition: Callable[[], bool], patience: float = 10) -> None:
@@ -63,7 +71,7 @@ async def until(condition: Callable[[], bool], patience: float = 10) -> None:
         while not condition():
             await asyncio.sleep(0.01)
 
-    await asyncio.wait_for(wait(), patience)
+    await within(wait(), patience)
 
 
 async def close(*connections: Any) -> None:
@@ -80,7 +88,7 @@ def other_tasks() -> set[asyncio.Task[Any]]:
     return asyncio.all_tasks() - {asyncio.current_task()}
 
 
-def check_soon(test: unittest.TestCase, took: list[float], limit: float = 0.04) -> None:
+def check_soon(test: unittest.TestCase, took: list[float], limit: float = 0.04 * PATIENCE) -> None:
     """The least of some durations is below a limit, 40 ms of the pacing interval of 50. Skips the test if the machine is busy."""
     if min(took) >= limit and os.getloadavg()[0] > (os.cpu_count() or 1):
         test.skipTest("the machine is busy")

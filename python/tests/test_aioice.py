@@ -7,7 +7,7 @@ import unittest
 from typing import Any
 from unittest import mock
 
-from pairs import add_candidates, agent, aioice, close, gather, join, talk
+from pairs import add_candidates, agent, aioice, close, gather, join, talk, within
 
 
 def theirs(controlling: bool, **more: Any) -> Any:
@@ -37,7 +37,7 @@ class WithAioice(unittest.IsolatedAsyncioTestCase):
             await add_candidates(*sides)
             early = asyncio.ensure_future(sides[first].connect())
             await asyncio.sleep(0.2)
-            await asyncio.wait_for(asyncio.gather(early, sides[1 - first].connect()), 5)
+            await within(asyncio.gather(early, sides[1 - first].connect()), 5)
             await talk(*sides)
             await close(*sides)
 
@@ -46,7 +46,7 @@ class WithAioice(unittest.IsolatedAsyncioTestCase):
         server = TurnServer()
         more = {"turn_server": await server.start(), "transport_policy": aioice.TransportPolicy.RELAY}
         a, b = agent(True, **more), theirs(False, **more)
-        await asyncio.wait_for(join(a, b), 5)
+        await within(join(a, b), 5)
         await talk(a, b)
         await close(a, b)
         server.close()

@@ -14,7 +14,7 @@ from unittest import mock
 import is_ice.aiortc
 import is_ice.connection
 
-from pairs import LOOPBACK
+from pairs import LOOPBACK, within
 
 FOLDER = Path(__file__).resolve().parent.parent / "examples" / "browser"
 HAS_ALL = all(importlib.util.find_spec(name) for name in ("aiohttp", "aiortc"))
@@ -79,8 +79,8 @@ class BrowserExample(unittest.IsolatedAsyncioTestCase):
     async def test_a_session_with_its_snapshots(self) -> None:
         page = Page(self.client, self.url)
         number = await page.connect()
-        self.assertEqual(await asyncio.wait_for(page.texts.get(), 10), "the agent's side received: hello")
-        told = await asyncio.wait_for(page.snapshot(number, lambda told: "Completed" in [state for _, state in told["states"]]), 10)
+        self.assertEqual(await within(page.texts.get(), 10), "the agent's side received: hello")
+        told = await within(page.snapshot(number, lambda told: "Completed" in [state for _, state in told["states"]]), 10)
         self.assertEqual(told["role"], "controlled")
         pair = next(pair for pair in told["pairs"] if [pair["local"], pair["remote"]] == told["selected"])
         self.assertTrue(pair["nominated"])

@@ -18,7 +18,7 @@ from is_ice import HasAgent, NominatedSend, SocketAddress
 from is_ice.connection import ConnectionClosed
 from is_ice.gather import Allocation
 
-from pairs import add_candidates, agent, aioice, close, gather, join, other_tasks
+from pairs import PATIENCE, add_candidates, agent, aioice, close, gather, join, other_tasks, within
 
 
 async def ended_by_cancelling(call: Awaitable[object], steps: int) -> bool:
@@ -46,8 +46,8 @@ class Closing(unittest.IsolatedAsyncioTestCase):
                 await asyncio.sleep(0)
                 with self.assertRaises(asyncio.TimeoutError):
                     await asyncio.wait_for(a.close(), 0.1)
-                self.assertIsInstance(await asyncio.wait_for(event, 1), ConnectionClosed)
-                await asyncio.wait_for(a.close(), 2)
+                self.assertIsInstance(await within(event, 1), ConnectionClosed)
+                await within(a.close(), 2)
                 self.assertIsNone(await a.get_event())
                 self.assertEqual(other_tasks(), set())
 
@@ -62,11 +62,11 @@ class Closing(unittest.IsolatedAsyncioTestCase):
             await asyncio.sleep(0)
             received.cancel()
             await a.send(b"x")
-            self.assertEqual(await asyncio.wait_for(b.recv(), 1), b"x")
+            self.assertEqual(await within(b.recv(), 1), b"x")
             event = asyncio.ensure_future(a.get_event())
             await asyncio.sleep(0)
             cancelled += await ended_by_cancelling(a.close(), steps)
-            self.assertIsInstance(await asyncio.wait_for(event, 1), ConnectionClosed)
+            self.assertIsInstance(await within(event, 1), ConnectionClosed)
             await close(a, b)
         for steps in range(16):
             a, b = agent(True), agent(False)
@@ -74,7 +74,7 @@ class Closing(unittest.IsolatedAsyncioTestCase):
             await add_candidates(a, b)
             other = asyncio.ensure_future(b.connect())
             cancelled += await ended_by_cancelling(a.connect(), steps)
-            await asyncio.wait_for(asyncio.gather(a.connect(), other), 5)
+            await within(asyncio.gather(a.connect(), other), 5)
             await close(a, b)
             c = agent(True)
             cancelled += await ended_by_cancelling(c.gather_candidates(), steps)
@@ -99,7 +99,7 @@ class Closing(unittest.IsolatedAsyncioTestCase):
                     await asyncio.sleep(0.1)
                     self.assertGreater(len(other_tasks()), 1)
                     await a.close()
-                    await asyncio.wait_for(gathering, 1)  # it returns, since nobody cancelled it
+                    await within(gathering, 1)  # it returns, since nobody cancelled it
                     self.assertEqual((other_tasks(), a.local_candidates), (set(), []))
                     await asyncio.sleep(0.05)
                     self.assertLessEqual(len(os.listdir("/proc/self/fd")), open_files)
@@ -114,7 +114,7 @@ class Closing(unittest.IsolatedAsyncioTestCase):
                 for _ in range(turns):
                     await asyncio.sleep(0)
                 closing = a.close()  # closes at once, and waits when it is awaited
-                await asyncio.wait_for(gathering, 1)
+                await within(gathering, 1)
                 await closing
                 self.assertEqual((other_tasks(), a.local_candidates), (set(), []))
 
@@ -130,8 +130,8 @@ class Closing(unittest.IsolatedAsyncioTestCase):
             else:
                 while not a.local_candidates:
                     await asyncio.sleep(0)
-            await asyncio.wait_for(a.close(), 2)
-            await asyncio.wait_for(gathering, 1)
+            await within(a.close(), 2)
+            await within(gathering, 1)
             self.assertGreaterEqual(server.freed, 1)
             self.assertEqual(other_tasks(), set())
             server.close()
@@ -150,7 +150,7 @@ class Closing(unittest.IsolatedAsyncioTestCase):
         server.close()
         start = time.monotonic()
         await a.close()
-        self.assertLess(time.monotonic() - start, 2)
+        self.assertLess(time.monotonic() - start, 2 * PATIENCE)
         await asyncio.sleep(0.05)
         self.assertEqual(other_tasks(), set())
 
@@ -182,7 +182,7 @@ class Closing(unittest.IsolatedAsyncioTestCase):
         pumps = [asyncio.ensure_future(pump()) for _ in range(3)]
         await asyncio.sleep(0.05)
         await a.close()
-        self.assertGreater(min(await asyncio.wait_for(asyncio.gather(*pumps), 1)), 0)
+        self.assertGreater(min(await within(asyncio.gather(*pumps), 1)), 0)
         await b.close()
         self.assertEqual(other_tasks(), set())
 

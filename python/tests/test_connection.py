@@ -16,7 +16,7 @@ from is_ice.attribute import CandidateAttribute
 from is_ice.connection import Connection, ConnectionClosed, TransportPolicy
 from is_ice.mdns import Mdns
 
-from pairs import HIDDEN, NOBODY, add_candidates, agent, aioice, check_soon, close, gather, join, nobody, talk
+from pairs import HIDDEN, NOBODY, PATIENCE, add_candidates, agent, aioice, check_soon, close, gather, join, nobody, talk, within
 from test_stun_client import StunServer
 
 
@@ -51,7 +51,7 @@ class Sessions(unittest.IsolatedAsyncioTestCase):
             await asyncio.sleep(0.35)
             self.assertEqual((b.agent.stats.bind_request_recv, b.agent.state), (0, IceConnectionState.NEW))
             start = time.monotonic()
-            await asyncio.wait_for(asyncio.gather(early, b.connect()), 2)
+            await within(asyncio.gather(early, b.connect()), 2)
             took.append(time.monotonic() - start)
             self.assertGreater(b.agent.stats.bind_request_recv, 1)
             await close(a, b)
@@ -64,7 +64,7 @@ class Sessions(unittest.IsolatedAsyncioTestCase):
             await add_candidates(*sides)
             early = asyncio.ensure_future(sides[first].connect())
             await asyncio.sleep(0.2)
-            await asyncio.wait_for(asyncio.gather(early, sides[1 - first].connect()), 2)
+            await within(asyncio.gather(early, sides[1 - first].connect()), 2)
             await talk(*sides)
             await close(*sides)
 
@@ -74,7 +74,7 @@ class Sessions(unittest.IsolatedAsyncioTestCase):
         both = asyncio.gather(a.connect(), b.connect())
         await asyncio.sleep(0.2)
         await add_candidates(a, b)
-        await asyncio.wait_for(both, 2)
+        await within(both, 2)
         await talk(a, b)
         await close(a, b)
 
@@ -83,7 +83,7 @@ class Sessions(unittest.IsolatedAsyncioTestCase):
         await gather(a, b)
         for candidate in a.local_candidates:
             await b.add_remote_candidate(str(candidate))
-        await asyncio.wait_for(asyncio.gather(a.connect(), b.connect()), 2)
+        await within(asyncio.gather(a.connect(), b.connect()), 2)
         await talk(a, b)
         await close(a, b)
 
@@ -152,7 +152,7 @@ class Failures(unittest.IsolatedAsyncioTestCase):
             await a.add_remote_candidate(NOBODY)
         a.remote_username, a.remote_password = "abcd", "p" * 22
         with self.assertRaises(ConnectionError):
-            await asyncio.wait_for(a.connect(), 1)  # without candidates
+            await within(a.connect(), 1)  # without candidates
         await a.close()
         await a.close()
         self.assertEqual((await a.get_event(), a.local_candidates, a.ice_controlling), (None, [], True))
@@ -168,7 +168,7 @@ class Failures(unittest.IsolatedAsyncioTestCase):
         await a.add_remote_candidate(NOBODY)
         await a.add_remote_candidate(None)
         with self.assertRaises(ConnectionError):
-            await asyncio.wait_for(a.connect(), 5)  # all checks failed
+            await within(a.connect(), 5)  # all checks failed
         await a.close()
 
     async def test_the_end_of_candidates_comes_late(self) -> None:
@@ -185,7 +185,7 @@ class Failures(unittest.IsolatedAsyncioTestCase):
             self.assertFalse(connecting.done())
             await a.add_remote_candidate(None)
             with self.assertRaises(ConnectionError):
-                await asyncio.wait_for(connecting, 5)
+                await within(connecting, 5)
             await a.close()
 
     async def test_connect_ends(self) -> None:
@@ -199,7 +199,7 @@ class Failures(unittest.IsolatedAsyncioTestCase):
                 await asyncio.wait({connecting}, timeout=after)
                 await a.close()
                 with self.assertRaises(ConnectionError):
-                    await asyncio.wait_for(connecting, 1)
+                    await within(connecting, 1)
 
     async def test_malformed_candidates_are_left_out(self) -> None:
         a = agent(True)
@@ -217,7 +217,7 @@ class Failures(unittest.IsolatedAsyncioTestCase):
         event, data = asyncio.ensure_future(a.get_event()), asyncio.ensure_future(a.recv())
         await asyncio.sleep(0)
         a._loop._start -= 20_000_000_000  # 20 s pass for the agent
-        self.assertIsInstance(await asyncio.wait_for(event, 10), ConnectionClosed)
+        self.assertIsInstance(await within(event, 10), ConnectionClosed)
         with self.assertRaises(ConnectionError):
             await data
         with self.assertRaises(ConnectionError):
@@ -232,7 +232,7 @@ class Failures(unittest.IsolatedAsyncioTestCase):
                 await a.send(b"%d" % bool(path))
         await a.send(b"1")
         for _ in range(2):
-            self.assertEqual(await asyncio.wait_for(b.recv(), 1), b"1")
+            self.assertEqual(await within(b.recv(), 1), b"1")
         await close(a, b)
 
     async def test_nothing_is_sent_without_consent(self) -> None:
@@ -255,7 +255,7 @@ class Failures(unittest.IsolatedAsyncioTestCase):
         event, *data = (asyncio.ensure_future(call) for call in (a.get_event(), a.recv(), a.recv()))
         await asyncio.sleep(0.01)
         await a.close()
-        self.assertIsInstance(await asyncio.wait_for(event, 1), ConnectionClosed)
+        self.assertIsInstance(await within(event, 1), ConnectionClosed)
         for result in await asyncio.gather(*data, return_exceptions=True):
             self.assertIsInstance(result, ConnectionError)
         await b.close()
@@ -316,7 +316,7 @@ class Limits(unittest.IsolatedAsyncioTestCase):
                 start = time.process_time()
                 for port in range(1, 8001):
                     await a.add_remote_candidate(text.format(port=port))
-                self.assertLess(time.process_time() - start, 2)
+                self.assertLess(time.process_time() - start, 2 * PATIENCE)
                 self.assertEqual((len(a._remote.names), len(a.remote_candidates)), (100, 0) if names else (0, 100))
                 await a.close()
 

@@ -11,7 +11,7 @@ from is_ice.connection import Connection, TransportPolicy
 from is_ice.gather import data_of
 from is_ice.interfaces import host_addresses
 
-from pairs import agent, aioice, close, gather, join, talk
+from pairs import agent, aioice, close, gather, join, talk, within
 from test_stun_client import SEEN, StunServer
 
 
@@ -41,7 +41,7 @@ class Gathering(unittest.IsolatedAsyncioTestCase):
         server = TurnServer()
         more = {"turn_server": await server.start(), "transport_policy": TransportPolicy.RELAY}
         a, b = agent(True, **more), agent(False, **more)
-        await asyncio.wait_for(join(a, b), 5)
+        await within(join(a, b), 5)
         self.assertEqual([c.type for c in a.local_candidates], ["relay"])
         await talk(a, b)
         await close(a, b)
@@ -67,7 +67,7 @@ class Gathering(unittest.IsolatedAsyncioTestCase):
         await b.add_remote_candidate(a.local_candidates[0])
         for one in (a, b):
             await one.add_remote_candidate(None)
-        await asyncio.wait_for(asyncio.gather(a.connect(), b.connect()), 5)
+        await within(asyncio.gather(a.connect(), b.connect()), 5)
         await talk(a, b)
         await close(a, b)
         self.assertGreater(server.indications, 0)

@@ -26,7 +26,7 @@ from is_ice._session_log import SessionLog, kind_of_message
 from is_ice.mdns import Mdns
 from is_ice.stun import StunClass, StunMethod, write_message
 
-from pairs import LOOPBACK, NOBODY, add_candidates, agent, close, gather, join, until
+from pairs import LOOPBACK, NOBODY, add_candidates, agent, close, gather, join, until, within
 from test_loop import BINDING_REQUEST, BINDING_RESPONSE
 
 THERE, HERE = SocketAddress("192.0.2.2", 2000), SocketAddress("192.0.2.1", 1000)
@@ -127,10 +127,10 @@ class Lines(unittest.IsolatedAsyncioTestCase):
 
 
 class Failures(unittest.IsolatedAsyncioTestCase):
-    async def failed(self, a: Any, within: float = 5) -> str:
+    async def failed(self, a: Any, seconds: float = 5) -> str:
         """What `connect` raises."""
         with self.assertLogs("is_ice.connection", "INFO") as logged, self.assertRaises(ConnectionError) as caught:
-            await asyncio.wait_for(a.connect(), within)
+            await within(a.connect(), seconds)
         told = str(caught.exception)
         self.assertEqual(logged.records[-1].getMessage(), f"{a.local_username}: {told}")
         return told

@@ -17,7 +17,7 @@ from is_ice.demux import PacketKind, is_stun, packet_kind
 from is_ice.loop import IceLoop
 from is_ice.stun import StunClass, StunMethod, write_message
 
-from pairs import check_soon
+from pairs import check_soon, within
 
 COOKIE = bytes.fromhex("2112a442")
 BINDING_RESPONSE = b"\x01\x01\0\0" + COOKIE + bytes(12)  # without MESSAGE-INTEGRITY
@@ -126,7 +126,7 @@ class Handlers(unittest.IsolatedAsyncioTestCase):
                     await asyncio.sleep(0.32)
                 self.assertIn(failed.call_count, range(2, 9))
                 b.loop.begin()
-                await asyncio.wait_for(asyncio.gather(a.path, b.path), 2)
+                await within(asyncio.gather(a.path, b.path), 2)
                 a.loop.close()
                 b.loop.close()
 
@@ -135,10 +135,10 @@ class Datagrams(unittest.IsolatedAsyncioTestCase):
     async def test_checks_of_a_known_peer_get_responses_before_the_session(self) -> None:
         a, b = await two_sides()
         a.loop.begin()
-        await asyncio.wait_for(a.path, 1)
+        await within(a.path, 1)
         self.assertGreater(b.agent.stats.bind_request_recv, 0)
         b.loop.begin()
-        await asyncio.wait_for(b.path, 0.5)
+        await within(b.path, 0.5)
         a.loop.close()
         b.loop.close()
 
@@ -152,7 +152,7 @@ class Datagrams(unittest.IsolatedAsyncioTestCase):
         b.loop.begin()
         b.loop.receive(SocketAddress("127.0.0.1", 0), local_of(b), request.contents)
         a.loop.begin()
-        await asyncio.wait_for(asyncio.gather(a.path, b.path), 2)
+        await within(asyncio.gather(a.path, b.path), 2)
         a.loop.close()
         b.loop.close()
 
@@ -247,7 +247,7 @@ class Datagrams(unittest.IsolatedAsyncioTestCase):
         signal(a, b)
         a.loop.begin()
         b.loop.begin()
-        self.assertEqual((await asyncio.wait_for(a.path, 1)).destination, (await asyncio.wait_for(b.path, 1)).source)
+        self.assertEqual((await within(a.path, 1)).destination, (await within(b.path, 1)).source)
         a.loop.close()
         b.loop.close()
         self.assertEqual(closed, list(sides))
@@ -259,7 +259,7 @@ class Datagrams(unittest.IsolatedAsyncioTestCase):
             start = time.monotonic()
             a.loop.begin()
             b.loop.begin()
-            await asyncio.wait_for(asyncio.gather(a.path, b.path), 2)
+            await within(asyncio.gather(a.path, b.path), 2)
             took.append(time.monotonic() - start)
             a.loop.close()
             b.loop.close()
@@ -315,7 +315,7 @@ class Many(unittest.IsolatedAsyncioTestCase):
         sides = [side for pair in pairs for side in pair]
         for side in sides:
             side.loop.begin()
-        paths = await asyncio.wait_for(asyncio.gather(*(side.path for side in sides)), 10)
+        paths = await within(asyncio.gather(*(side.path for side in sides)), 10)
         for a, b in zip(paths[::2], paths[1::2]):
             self.assertEqual((a.source, a.destination), (b.destination, b.source))
         for side in sides:

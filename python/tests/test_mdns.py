@@ -15,7 +15,7 @@ from is_ice import line_name
 from is_ice.connection import Connection, TransportPolicy
 from is_ice.mdns import Mdns
 
-from pairs import HIDDEN, LOOPBACK, add_candidates, agent, aioice, close, gather, join, nobody, other_tasks, talk
+from pairs import HIDDEN, LOOPBACK, add_candidates, agent, aioice, close, gather, join, nobody, other_tasks, talk, within
 from test_stun_client import SEEN, StunServer
 
 # Two connections over loopback in a new process. Prints the seconds from the first candidate until both connect, and the modules that were
@@ -155,7 +155,7 @@ class Sessions(unittest.IsolatedAsyncioTestCase):
         both = asyncio.gather(a.connect(), b.connect())
         await asyncio.sleep(0.01)
         resolved.set_result("127.0.0.1")
-        await asyncio.wait_for(both, 2)
+        await within(both, 2)
         await talk(a, b)
         await close(a, b)
 
@@ -204,7 +204,7 @@ class Sessions(unittest.IsolatedAsyncioTestCase):
                     await one.add_remote_candidate(None)
                 await asyncio.wait(a._remote.names)
                 self.assertEqual(len(a.remote_candidates), 1 if found else 0)
-                await asyncio.wait_for(asyncio.gather(a.connect(), b.connect()), 2)
+                await within(asyncio.gather(a.connect(), b.connect()), 2)
                 await talk(a, b)
                 await close(a, b)
 
@@ -253,7 +253,7 @@ class Hidden(unittest.IsolatedAsyncioTestCase):
                 await add_candidates(a, b)
                 if all(hidden) and await is_without_multicast(a, b):
                     self.skipTest("no multicast here")
-                await asyncio.wait_for(asyncio.gather(a.connect(), b.connect()), 5)
+                await within(asyncio.gather(a.connect(), b.connect()), 5)
                 await talk(a, b)
                 await close(a, b)
 
@@ -274,7 +274,7 @@ class Hidden(unittest.IsolatedAsyncioTestCase):
     async def test_names_without_a_socket_are_signaled(self) -> None:
         with with_client(None), self.assertLogs("is_ice.mdns", "WARNING"):
             a, b = agent(True, hide_addresses=True), agent(False)
-            await asyncio.wait_for(join(a, b), 5)  # the checks of a bring its address
+            await within(join(a, b), 5)  # the checks of a bring its address
         await talk(a, b)
         await close(a, b)
 
@@ -285,8 +285,8 @@ class Hidden(unittest.IsolatedAsyncioTestCase):
             gathering = asyncio.ensure_future(a.gather_candidates())
             await asyncio.sleep(0.05)
             self.assertFalse(gathering.done())
-            await asyncio.wait_for(a.close(), 3)
-            await asyncio.wait_for(gathering, 1)
+            await within(a.close(), 3)
+            await within(gathering, 1)
         self.assertEqual(other_tasks(), set())
 
 

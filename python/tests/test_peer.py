@@ -13,11 +13,12 @@ from typing import Any
 
 from is_ice import Candidate, IceAgent, IceCreds, SocketAddress, line_fields
 from is_ice.demux import is_stun
+from pairs import PATIENCE, within
 
 PEER = Path(__file__).resolve().parent.parent / "peer.py"
 # The program of c/examples, if it was built.
 C_PEER = Path(os.environ.get("IS_ICE_C_PEER") or Path(__file__).resolve().parents[2] / "c" / "out" / "peer")
-LONGEST = 0.15  # seconds: three pacing intervals
+LONGEST = 0.15 * PATIENCE  # seconds: three pacing intervals
 ROLES = [("controlling", "controlled"), ("controlled", "controlling"), ("controlling", "controlling"), ("controlled", "controlled")]
 
 try:
@@ -28,7 +29,7 @@ except ImportError:
 
 async def start(role: str, *program: str, seconds: int = 15) -> asyncio.subprocess.Process:
     pipe = asyncio.subprocess.PIPE
-    words = *(program or (sys.executable, str(PEER))), "-a", "127.0.0.1", "-m", "hello", "-t", str(seconds), role
+    words = *(program or (sys.executable, str(PEER))), "-a", "127.0.0.1", "-m", "hello", "-t", str(int(seconds * PATIENCE)), role
     return await asyncio.create_subprocess_exec(*words, stdin=pipe, stdout=pipe, stderr=pipe)
 
 
@@ -197,7 +198,7 @@ class Peers(unittest.TestCase):
         aioice.ice.get_host_addresses = lambda use_ipv4, use_ipv6: ["127.0.0.1"]
         for role, theirs in (("controlling", False), ("controlled", True), ("controlling", True), ("controlled", False)):
             with self.subTest(role=role, their_control=theirs):
-                self.assertEqual(asyncio.run(asyncio.wait_for(with_aioice(role, theirs), 20)), (0, b"hello"))
+                self.assertEqual(asyncio.run(within(with_aioice(role, theirs), 20)), (0, b"hello"))
 
 
 if __name__ == "__main__":

@@ -43,7 +43,7 @@ from is_ice.attribute import CandidateAttribute
 from is_ice.connection import Connection
 from is_ice.stun import StunClass, StunMethod, write_message
 
-from pairs import add_candidates, agent, close, gather, talk
+from pairs import PATIENCE, add_candidates, agent, close, gather, talk, within
 
 HERE = SocketAddress("10.0.0.9", 1)
 WORDS = ["candidate:7", "1", "udp", "2130706431", "192.0.2.1", "80", "typ", "host"]
@@ -318,7 +318,7 @@ class Hostile(unittest.IsolatedAsyncioTestCase):
                     call(text)
                 except IceError as error:
                     self.assertIsInstance(error, ValueError)
-                self.assertLess(time.process_time() - start, 0.5, text[:40])
+                self.assertLess(time.process_time() - start, 0.5 * PATIENCE, text[:40])
 
     async def test_a_connection_leaves_them_out_and_connects(self) -> None:
         a, b = agent(True), agent(False)
@@ -327,9 +327,9 @@ class Hostile(unittest.IsolatedAsyncioTestCase):
             for text in HOSTILE + SURROGATES:
                 start = time.process_time()
                 await one.add_remote_candidate(text)
-                self.assertLess(time.process_time() - start, 0.5, text[:40])
+                self.assertLess(time.process_time() - start, 0.5 * PATIENCE, text[:40])
         await add_candidates(a, b)
-        await asyncio.wait_for(asyncio.gather(a.connect(), b.connect()), 5)
+        await within(asyncio.gather(a.connect(), b.connect()), 5)
         await talk(a, b)
         await close(a, b)
 
