@@ -272,7 +272,7 @@ typedef struct is_ice_media_path {
 /* States of a pair's checks (RFC 8445, section 6.1.2.6). No pair is frozen, and one that fails is removed. */
 enum {
     IS_ICE_PAIR_WAITING = 0,     /* no check was sent */
-    IS_ICE_PAIR_IN_PROGRESS = 1, /* a check was sent, and none had a response */
+    IS_ICE_PAIR_IN_PROGRESS = 1, /* a check was sent, and none had a success response */
     IS_ICE_PAIR_SUCCEEDED = 2    /* the pair is valid */
 };
 
@@ -285,7 +285,7 @@ typedef struct is_ice_pair {
     uint64_t priority;      /* RFC 8445, section 6.1.2.3 */
     uint64_t checks_sent;   /* the number of checks that were sent on it */
     uint64_t requests_received; /* the number of checks of the other agent that arrived on it */
-    uint64_t responses;     /* the number of responses to its checks */
+    uint64_t responses;     /* the number of success responses to its checks */
     uint64_t total_rtt;     /* the sum of the round-trip times of its checks */
     uint64_t rtt;           /* the last round-trip time, if has_rtt */
     uint64_t last_request;  /* when the last check of the other agent on it arrived, if has_request */

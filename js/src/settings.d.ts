@@ -14,7 +14,7 @@ export class Settings {
   /** Makes the agent controlling, as on the side that made the offer, or controlled. `LiteStaysControlled`: it is lite. */
   setControlling(controlling: boolean): void;
   /**
-   * Makes the agent a lite agent, which has only host candidates and sends no checks, or a full one (RFC 8445, section 2.5). It has to
+   * Makes the agent a lite agent, which takes only host candidates and sends no checks, or a full one (RFC 8445, section 2.5). It has to
    * be controlled, and its peer a full agent: make it lite while it is controlled.
    */
   setIceLite(enabled: boolean): void;

@@ -31,7 +31,7 @@ class Setters(Unique):
         done(self._c.is_ice_set_controlling(self._at, controlling))
 
     def set_ice_lite(self, enabled: bool) -> None:
-        """Makes the agent a lite agent, which has only host candidates and sends no checks, or a full one (RFC 8445, section 2.5).
+        """Makes the agent a lite agent, which takes only host candidates and sends no checks, or a full one (RFC 8445, section 2.5).
 
         A lite agent has to be controlled, and its peer a full agent. One that is controlling never finds a path, and no call reports
         it. So make it lite while it is controlled: with `Profile.MODERN` it then stays controlled.

@@ -633,7 +633,7 @@ impl IceAgent {
         self.nominated().map(|nominated| Duration::from_nanos(nominated.total_rtt))
     }
 
-    /// The number of responses on the selected pair.
+    /// The number of success responses on the selected pair.
     pub fn nominated_pair_responses_received(&self) -> Option<u64> {
         self.nominated().map(|nominated| nominated.responses)
     }

@@ -45,7 +45,7 @@ pub struct CandidatePair {
     pub checks_sent: u64,
     /// The number of checks of the peer that arrived on it.
     pub requests_received: u64,
-    /// The number of responses to its checks.
+    /// The number of success responses to its checks.
     pub responses: u64,
     /// The sum of the round-trip times of its checks.
     pub total_rtt: Duration,
@@ -124,7 +124,7 @@ impl CandidatePair {
         self.rtt
     }
 
-    /// The number of responses to its checks.
+    /// The number of success responses to its checks.
     pub fn responses_received(&self) -> u64 {
         self.responses
     }

@@ -84,7 +84,7 @@ impl IceAgent {
         self.status().lite
     }
 
-    /// Makes the agent a lite agent, which has only host candidates and sends no checks, or a full one.
+    /// Makes the agent a lite agent, which takes only host candidates and sends no checks, or a full one.
     ///
     /// A lite agent has to be controlled, and its peer a full agent. One that is controlling never finds a path, and no call reports it.
     /// So make it lite while it is controlled: with [`Profile::Modern`](crate::Profile::Modern) it then stays controlled.
