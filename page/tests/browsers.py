@@ -144,16 +144,27 @@ async def sizes(viewer: Any, url: str, is_new: bool, compares: bool) -> None:
         for dark in (False, True) if compares else (False,):
             await viewer.look(width, height, dark)
             await shown(viewer, url, "story=two-homes&at=420&pause=1")
-            await asyncio.sleep(0.3)
+            picture = await at_rest(viewer)
             told = await viewer.call("checks.fits")
             require(told["over"] <= 0 and told["diagram"] >= 300, f"{name}: {told}")
             if compares:
-                await compare(viewer, f"{name}-{'dark' if dark else 'light'}", is_new)
+                await compare(viewer, picture, f"{name}-{'dark' if dark else 'light'}", is_new)
 
 
-async def compare(viewer: Any, name: str, is_new: bool) -> None:
+async def at_rest(viewer: Any) -> bytes:
+    """Returns a picture of the window once two in a row are the same: a busy machine draws late."""
+    picture = b""
+    for _ in range(100):
+        await asyncio.sleep(0.3)
+        before, picture = picture, cast(bytes, await viewer.picture())
+        if picture == before:
+            return picture
+    raise Fault("the page does not come to rest")
+
+
+async def compare(viewer: Any, window: bytes, name: str, is_new: bool) -> None:
     """Compares a picture of the window with the one that is kept, or keeps it."""
-    picture = base64.b64encode(await viewer.picture()).decode()
+    picture = base64.b64encode(window).decode()
     path = PICTURES / f"{name}.png"
     if is_new:
         PICTURES.mkdir(exist_ok=True)
