@@ -256,7 +256,7 @@ typedef struct is_ice_nominated_pair {
     is_ice_address source;      /* send media from here: the base of its local candidate, or a relayed address */
     is_ice_address destination; /* to here: the address of its remote candidate */
     uint64_t total_rtt;         /* the sum of the round-trip times of its checks */
-    uint64_t responses;         /* the number of responses to its checks */
+    uint64_t responses;         /* the number of success responses to its checks */
     uint64_t rtt;               /* the last round-trip time, if has_rtt; else 0 */
     uint8_t protocol;           /* send media over this protocol */
     bool has_rtt;

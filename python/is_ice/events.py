@@ -114,9 +114,9 @@ class CandidatePair:
     """A candidate pair. Times are nanoseconds.
 
     `local` and `remote` are the indices of its candidates in `local_candidates` and `remote_candidates`. `selected`: it is the pair
-    of the last NominatedSend. `checks_sent` counts its checks, `requests_received` those of the peer, and `responses` the success
-    responses to its checks; `total_rtt` is the sum of their round-trip times. None if there is none: `rtt`, the last round-trip time; `last_request`, when the peer's last check arrived;
-    `due`, when its next check is due.
+    of the last NominatedSend. `checks_sent` counts its checks, `requests_received` those of the peer. `responses` counts the success
+    responses to its checks, and `total_rtt` is the sum of their round-trip times. None if there is none: `rtt`, the last round-trip
+    time; `last_request`, when the peer's last check arrived; `due`, when its next check is due.
     """
 
     local: int
@@ -146,9 +146,9 @@ class MediaPath:
 class Removal(enum.IntEnum):
     """Why a pair was removed.
 
-    NO_RESPONSE: no check on it had a success response. CONSENT_LOST: one had, and then consent ended (RFC 7675, section 5.1). PEER_SILENT: the
-    agent is lite, and the peer's checks stopped. EVICTED: there were more pairs than the limit. REPLACED: a pair of greater priority on
-    the same path replaced it. INVALIDATED: a candidate of it was invalidated. It prints as `no response`.
+    NO_RESPONSE: no check on it had a success response. CONSENT_LOST: one had, and then consent ended (RFC 7675, section 5.1). PEER_SILENT:
+    the agent is lite, and the peer's checks stopped. EVICTED: there were more pairs than the limit. REPLACED: a pair of greater priority
+    on the same path replaced it. INVALIDATED: a candidate of it was invalidated. It prints as `no response`.
     """
 
     NO_RESPONSE = _abi.REMOVED_NO_RESPONSE
