@@ -24,6 +24,8 @@ CUSTOMIZED = "import os, sys\nsys.executable = os.environ['IS_ICE_PYTHON']\n"
 IMPORTED = "asyncio, ctypes, email.message, http.client, json, logging, secrets, ssl, subprocess, tempfile, unittest.mock, urllib.request"
 # How many times as long as usual the tests wait: an emulated processor takes so much longer.
 PATIENCE = "20"
+# The tests that the step runs, by what begins their names: calls of the library, texts, sessions over sockets.
+SOME = ("test_abi.", "test_agent.", "test_texts.", "test_connection.Sessions.")
 
 
 def script(root, folder):
@@ -69,14 +71,16 @@ def step_arm64_python(place, out):
 
 
 def step_arm64_python_tests(place, out):
-    """The tests of python/, with the library of the wheel for ARM64."""
+    """Tests of python/, with the library of the wheel for ARM64: some, or all if IS_ICE_ARM64_TESTS is `all`."""
     python, module = unpacked_wheel(place, out)
+    is_all = os.environ.get("IS_ICE_ARM64_TESTS") == "all"
+    chosen = [] if is_all else [word for name in SOME for word in ("-k", f"{name}*")]
     env = bare(PYTHON=str(python), IS_ICE_LIB=str(module / "is_ice" / "libis_ice.so"), IS_ICE_PATIENCE=PATIENCE)
-    ran = run("sh", "-c", '"$1" 2>&1', "sh", top / "python" / "run", env=env)
+    ran = run("sh", "-c", 'exec "$@" 2>&1', "sh", top / "python" / "run", *chosen, env=env)
     lines = [line for line in ran.splitlines() if re.match(r"Ran \d|OK", line)]
     if len(lines) != 2:
         raise Failed(ran[-2000:])
-    return f"{SUITE}, python/run: {' '.join(lines)}"
+    return f"{SUITE}, {'all' if is_all else 'some'} tests of python/run: {' '.join(lines)}"
 
 
 STEPS = {"arm64_python": step_arm64_python, "arm64_python_tests": step_arm64_python_tests}
