@@ -32,7 +32,8 @@ export class Settings {
   setMaxDiscovered(count: number): void;
   /** Limits how many candidates of each side there are when one is added. `Infinity`: no limit. Default: 100. */
   setMaxCandidates(count: number): void;
-  /** Sets the pacing interval Ta: the least time between two timeouts. With `modern` it is shorter until the agent has a path. Default: 50. */
+  /** Sets the pacing interval Ta: the least time between two timeouts. With `modern` it is shorter until the agent has a path.
+   *  Default: 50. */
   setTimingAdvance(ms: number): void;
   /** Sets the time from a pair's first check until the second one is due; it doubles with each further check. Default: 250. */
   setInitialStunRto(ms: number): void;
