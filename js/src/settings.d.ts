@@ -23,7 +23,8 @@ export class Settings {
   /** Sets those that are named, and leaves the others as they are. TypeError for a name that is no setting. `BadLimit`: `maxRetransmits`
    *  is 0; nothing is changed. */
   setSettings(settings: Partial<AgentSettings>): void;
-  /** Sets the number that decides role conflicts: the agent with the greater one keeps its role. */
+  /** Sets the number that decides role conflicts: the agent with the greater one keeps its role. A lite agent with `modern` keeps its role
+   *  whatever the numbers are. */
   setControlTieBreaker(tieBreaker: bigint | number): void;
   /** Limits the number of pairs, when pairs are next formed. Default: 100. */
   setMaxCandidatePairs(count: number): void;
@@ -31,7 +32,8 @@ export class Settings {
   setMaxDiscovered(count: number): void;
   /** Limits how many candidates of each side there are when one is added. `Infinity`: no limit. Default: 100. */
   setMaxCandidates(count: number): void;
-  /** Sets the pacing interval Ta: the least time between two timeouts. Default: 50. */
+  /** Sets the pacing interval Ta: the least time between two timeouts. With `modern` it is shorter until the agent has a path.
+   *  Default: 50. */
   setTimingAdvance(ms: number): void;
   /** Sets the time from a pair's first check until the second one is due; it doubles with each further check. Default: 250. */
   setInitialStunRto(ms: number): void;

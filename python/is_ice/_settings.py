@@ -58,7 +58,10 @@ class Setters(Unique):
         done(self._c.is_ice_set_settings(self._at, byref(struct_of_settings(settings))))
 
     def set_control_tie_breaker(self, tie_breaker: int) -> None:
-        """Sets the number that decides role conflicts: the agent with the greater one keeps its role."""
+        """Sets the number that decides role conflicts: the agent with the greater one keeps its role.
+
+        A lite agent with `Profile.MODERN` keeps its role whatever the numbers are.
+        """
         done(self._c.is_ice_set_tie_breaker(self._at, in_range(tie_breaker, 64, "a tie-breaker")))
 
     def set_max_candidate_pairs(self, limit: int) -> None:
@@ -87,7 +90,10 @@ class Setters(Unique):
         done(self._c.is_ice_set_max_candidates(self._at, limit_of(limit)))
 
     def set_timing_advance(self, nanoseconds: int) -> None:
-        """Sets the pacing interval Ta: the least time between two timeouts, each of which sends at most one packet. Default: 50 ms."""
+        """Sets the pacing interval Ta: the least time between two timeouts, each of which sends at most one packet. Default: 50 ms.
+
+        `Profile.MODERN` shortens it until the agent has a path.
+        """
         done(self._c.is_ice_set_timing_advance(self._at, in_range(nanoseconds, 64, "a time")))
 
     def set_initial_stun_rto(self, nanoseconds: int) -> None:

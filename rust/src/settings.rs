@@ -44,7 +44,8 @@ impl IceAgent {
         self.status().mtu_warn
     }
 
-    /// Sets the number that decides role conflicts: the agent with the greater one keeps its role.
+    /// Sets the number that decides role conflicts: the agent with the greater one keeps its role. A lite agent with
+    /// [`Profile::Modern`](crate::Profile::Modern) keeps its role whatever the numbers are.
     pub fn set_control_tie_breaker(&mut self, tie_breaker: u64) {
         self.set(|agent| ffi::is_ice_set_tie_breaker(agent, tie_breaker));
     }
@@ -106,7 +107,8 @@ impl IceAgent {
         self.set(|agent| ffi::is_ice_set_renomination(agent, enabled));
     }
 
-    /// Sets the pacing interval Ta: the least time between two timeouts, each of which sends at most one packet. Default: 50 ms.
+    /// Sets the pacing interval Ta: the least time between two timeouts, each of which sends at most one packet.
+    /// [`Profile::Modern`](crate::Profile::Modern) shortens it until the agent has a path. Default: 50 ms.
     pub fn set_timing_advance(&mut self, duration: Duration) {
         self.set(|agent| ffi::is_ice_set_timing_advance(agent, nanoseconds(duration)));
     }
