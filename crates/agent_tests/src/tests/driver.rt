@@ -149,7 +149,9 @@ impl Player {
                 strict,
             }),
             Setting::All(settings) => {
-                prove!(0 < settings.max_retransmits);
+                if settings.max_retransmits == 0 {
+                    return false;
+                }
                 agent.set_settings(settings)
             }
             Setting::TieBreaker(number) => agent.set_control_tie_breaker(number),
