@@ -68,7 +68,7 @@ const page = `http://127.0.0.1:${server.address().port}/page.html`;
 const browser = spawn(name, [...FLAGS[name](profile), page], { stdio: "ignore", env: { ...process.env, HOME: profile } });
 let said;
 try {
-  [said] = await once(server, "said", { signal: AbortSignal.timeout(120000) });
+  [said] = await once(server, "said", { signal: AbortSignal.timeout(120000 * Number(process.env.IS_ICE_PATIENCE ?? 1)) });
 } finally {
   browser.kill("SIGKILL");
   await once(browser, "close");
