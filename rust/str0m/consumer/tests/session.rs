@@ -3,7 +3,7 @@
 use consumer::{Output, Receive, Rtc};
 use std::fmt::{self, Write};
 use std::net::SocketAddr;
-use std::sync::{Arc, Mutex};
+use std::sync::{Arc, Mutex, MutexGuard, PoisonError};
 use std::time::{Duration, Instant};
 use str0m_proto::{Protocol, TcpType};
 use tracing::field::{Field, Visit};
@@ -12,6 +12,13 @@ use tracing::{Event, Metadata, Subscriber};
 
 fn at(text: &str) -> SocketAddr {
     text.parse().unwrap()
+}
+
+/// The tests run one after another: `tracing` stores for all threads which events somebody wants, and what another thread stores
+/// when it meets an event first may come too late for `a_session_is_logged`.
+fn alone() -> MutexGuard<'static, ()> {
+    static TEST: Mutex<()> = Mutex::new(());
+    TEST.lock().unwrap_or_else(PoisonError::into_inner)
 }
 
 /// Two sides that know each other.
@@ -51,6 +58,7 @@ fn connect(sides: &mut [Rtc; 2]) {
 
 #[test]
 fn both_sides_connect() {
+    let _alone = alone();
     let mut sides = two();
     connect(&mut sides);
     let [near, far] = sides.map(|side| side.media(b"media".to_vec()).unwrap());
@@ -60,12 +68,14 @@ fn both_sides_connect() {
 
 #[test]
 fn the_builder_takes_their_tcp_type() {
+    let _alone = alone();
     let built = is::Candidate::builder().tcp().host(at("10.0.0.1:9")).tcptype(TcpType::Active).build().unwrap();
     assert_eq!((built.proto(), built.tcptype()), (Protocol::Tcp, Some(TcpType::Active)));
 }
 
 #[test]
 fn a_lite_agent_that_is_to_be_controlling_goes_on() {
+    let _alone = alone();
     let mut side = Rtc::new(false);
     side.ice.set_ice_lite(true);
     side.ice.set_controlling(true);
@@ -123,6 +133,7 @@ impl Subscriber for Lines {
 
 #[test]
 fn a_session_is_logged() {
+    let _alone = alone();
     let lines = Lines::default();
     tracing::subscriber::with_default(lines.clone(), || {
         let mut sides = two();
@@ -177,6 +188,7 @@ fn pass(sides: &mut [Rtc; 2], from: usize, to: &str, now: Instant) {
 
 #[test]
 fn what_packets_do_is_logged() {
+    let _alone = alone();
     let (lines, now, ms) = (Lines::default(), Instant::now(), Duration::from_millis);
     tracing::subscriber::with_default(lines.clone(), || {
         // Both claim to be controlling, and the second one does not know the first one yet.
