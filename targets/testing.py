@@ -112,7 +112,7 @@ def c_run(steps):
     cxx = "aarch64-linux-gnu-g++"
     tools = {"CC": ARM_CC, "CXX": ARM_CC.with_name("c++") if shutil.which(cxx) else cxx,
              "AR": "aarch64-linux-gnu-ar", "STRIP": "aarch64-linux-gnu-strip",
-             "IS_ICE_LIB": built("arm64") / "libis_c.a", "IS_ICE_EMULATED": "1",
+             "IS_ICE_LIB": built("arm64") / "libis_c.a", "IS_ICE_EMULATED": "1", "IS_ICE_TOOLS": "aarch64-linux-gnu-",
              "ASAN_OPTIONS": "detect_leaks=0"}  # the emulator lets no process trace another, as LeakSanitizer does
     env = {**os.environ, **{name: str(value) for name, value in tools.items()}}
     return subprocess.run([sys.executable, here.parent / "c" / "run", *steps], env=env).returncode
