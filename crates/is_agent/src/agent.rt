@@ -30,7 +30,7 @@ macro_rules! sides {
             remote: &$agent.remote,
             controlling: $agent.controlling,
             lite: $agent.lite,
-            kinds_in_turn: $agent.timing.is_modern(),
+            modern: $agent.timing.is_modern(),
         }
     };
 }

@@ -3,7 +3,7 @@ use Rattle.std.specs.Prelude.{[], ◌≡◌, ℕ, ◌<◌, ◌≤◌, ◌-◌, �
 use Rattle.std.specs.Prelude.{Some, None, unwrap_or, option_map, if◌then◌else◌}
 use Rattle.std.specs.Option.{option_map_or}
 use Rattle.is_proto.specs.Lists.{Has, NonePass}
-use Rattle.is_proto.specs.Times.{MAX, SECOND, later}
+use Rattle.is_proto.specs.Times.{MAX, MILLISECOND, SECOND, later}
 use Rattle.is_stun.specs.declared.timing.StunTiming.{StunTiming}
 use Rattle.is_stun.specs.declared.timing.Consent.{Consent}
 use Rattle.is_stun.specs.Timing.{consent_of, early_delay, is_modern, resend_delay, last_resend_delay, timeout_of}
@@ -34,6 +34,14 @@ usual_delay now t checks = resend_delay t (delaying_count now t checks)
 -- less time has passed since the pair's first check than a whole series of checks takes
 abbrev pub is_young : ℕ → StunTiming → PairRecord → Bool
 is_young now t p = option_map_or (λ at. nat_lt now (later at (timeout_of t))) p.first_sent false
+
+-- how long a pair is at its beginning
+abbrev pub BEGINNING : ℕ
+BEGINNING = 500 * MILLISECOND
+
+-- its first check was sent less than that ago, or is still to be sent
+abbrev pub is_beginning : ℕ → PairRecord → Bool
+is_beginning now p = option_map_or (λ at. nat_lt now (later at BEGINNING)) p.first_sent true
 
 -- the checks without a response: all, as long as there was none
 abbrev pub silent_count : PairRecord → ℕ

@@ -5,6 +5,7 @@ ghost use Rattle.std.specs.Prelude.{◌≡◌, true};
 ghost use Rattle.is_pair.specs.Entries.{are_ordered, ids_rise, IsIndex, IsRanking};
 ghost use Rattle.is_pair.specs.Multiset.{rises};
 
+mod beginning;
 mod changes;
 mod checks;
 mod entries;
@@ -20,6 +21,7 @@ mod removed;
 mod rule;
 
 use crate::pair::{BindingAttempt, CandidatePair};
+pub use beginning::Beginning;
 use entries::{Kept, Rank};
 pub use expired::Expired;
 use is_proto::reserve_few;

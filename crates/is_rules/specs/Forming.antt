@@ -22,7 +22,7 @@ pub record SidesRecord : Type 0 where
   pub remote : List CandidateRecord
   pub controlling : Bool
   pub lite : Bool
-  pub kinds_in_turn : Bool
+  pub modern : Bool
 
 -- the pairs, and the number of the next one
 pub record Formed : Type 0 where
@@ -116,7 +116,7 @@ Tries s at old new = (found : Option PairRecord) × IsGreatest (is_redundant s a
 
 -- Pairs are removed until the limit holds: pairs of lowest priority, with kinds in turn of those of the kind with the most pairs.
 abbrev pub EvictsFor : SidesRecord → ℕ → List PairRecord → List PairRecord → Type 0
-EvictsFor s limit old new = MatchBool s.kinds_in_turn (EvictsOfMost (kind_of s.local s.remote) limit old new) (Evicts limit old new)
+EvictsFor s limit old new = MatchBool s.modern (EvictsOfMost (kind_of s.local s.remote) limit old new) (Evicts limit old new)
 
 -- Each combination is tried in turn, and then the limit is applied.
 abbrev pub FormsEach : SidesRecord → ℕ → List Combination → Formed → Formed → Type 0
@@ -129,7 +129,7 @@ HasNumbers next_number many = next_number + many ≤ MAX
 
 module _ {H P : Type 0} where
   abbrev pub sides_of : AgentRecord H P → SidesRecord
-  sides_of a = record { local = a.local; remote = a.remote; controlling = a.controlling; lite = a.lite; kinds_in_turn = is_modern a.timing }
+  sides_of a = record { local = a.local; remote = a.remote; controlling = a.controlling; lite = a.lite; modern = is_modern a.timing }
 
   abbrev pub formed_of : AgentRecord H P → Formed
   formed_of a = formed_as a.pairs a.next_number

@@ -1,9 +1,10 @@
 -- What the polls return.
 use Rattle.std.specs.Prelude.{◌≡◌, ℕ, ◌*◌, ◌/◌, min, max, ◌&&◌, ◌||◌, not, Bool, List, [], ◌∷◌, map, fold, length, Option, Some, None, is_some, MatchBool, IsSomeAnd, if◌then◌else◌}
+use Rattle.std.specs.List.{list_any}
 use Rattle.is_proto.specs.Lists.{is_empty}
 use Rattle.is_proto.specs.Times.{MAX, MILLISECOND, SECOND, later}
 use Rattle.is_proto.specs.declared.Duration.{Duration}
-use Rattle.is_pair.specs.Due.{call_time_of, asked}
+use Rattle.is_pair.specs.Due.{call_time_of, asked, is_beginning}
 use Rattle.is_proto.specs.Packets.{Packet}
 use Rattle.is_stun.specs.Timing.{is_modern}
 use Rattle.is_rules.specs.declared.event.IceAgentEvent.{IceAgentEvent}
@@ -24,11 +25,11 @@ LEAST_TA = 5 * MILLISECOND
 abbrev pub CYCLE : ℕ
 CYCLE = 500 * MILLISECOND
 
--- until the agent is settled, the pacing interval of few pairs
+-- early on, the pacing interval of few pairs
 abbrev pub EARLY_TA : ℕ
 EARLY_TA = 10 * MILLISECOND
 
--- the pacing interval until then, with so many pairs: each can be checked once in a cycle. A shorter interval that is set stays.
+-- the pacing interval early on, with so many pairs: each can be checked once in a cycle. A shorter interval that is set stays.
 abbrev pub early_advance : ℕ → ℕ → ℕ
 early_advance count advance = min advance (max LEAST_TA (min EARLY_TA (CYCLE / max 1 count)))
 
@@ -49,13 +50,21 @@ module _ {H P : Type 0} where
   abbrev pub is_settled : AgentRecord H P → Bool
   is_settled a = is_connected a.state && not (a.controlling && a.nomination_due)
 
-  -- the pacing interval Ta; with `Modern` it is shorter until the agent is settled
-  abbrev pub pacing_of : AgentRecord H P → ℕ
-  pacing_of a = if is_modern a.timing && not (is_settled a) then early_advance (length a.pairs) a.timing_advance else a.timing_advance
+  -- It may check pairs, and one of them is at its beginning.
+  abbrev pub has_beginning : ℕ → AgentRecord H P → Bool
+  has_beginning last a = is_some a.remote_creds && list_any (is_beginning last) a.pairs
+
+  -- It is early: until a `Modern` agent is settled, while a pair is at its beginning.
+  abbrev pub is_early : ℕ → AgentRecord H P → Bool
+  is_early last a = is_modern a.timing && not (is_settled a) && has_beginning last a
+
+  -- the pacing interval Ta; early on it is shorter
+  abbrev pub pacing_of : ℕ → AgentRecord H P → ℕ
+  pacing_of last a = if is_early last a then early_advance (length a.pairs) a.timing_advance else a.timing_advance
 
   -- one pacing interval after the last call
   abbrev pub soon : AgentRecord H P → ℕ → ℕ
-  soon a last = later last (pacing_of a)
+  soon a last = later last (pacing_of last a)
 
   -- the earliest time at which a pair is due, computed at the time of the last call, or at which its consent ends
   abbrev pub earliest_call : AgentRecord H P → ℕ → ℕ

@@ -110,8 +110,8 @@ fn first_to_discard(candidates: &[Candidate], candidate: &Candidate) -> Option<u
     }
 }
 
-/// The index of the first equivalent candidate, if that one is not discarded; if discarded ones are passed over (the rule
-/// `invalidates_listed`), that of the first equivalent one that is listed.
+/// The index of the first equivalent candidate, if that one is not discarded; with `listed`, discarded ones are passed over: that
+/// of the first equivalent one that is listed.
 pub fn place_to_discard(
     listed: bool,
     candidates: &[Candidate],

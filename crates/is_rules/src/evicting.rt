@@ -120,7 +120,7 @@ pub(crate) fn evict(sides: Sides<'_>, limit: usize, pairs: &mut Checklist)
     ensures evicted { EvictsFor (sides_view sides.entry) limit (multiset_of pairs.old) (multiset_of pairs.new) }
     ensures below { (n : ℕ) → are_below n (multiset_of pairs.old) ≡ true → are_below n (multiset_of pairs.new) ≡ true }
 {
-    if sides.kinds_in_turn {
+    if sides.modern {
         evict_of_most(pairs, limit, sides.local, sides.remote);
     } else {
         pairs.evict(limit);

@@ -17,7 +17,7 @@ pub struct Sides<'a> {
     /// The agent is ICE-lite.
     pub lite: bool,
     /// Kinds take turns: at the limit the kind with the most pairs loses one.
-    pub kinds_in_turn: bool,
+    pub modern: bool,
     // so that each pair priority fits into 64 bits
     ghost low: { NoneTooHigh local.now },
 }

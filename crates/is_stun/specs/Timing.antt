@@ -42,7 +42,7 @@ abbrev pub EARLY_INTERVAL : ℕ
 EARLY_INTERVAL = 100 * MILLISECOND
 
 abbrev pub EARLY_CAP : ℕ
-EARLY_CAP = 350 * MILLISECOND
+EARLY_CAP = 2900 * MILLISECOND
 
 -- the delay after the last of n checks, while a pair has no response: it doubles with each check after the early retransmissions
 abbrev pub early_delay : ℕ → ℕ

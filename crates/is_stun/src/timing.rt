@@ -18,9 +18,9 @@ const EARLY_RETRANSMITS: u64 = 2;
 /// The delay before each early retransmission: below the 500 ms of RFC 8445, section 14.3, as that of other stacks.
 const EARLY_INTERVAL: Duration = Duration(100_000_000);
 
-/// The longest delay after them while there is no response. With one up to the longest RTO, a peer that begins late, or a row of losses,
-/// costs seconds.
-const EARLY_CAP: Duration = Duration(350_000_000);
+/// The longest delay after them while there is no response. It doubles up to here, so that a congested or slow path is not filled (RFC
+/// 8489, section 6.2.1), and that a check is still stored when its response comes after several seconds.
+const EARLY_CAP: Duration = Duration(2_900_000_000);
 
 /// Which behavior an agent has.
 #[derive(Clone, Copy, Debug, PartialEq, Eq)]

@@ -29,7 +29,7 @@ module _ {H P : Type 0} where
   -- A `handle_timeout` call of an agent with the profile `Modern`, by which kinds take turns until a path is selected. When it begins, each pair has
   -- one of these kinds, and the pair with the number has this one.
   pub record TakesTurns (kinds : List ℕ) (kind number : ℕ) (old new : AgentRecord H P) : Type 0 where
-    pub rule : is_modern new.timing ≡ true
+    pub modern : is_modern new.timing ≡ true
     pub listed : (q : PairRecord) → Has old.pairs q → Has kinds (kind_in old q)
     pub keeps : (q : PairRecord) → Has old.pairs q → q.number ≡ number → kind_in old q ≡ kind
 

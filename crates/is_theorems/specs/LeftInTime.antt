@@ -54,7 +54,7 @@ module _ {H P : Type 0} where
   -- The agent has the profile `Modern`, it knows its peer, and no early request waits. On this path the last check with a response was sent
   -- at time `sent`, and the peer's last check arrived at time `heard`, or earlier.
   pub record IsLastHeard (c : Consent) (sent heard : ℕ) (path : Path) (a : AgentRecord H P) : Type 0 where
-    pub rule : consent_of a.timing ≡ Some c
+    pub consent : consent_of a.timing ≡ Some c
     pub peer : is_some a.remote_creds ≡ true
     pub queue : a.queue ≡ []
     pub answered : (p : PairRecord) (at : ℕ) → Has a.pairs p → path_of a p ≡ path → p.consented ≡ Some at → at ≤ sent

@@ -27,7 +27,7 @@ use Rattle.is_theorems.specs.UrgentFirst.{IsOvertaken, IsOvertakenIn}
 module _ {H P : Type 0} where
   -- A request was served on the pair, and no pair on its path is valid. Its profile is `Modern`.
   pub record IsServed (a : AgentRecord H P) (p : PairRecord) : Type 0 where
-    pub rule : is_modern a.timing ≡ true
+    pub modern : is_modern a.timing ≡ true
     pub requested : nat_lt 0 p.requests ≡ true
     pub invalid : ¬ IsValidOn a (path_of a p)
 

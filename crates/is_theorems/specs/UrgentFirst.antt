@@ -27,7 +27,7 @@ module _ {H P : Type 0} where
   -- A `handle_timeout` call that selects no path, by an agent that checks urgent pairs first. When it begins, the pair with the number is urgent:
   -- a request was served on it, and it is not valid yet, or it is nominated without a response.
   pub record PutsUrgentFirst (number : ℕ) (old : AgentRecord H P) (e : Entry) : Type 0 where
-    pub rule : is_modern old.timing ≡ true
+    pub modern : is_modern old.timing ≡ true
     pub quiet : selects e ≡ false
     pub urgent : (q : PairRecord) → Has old.pairs q → q.number ≡ number → is_urgent q ≡ true
 

@@ -17,9 +17,9 @@ const LIMIT: usize = 32;
 /// Why a pair was removed.
 #[derive(Clone, Copy, Debug, PartialEq, Eq)]
 pub enum Removal {
-    /// None of its checks got a response.
+    /// No response arrived to any of its checks.
     NoResponse,
-    /// A check got a response once, and then consent ended (RFC 7675, section 5.1).
+    /// A response arrived once, and then consent ended (RFC 7675, section 5.1).
     ConsentLost,
     /// The agent is an ICE-lite agent, and the peer's checks stopped.
     PeerSilent,

@@ -4,7 +4,7 @@ ghost use Rattle.std.specs.Prelude.{◌≡◌, ◌<◌, is_some, min};
 ghost use Rattle.is_proto.specs.Times.{later};
 ghost use Rattle.is_pair.specs.Pairs.{is_valid, undue};
 ghost use Rattle.is_pair.specs.Due.{asked, delaying_count, due_time_of, is_heard, is_in_time, is_possible, long_before, next_due_time, computed_due_time};
-ghost use Rattle.is_pair.specs.Due.{delay_of, has_early_checks, is_early_silence, is_open, is_repeated_early, is_triggered, is_urgent, is_within_series, is_young, moved_up, silent_count, triggered, usual_delay};
+ghost use Rattle.is_pair.specs.Due.{delay_of, has_early_checks, is_beginning, is_early_silence, is_open, is_repeated_early, is_triggered, is_urgent, is_within_series, is_young, moved_up, silent_count, triggered, usual_delay};
 
 use super::attempt::BindingAttempt;
 use super::requests::is_recent;
@@ -18,6 +18,9 @@ use std::collections::VecDeque;
 /// others.
 const HEAD_START: Duration = Duration(60_000_000_000);
 
+/// How long a pair is at its beginning after its first check: the four checks that the profile `Modern` repeats early are sent by then.
+const BEGINNING: Duration = Duration(500_000_000);
+
 impl CandidatePair {
     /// Returns the due time of the next check. The call fixes this time until a check is sent or a response arrives.
     ///
@@ -25,7 +28,7 @@ impl CandidatePair {
     /// due now. Otherwise the check is due one RTO after the last one. The RTO depends on the number of pending
     /// transactions, or, if the peer has been silent for longer than half of `max_rto`, on the number of checks without a
     /// response. With `Modern`, checks are due sooner while there is no response: after 100 ms at first, later after at
-    /// most 350 ms. The due time is at most `max_rto` from now.
+    /// most 2.9 s. The due time is at most `max_rto` from now.
     pub fn next_binding_attempt(&mut self, now: Instant, timing_config: &StunTiming) -> Instant
         requires { 0 < timing_config.now.max_retransmits }
         ensures time { result.0 ≡ due_time_of now.0 timing_config.now self.old }
@@ -113,6 +116,17 @@ impl CandidatePair {
         match self.first_sent {
             Some(at) => now < at + timing.timeout(),
             None => false,
+        }
+    }
+
+    /// Whether the pair's first check was sent less than half a second ago, or is still to be sent.
+    #[inline(always)]
+    pub(crate) fn is_beginning(&self, now: Instant) -> bool
+        ensures { result ≡ is_beginning now.0 self.now }
+    {
+        match self.first_sent {
+            Some(at) => now < at + BEGINNING,
+            None => true,
         }
     }
 

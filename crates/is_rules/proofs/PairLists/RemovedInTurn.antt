@@ -43,7 +43,7 @@ shorter (x ∷ ps) p (inr has) =
 
 -- with and without kinds in turn
 pub removes : (s : SidesRecord) (limit : ℕ) (old new : List PairRecord) → EvictsFor s limit old new → Removes limit old new
-removes s limit old new h = by s.kinds_in_turn h where
+removes s limit old new h = by s.modern h where
   by : (b : Bool) → MatchBool b (EvictsOfMost (kind_of s.local s.remote) limit old new) (Evicts limit old new) → Removes limit old new
   by true (gone, k) = (gone, of-most (kind_of s.local s.remote) limit gone old new k)
   by false (gone, k) = (gone, lowest limit gone old new k)

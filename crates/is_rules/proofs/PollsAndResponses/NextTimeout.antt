@@ -60,7 +60,7 @@ not-idle : (lite : Bool) (pairs : List PairRecord) → lite ≡ false → is_emp
 not-idle true pairs full some = absurd (cc)
 not-idle false pairs full some = some
 
--- the pacing interval until the agent is settled: no longer than that of the agent, and not zero unless that is
+-- the pacing interval early on: no longer than that of the agent, and not zero unless that is
 early-paced : (count advance : ℕ) → early_advance count advance ≤ advance
 early-paced count advance = omega arith
 
@@ -68,11 +68,11 @@ early-some : (count advance : ℕ) → 0 < advance → 0 < early_advance count a
 early-some count advance some = omega (arith, some)
 
 module _ {H P : Type 0} where
-  pub pacing-short : (a : AgentRecord H P) → pacing_of a ≤ a.timing_advance
-  pacing-short a = let short = early-paced (length a.pairs) a.timing_advance in grind (arith, short)
+  pub pacing-short : (last : ℕ) (a : AgentRecord H P) → pacing_of last a ≤ a.timing_advance
+  pacing-short last a = let short = early-paced (length a.pairs) a.timing_advance in grind (arith, short)
 
-  pacing-some : (a : AgentRecord H P) → 0 < a.timing_advance → 0 < pacing_of a
-  pacing-some a some = let early = early-some (length a.pairs) a.timing_advance some in grind (arith, early, some)
+  pacing-some : (last : ℕ) (a : AgentRecord H P) → 0 < a.timing_advance → 0 < pacing_of last a
+  pacing-some last a some = let early = early-some (length a.pairs) a.timing_advance some in grind (arith, early, some)
 
   pub timeouts-from : (old new : AgentRecord H P) (last deadline : ℕ) → old.last_time ≡ Some last → PollsTimeout old (Some deadline) new → NextTimeouts old last deadline new
   timeouts-from old new last deadline is h = subst (λ o. NextTimeoutFrom o old (Some deadline) new) is h
@@ -80,7 +80,7 @@ module _ {H P : Type 0} where
   pub timeouts-ahead : TimeoutIsAhead H P
   timeouts-ahead old new None h = tt
   timeouts-ahead old new (Some deadline) h = λ last is some early.
-      let paced = pacing-some old some in
+      let paced = pacing-some last old some in
       let next : last < soon old last = omega (arith, paced, early) in
       either (is_waiting old) (timeouts-from old new last deadline is h)
       (λ _ k. (let is = k.0 in omega (arith, is, next)))

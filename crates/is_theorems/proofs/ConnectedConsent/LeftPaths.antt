@@ -329,7 +329,7 @@ module _ {H P : Type 0} where
         let sound_first : IsSound first = subst (λ (a : AgentRecord H P). IsSound a) (sym fresh.2) (fresh_sound H P first.provider fresh.0 fresh.1) in
         let begins : IsFirm first = subst (λ (a : AgentRecord H P). IsFirm a) (sym fresh.2) (refl, λ q none. absurd none) in
         let firm = along mac answers before first start never_lite led begins in
-        let rule : consent_of start.timing ≡ Some c = search l.rule in
+        let rule : consent_of start.timing ≡ Some c = search l.consent in
         let peer : is_some start.remote_creds ≡ true = search l.peer in
         let queue : start.queue ≡ [] = search l.queue in
         let slow = timed.begins in

@@ -34,7 +34,7 @@ pub in-turn : {H P : Type 0} (w : Measure) (kinds : List ℕ) (kind number : ℕ
     → ((q : PairRecord) → Has old.pairs q → kind_in old q ≡ kind → (q.number ≡ number → ⊥) → w.skips q.number ≡ false) → (w.both ≡ true) ⊎ (is_modern old.timing ≡ true)
     → is_connected new.state ≡ false → new.selected_pair ≡ None → TakesTurns kinds kind number old new → InTurn w kinds kind number old new
 in-turn w kinds kind number old new counted counts off none t = record {
-  turns = both-hold (is_modern new.timing) (is_connected new.state) (search (t.rule)) off;
+  turns = both-hold (is_modern new.timing) (is_connected new.state) (search (t.modern)) off;
   unselected = none;
   listed = λ q has. search (t.listed q has);
   keeps = λ q has is. search (t.keeps q has is);

@@ -122,7 +122,7 @@ module _ {H P : Type 0} where
         let due : due_time_of at old.timing w.pair ≡ w.timeout = due-at at w.timeout old.timing w.pair w.due in
         let l : deadline ≤ max w.timeout (soon old at) = subst (λ d. deadline ≤ max d (soon old at)) due k in
         let before = w.before in
-        let paced = pacing-short old in
+        let paced = pacing-short at old in
         omega (arith, l, before, from, paced, slow)
 
     prompt-here : (at : ℕ) → by ≤ at → (call : Call P) (e : Entry) (old mid : AgentRecord H P) (s t : Stream) (deadline next : ℕ) → Waits by n path keeps at old → Step mac answers old s call e mid t

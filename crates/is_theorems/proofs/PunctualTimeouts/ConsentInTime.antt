@@ -85,7 +85,7 @@ module _ {H P : Type 0} where
         timeouts-in-time old new (Some deadline) (subst (λ o. PollsTimeout old o new) same h) now last full p has in
         let ends : call_time_of now old.timing p ≤ consent_end c p =
         subst (λ o. call_time_with o now old.timing p ≤ consent_end c p) (sym rule) (calls-at-end c now old.timing p) in
-        let paced = pacing-short old in
+        let paced = pacing-short now old in
         omega (arith, k, ends, paced, slow, close) where
           deadline-is : (a b : Option ℕ) → NextTimeout a ≡ NextTimeout b → a ≡ b
           deadline-is a b h = cc

@@ -144,7 +144,7 @@ module _ {H P : Type 0} (mac : H → List ℕ → List ℕ → List ℕ) (answer
 
       urgent : is_valid stays.pair ≡ false → PutsUrgentFirst p.number old r.timeout.entry
       urgent off = record {
-        rule = (let first_rule : is_modern start.timing ≡ true = search (served.rule) in
+        modern = (let first_rule : is_modern start.timing ≡ true = search (served.modern) in
             let on : is_modern old.timing ≡ true = rules ∙ first_rule in search (on));
         quiet = search (quiet);
         urgent = λ q has is. (let here : is_urgent q ≡ true = subst (λ (x : PairRecord). is_urgent x ≡ true)

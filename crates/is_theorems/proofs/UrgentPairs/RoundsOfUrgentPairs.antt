@@ -133,7 +133,7 @@ module _ {H P : Type 0} (mac : H → List ℕ → List ℕ → List ℕ) (answer
       timeout-goes-on : (now k spent : ℕ) (e : Entry) (old new : AgentRecord H P) (s t : Stream) → IsSound old → keeps now ≡ true
           → (st : PersistsAt now k spent old) → PutsUrgentFirst n old e → MaintainsPairs mac now (timeout_begun now old) s e.emitted new t → Sent e ⊎ Goes-on now e old new
       timeout-goes-on now k spent e old new s t sound lasting st first p =
-          elim (timeout-alternates mac now (timeout_begun now old) new s t e.emitted st.checking.peer st.checking.full (distinct-sound mac old sound) (search (first.rule)) (search (first.quiet)) st.pair st.there
+          elim (timeout-alternates mac now (timeout_begun now old) new s t e.emitted st.checking.peer st.checking.full (distinct-sound mac old sound) (search (first.modern)) (search (first.quiet)) st.pair st.there
           (search (first.urgent st.pair st.there st.number)) (let due = st.ready.0 in let late = st.late in omega (arith, due, late)) (stays-young old.lite now old.timing st.pair st.checking.full (st.lasts now lasting) st.young) p) [
             | inl (id, out) ↦ inl (id, out ∙ ap (λ w. Some (issued_as w class.Request id)) st.on)
             | inr turns ↦ inr (by-turn (distinct-sound mac old sound) turns old.ahead_turn refl)

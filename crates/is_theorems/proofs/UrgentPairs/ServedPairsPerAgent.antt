@@ -449,7 +449,7 @@ module _ {H P : Type 0} (mac : H → List ℕ → List ℕ → List ℕ) (answer
               none (q, there, valid, on) = no-case (sym (k.quiet.invalid q there) ∙ valid)
 
               rule : is_modern run.1.timing ≡ true
-              rule = let was : is_modern start.timing ≡ true = search (s.served.rule) in k.rules ∙ was
+              modern = let was : is_modern start.timing ≡ true = search (s.served.modern) in k.rules ∙ was
 
               requested : nat_lt 0 v.pair.requests ≡ true
               requested =
