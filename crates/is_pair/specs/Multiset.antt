@@ -118,6 +118,12 @@ IsGreatest test pairs None = NonePass test pairs
 IsGreatest test pairs (Some top) =
     Has pairs top × (test top ≡ true) × ((p : PairRecord) → Has pairs p → test p ≡ true → p.priority ≤ top.priority)
 
+-- a pair of lowest priority among those that pass, or none if none passes; ties may be broken in any way
+abbrev pub IsLeastPassing : (PairRecord → Bool) → List PairRecord → Option PairRecord → Type 0
+IsLeastPassing test pairs None = NonePass test pairs
+IsLeastPassing test pairs (Some least) =
+    Has pairs least × (test least ≡ true) × ((p : PairRecord) → Has pairs p → test p ≡ true → least.priority ≤ p.priority)
+
 -- a pair of lowest priority; ties may be broken in any way
 abbrev pub IsLeast : List PairRecord → PairRecord → Type 0
 IsLeast pairs least = Has pairs least × ((p : PairRecord) → Has pairs p → least.priority ≤ p.priority)

@@ -2,12 +2,12 @@
 
 ghost use Rattle.std.specs.Prelude.{◌≡◌, ℕ, true};
 ghost use Rattle.std.specs.Option.{option_copied};
-ghost use Rattle.is_pair.specs.Multiset.{are_below, Evicts, IsLowest};
+ghost use Rattle.is_pair.specs.Multiset.{are_below, Evicts, IsLeastPassing, IsLowest};
 ghost use Rattle.is_pair.specs.Checklists.{multiset_of, HasRoom, HasCheckRoom};
 ghost use Rattle.is_pair.specs.Removed.{removed_of, AreRemoved};
 ghost use Rattle.is_pair.specs.declared.checklist.removed.Removal.TheVariants.{Evicted};
 
-use super::{Checklist, Removal, listed};
+use super::{Checklist, PairTest, Removal, listed, ranks};
 use crate::pair::CandidatePair;
 
 impl Checklist {
@@ -16,6 +16,16 @@ impl Checklist {
         ensures { IsLowest (multiset_of self.now) (option_copied result) }
     {
         match self.ranks.first() {
+            Some(rank) => listed::get(&self.pairs, rank.number),
+            None => None,
+        }
+    }
+
+    /// Returns a pair of lowest priority among those that pass the test.
+    pub fn least_passing<T: PairTest>(&self, test: &T) -> Option<&CandidatePair>
+        ensures { IsLeastPassing (T.passes test.now) (multiset_of self.now) (option_copied result) }
+    {
+        match ranks::first_passing(&self.ranks, &self.pairs, test) {
             Some(rank) => listed::get(&self.pairs, rank.number),
             None => None,
         }

@@ -45,6 +45,21 @@ pub(crate) fn drop_number(ranks: &mut Vec<Rank>, number: u64)
     ranks.retain(|rank| rank.number != number);
 }
 
+/// Returns the first one whose pair passes the test.
+pub(crate) fn first_passing<T: PairTest>(
+    ranks: &[Rank],
+    pairs: &[CandidatePair],
+    test: &T,
+) -> Option<Rank>
+    requires rising { rises pairs.now ≡ true }
+    ensures { result ≡ find (has_passing (T.passes test.now) pairs.now) ranks.now }
+{
+    ranks
+        .iter()
+        .find(|rank| listed::passes(pairs, rank.number, test))
+        .copied()
+}
+
 /// Returns the last one whose pair passes the test.
 pub(crate) fn last_passing<T: PairTest>(
     ranks: &[Rank],

@@ -1,0 +1,20 @@
+use Rattle.std.proofs.Common.{rules, ◌≡◌, Some, Option, find, sym, ap, subst, ◌∙◌}
+use Rattle.is_pair.specs.Pairs.{PairRecord}
+use Rattle.is_pair.specs.Multiset.{pair_numbered, IsLeastPassing}
+use Rattle.is_pair.specs.Entries.{has_passing}
+use Rattle.is_pair.proofs.PriorityOrder.LeastPair.{least-passing-found, none-passing}
+use Rattle.is_pair.proofs.checklist.Checklist.least_passing.Goals as goal
+
+pub returns-in-Some : goal.returns-in-Some
+returns-in-Some g c =
+    let list = c.args.self.now in
+    let test = g.T.PairTest.passes c.args.test.now in
+    let is : find (has_passing test list.pairs.items) list.ranks.items ≡ Some c.in-Some.rank = search rules in
+    subst (λ (o : Option PairRecord). IsLeastPassing test list.pairs.items o) (sym (c.get.ensures.found ∙ ap (pair_numbered c.in-Some.rank.number) c.deref-in-Some.ensures.value))
+    (least-passing-found list.pairs.items list.ranks.items list.rising list.ranked test c.in-Some.rank list.ordered is)
+
+pub returns-in-None : goal.returns-in-None
+returns-in-None g c =
+    let list = c.args.self.now in
+    let test = g.T.PairTest.passes c.args.test.now in
+    none-passing list.pairs.items list.ranks.items list.rising list.ranked test (search rules)
