@@ -1,5 +1,5 @@
 -- The abstract state of an agent (RFC 8445): what contracts say of it.
-use Rattle.std.specs.Prelude.{◌≡◌, ℕ, ◌*◌, Bool, true, false, List, [], Option, Some, None, Result, Ok, Err}
+use Rattle.std.specs.Prelude.{◌≡◌, ℕ, ◌*◌, Bool, true, false, List, [], Option, None, Result, Ok, Err}
 use Rattle.is_proto.specs.Packets.{Packet}
 use Rattle.is_proto.specs.Times.{MILLISECOND, SECOND}
 use Rattle.is_stun.specs.declared.timing.StunTiming.{StunTiming}

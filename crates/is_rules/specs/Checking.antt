@@ -1,5 +1,5 @@
 -- Which pair is checked next, and its check (RFC 8445, sections 6.1.4.2 and 7.2.4).
-use Rattle.std.specs.Prelude.{◌≡◌, ℕ, ◌+◌, ◌&&◌, ◌||◌, Bool, false, not, List, ◌∷◌, ◌++◌, map, Option, Some, None, is_some, MatchBool, ◌==◌, if◌then◌else◌}
+use Rattle.std.specs.Prelude.{◌≡◌, ℕ, ◌+◌, ◌&&◌, ◌||◌, Bool, false, not, List, ◌∷◌, ◌++◌, map, Option, Some, None, MatchBool, ◌==◌, if◌then◌else◌}
 use Rattle.std.specs.List.{list_any}
 use Rattle.std.specs.Option.{option_map_or}
 use Rattle.rand_core.specs.Stream.{Stream, fill_bytes}

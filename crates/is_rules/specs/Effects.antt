@@ -22,7 +22,7 @@ use Rattle.is_rules.specs.Sending.{path_of}
 use Rattle.is_rules.specs.Roles.{conflict_of, keeps_role}
 use Rattle.is_rules.specs.Accepting.{IsAcceptedOn}
 use Rattle.is_rules.specs.Answers.{is_role_conflict}
-use Rattle.is_rules.specs.Steps.{Call, SetControlTieBreaker, SetIceLite, SetConsent, SetProfile, SetLocalCredentials, SetRemoteCredentials, RestartIce}
+use Rattle.is_rules.specs.Steps.{Call, SetControlTieBreaker, SetIceLite, SetProfile, SetLocalCredentials, SetRemoteCredentials, RestartIce}
 use Rattle.is_rules.specs.Steps.{RecreateCandidatePairs, ReceivePacket, Step}
 use Rattle.is_rules.specs.Sound.{IsSound, GivesBased}
 use Rattle.is_rules.specs.Serving.{nominates}

@@ -1,8 +1,12 @@
--- The limit on pairs with kinds in turn: the kind with the most pairs loses one.
-use Rattle.std.specs.Prelude.{◌≡◌, ℕ, ◌≤◌, ◌<◌, ◌==◌, Bool, List, [], ◌∷◌, length, count_by, Option, Some, None}
+-- The limit on pairs with the profile `Modern`: the kind with the most pairs loses one.
+use Rattle.std.specs.Prelude.{◌≡◌, ℕ, ◌≤◌, ◌<◌, ◌==◌, Bool, List, [], ◌∷◌, length, count_by, Option, Some, None, ◌&&◌, slice_index}
 use Rattle.is_proto.specs.Lists.{Has, NonePass}
 use Rattle.is_pair.specs.Pairs.{PairRecord}
 use Rattle.is_pair.specs.Multiset.{is_numbered, without}
+use Rattle.is_candidate.specs.Candidates.{CandidateRecord}
+use Rattle.is_rules.specs.Kept.{is_placed}
+use Rattle.is_rules.specs.Kinds.{KINDS}
+use Rattle.is_rules.specs.Kinds as kinds
 
 module _ (kind_of : PairRecord → ℕ) where
   abbrev pub is_of_kind : ℕ → PairRecord → Bool
@@ -11,6 +15,10 @@ module _ (kind_of : PairRecord → ℕ) where
   -- how many of the pairs are of the kind
   abbrev pub kind_count : List PairRecord → ℕ → ℕ
   kind_count pairs kind = count_by (is_of_kind kind) pairs
+
+  -- The counts of the kinds are these.
+  abbrev pub AreCounted : List PairRecord → List ℕ → Type 0
+  AreCounted pairs counts = (kind : ℕ) → kind < KINDS → slice_index counts kind ≡ kind_count pairs kind
 
   -- No kind has more pairs.
   abbrev pub HasMost : List PairRecord → ℕ → Type 0
@@ -41,3 +49,7 @@ module _ (kind_of : PairRecord → ℕ) where
   -- pairs of the most numerous kind are removed until the limit holds (RFC 8445, section 6.1.2.5)
   abbrev pub EvictsOfMost : ℕ → List PairRecord → List PairRecord → Type 0
   EvictsOfMost limit old new = (gone : List PairRecord) × EvictsOfMostInTurn limit gone old new
+
+-- the test of a pair that may be any: its places are in the lists, and it is of the kind
+abbrev pub is_placed_of_kind : List CandidateRecord → List CandidateRecord → ℕ → PairRecord → Bool
+is_placed_of_kind local remote kind p = is_placed local remote p && is_of_kind (kinds.kind_of local remote) kind p

@@ -54,9 +54,16 @@ kind_rank Host = 3
 abbrev pub version_rank : SocketAddr → ℕ
 version_rank addr = if is_v4 addr then 1 else 0
 
--- whether the local candidate is an outer one, the kind that the remote candidate counts as, and the IP version
+-- the local candidate's part: whether it is an outer one
+abbrev pub side_of : List CandidateRecord → CandidateRecord → ℕ
+side_of local l = if is_outer local l then 0 else 8
+
+-- the remote candidate's part: the kind that it counts as, and the IP version
+abbrev pub remote_rank : CandidateRecord → ℕ
+remote_rank r = 2 * kind_rank (counted_kind r) + version_rank r.addr
+
 abbrev pub kind_between : List CandidateRecord → CandidateRecord → CandidateRecord → ℕ
-kind_between local l r = (if is_outer local l then 0 else 8) + 2 * kind_rank (counted_kind r) + version_rank r.addr
+kind_between local l r = side_of local l + remote_rank r
 
 -- the kind of a pair, a number from 0 to 15
 abbrev pub kind_of : List CandidateRecord → List CandidateRecord → PairRecord → ℕ

@@ -3,7 +3,6 @@ use Rattle.std.specs.Prelude.{◌≡◌, ℕ, ◌*◌, ◌/◌, min, max, ◌&&�
 use Rattle.std.specs.List.{list_any}
 use Rattle.is_proto.specs.Lists.{is_empty}
 use Rattle.is_proto.specs.Times.{MAX, MILLISECOND, SECOND, later}
-use Rattle.is_proto.specs.declared.Duration.{Duration}
 use Rattle.is_pair.specs.Due.{call_time_of, asked, is_beginning}
 use Rattle.is_proto.specs.Packets.{Packet}
 use Rattle.is_stun.specs.Timing.{is_modern}

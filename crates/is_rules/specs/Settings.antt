@@ -1,5 +1,5 @@
 -- What the user of an agent may set.
-use Rattle.std.specs.Prelude.{◌≡◌, ℕ, ◌*◌, ◌==◌, ◌&&◌, Bool, true, false, nat_lt, max, map, Option, Some, None, Result, Ok, Err, if◌then◌else◌}
+use Rattle.std.specs.Prelude.{◌≡◌, ℕ, ◌*◌, ◌==◌, ◌&&◌, Bool, true, false, nat_lt, max, map, Some, None, Result, Ok, Err, if◌then◌else◌}
 use Rattle.is_proto.specs.Times.{MILLISECOND, SECOND}
 use Rattle.is_proto.specs.declared.error.IceError.{IceError}
 use Rattle.is_proto.specs.declared.error.IceError.TheVariants.{LiteStaysControlled, MtuTooSmall}

@@ -1,32 +1,32 @@
 //! The limit on the number of pairs with kinds in turn (RFC 8445, section 6.1.2.5). A kind with few pairs keeps them, however many
 //! pairs of greater priority there are.
 
-ghost use Rattle.std.specs.Prelude.{◌≡◌, ◌≤◌, ◌<◌, ◌++◌, ◌∷◌, [], ℕ, true, List, slice_index};
+ghost use Rattle.std.specs.Prelude.{◌≡◌, ◌≤◌, ◌<◌, [], ℕ, true, false, slice_index};
 ghost use Rattle.std.specs.Option.{option_copied};
-ghost use Rattle.is_pair.specs.Multiset.{are_below};
+ghost use Rattle.is_pair.specs.Multiset.{are_below, is_numbered, without};
 ghost use Rattle.is_pair.specs.Checklists.{multiset_of};
 ghost use Rattle.is_pair.specs.Pairs.{PairRecord};
 ghost use Rattle.is_rules.specs.Kept.{is_placed, are_placed};
 ghost use Rattle.is_rules.specs.Kinds.{kind_of, KINDS};
-ghost use Rattle.is_rules.specs.Evicting.{kind_count, IsLeastOfKind, IsLowestOfMost, EvictsOfMost};
+ghost use Rattle.is_rules.specs.Evicting.{AreCounted, IsLeastOfKind, IsLeastOfMost, EvictsOfMost};
 ghost use Rattle.is_rules.specs.Forming.{EvictsFor};
 ghost use Rattle.is_rules.specs.FormingView.{sides_view};
 ghost use Rattle.is_rules.specs.Cuts.{KindsStay};
 
-use crate::kinds::kind_of;
+use crate::kind_table::KindTable;
 use crate::sides::Sides;
 use is_candidate::Candidate;
-use is_pair::checklist::{Checklist, Removal};
+use is_pair::checklist::{Checklist, PairTest, Removal};
 use is_pair::pair::CandidatePair;
 
 /// How many pairs each kind has.
-fn kind_counts(pairs: &Checklist, local: &[Candidate], remote: &[Candidate]) -> [usize; 16]
-    requires placed { are_placed local.now remote.now (multiset_of pairs.now) ≡ true }
-    ensures { (kind : ℕ) → kind < KINDS → slice_index result kind ≡ kind_count (kind_of local.now remote.now) (multiset_of pairs.now) kind }
+fn kind_counts(pairs: &Checklist, kinds: &KindTable<'_>, remote: &[Candidate]) -> [usize; 16]
+    requires placed { are_placed kinds.now.local.now remote.now (multiset_of pairs.now) ≡ true }
+    ensures { AreCounted (kind_of kinds.now.local.now remote.now) (multiset_of pairs.now) result }
 {
     let mut counts = [0; 16];
     for pair in pairs.as_slice() {
-        counts[kind_of(local, remote, pair) as usize] += 1;
+        counts[kinds.kind_of(remote, pair) as usize] += 1;
     }
     counts
 }
@@ -45,55 +45,67 @@ fn most_numerous(counts: &[usize; 16]) -> u8
     most
 }
 
-/// A pair of lowest priority of the kind, of the one found so far and one more pair.
-fn lower_of_kind<'a>(
-    least: Option<&'a CandidatePair>,
-    pair: &'a CandidatePair,
-    local: &[Candidate],
-    remote: &[Candidate],
+/// A test for the pairs of a kind.
+#[derive(Clone, Copy)]
+struct OfKind<'a> {
+    kinds: &'a KindTable<'a>,
+    remote: &'a [Candidate],
     kind: u8,
-) -> Option<&'a CandidatePair>
-    requires placed { is_placed local.now remote.now pair.now ≡ true }
-    ensures { (done : List PairRecord) → IsLeastOfKind (kind_of local.now remote.now) kind done (option_copied least.entry)
-        → IsLeastOfKind (kind_of local.now remote.now) kind (done ++ pair.now ∷ []) (option_copied result) }
-{
-    if kind_of(local, remote, pair) != kind {
-        return least;
-    }
-    match least {
-        Some(least) if least.prio() <= pair.prio() => Some(least),
-        _ => Some(pair),
+}
+
+impl PairTest for OfKind<'_> {
+    ghost use Rattle.is_rules.specs.Evicting.{is_placed_of_kind};
+
+    ghost passes = { λ t p. is_placed_of_kind t.kinds.now.local.now t.remote.now t.kind p };
+
+    fn passes(&self, pair: &CandidatePair) -> bool {
+        self.kinds.has(self.remote, pair) && self.kinds.kind_of(self.remote, pair) == self.kind
     }
 }
 
 /// A pair of lowest priority of a kind, if it has one.
 fn least_of_kind<'a>(
     pairs: &'a Checklist,
-    local: &[Candidate],
+    kinds: &KindTable<'_>,
     remote: &[Candidate],
     kind: u8,
 ) -> Option<&'a CandidatePair>
-    requires placed { are_placed local.now remote.now (multiset_of pairs.now) ≡ true }
-    ensures { IsLeastOfKind (kind_of local.now remote.now) kind (multiset_of pairs.now) (option_copied result) }
+    requires placed { are_placed kinds.now.local.now remote.now (multiset_of pairs.now) ≡ true }
+    ensures { IsLeastOfKind (kind_of kinds.now.local.now remote.now) kind (multiset_of pairs.now) (option_copied result) }
 {
-    let mut least = None;
-    for pair in pairs.as_slice() {
-        least = lower_of_kind(least, pair, local, remote, kind);
-    }
-    least
+    pairs.least_passing(&OfKind {
+        kinds,
+        remote,
+        kind,
+    })
 }
 
-/// A pair of lowest priority of the kind with the most pairs, if there is a pair.
-fn least_of_most<'a>(
-    pairs: &'a Checklist,
-    local: &[Candidate],
+/// Removes a pair of lowest priority of the kind with the most pairs, and counts it off; tells whether there was a pair.
+fn evict_one(
+    pairs: &mut Checklist,
+    counts: &mut [usize; 16],
+    kinds: &KindTable<'_>,
     remote: &[Candidate],
-) -> Option<&'a CandidatePair>
-    requires placed { are_placed local.now remote.now (multiset_of pairs.now) ≡ true }
-    ensures { IsLowestOfMost (kind_of local.now remote.now) (multiset_of pairs.now) (option_copied result) }
+) -> bool
+    requires placed { are_placed kinds.now.local.now remote.now (multiset_of pairs.old) ≡ true }
+    requires counted { AreCounted (kind_of kinds.now.local.now remote.now) (multiset_of pairs.old) counts.old }
+    ensures one { result ≡ true → (p : PairRecord) × IsLeastOfMost (kind_of kinds.now.local.now remote.now) (multiset_of pairs.old) p
+        × (multiset_of pairs.new ≡ without (is_numbered p.number) (multiset_of pairs.old)) }
+    ensures none { result ≡ false → (multiset_of pairs.old ≡ []) × (multiset_of pairs.new ≡ []) }
+    ensures counted { AreCounted (kind_of kinds.now.local.now remote.now) (multiset_of pairs.new) counts.new }
+    ensures below { (n : ℕ) → are_below n (multiset_of pairs.old) ≡ true → are_below n (multiset_of pairs.new) ≡ true }
 {
-    let kind = most_numerous(&kind_counts(pairs, local, remote));
-    least_of_kind(pairs, local, remote, kind)
+    pairs.numbers_rise();
+    let kind = most_numerous(counts);
+    match least_of_kind(pairs, kinds, remote, kind) {
+        None => false,
+        Some(least) => {
+            let number = least.id().0;
+            counts[kind as usize] -= 1;
+            pairs.remove(number, Removal::Evicted);
+            true
+        }
+    }
 }
 
 /// Removes pairs of the kind with the most pairs until there are no more than the limit.
@@ -102,13 +114,14 @@ fn evict_of_most(pairs: &mut Checklist, limit: usize, local: &[Candidate], remot
     ensures evicted { EvictsOfMost (kind_of local.now remote.now) limit (multiset_of pairs.old) (multiset_of pairs.new) }
     ensures below { (n : ℕ) → are_below n (multiset_of pairs.old) ≡ true → are_below n (multiset_of pairs.new) ≡ true }
 {
+    if pairs.len() <= limit {
+        return;
+    }
+    let kinds = KindTable::new(local);
+    let mut counts = kind_counts(pairs, &kinds, remote);
     while pairs.len() > limit {
-        match least_of_most(pairs, local, remote) {
-            None => return,
-            Some(least) => {
-                let number = least.id().0;
-                pairs.remove(number, Removal::Evicted);
-            }
+        if !evict_one(pairs, &mut counts, &kinds, remote) {
+            return;
         }
     }
 }

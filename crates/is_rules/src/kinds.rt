@@ -1,7 +1,7 @@
 //! The pairs that go ahead of those that are due earlier: the selected pair, urgent pairs, and kinds of pairs, which take turns; the
 //! agent's part: `is_agent::next_check`.
 
-ghost use Rattle.std.specs.Prelude.{◌≡◌, ◌<◌, ◌*◌, ◌&&◌, true, false, List, ◌∷◌, length, IfSome};
+ghost use Rattle.std.specs.Prelude.{◌≡◌, ◌<◌, ◌≤◌, ◌*◌, ◌&&◌, true, false, List, ◌∷◌, length, IfSome};
 ghost use Rattle.std.specs.List.{list_any};
 ghost use Rattle.std.specs.Option.{option_copied};
 ghost use Rattle.is_pair.specs.Pairs.{PairRecord};
@@ -9,8 +9,9 @@ ghost use Rattle.is_pair.specs.Due.{is_due};
 ghost use Rattle.is_pair.specs.Checklists.{multiset_of};
 ghost use Rattle.is_rules.specs.Kept.{is_placed, are_placed};
 ghost use Rattle.is_rules.specs.Kinds.{counted_kind, is_reflexive, is_reflexive_of, is_reflexive_like, reaches_out, is_outer, kind_rank, version_rank};
-ghost use Rattle.is_rules.specs.Kinds.{is_brought, kind_between, kind_of, turn_of, turn_of_pair, goes_first, is_first_due, KINDS, TurnsBefore, IsNextAhead};
+ghost use Rattle.is_rules.specs.Kinds.{is_brought, kind_of, remote_rank, side_of, turn_of, turn_of_pair, goes_first, is_first_due, KINDS, TurnsBefore, IsNextAhead};
 
+use crate::kind_table::KindTable;
 use crate::nomination::is_named_by;
 use crate::places::candidate_at;
 use is_candidate::candidate::address::{is_public, same_address, same_version};
@@ -109,13 +110,20 @@ fn version_rank(address: SocketAddr) -> u8
     if address.is_ipv4() { 1 } else { 0 }
 }
 
-/// The kind of a pair of these candidates.
-fn kind_between(local: &[Candidate], ours: &Candidate, theirs: &Candidate) -> u8
-    ensures kind { result ≡ kind_between local.now ours.now theirs.now }
-    ensures within { result < KINDS }
+/// The local candidate's part of a kind: whether its packets reach the outside.
+pub(crate) fn side_of(local: &[Candidate], ours: &Candidate) -> u8
+    ensures side { result ≡ side_of local.now ours.now }
+    ensures within { result ≤ 8 }
 {
-    let side = if is_outer(local, ours) { 0 } else { 8 };
-    side + 2 * kind_rank(counted_kind(theirs)) + version_rank(theirs.addr())
+    if is_outer(local, ours) { 0 } else { 8 }
+}
+
+/// The remote candidate's part of a kind: the kind that it counts as, and the IP version.
+pub(crate) fn remote_rank(theirs: &Candidate) -> u8
+    ensures rank { result ≡ remote_rank theirs.now }
+    ensures within { result < 8 }
+{
+    2 * kind_rank(counted_kind(theirs)) + version_rank(theirs.addr())
 }
 
 /// The kind of a pair, a number from 0 to 15.
@@ -126,7 +134,7 @@ pub fn kind_of(local: &[Candidate], remote: &[Candidate], pair: &CandidatePair) 
 {
     let ours = candidate_at(local, pair.local_idx());
     let theirs = candidate_at(remote, pair.remote_idx());
-    kind_between(local, ours, theirs)
+    side_of(local, ours) + remote_rank(theirs)
 }
 
 // ---- turns
@@ -149,10 +157,10 @@ pub struct Precedence {
     pub urgent: bool,
 }
 
-/// The candidates of the pairs, which pairs come first, the kind whose turn is next, and what the due time of a pair depends on.
+/// The kinds and the remote candidates of the pairs, which pairs come first, the kind whose turn is next, and what the due time of a pair depends on.
 #[derive(Clone, Copy)]
 struct Round<'a> {
-    local: &'a [Candidate],
+    kinds: &'a KindTable<'a>,
     remote: &'a [Candidate],
     precedence: Precedence,
     next: u8,
@@ -171,15 +179,15 @@ fn is_brought(remote: &[Candidate], pair: &CandidatePair) -> bool
 
 /// The turn of the pair in the round.
 fn turn_of_pair(round: &Round<'_>, pair: &CandidatePair) -> u8
-    requires placed { is_placed round.now.local.now round.now.remote.now pair.now ≡ true }
-    ensures { result ≡ turn_of_pair round.now.local.now round.now.remote.now round.now.precedence round.now.next round.now.time.0 round.now.timing.now pair.now }
+    requires placed { is_placed round.now.kinds.now.local.now round.now.remote.now pair.now ≡ true }
+    ensures { result ≡ turn_of_pair round.now.kinds.now.local.now round.now.remote.now round.now.precedence round.now.next round.now.time.0 round.now.timing.now pair.now }
 {
     if is_named_by(round.precedence.selected, pair) {
         0
     } else if round.precedence.urgent && is_urgent(pair) {
         if is_brought(round.remote, pair) { 2 } else { 1 }
     } else {
-        3 + turn_of(round.next, kind_of(round.local, round.remote, pair))
+        3 + turn_of(round.next, round.kinds.kind_of(round.remote, pair))
     }
 }
 
@@ -191,10 +199,10 @@ fn is_due(pair: &CandidatePair, round: &Round<'_>) -> bool
 
 /// Whether the turn of a pair comes earlier, or is the same and the pair is due earlier.
 fn turns_before(p: &CandidatePair, q: &CandidatePair, round: &Round<'_>) -> bool
-    requires first { is_placed round.now.local.now round.now.remote.now p.now ≡ true }
-    requires second { is_placed round.now.local.now round.now.remote.now q.now ≡ true }
-    ensures before { result ≡ true → TurnsBefore round.now.local.now round.now.remote.now round.now.precedence round.now.next round.now.time.0 round.now.timing.now p.now q.now }
-    ensures following { result ≡ false → TurnsBefore round.now.local.now round.now.remote.now round.now.precedence round.now.next round.now.time.0 round.now.timing.now q.now p.now }
+    requires first { is_placed round.now.kinds.now.local.now round.now.remote.now p.now ≡ true }
+    requires second { is_placed round.now.kinds.now.local.now round.now.remote.now q.now ≡ true }
+    ensures before { result ≡ true → TurnsBefore round.now.kinds.now.local.now round.now.remote.now round.now.precedence round.now.next round.now.time.0 round.now.timing.now p.now q.now }
+    ensures following { result ≡ false → TurnsBefore round.now.kinds.now.local.now round.now.remote.now round.now.precedence round.now.next round.now.time.0 round.now.timing.now q.now p.now }
 {
     let ours = turn_of_pair(round, p);
     let theirs = turn_of_pair(round, q);
@@ -207,10 +215,10 @@ fn earlier<'a>(
     pair: &'a CandidatePair,
     round: &Round<'_>,
 ) -> Option<&'a CandidatePair>
-    requires first { IfSome (option_copied first) (λ p. is_placed round.now.local.now round.now.remote.now p ≡ true) }
-    requires placed { is_placed round.now.local.now round.now.remote.now pair.now ≡ true }
-    ensures { (done : List PairRecord) → IsNextAhead round.now.local.now round.now.remote.now round.now.precedence round.now.next round.now.time.0 round.now.timing.now done (option_copied first.entry)
-        → IsNextAhead round.now.local.now round.now.remote.now round.now.precedence round.now.next round.now.time.0 round.now.timing.now (pair.now ∷ done) (option_copied result) }
+    requires first { IfSome (option_copied first) (λ p. is_placed round.now.kinds.now.local.now round.now.remote.now p ≡ true) }
+    requires placed { is_placed round.now.kinds.now.local.now round.now.remote.now pair.now ≡ true }
+    ensures { (done : List PairRecord) → IsNextAhead round.now.kinds.now.local.now round.now.remote.now round.now.precedence round.now.next round.now.time.0 round.now.timing.now done (option_copied first.entry)
+        → IsNextAhead round.now.kinds.now.local.now round.now.remote.now round.now.precedence round.now.next round.now.time.0 round.now.timing.now (pair.now ∷ done) (option_copied result) }
 {
     if !is_due(pair, round) {
         return first;
@@ -235,8 +243,9 @@ pub fn next_ahead<'a>(
     requires placed { are_placed local.now remote.now (multiset_of pairs.now) ≡ true }
     ensures { IsNextAhead local.now remote.now precedence next now.0 timing.now (multiset_of pairs.now) (option_copied result) }
 {
+    let kinds = KindTable::new(local);
     let round = Round {
-        local,
+        kinds: &kinds,
         remote,
         precedence,
         next,

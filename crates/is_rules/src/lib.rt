@@ -13,6 +13,7 @@ pub mod emitted;
 pub mod event;
 pub mod evicting;
 pub mod forming;
+mod kind_table;
 pub mod kinds;
 pub mod limit;
 pub mod local;

@@ -1,6 +1,6 @@
 -- Eviction with kinds in turn leaves a cut of each kind, and shares the limit out among the kinds.
-use Rattle.std.proofs.Common.{if◌then◌else◌, ◌≡◌, ◌==◌, ℕ, ◌+◌, ◌≤◌, ◌&&◌, Bool, true, false, not, List, [], ◌∷◌, count_by, filter, inl, inr, refl, sym, ap, subst, ◌∙◌, arith}
-use Rattle.std.proofs.lemmas.Bool.{eqb-true}
+use Rattle.std.proofs.Common.{if◌then◌else◌, ◌≡◌, ◌==◌, ℕ, ◌+◌, ◌<◌, ◌≤◌, ◌&&◌, Bool, true, false, not, List, [], ◌∷◌, count_by, filter, inl, inr, refl, sym, ap, subst, ◌∙◌, arith}
+use Rattle.std.proofs.lemmas.Bool.{eq-eqb, eqb-true}
 use Rattle.is_proto.specs.Lists.{Has}
 use Rattle.is_pair.specs.Pairs.{PairRecord}
 use Rattle.is_pair.specs.Multiset.{is_numbered}
@@ -42,6 +42,25 @@ module _ (t : PairRecord → Bool) (n : ℕ) where
             let stay = count-same xs (λ q has same. let above = h.0 q has in absurd (omega (arith, above, same, number))) in
             omega (arith, stay, r, one)
         | false ↦ λ is. let rest = count-one xs h.1 in omega (arith, rest, l, r)
+      ] refl
+
+  -- A pair is removed: it no longer counts.
+  pub count-goes : (xs : List PairRecord) (p : PairRecord) → AreRising xs → Has xs p → p.number ≡ n → count_by t xs ≡ count_by t (others n xs) + one_if (t p)
+  count-goes [] p h has number = elim has [ ]
+  count-goes (x ∷ xs) p h (inl same) number =
+      let here : x.number ≡ n = ap (λ (q : PairRecord). q.number) same ∙ number in
+      let stay = count-same xs (λ q has its. let above = h.0 q has in absurd (omega (arith, above, its, here))) in
+      let r : count_by t (x ∷ xs) ≡ one_if (t x) + count_by t xs = count-head t x xs in
+      let own : one_if (t x) ≡ one_if (t p) = ap (λ q. one_if (t q)) same in
+      rw (eq-eqb x.number n here) (omega (arith, stay, r, own))
+  count-goes (x ∷ xs) p h (inr has) number =
+      let above : x.number < p.number = h.0 p has in
+      let rest = count-goes xs p h.1 has number in
+      let r : count_by t (x ∷ xs) ≡ one_if (t x) + count_by t xs = count-head t x xs in
+      let l : count_by t (x ∷ others n xs) ≡ one_if (t x) + count_by t (others n xs) = count-head t x (others n xs) in
+      elim (x.number == n) as (λ b. x.number == n ≡ b → count_by t (x ∷ xs) ≡ count_by t (if not b then x ∷ others n xs else others n xs) + one_if (t p)) [
+        | true ↦ λ is. let its = eqb-true x.number n is in absurd (omega (arith, above, number, its))
+        | false ↦ λ is. omega (arith, rest, l, r)
       ] refl
 
 -- ---- all that are removed

@@ -1,77 +1,44 @@
--- The pair of lowest priority of a kind, after one more pair.
-use Rattle.std.proofs.Common.{◌≡◌, ◌==◌, ℕ, ◌+◌, ◌<◌, ◌≤◌, true, false, List, [], ◌∷◌, ◌++◌, append_assoc, filter, length, Option, Some, None, inl, inr, refl, sym, ap, ◌∙◌, subst, arith}
-use Rattle.std.proofs.lemmas.Bool.{eq-eqb}
+-- The pair of lowest priority of a kind, and the kind with the most pairs.
+use Rattle.std.proofs.Common.{◌≡◌, ◌==◌, ℕ, ◌+◌, ◌<◌, ◌≤◌, Bool, true, false, List, [], ◌∷◌, filter, length, Option, Some, None, inl, inr, refl, sym, ap, ◌∙◌, subst, slice_index, arith}
+use Rattle.std.proofs.lemmas.Bool.{eq-eqb, eqb-true}
 use Rattle.std.proofs.lemmas.Bool.Decides.{nat_tests}
-use Rattle.std.proofs.lemmas.List.Elements.{filter-append}
 use Rattle.std.proofs.lemmas.List.Sums.{length-filter}
 use Rattle.is_proto.specs.Lists.{Has}
+use Rattle.is_candidate.specs.Candidates.{CandidateRecord}
 use Rattle.is_pair.specs.Pairs.{PairRecord}
+use Rattle.is_pair.specs.Multiset.{IsLeastPassing}
+use Rattle.is_rules.specs.Kept.{is_placed, are_placed}
+use Rattle.is_rules.specs.Kinds as kinds
 use Rattle.is_rules.specs.Owed.{one_if}
-use Rattle.is_rules.specs.Evicting.{is_of_kind, kind_count, HasMost, IsLeastOfKind, IsLowestOfMost}
+use Rattle.is_rules.specs.Evicting.{AreCounted, is_of_kind, is_placed_of_kind, kind_count, HasMost, IsLeastOfKind, IsLowestOfMost}
 use Rattle.is_rules.proofs.PairLists.ChosenPair.{none_pass}
-use Rattle.is_rules.proofs.PairLists.CombinationsInLists.{Has-append}
 use Rattle.is_rules.proofs.PairLists.CountedPairs.{count-head, count-zero, less-or}
+use Rattle.is_rules.proofs.PairLists.PairKinds.{kind-below}
+use Rattle.is_rules.proofs.PairLists.PairsByNumber.{both}
+use Rattle.is_rules.proofs.PairLists.PairsInLists.{all-has}
 
-has-front : {X : Type 0} (xs ys : List X) (x : X) → Has xs x → Has (xs ++ ys) x
-has-front [] ys x has = absurd has
-has-front (y ∷ xs) ys x (inl e) = inl e
-has-front (y ∷ xs) ys x (inr has) = inr (has-front xs ys x has)
+none-from : (t : PairRecord → Bool) (xs : List PairRecord) → ((x : PairRecord) → Has xs x → t x ≡ false) → filter t xs ≡ []
+none-from t [] fails = refl
+none-from t (x ∷ xs) fails = rw (fails x (inl refl)) (none-from t xs (λ y has. fails y (inr has)))
 
-has-back : {X : Type 0} (xs ys : List X) (x : X) → Has ys x → Has (xs ++ ys) x
-has-back [] ys x has = has
-has-back (y ∷ xs) ys x has = inr (has-back xs ys x has)
+-- Among pairs whose places are in the lists, the test by kind and place is the test by kind.
+module _ (local remote : List CandidateRecord) (kind : ℕ) (pairs : List PairRecord) where
+  passes-of-kind : (q : PairRecord) → are_placed local remote pairs ≡ true → Has pairs q → kinds.kind_of local remote q ≡ kind → is_placed_of_kind local remote kind q ≡ true
+  passes-of-kind q placed has same =
+      let in_lists : is_placed local remote q ≡ true = all-has (is_placed local remote) pairs q placed has in
+      rw (in_lists) (eq-eqb (kinds.kind_of local remote q) kind same)
 
-has-one : {X : Type 0} (y x : X) → Has (y ∷ []) x → y ≡ x
-has-one y x (inl e) = e
-has-one y x (inr none) = absurd none
-
-module _ (kind_of : PairRecord → ℕ) (kind : ℕ) (done : List PairRecord) (x : PairRecord) where
-  -- the pair is of another kind
-  pub least-other : (o : Option PairRecord) → is_of_kind kind_of kind x ≡ false → IsLeastOfKind kind_of kind done o → IsLeastOfKind kind_of kind (done ++ x ∷ []) o
-  least-other None other none = filter-append (is_of_kind kind_of kind) done (x ∷ []) ∙ rw (none, other) refl
-  least-other (Some p) other (has, its, low) = (
-    has-front done (x ∷ []) p has,
-    its,
-    λ q there same. elim (Has-append done (x ∷ []) q there) [
-      | inl was ↦ low q was same
-      | inr now ↦
-          let one : x ≡ q = has-one x q now in
-          let passes : is_of_kind kind_of kind x ≡ true = eq-eqb (kind_of x) kind (ap kind_of one ∙ same) in
-          absurd (cc)
-    ],
-  )
-
-  -- the one found so far has no greater priority
-  pub least-kept : (p : PairRecord) → p.priority ≤ x.priority → IsLeastOfKind kind_of kind done (Some p) → IsLeastOfKind kind_of kind (done ++ x ∷ []) (Some p)
-  least-kept p le (has, its, low) = (
-    has-front done (x ∷ []) p has,
-    its,
-    λ q there same. elim (Has-append done (x ∷ []) q there) [
-      | inl was ↦ low q was same
-      | inr now ↦ subst (λ (r : PairRecord). p.priority ≤ r.priority) (has-one x q now) le
-    ],
-  )
-
-  -- it has a greater one
-  pub least-next : (p : PairRecord) → kind_of x ≡ kind → x.priority ≤ p.priority → IsLeastOfKind kind_of kind done (Some p) → IsLeastOfKind kind_of kind (done ++ x ∷ []) (Some x)
-  least-next p own le (has, its, low) = (
-    has-back done (x ∷ []) x (inl refl),
-    own,
-    λ q there same. elim (Has-append done (x ∷ []) q there) [
-      | inl was ↦ let below = low q was same in omega (arith, le, below)
-      | inr now ↦ subst (λ (r : PairRecord). x.priority ≤ r.priority) (has-one x q now) (omega arith)
-    ],
-  )
-
-  -- none was found so far
-  pub least-first : kind_of x ≡ kind → IsLeastOfKind kind_of kind done None → IsLeastOfKind kind_of kind (done ++ x ∷ []) (Some x)
-  least-first own none = (
-    has-back done (x ∷ []) x (inl refl),
-    own,
-    λ q there same. elim (Has-append done (x ∷ []) q there) [
-      | inl was ↦ absurd (none_pass (is_of_kind kind_of kind) done q none was (eq-eqb (kind_of q) kind same))
-      | inr now ↦ subst (λ (r : PairRecord). x.priority ≤ r.priority) (has-one x q now) (omega arith)
-    ],
+  pub least-placed : (o : Option PairRecord) → are_placed local remote pairs ≡ true → IsLeastPassing (is_placed_of_kind local remote kind) pairs o
+      → IsLeastOfKind (kinds.kind_of local remote) kind pairs o
+  least-placed None placed none = none-from (is_of_kind (kinds.kind_of local remote) kind) pairs (λ q has. fails q has (kinds.kind_of local remote q == kind) refl) where
+    fails : (q : PairRecord) → Has pairs q → (b : Bool) → (kinds.kind_of local remote q == kind) ≡ b → b ≡ false
+    fails q has false is = refl
+    fails q has true is =
+        absurd (none_pass (is_placed_of_kind local remote kind) pairs q none has (passes-of-kind q placed has (eqb-true (kinds.kind_of local remote q) kind is)))
+  least-placed (Some p) placed (has, passes, low) = (
+    has,
+    eqb-true (kinds.kind_of local remote p) kind (both (is_placed local remote p) (is_of_kind (kinds.kind_of local remote) kind p) passes).1,
+    λ q there same. low q there (passes-of-kind q placed there same),
   )
 
 -- ---- the kind with the most pairs
@@ -104,23 +71,12 @@ module _ (kind_of : PairRecord → ℕ) (kind : ℕ) where
         omega (arith, none)
   ]
 
--- ---- a walk over all
-
-module _ (kind_of : PairRecord → ℕ) (kind : ℕ) (all : List PairRecord) where
-  -- the pairs so far, and those that are left
-  abbrev pub IsSeen : List PairRecord → Option PairRecord → Type 0
-  IsSeen rest least = (done : List PairRecord) × (done ++ rest ≡ all) × IsLeastOfKind kind_of kind done least
-
-  pub seen-more : (rest left : List PairRecord) (x : PairRecord) (least next : Option PairRecord) → rest ≡ x ∷ left
-      → ((done : List PairRecord) → IsLeastOfKind kind_of kind done least → IsLeastOfKind kind_of kind (done ++ x ∷ []) next)
-      → IsSeen rest least → IsSeen left next
-  seen-more rest left x least next is step (done, so_far, low) =
-      (done ++ x ∷ [], append_assoc done (x ∷ []) left ∙ (ap (λ ys. done ++ ys) (sym is) ∙ so_far), step done low)
-
-  append-none : (xs : List PairRecord) → xs ++ [] ≡ xs
-  append-none [] = refl
-  append-none (x ∷ xs) = ap (λ ys. x ∷ ys) (append-none xs)
-
-  pub seen-all : (rest : List PairRecord) (least : Option PairRecord) → rest ≡ [] → IsSeen rest least → IsLeastOfKind kind_of kind all least
-  seen-all rest least none (done, so_far, low) =
-      subst (λ ps. IsLeastOfKind kind_of kind ps least) (sym (append-none done) ∙ (ap (λ ys. done ++ ys) (sym none) ∙ so_far)) low
+-- the kind with the greatest count
+pub most-counted : (local remote : List CandidateRecord) (pairs : List PairRecord) (counts : List ℕ) (kind : ℕ) → AreCounted (kinds.kind_of local remote) pairs counts → kind < kinds.KINDS
+    → ((other : ℕ) → other < kinds.KINDS → slice_index counts other ≤ slice_index counts kind) → HasMost (kinds.kind_of local remote) pairs kind
+most-counted local remote pairs counts kind counted within most =
+    most-below (kinds.kind_of local remote) kind kinds.KINDS pairs (λ p has. kind-below local remote p) (λ other less.
+    let own = counted kind within in
+    let its = counted other less in
+    let top = most other less in
+    omega (arith, own, its, top))

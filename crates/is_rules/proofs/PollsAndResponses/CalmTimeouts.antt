@@ -1,11 +1,11 @@
 -- A `handle_timeout` call without an early request selects a path if one may be selected, and sends the nomination that is due.
-use Rattle.std.proofs.Common.{if◌then◌else◌, ◌≡◌, ◌==◌, ℕ, ◌&&◌, ◌||◌, ◌⊎◌, Bool, true, false, not, List, [], ◌∷◌, find, length, map, is_some, Option, Some, None, inl, inr, refl, sym, ap, subst, ◌∙◌}
+use Rattle.std.proofs.Common.{if◌then◌else◌, ◌≡◌, ◌==◌, ℕ, ◌&&◌, ◌||◌, ◌⊎◌, Bool, true, false, not, List, [], ◌∷◌, find, map, is_some, Option, Some, None, inl, inr, refl, sym, ap, subst, ◌∙◌}
 use Rattle.std.proofs.lemmas.Bool.{eq-eqb, eqb-true}
 use Rattle.std.specs.Prelude.{MatchOption}
 use Rattle.std.specs.List.{list_any}
 use Rattle.std.specs.Option.{option_map_or}
 use Rattle.rand_core.specs.Stream.{Stream}
-use Rattle.is_proto.specs.Lists.{Has, NonePass}
+use Rattle.is_proto.specs.Lists.{Has}
 use Rattle.is_stun.specs.declared.timing.StunTiming.{StunTiming}
 use Rattle.is_pair.specs.declared.pair.states.CheckState.{CheckState}
 use Rattle.is_pair.specs.declared.pair.states.CheckState.TheVariants.{Waiting, InProgress, Succeeded}
@@ -14,7 +14,7 @@ use Rattle.is_pair.specs.declared.pair.states.NominationState.TheVariants.{None 
 use Rattle.is_pair.specs.States.{is_nominated_state, is_valid_state, nomination_once_sent, state_once_sent}
 use Rattle.is_pair.specs.Pairs.{PairRecord, checked, nominated, renominated}
 use Rattle.is_pair.specs.Due.{asked}
-use Rattle.is_pair.specs.Multiset.{change_pair, has_number, is_named_by, is_numbered}
+use Rattle.is_pair.specs.Multiset.{change_pair, has_number, is_numbered}
 use Rattle.is_rules.specs.declared.credentials.IceCreds.{IceCreds}
 use Rattle.is_rules.specs.declared.emitted.Emitted.{Emitted}
 use Rattle.is_rules.specs.declared.emitted.Issued.{Issued}
@@ -22,8 +22,8 @@ use Rattle.is_rules.specs.declared.emitted.Path.{Path}
 use Rattle.is_rules.specs.Agent.{AgentRecord}
 use Rattle.is_rules.specs.Checking.{all_asked, check_sent, is_selected_number, ChecksTop, IsNextToCheck, MayCheck}
 use Rattle.is_rules.specs.Forming.{sides_of}
-use Rattle.is_rules.specs.Nominating.{followed, is_eligible, is_pressing, nominated_by_self, nominated_emitted, nominates_at_once, numbers, pair_selected, persists_at}
-use Rattle.is_rules.specs.Nominating.{remains, selection, selection_of, with_selection, IsChosen, NamesTop, Nominates, Selection}
+use Rattle.is_rules.specs.Nominating.{followed, is_eligible, is_pressing, nominated_by_self, nominated_emitted, nominates_at_once, numbers, pair_selected}
+use Rattle.is_rules.specs.Nominating.{remains, selection_of, with_selection, IsChosen, NamesTop, Nominates, Selection}
 use Rattle.is_rules.specs.Request.{RequestRecord}
 use Rattle.is_rules.specs.Timeouts.{at_request, at_timeout, expired_gone, is_expired, timeout_begun, MaintainsPairs, RemovesExpired, ServesQueued}
 use Rattle.is_rules.specs.TimeoutTimes.{NominationsAreSent}

@@ -9,8 +9,7 @@ use Rattle.is_pair.specs.Pairs.{PairRecord}
 use Rattle.is_pair.specs.Due.{asked, call_time_of}
 use Rattle.is_rules.specs.Agent.{AgentRecord}
 use Rattle.is_rules.specs.Nominating.{is_pressing}
-use Rattle.is_proto.specs.declared.Duration.{Duration}
-use Rattle.is_rules.specs.Polls.{early_advance, is_settled, pacing_of, PollsTimeout, NextTimeoutFrom, NextTimeouts, WaitingTimeout, IdleTimeout, is_waiting, is_idle, soon, earliest_call}
+use Rattle.is_rules.specs.Polls.{early_advance, pacing_of, PollsTimeout, NextTimeoutFrom, NextTimeouts, WaitingTimeout, IdleTimeout, is_waiting, is_idle, soon, earliest_call}
 use Rattle.is_rules.specs.TimeoutTimes.{soonest, TimeoutIsAhead, TimeoutIsInTime, TimeoutIsGiven, TimeoutIsSoon}
 
 pub either : (b : Bool) {P Q R : Type 0} → MatchBool b P Q → (b ≡ true → P → R) → (b ≡ false → Q → R) → R

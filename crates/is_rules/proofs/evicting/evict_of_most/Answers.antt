@@ -1,28 +1,34 @@
-use Rattle.std.proofs.Common.{◌≡◌, ◌∙◌, ◌∷◌, [], length, refl, ap, arith}
-use Rattle.is_pair.specs.Multiset.{is_numbered, without}
+use Rattle.std.proofs.Common.{List, ◌∷◌, [], length, refl, ap, subst, arith}
+use Rattle.is_candidate.specs.Candidates.{CandidateRecord}
+use Rattle.is_pair.specs.Multiset.{is_numbered}
 use Rattle.is_pair.specs.Checklists.{multiset_of}
-use Rattle.is_rules.specs.Evicting.{IsLeastOfMost}
+use Rattle.is_rules.specs.Evicting.{AreCounted, IsLeastOfMost}
 use Rattle.is_rules.specs.Kinds.{kind_of}
 use Rattle.is_rules.proofs.PairLists.PairsInLists.{placed-without}
 use Rattle.is_rules.proofs.PairLists.RemovedInTurn.{shorter}
 use Rattle.is_rules.proofs.evicting.evict_of_most.Goals as goal
 
-pub loop-pairs-smaller : goal.loop-pairs-smaller
-loop-pairs-smaller c =
-    let least : IsLeastOfMost (kind_of c.args.local.now c.args.remote.now) (multiset_of c.loop-pairs.pairs) c.in-Some.least.now = c.in-Some.ensures in
-    let less = shorter (multiset_of c.loop-pairs.pairs) c.in-Some.least.now least.1.0 in
-    let left : length (multiset_of c.remove.new.self) ≡ length (without (is_numbered c.in-Some.least.now.number) (multiset_of c.loop-pairs.pairs)) =
-    ap length c.remove.ensures.left ∙ ap (λ n. length (without (is_numbered n) (multiset_of c.loop-pairs.pairs))) c.id-number.ensures in
+pub loop-kinds-smaller : goal.loop-kinds-smaller
+loop-kinds-smaller c =
+    let one = c.evict_one.ensures.one c.if-not-evict_one.false in
+    let less = shorter (multiset_of c.loop-kinds.pairs) one.0 one.1.1.0 in
+    let left = ap length one.2 in
     omega (arith, less, left)
 
-pub loop-pairs-preserved : goal.loop-pairs-preserved
-loop-pairs-preserved c =
-    let least : IsLeastOfMost (kind_of c.args.local.now c.args.remote.now) (multiset_of c.loop-pairs.pairs) c.in-Some.least.now = c.in-Some.ensures in
+pub loop-kinds-preserved : goal.loop-kinds-preserved
+loop-kinds-preserved c =
+    let one = c.evict_one.ensures.one c.if-not-evict_one.false in
+    let p = one.0 in
+    let pairs = multiset_of c.loop-kinds.pairs in
+    let least : IsLeastOfMost (kind_of c.args.local.now c.args.remote.now) pairs p =
+    subst (λ (l : List CandidateRecord). IsLeastOfMost (kind_of l c.args.remote.now) pairs p) c.new-kinds.ensures one.1 in
     record {
-      drops = λ gone end h. c.loop-pairs.invariant.drops (c.in-Some.least.now ∷ gone) end (omega (arith, c.loop-pairs-test.true, c.len.ensures), least, rw (c.remove.ensures.left, c.id-number.ensures) at h);
-      placed = rw c.remove.ensures.left (placed-without c.args.local.now c.args.remote.now (is_numbered c.id-number.result.0) (multiset_of c.loop-pairs.pairs) c.loop-pairs.invariant.placed);
-      below = λ n h. c.remove.ensures.below n (c.loop-pairs.invariant.below n h);
+      drops = λ gone end h. c.loop-kinds.invariant.drops (p ∷ gone) end (omega (arith, c.loop-kinds-test.true, c.len-in-loop-kinds.ensures), least, rw (one.2) at h);
+      same = c.loop-kinds.invariant.same;
+      counted = subst (λ (l : List CandidateRecord). AreCounted (kind_of l c.args.remote.now) (multiset_of c.evict_one.new.pairs) c.evict_one.new.counts) c.new-kinds.ensures c.evict_one.ensures.counted;
+      placed = rw one.2 (placed-without c.args.local.now c.args.remote.now (is_numbered p.number) pairs c.loop-kinds.invariant.placed);
+      below = λ n h. c.evict_one.ensures.below n (c.loop-kinds.invariant.below n h);
     }
 
 pub returns-clause-evicted : goal.returns-clause-evicted
-returns-clause-evicted c = c.loop-pairs.invariant.drops [] (multiset_of c.loop-pairs.pairs) (omega (arith, c.loop-pairs-test.false, c.len.ensures), refl)
+returns-clause-evicted c = c.loop-kinds.invariant.drops [] (multiset_of c.loop-kinds.pairs) (omega (arith, c.loop-kinds-test.false, c.len-in-loop-kinds.ensures), refl)

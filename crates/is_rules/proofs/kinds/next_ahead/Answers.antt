@@ -1,8 +1,11 @@
-use Rattle.std.proofs.Common.{◌∷◌, [], ◌+◌, List, None, drop, subst, sym}
+use Rattle.std.proofs.Common.{◌≡◌, ◌∷◌, [], ◌+◌, true, List, None, IfSome, drop, subst, sym}
 use Rattle.std.proofs.lemmas.List.{drop_all}
 use Rattle.std.specs.Option.{option_copied}
+use Rattle.is_candidate.specs.Candidates.{CandidateRecord}
 use Rattle.is_pair.specs.Pairs.{PairRecord}
 use Rattle.is_pair.specs.Checklists.{multiset_of}
+use Rattle.is_rules.specs.Kept.{is_placed}
+use Rattle.is_rules.specs.Kinds.{IsNextAhead}
 use Rattle.is_rules.proofs.PairLists.VisitedPairs.{left-more}
 use Rattle.is_rules.proofs.FunctionProofs.NextAhead.{IsVisited, visited-all, visited-more, visited-none, placed-first}
 use Rattle.is_rules.proofs.kinds.next_ahead.Goals as goal
@@ -19,7 +22,11 @@ loop-pair-preserved c =
     let i = c.loop-pair.pair-index in
     let x = c.pair-item.result in
     let more = left-more items i x c.loop-pair-test.true c.pair-item.is in
-    (x ∷ so_far.0, visited-more c.args.local.now c.args.remote.now c.args.precedence c.args.next c.args.now.0 c.args.timing.now (multiset_of c.args.pairs.now) so_far.0 (drop i items) (drop (i + 1) items) x _ _ more so_far.1 (c.earlier-first.ensures so_far.0 so_far.1.0))
+    let before : IsNextAhead c.new-kinds.result.local.now c.args.remote.now c.args.precedence c.args.next c.args.now.0 c.args.timing.now so_far.0 (option_copied c.loop-pair.first) =
+    subst (λ (l : List CandidateRecord). IsNextAhead l c.args.remote.now c.args.precedence c.args.next c.args.now.0 c.args.timing.now so_far.0 (option_copied c.loop-pair.first)) (sym c.new-kinds.ensures) so_far.1.0 in
+    let step : IsNextAhead c.args.local.now c.args.remote.now c.args.precedence c.args.next c.args.now.0 c.args.timing.now (x ∷ so_far.0) (option_copied c.earlier-first.result) =
+    subst (λ (l : List CandidateRecord). IsNextAhead l c.args.remote.now c.args.precedence c.args.next c.args.now.0 c.args.timing.now (x ∷ so_far.0) (option_copied c.earlier-first.result)) c.new-kinds.ensures (c.earlier-first.ensures so_far.0 before) in
+    (x ∷ so_far.0, visited-more c.args.local.now c.args.remote.now c.args.precedence c.args.next c.args.now.0 c.args.timing.now (multiset_of c.args.pairs.now) so_far.0 (drop i items) (drop (i + 1) items) x _ _ more so_far.1 step)
 
 pub returns : goal.returns
 returns c =
@@ -30,4 +37,5 @@ returns c =
 pub earlier-first-requires-clause-first : goal.earlier-first-requires-clause-first
 earlier-first-requires-clause-first c =
     let so_far = c.loop-pair.invariant in
-    placed-first c.args.local.now c.args.remote.now c.args.precedence c.args.next c.args.now.0 c.args.timing.now (multiset_of c.args.pairs.now) so_far.0 (drop c.loop-pair.pair-index c.as_slice-pair-items.result.now) (option_copied c.loop-pair.first) c.requires.placed so_far.1
+    subst (λ (l : List CandidateRecord). IfSome (option_copied c.loop-pair.first) (λ p. is_placed l c.args.remote.now p ≡ true)) (sym c.new-kinds.ensures)
+    (placed-first c.args.local.now c.args.remote.now c.args.precedence c.args.next c.args.now.0 c.args.timing.now (multiset_of c.args.pairs.now) so_far.0 (drop c.loop-pair.pair-index c.as_slice-pair-items.result.now) (option_copied c.loop-pair.first) c.requires.placed so_far.1)

@@ -1,0 +1,11 @@
+use Rattle.std.proofs.Common.{◌≡◌, ℕ, ◌<◌, length, slice_index}
+use Rattle.is_candidate.specs.Candidates.{candidate_at}
+use Rattle.is_rules.specs.Kinds.{side_of}
+use Rattle.is_rules.proofs.kind_table.sides_of.Given as goal
+
+-- those before the place are right
+abbrev pub invariant-loop-place : goal.invariant-loop-place
+invariant-loop-place l = record {
+  filled : (place : ℕ) → place < l.place → slice_index l.sides place ≡ side_of l.local (candidate_at l.local place);
+  long : length l.sides ≡ 64;
+}
