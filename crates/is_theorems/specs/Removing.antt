@@ -19,7 +19,7 @@ is_replaced_by s p at = is_redundant s at p && nat_lt p.priority (combined_prior
 
 -- A pair of this kind may take the pair's place at the limit. With kinds in turn only one of its own kind does.
 abbrev pub is_rival : SidesRecord → PairRecord → ℕ → Bool
-is_rival s p kind = not s.kinds_in_turn || kind == kind_of s.local s.remote p
+is_rival s p kind = not s.modern || kind == kind_of s.local s.remote p
 
 -- The other pair, or the combination, is a rival with no smaller priority than the pair.
 abbrev pub ranks_with : SidesRecord → PairRecord → PairRecord → Bool
@@ -36,7 +36,7 @@ rank_count s pairs all p = count_by (ranks_with s p) pairs + count_by (combines_
 -- How many pairs there are at most, if so many rank with the pair and it is the one to be removed. With kinds in turn no kind has
 -- more pairs than its own.
 abbrev pub most_pairs : SidesRecord → ℕ → ℕ
-most_pairs s ranked = if s.kinds_in_turn then KINDS * ranked else ranked
+most_pairs s ranked = if s.modern then KINDS * ranked else ranked
 
 module _ {H P : Type 0} where
   -- Forming these combinations may remove the pair: it is replaced, or there may be more pairs than the limit, and more than that rank

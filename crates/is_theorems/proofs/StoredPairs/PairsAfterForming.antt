@@ -107,7 +107,7 @@ module _ (s : SidesRecord) where
 
   -- Within the limit none is removed.
   over-or-same : (limit : ℕ) (pairs new : List PairRecord) → EvictsFor s limit pairs new → (new ≡ pairs) ⊎ (limit < length pairs)
-  over-or-same limit pairs new h = by s.kinds_in_turn h where
+  over-or-same limit pairs new h = by s.modern h where
     by : (b : Bool) → MatchBool b (EvictsOfMost (kind_of s.local s.remote) limit pairs new) (Evicts limit pairs new) → (new ≡ pairs) ⊎ (limit < length pairs)
     by true ([], (within, same)) = inl same
     by true (q ∷ gone, (over, least, others)) = inr over
@@ -223,11 +223,11 @@ module _ (p : PairRecord) where
       once q pairs new (inl there) later = elim (later there) [
         | inl has ↦ inl has
         | inr full ↦ inr (
-            let fewer = most-fewer s.kinds_in_turn (ranked (without (is_numbered q.number) pairs)) (ranked pairs) (count-filter (ranks_with s p) (λ r. not (is_numbered q.number r)) pairs) in
+            let fewer = most-fewer s.modern (ranked (without (is_numbered q.number) pairs)) (ranked pairs) (count-filter (ranks_with s p) (λ r. not (is_numbered q.number r)) pairs) in
             omega (arith, full, fewer))
       ]
 
-      lowest : s.kinds_in_turn ≡ false → (gone pairs new : List PairRecord) → There pairs n → EvictsInTurn limit gone pairs new → Has new p ⊎ (limit < most_pairs s (ranked pairs))
+      lowest : s.modern ≡ false → (gone pairs new : List PairRecord) → There pairs n → EvictsInTurn limit gone pairs new → Has new p ⊎ (limit < most_pairs s (ranked pairs))
       lowest off [] pairs new k (within, same) = inl (subst (λ ps. Has ps p) (sym same) k.has)
       lowest off (q ∷ gone) pairs new k (over, least, others) =
           once q pairs new (spares q pairs k least.0 full) (λ there. lowest off gone (without (is_numbered q.number) pairs) new there others) where
@@ -238,7 +238,7 @@ module _ (p : PairRecord) where
                 rw (le-is p.priority r.priority (subst (λ (x : PairRecord). x.priority ≤ r.priority) one (least.1 r has)), off) refl) in
                 subst (λ b. limit < (if b then KINDS * ranked pairs else ranked pairs)) (sym off) (omega (arith, all, over))
 
-      of-most : s.kinds_in_turn ≡ true → (gone pairs new : List PairRecord) → There pairs n → EvictsOfMostInTurn (kind_of s.local s.remote) limit gone pairs new
+      of-most : s.modern ≡ true → (gone pairs new : List PairRecord) → There pairs n → EvictsOfMostInTurn (kind_of s.local s.remote) limit gone pairs new
           → Has new p ⊎ (limit < most_pairs s (ranked pairs))
       of-most on [] pairs new k (within, same) = inl (subst (λ ps. Has ps p) (sym same) k.has)
       of-most on (q ∷ gone) pairs new k (over, least, others) =
@@ -263,8 +263,8 @@ module _ (p : PairRecord) where
                 subst (λ b. limit < (if b then KINDS * ranked pairs else ranked pairs)) (sym on) (omega (arith, few_pairs, all, over))
 
       evicts : (pairs new : List PairRecord) → There pairs n → EvictsFor s limit pairs new → Has new p ⊎ (limit < most_pairs s (ranked pairs))
-      evicts pairs new k h = by s.kinds_in_turn refl h where
-        by : (b : Bool) → s.kinds_in_turn ≡ b → MatchBool b (EvictsOfMost (kind_of s.local s.remote) limit pairs new) (Evicts limit pairs new)
+      evicts pairs new k h = by s.modern refl h where
+        by : (b : Bool) → s.modern ≡ b → MatchBool b (EvictsOfMost (kind_of s.local s.remote) limit pairs new) (Evicts limit pairs new)
             → Has new p ⊎ (limit < most_pairs s (ranked pairs))
         by true on (gone, drops) = of-most on gone pairs new k drops
         by false off (gone, drops) = lowest off gone pairs new k drops
