@@ -1,6 +1,6 @@
 -- A candidate pair (RFC 8445, section 6.1.2), and its state after each operation. Times and durations are in
 -- nanoseconds.
-use Rattle.std.specs.Prelude.{◌≡◌, ℕ, ◌-◌, ◌*◌, Bool, true, false, nat_lt, max, List, [], ◌∷◌, ◌++◌, slice_set, Option, Some, None, unwrap_or, if◌then◌else◌}
+use Rattle.std.specs.Prelude.{◌≡◌, ℕ, ◌-◌, ◌*◌, ◌==◌, Bool, true, false, nat_lt, max, List, [], ◌∷◌, ◌++◌, slice_set, Option, Some, None, unwrap_or, if◌then◌else◌}
 use Rattle.std.specs.Option.{option_map_or}
 use Rattle.is_proto.specs.Times.{SECOND, counted, later}
 use Rattle.is_stun.specs.declared.timing.StunTiming.{StunTiming}
@@ -22,8 +22,9 @@ pub record PairRecord : Type 0 where
   pub checks : List Check
   -- how many checks were sent, also those that it no longer stores
   pub checks_sent : ℕ
-  -- when the first one was sent
+  -- when the first one was sent, and the first one after a request of the peer
   pub first_sent : Option ℕ
+  pub first_after_request : Option ℕ
   pub nomination : NominationState
   -- the greatest number by which the peer nominated it (NOMINATION); 0: none
   pub greatest_number : ℕ
@@ -49,6 +50,7 @@ new_pair number local remote priority = record {
   checks = [];
   checks_sent = 0;
   first_sent = None;
+  first_after_request = None;
   nomination = Unnominated;
   greatest_number = 0;
   state = Waiting;
@@ -136,6 +138,7 @@ once_sent now kept p = record p {
   checks = last_checks kept p.checks;
   checks_sent = counted p.checks_sent;
   first_sent = Some (unwrap_or p.first_sent now);
+  first_after_request = if p.requests == 0 then None else Some (unwrap_or p.first_after_request now);
   nomination = nomination_once_sent p.nomination;
   state = state_once_sent p.state;
   due = None;

@@ -40,6 +40,8 @@ pub struct CandidatePair {
     checks_sent: u64,
     /// When its first check was sent.
     first_sent: Option<Instant>,
+    /// When the first check after a request of the peer was sent.
+    first_after_request: Option<Instant>,
     nomination_state: NominationState,
     /// The greatest number by which the peer nominated it; 0 if there is none.
     greatest_number: u32,
@@ -70,6 +72,7 @@ impl Model for CandidatePair {
       checks = p.binding_attempts.items;
       checks_sent = p.checks_sent;
       first_sent = option_map (λ at. at.0) p.first_sent;
+      first_after_request = option_map (λ at. at.0) p.first_after_request;
       nomination = p.nomination_state;
       greatest_number = p.greatest_number;
       state = p.state;
@@ -104,6 +107,7 @@ impl CandidatePair {
             binding_attempts: VecDeque::new(alloc),
             checks_sent: 0,
             first_sent: None,
+            first_after_request: None,
             nomination_state: NominationState::default(),
             greatest_number: 0,
             state: CheckState::default(),
@@ -218,6 +222,7 @@ impl CandidatePair {
             binding_attempts: self.binding_attempts.clone()?,
             checks_sent: self.checks_sent,
             first_sent: self.first_sent,
+            first_after_request: self.first_after_request,
             nomination_state: self.nomination_state,
             greatest_number: self.greatest_number,
             state: self.state,

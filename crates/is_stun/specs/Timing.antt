@@ -42,9 +42,9 @@ abbrev pub EARLY_INTERVAL : ℕ
 EARLY_INTERVAL = 100 * MILLISECOND
 
 abbrev pub EARLY_CAP : ℕ
-EARLY_CAP = 2900 * MILLISECOND
+EARLY_CAP = 350 * MILLISECOND
 
--- the delay after the last of n checks, while a pair has no response: it doubles with each check after the early retransmissions
+-- the delay after the last of n checks that are repeated early: it doubles with each check after the early retransmissions
 abbrev pub early_delay : ℕ → ℕ
 early_delay n = min (EARLY_INTERVAL * 2 ^ (n - EARLY_RETRANSMITS)) EARLY_CAP
 

@@ -18,9 +18,8 @@ const EARLY_RETRANSMITS: u64 = 2;
 /// The delay before each early retransmission: below the 500 ms of RFC 8445, section 14.3, as that of other stacks.
 const EARLY_INTERVAL: Duration = Duration(100_000_000);
 
-/// The longest delay after them while there is no response. It doubles up to here, so that a congested or slow path is not filled (RFC
-/// 8489, section 6.2.1), and that a check is still stored when its response comes after several seconds.
-const EARLY_CAP: Duration = Duration(2_900_000_000);
+/// The longest delay after them, while checks are repeated early. With one up to the longest RTO, a row of losses costs seconds.
+const EARLY_CAP: Duration = Duration(350_000_000);
 
 /// Which behavior an agent has.
 #[derive(Clone, Copy, Debug, PartialEq, Eq)]
@@ -43,8 +42,7 @@ impl Profile {
     }
 }
 
-/// Returns how long to wait after the last of `send_count` checks before the next one, while a pair of a `Modern` agent has no
-/// response.
+/// Returns how long to wait after the last of `send_count` checks before the next one, while a `Modern` agent repeats checks early.
 pub fn early_delay(send_count: u64) -> Duration
     ensures { result.0 ≡ early_delay send_count }
 {

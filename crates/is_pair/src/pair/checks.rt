@@ -80,6 +80,11 @@ impl CandidatePair {
         attempts::keep_last(&mut self.binding_attempts, timing_config.max_retransmits);
         self.checks_sent = self.checks_sent.saturating_add(1);
         self.first_sent = Some(self.first_sent.unwrap_or(now));
+        self.first_after_request = if self.remote_binding_requests == 0 {
+            None
+        } else {
+            Some(self.first_after_request.unwrap_or(now))
+        };
         self.nomination_state = self.nomination_state.once_sent();
         self.state = self.state.once_sent();
         self.cached_next_attempt_time = None;

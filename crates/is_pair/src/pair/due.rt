@@ -1,10 +1,10 @@
 //! When a pair is due for its next check, and when it fails.
 
-ghost use Rattle.std.specs.Prelude.{◌≡◌, ◌<◌, is_some, min};
+ghost use Rattle.std.specs.Prelude.{◌≡◌, ◌<◌, is_some, min, option_map};
 ghost use Rattle.is_proto.specs.Times.{later};
 ghost use Rattle.is_pair.specs.Pairs.{is_valid, undue};
 ghost use Rattle.is_pair.specs.Due.{asked, delaying_count, due_time_of, is_heard, is_in_time, is_possible, long_before, next_due_time, computed_due_time};
-ghost use Rattle.is_pair.specs.Due.{delay_of, has_early_checks, is_beginning, is_early_silence, is_open, is_repeated_early, is_triggered, is_urgent, is_within_series, is_young, moved_up, silent_count, triggered, usual_delay};
+ghost use Rattle.is_pair.specs.Due.{delay_of, has_early_checks, is_beginning, is_early_on, is_early_silence, is_open, is_repeated_early, is_triggered, is_urgent, is_within, is_within_series, is_young, moved_up, silent_count, triggered, usual_delay};
 
 use super::attempt::BindingAttempt;
 use super::requests::is_recent;
@@ -18,8 +18,23 @@ use std::collections::VecDeque;
 /// others.
 const HEAD_START: Duration = Duration(60_000_000_000);
 
-/// How long a pair is at its beginning after its first check: the four checks that the profile `Modern` repeats early are sent by then.
+/// How long a pair is at its beginning after its first check: four checks of it are sent by then.
 const BEGINNING: Duration = Duration(500_000_000);
+
+/// How long checks without a response are repeated early, after the first check, and again after the first one that follows a request of
+/// the peer: then the chance that each of ten checks or its response is lost is small, and the path is not filled (RFC 8489, section
+/// 6.2.1).
+const EARLY_TIME: Duration = Duration(2_500_000_000);
+
+/// Whether less than the span has passed since a time, if there is one.
+fn is_within(span: Duration, now: Instant, since: Option<Instant>) -> bool
+    ensures { result ≡ is_within span.0 now.0 (option_map (λ at. at.0) since) }
+{
+    match since {
+        Some(at) => now < at + span,
+        None => false,
+    }
+}
 
 impl CandidatePair {
     /// Returns the due time of the next check. The call fixes this time until a check is sent or a response arrives.
@@ -27,8 +42,8 @@ impl CandidatePair {
     /// A nominated pair without a check since its nomination is due before all others. A pair that was never checked is
     /// due now. Otherwise the check is due one RTO after the last one. The RTO depends on the number of pending
     /// transactions, or, if the peer has been silent for longer than half of `max_rto`, on the number of checks without a
-    /// response. With `Modern`, checks are due sooner while there is no response: after 100 ms at first, later after at
-    /// most 2.9 s. The due time is at most `max_rto` from now.
+    /// response. With `Modern`, checks without a response are repeated early at first: after 100 ms, later after at
+    /// most 350 ms. The due time is at most `max_rto` from now.
     pub fn next_binding_attempt(&mut self, now: Instant, timing_config: &StunTiming) -> Instant
         requires { 0 < timing_config.now.max_retransmits }
         ensures time { result.0 ≡ due_time_of now.0 timing_config.now self.old }
@@ -141,12 +156,21 @@ impl CandidatePair {
         }
     }
 
-    /// Whether checks are repeated early: while no response arrived on the pair, or none to a check that nominates it.
+    /// Whether less than 2.5 s have passed since the pair's first check, or since the first one after a request of the peer.
+    fn is_early_on(&self, now: Instant) -> bool
+        ensures { result ≡ is_early_on now.0 self.now }
+    {
+        is_within(EARLY_TIME, now, self.first_sent)
+            || is_within(EARLY_TIME, now, self.first_after_request)
+    }
+
+    /// Whether checks are repeated early: for some time while no response arrived on the pair, or while none arrived to a check that
+    /// nominates it.
     fn is_repeated_early(&self, now: Instant, timing: &StunTiming) -> bool
         ensures { result ≡ is_repeated_early now.0 timing.now self.now }
     {
         if self.responses_received == 0 {
-            self.is_young(now, timing)
+            self.is_early_on(now)
         } else {
             self.nomination_state.is_nominating()
                 && attempts::unanswered(&self.binding_attempts) < timing.max_retransmits()

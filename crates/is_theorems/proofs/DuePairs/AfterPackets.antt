@@ -12,7 +12,7 @@ use Rattle.is_pair.specs.Checks.{Check, last_check, unanswered_count}
 use Rattle.is_pair.specs.States.{is_nominating}
 use Rattle.is_pair.specs.declared.pair.states.NominationState.{NominationState}
 use Rattle.is_pair.specs.declared.pair.states.NominationState.TheVariants.{None as Unnominated, Nominated, Attempt, Success}
-use Rattle.is_pair.specs.Due.{computed_due_time, delay_of, due_time_of, is_triggered, moved_up, next_due_time, triggered, usual_delay}
+use Rattle.is_pair.specs.Due.{EARLY_TIME, is_within, computed_due_time, delay_of, due_time_of, is_triggered, moved_up, next_due_time, triggered, usual_delay}
 use Rattle.is_pair.specs.Multiset.{is_numbered, change_at, passes_at, is_valid_at}
 use Rattle.is_stun.specs.declared.header.Class.{Class}
 use Rattle.is_stun.specs.declared.header.Class.TheVariants as class
@@ -60,19 +60,21 @@ pub record CheckedAlike (p q : PairRecord) : Type 0 where
   pub checks : q.checks ≡ p.checks
   pub sent : q.checks_sent ≡ p.checks_sent
   pub first : q.first_sent ≡ p.first_sent
+  pub again : q.first_after_request ≡ p.first_after_request
   pub answers : q.answers ≡ p.answers
   pub nomination : q.nomination ≡ p.nomination
 
 delay-same : (now : ℕ) (t : StunTiming) (p q : PairRecord) → CheckedAlike p q → delay_of now t q ≡ delay_of now t p
 delay-same now t p q alike =
-    ap (λ n. by n q.nomination q.checks q.checks_sent q.first_sent) alike.answers
-    ∙ ap (λ s. by p.answers s q.checks q.checks_sent q.first_sent) alike.nomination
-    ∙ ap (λ cs. by p.answers p.nomination cs q.checks_sent q.first_sent) alike.checks
-    ∙ ap (λ k. by p.answers p.nomination p.checks k q.first_sent) alike.sent
-    ∙ ap (λ at. by p.answers p.nomination p.checks p.checks_sent at) alike.first where
-      by : ℕ → NominationState → List Check → ℕ → Option ℕ → ℕ
-      by n s cs sent first =
-          if is_modern t && (if n == 0 then option_map_or (λ at. nat_lt now (later at (timeout_of t))) first false else is_nominating s && nat_lt (unanswered_count cs) t.max_retransmits)
+    ap (λ n. by n q.nomination q.checks q.checks_sent q.first_sent q.first_after_request) alike.answers
+    ∙ ap (λ s. by p.answers s q.checks q.checks_sent q.first_sent q.first_after_request) alike.nomination
+    ∙ ap (λ cs. by p.answers p.nomination cs q.checks_sent q.first_sent q.first_after_request) alike.checks
+    ∙ ap (λ k. by p.answers p.nomination p.checks k q.first_sent q.first_after_request) alike.sent
+    ∙ ap (λ at. by p.answers p.nomination p.checks p.checks_sent at q.first_after_request) alike.first
+    ∙ ap (λ at. by p.answers p.nomination p.checks p.checks_sent p.first_sent at) alike.again where
+      by : ℕ → NominationState → List Check → ℕ → Option ℕ → Option ℕ → ℕ
+      by n s cs sent first again =
+          if is_modern t && (if n == 0 then is_within EARLY_TIME now first || is_within EARLY_TIME now again else is_nominating s && nat_lt (unanswered_count cs) t.max_retransmits)
           then early_delay (if n == 0 then sent else unanswered_count cs)
           else usual_delay now t cs
 
@@ -245,7 +247,7 @@ moved-stays by to x (Some d) le = omega (arith, le)
 moved-due : (now to : ℕ) (t : StunTiming) (p : PairRecord)
     → due_time_of now t (moved_up to p) ≡ unwrap_or (option_map (min to) p.due) (min (computed_due_time p.nomination now t p) (later now t.max_rto.0))
 moved-due now to t p =
-    ap (λ n. unwrap_or (option_map (min to) p.due) (min n (later now t.max_rto.0))) (computed-same p.nomination now t p (moved_up to p) (record { checks = refl; sent = refl; first = refl; answers = refl; nomination = refl }))
+    ap (λ n. unwrap_or (option_map (min to) p.due) (min n (later now t.max_rto.0))) (computed-same p.nomination now t p (moved_up to p) (record { checks = refl; sent = refl; first = refl; again = refl; answers = refl; nomination = refl }))
 
 triggered-alike : (by at to : ℕ) (t : StunTiming) (modern : Bool) (p : PairRecord) → by < to → DueAlike by at t p (triggered modern to p)
 triggered-alike by at to t modern p late = moved (modern && is_triggered p) where
@@ -279,7 +281,7 @@ module _ (to : ℕ) (n : ℕ) (q : RequestRecord) (modern : Bool) where
   served-alike : (by at : ℕ) (t : StunTiming) (c l : Bool) (p : PairRecord) → c ≡ true → l ≡ false → by < to → DueAlike by at t p (change_at n (λ x. served c l q (triggered modern to x)) p)
   served-alike by at t true false p is full late = numbered (is_numbered n p) where
     recorded-due : (m : ℕ) (x : PairRecord) → due_time_of m t (with_request q.time x) ≡ due_time_of m t x
-    recorded-due m x = ap (λ k. unwrap_or x.due (min k (later m t.max_rto.0))) (computed-same x.nomination m t x (with_request q.time x) (record { checks = refl; sent = refl; first = refl; answers = refl; nomination = refl }))
+    recorded-due m x = ap (λ k. unwrap_or x.due (min k (later m t.max_rto.0))) (computed-same x.nomination m t x (with_request q.time x) (record { checks = refl; sent = refl; first = refl; again = refl; answers = refl; nomination = refl }))
 
     recorded-alike : (x : PairRecord) → DueAlike by at t x (with_request q.time x)
     recorded-alike x = record {
