@@ -20,7 +20,7 @@ KINDS = {CandidateKind.HOST: "host", CandidateKind.SERVER_REFLEXIVE: "srflx", Ca
          CandidateKind.PEER_REFLEXIVE: "prflx"}
 # The least pacing interval Ta (RFC 8445, section 14.2).
 LEAST_ADVANCE = 5 * MILLISECOND
-# With `Modern`, the pacing interval Ta until the agent is settled.
+# With `Modern`, the pacing interval Ta early on.
 EARLY_ADVANCE = 10 * MILLISECOND
 # With many pairs, the time in which each of them can be checked once.
 CYCLE = 500 * MILLISECOND
@@ -147,10 +147,15 @@ class Candidates:
         """Whether there is a path, and of a controlling agent the check that nominates it was sent."""
         return self.state.is_connected() and not (self.controlling and self.nomination_due)
 
-    @property
-    def pacing(self) -> int:
-        """The pacing interval Ta: with `Modern` it is shorter until the agent is settled (`pacing_of`)."""
-        if not self.modern or self.is_settled:
+    def is_early(self, last: int) -> bool:
+        """Whether, with `Modern`, the agent is not settled, and a nomination is still to be sent, or it knows the peer and an early request
+        waits or a pair is at its beginning."""
+        has_begun = self.peer is not None and (self.queue != () or any(p.is_beginning(last) for p in self.pairs))
+        return self.modern and not self.is_settled and (self.state.is_connected() or has_begun)
+
+    def pacing(self, last: int) -> int:
+        """The pacing interval Ta: early on it is shorter (`pacing_of`)."""
+        if not self.is_early(last):
             return self.advance
         return min(self.advance, max(LEAST_ADVANCE, min(EARLY_ADVANCE, CYCLE // max(1, len(self.pairs)))))
 

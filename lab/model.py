@@ -240,7 +240,7 @@ class Agent(Candidates):
         """Returns when `handle_timeout` is due, and fixes due times. `is_waiting`: a packet waits to be polled."""
         if self.last is None:
             return self, None
-        soon = self.last + self.pacing
+        soon = self.last + self.pacing(self.last)
         new = replace(self, pairs=tuple(p.fixed(self.last, self.timing) for p in self.pairs))
         if is_waiting or self.queue or self.is_pressing:
             return new if self.modern else self, soon

@@ -13,6 +13,10 @@ EARLY_RETRANSMITS = 2
 EARLY_INTERVAL = 100 * MILLISECOND
 EARLY_CAP = 350 * MILLISECOND
 
+# How long checks without a response are repeated early at most, and how long a pair is at its beginning after its first check.
+EARLY_TIME = 2500 * MILLISECOND
+BEGINNING = 500 * MILLISECOND
+
 # From the source to the destination, as the agent that sends on it sees them.
 Path = tuple[SocketAddress, SocketAddress]
 
@@ -23,7 +27,7 @@ def reversed_path(path: Path) -> Path:
 
 
 def early_delay(count: int) -> int:
-    """Returns the delay after the last of `count` checks of a pair without a response, with the profile `Modern`: after the early
+    """Returns the delay after the last of `count` checks that are repeated early, with the profile `Modern`: after the early
     retransmissions it doubles up to the cap."""
     doubled: int = EARLY_INTERVAL * 2 ** max(0, count - EARLY_RETRANSMITS)
     return min(doubled, EARLY_CAP)
@@ -121,8 +125,8 @@ def unanswered(checks: tuple[Check, ...]) -> int:
 @dataclass(frozen=True)
 class Pair:
     """A pair. `nomination` is none, nominated, attempt or success; `state` is waiting, progress or succeeded. `sent`, `requests` and
-    `answers` count checks, checks of the peer, and responses. `first_sent` is when its first check was sent, `consented` when the last
-    check that got a response was, `greatest` the greatest number by which the peer nominated it, and `error` the code of the last error
+    `answers` count checks, checks of the peer, and responses. `first_sent` is when its first check was sent, `first_after_request`
+    when the first one after a request of the peer was, `consented` when the last check that got a response was, `greatest` the greatest number by which the peer nominated it, and `error` the code of the last error
     response."""
 
     number: int
@@ -136,6 +140,7 @@ class Pair:
     due: int | None = None
     sent: int = 0
     first_sent: int | None = None
+    first_after_request: int | None = None
     requests: int = 0
     answers: int = 0
     consented: int | None = None
@@ -193,9 +198,18 @@ class Pair:
         return timing.delay(silent if is_silent else len(self.checks))
 
     def is_repeated_early(self, now: int, timing: Timing) -> bool:
-        """Whether its checks are repeated early: while no response arrived on it, as long as a whole series of checks takes; and those that
-        nominate a pair with a response, until `max_retransmits` checks have none."""
-        return self.is_young(now, timing) if self.answers == 0 else self.is_nominating and self.may_repeat(timing)
+        """Whether its checks are repeated early: for some time while no response arrived on it; and those that nominate a pair with a
+        response, until `max_retransmits` checks have none."""
+        return self.is_early_on(now, timing) if self.answers == 0 else self.is_nominating and self.may_repeat(timing)
+
+    def is_early_on(self, now: int, timing: Timing) -> bool:
+        """Whether less than that has passed since its first check, or since the first one after a request of the peer."""
+        span = min(EARLY_TIME, timing.timeout())
+        return any(since is not None and now < since + span for since in (self.first_sent, self.first_after_request))
+
+    def is_beginning(self, now: int) -> bool:
+        """Whether its first check was sent less than half a second ago, or is still to be sent."""
+        return self.first_sent is None or now < self.first_sent + BEGINNING
 
     def fixed(self, now: int, timing: Timing) -> Pair:
         """Fixes its due time."""
@@ -265,7 +279,12 @@ class Pair:
         nomination = "attempt" if self.nomination == "nominated" else self.nomination
         state = "progress" if self.state == "waiting" else self.state
         first = now if self.first_sent is None else self.first_sent
-        return replace(self, checks=checks, due=None, sent=self.sent + 1, first_sent=first, nomination=nomination, state=state)
+        again = self.first_after_request
+        if self.requests > 0 and again is None:
+            again = now
+        return replace(
+            self, checks=checks, due=None, sent=self.sent + 1, first_sent=first, first_after_request=again, nomination=nomination, state=state
+        )
 
     def answered(self, now: int, id: bytes) -> Pair:
         """Returns it after a success response to the check."""

@@ -47,22 +47,25 @@ is_beginning now p = option_map_or (λ at. nat_lt now (later at BEGINNING)) p.fi
 abbrev pub silent_count : PairRecord → ℕ
 silent_count p = if p.answers == 0 then p.checks_sent else unanswered_count p.checks
 
--- how long checks without a response are repeated early
+-- how long checks without a response are repeated early, at most as long as a whole series of checks takes
 abbrev pub EARLY_TIME : ℕ
 EARLY_TIME = 2500 * MILLISECOND
+
+abbrev pub early_time : StunTiming → ℕ
+early_time t = min EARLY_TIME (timeout_of t)
 
 abbrev pub is_within : ℕ → ℕ → Option ℕ → Bool
 is_within span now since = option_map_or (λ at. nat_lt now (later at span)) since false
 
 -- Less than that has passed since the first check, or since the first one after a request of the peer.
-abbrev pub is_early_on : ℕ → PairRecord → Bool
-is_early_on now p = is_within EARLY_TIME now p.first_sent || is_within EARLY_TIME now p.first_after_request
+abbrev pub is_early_on : ℕ → StunTiming → PairRecord → Bool
+is_early_on now t p = is_within (early_time t) now p.first_sent || is_within (early_time t) now p.first_after_request
 
 -- With the profile `Modern`, checks are repeated early for that time while no response arrived on the pair; and those that nominate a pair
 -- with a response, until `max_retransmits` checks have none.
 abbrev pub is_repeated_early : ℕ → StunTiming → PairRecord → Bool
 is_repeated_early now t p =
-    if p.answers == 0 then is_early_on now p else is_nominating p.nomination && nat_lt (unanswered_count p.checks) t.max_retransmits
+    if p.answers == 0 then is_early_on now t p else is_nominating p.nomination && nat_lt (unanswered_count p.checks) t.max_retransmits
 
 -- the delay after the last check: with the profile `Modern` checks are repeated early
 abbrev pub delay_of : ℕ → StunTiming → PairRecord → ℕ

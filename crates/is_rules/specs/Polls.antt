@@ -49,13 +49,13 @@ module _ {H P : Type 0} where
   abbrev pub is_settled : AgentRecord H P → Bool
   is_settled a = is_connected a.state && not (a.controlling && a.nomination_due)
 
-  -- It may check pairs, and one of them is at its beginning.
-  abbrev pub has_beginning : ℕ → AgentRecord H P → Bool
-  has_beginning last a = is_some a.remote_creds && list_any (is_beginning last) a.pairs
+  -- It knows the peer, and an early request waits, or a pair is at its beginning.
+  abbrev pub has_begun : ℕ → AgentRecord H P → Bool
+  has_begun last a = is_some a.remote_creds && (not (is_empty a.queue) || list_any (is_beginning last) a.pairs)
 
-  -- It is early: until a `Modern` agent is settled, while a pair is at its beginning.
+  -- It is early, for an agent with `Modern` that is not settled: it has begun so, or only a nomination is still to be sent.
   abbrev pub is_early : ℕ → AgentRecord H P → Bool
-  is_early last a = is_modern a.timing && not (is_settled a) && has_beginning last a
+  is_early last a = is_modern a.timing && not (is_settled a) && (is_connected a.state || has_begun last a)
 
   -- the pacing interval Ta; early on it is shorter
   abbrev pub pacing_of : ℕ → AgentRecord H P → ℕ

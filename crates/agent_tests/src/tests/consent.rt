@@ -139,7 +139,7 @@ const ENDS: [Story; 10] = [
             Does(Check(0)),
             Does(Check(6000)),
             Does(Check(12_000)),
-            Shows(NextAt(12_200)),
+            Shows(NextAt(13_000)),
             Holds(HasPair(PEER, true)),
         ],
     ),

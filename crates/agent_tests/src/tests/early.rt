@@ -50,9 +50,10 @@ const EARLY: [Story; 5] = [
             // nine checks end no pair
             Does(Check(2150)),
             Shows(NextAt(2500)),
+            // 2.5 s after the first one the RTO counts
             Does(Check(2500)),
-            Shows(NextAt(2850)),
-            Does(Check(2850)),
+            Shows(NextAt(5500)),
+            Does(Check(5500)),
             Counts(Count::Checks, 11),
         ],
     ),
@@ -168,7 +169,7 @@ const ENDS: [Story; 3] = [
             Holds(HasPair(PEER, false)),
         ],
     ),
-    // by the RTO from the seventh check on
+    // by the RTO from the eighth check on
     Story(
         "the_checks_of_the_peer_keep_it_longer",
         &[
@@ -191,12 +192,13 @@ const ENDS: [Story; 3] = [
             Shows(NextAt(850)),
             Does(Check(850)),
             Shows(NextAt(1200)),
+            // until 1 s after the check that the request triggered
             Does(Check(1200)),
-            Shows(NextAt(1700)),
-            Does(Check(1700)),
-            Shows(NextAt(2200)),
-            Does(Check(2200)),
-            Shows(NextAt(2700)),
+            Shows(NextAt(1550)),
+            Does(Check(1550)),
+            Shows(NextAt(2050)),
+            Does(Check(2050)),
+            Shows(NextAt(2550)),
             // the request keeps it until 15.5 s, and this check for 500 ms more
             Does(Check(15_499)),
             Shows(NextAt(15_999)),

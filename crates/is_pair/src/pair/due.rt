@@ -21,9 +21,9 @@ const HEAD_START: Duration = Duration(60_000_000_000);
 /// How long a pair is at its beginning after its first check: four checks of it are sent by then.
 const BEGINNING: Duration = Duration(500_000_000);
 
-/// How long checks without a response are repeated early, after the first check, and again after the first one that follows a request of
-/// the peer: then the chance that each of ten checks or its response is lost is small, and the path is not filled (RFC 8489, section
-/// 6.2.1).
+/// How long checks without a response are repeated early, at most as long as a whole series of checks takes: after the first check, and
+/// again after the first one that follows a request of the peer. By then the loss of each of ten checks, or of its response, is unlikely,
+/// and a path that is slow or dead is not filled (RFC 8489, section 6.2.1).
 const EARLY_TIME: Duration = Duration(2_500_000_000);
 
 /// Whether less than the span has passed since a time, if there is one.
@@ -156,12 +156,12 @@ impl CandidatePair {
         }
     }
 
-    /// Whether less than 2.5 s have passed since the pair's first check, or since the first one after a request of the peer.
-    fn is_early_on(&self, now: Instant) -> bool
-        ensures { result ≡ is_early_on now.0 self.now }
+    /// Whether less than that has passed since the pair's first check, or since the first one after a request of the peer.
+    fn is_early_on(&self, now: Instant, timing: &StunTiming) -> bool
+        ensures { result ≡ is_early_on now.0 timing.now self.now }
     {
-        is_within(EARLY_TIME, now, self.first_sent)
-            || is_within(EARLY_TIME, now, self.first_after_request)
+        let time = EARLY_TIME.min(timing.timeout());
+        is_within(time, now, self.first_sent) || is_within(time, now, self.first_after_request)
     }
 
     /// Whether checks are repeated early: for some time while no response arrived on the pair, or while none arrived to a check that
@@ -170,7 +170,7 @@ impl CandidatePair {
         ensures { result ≡ is_repeated_early now.0 timing.now self.now }
     {
         if self.responses_received == 0 {
-            self.is_early_on(now)
+            self.is_early_on(now, timing)
         } else {
             self.nomination_state.is_nominating()
                 && attempts::unanswered(&self.binding_attempts) < timing.max_retransmits()
