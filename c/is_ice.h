@@ -475,8 +475,8 @@ IS_ICE_QUIET_CALL int32_t is_ice_set_max_candidates(is_ice_agent *agent, size_t 
 /* is_ice_set_timing_advance - sets the pacing interval Ta (RFC 8445, section 14.2): the least time from the last
  * is_ice_handle_timeout call to the next one that is_ice_poll_timeout returns. A lite agent, and one without pairs, waits
  * no longer than 3 s. Each is_ice_handle_timeout call sends at most one packet. With `modern` of is_ice_set_settings the
- * interval is shorter until the agent is settled: it has a path and, if it is controlling, has sent the check that
- * nominates it. IS_ICE_OK. Value: 50 ms. */
+ * interval is shorter until half a second after the first check of the newest pair, at most until the agent has a path and,
+ * if it is controlling, has sent the check that nominates it. IS_ICE_OK. Value: 50 ms. */
 IS_ICE_QUIET_CALL int32_t is_ice_set_timing_advance(is_ice_agent *agent, uint64_t nanoseconds);
 
 /* is_ice_set_initial_rto - sets the time from a pair's first check until the second one is due. It doubles with each
