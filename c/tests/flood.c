@@ -16,10 +16,10 @@ enum {
  * that can be due before. Times are whole milliseconds here. */
 #define LONGEST_GAP (3 * SECOND + PAIRS * 51 * MS)
 
-/* When a new address has a valid pair after a flood at the latest: a pair without a response is checked a last time at most 350 ms
- * after a whole series of checks, which takes 26.7 s, and removed 2.9 s later. Its first check, this one and the first one of the new
+/* When a new address has a valid pair after a flood at the latest: a pair without a response is checked a last time before a whole
+ * series of checks is over, which takes 26.7 s, and removed 2.9 s later. Its first check, this one and the first one of the new
  * pair can each wait for two of each other pair. */
-#define LONGEST_WAIT (UINT64_C(29950) * MS + 3 * 2 * PAIRS * 51 * MS)
+#define LONGEST_WAIT (UINT64_C(29600) * MS + 3 * 2 * PAIRS * 51 * MS)
 
 struct flood {
     const char *name;

@@ -212,11 +212,11 @@ class Early(unittest.TestCase):
         for other in (Pair(0, 0, 0, 1, checks[1:], sent=13, first_sent=at(0)), replace(pair, last_request=at(50_000))):
             self.assertTrue(other.is_possible(at(60_000), timing))
 
-    def test_they_come_for_as_long_as_a_whole_series_takes(self) -> None:
-        # The first check after 21.5 s is the last one: there are more than nine without a response, and the next is due after 3 s.
+    def test_they_end_after_some_time(self) -> None:
+        # From 2.5 s on the RTO counts, 3 s. A whole series takes 21.5 s, so the check before that is the last one.
         story = Story(settings=MODERN)
-        times = self.due_times(story, 65)
-        self.assertEqual(times, [0, 100, 200, *range(400, 21_751, 350), 24_750])
+        times = self.due_times(story, 16)
+        self.assertEqual(times, [0, 100, 200, *range(400, 2501, 350), *range(5500, 23_501, 3000)])
         story.passes("a", times[-2] + 2999)
         self.assertEqual([p.first_sent for p in story.agents["a"].pairs], [at(0)])
         story.passes("a", times[-1])
@@ -224,10 +224,26 @@ class Early(unittest.TestCase):
         story.session()
 
     def test_the_number_of_stored_checks_does_not_count(self) -> None:
-        pair = Pair(0, 0, 0, 1, (Check(bytes(12), at(5000), False, True),), sent=12, first_sent=at(0))
+        pair = Pair(0, 0, 0, 1, (Check(bytes(12), at(5000), False, True),), sent=12, first_sent=at(4000))
         found = [replace(pair, sent=sent, answers=answers, nomination="attempt").due_at(at(5000), Timing(modern=True))
                  for sent, answers in ((2, 0), (3, 0), (4, 0), (4, 1))]
         self.assertEqual(found, [at(5100), at(5200), at(5350), at(5100)])
+
+    def test_again_after_the_first_request(self) -> None:
+        pair = Pair(0, 0, 0, 1, (Check(bytes(12), at(9000), False, True),), sent=12, first_sent=at(0), requests=1)
+        found = [replace(pair, first_after_request=again).due_at(at(9000), Timing(modern=True))
+                 for again in (None, at(9000), at(6501), at(6500))]
+        self.assertEqual(found, [at(9250), at(9350), at(9350), at(9250)])
+
+    def test_the_first_check_after_a_request_is_noted(self) -> None:
+        story = Story(settings=MODERN)
+        story.timeout("a", 0)
+        self.assertIsNone(story.agents["a"].pairs[0].first_after_request)
+        story.deliver(story.timeout("b", 0), "a", 40)
+        story.passes("a", 60)
+        story.passes("a", 200)
+        self.assertEqual([(p.first_sent, p.first_after_request) for p in story.agents["a"].pairs], [(at(0), at(60))])
+        story.session()
 
 
 class Pacing(unittest.TestCase):
