@@ -25,7 +25,7 @@ fn a_pair_that_is_repeated_early_ends_by_the_clock(rt: HostRuntime) -> Result<()
 /// The address of `PEER`.
 const THERE: At = At(2, 2000);
 
-const EARLY: [Story; 5] = [
+const EARLY: [Story; 6] = [
     Story(
         "delays_double_up_to_the_cap",
         &[
@@ -55,6 +55,38 @@ const EARLY: [Story; 5] = [
             Shows(NextAt(5500)),
             Does(Check(5500)),
             Counts(Count::Checks, 11),
+        ],
+    ),
+    // ten early ones, and then each 3 s for 21.5 s, which a whole series takes
+    Story(
+        "a_pair_without_a_response_is_checked_sixteen_times",
+        &[
+            Begin(Paired),
+            Set(Setting::Profile(Profile::Modern)),
+            Shows(IceTimeout(21_500)),
+            Does(Check(0)),
+            Does(Check(100)),
+            Does(Check(200)),
+            Does(Check(400)),
+            Does(Check(750)),
+            Does(Check(1100)),
+            Does(Check(1450)),
+            Does(Check(1800)),
+            Does(Check(2150)),
+            // the due time is fixed while checks are repeated early
+            Shows(NextAt(2500)),
+            Does(Check(2500)),
+            Does(Check(5500)),
+            Does(Check(8500)),
+            Does(Check(11_500)),
+            Does(Check(14_500)),
+            Does(Check(17_500)),
+            Does(Check(20_500)),
+            Shows(NextAt(23_500)),
+            Does(Timeout(23_500)),
+            Emits(NoPacket),
+            Counts(Count::Checks, 16),
+            Holds(HasPair(PEER, false)),
         ],
     ),
     Story(

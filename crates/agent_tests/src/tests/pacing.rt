@@ -1,4 +1,4 @@
-//! When checks may follow each other: the pacing interval Ta until the agent is settled, and due times that are fixed while something waits.
+//! When checks may follow each other: the pacing interval Ta, which is shorter early on, and due times that are fixed while something waits.
 
 use super::step::Call::*;
 use super::step::Emitted::*;
@@ -39,7 +39,7 @@ const ANOTHER: &str = "candidate:1 1 udp 900 10.0.0.4 2000 typ host";
 
 // ---- the pacing interval (RFC 8445, section 14.2). The default is 50 ms
 
-const PACED: [Story; 7] = [
+const PACED: [Story; 9] = [
     // since more than 60 s have passed, the nominated pair is due before all others
     Story(
         "checks_are_closer_until_the_path_is_nominated",
@@ -75,6 +75,38 @@ const PACED: [Story; 7] = [
             Shows(NextAt(50)),
             Does(CheckTo(50, SECOND, false)),
             Shows(NextAt(100)),
+        ],
+    ),
+    // half a second after the first check of its only pair
+    Story(
+        "checks_are_closer_for_half_a_second",
+        &[
+            Begin(Unpaired),
+            Set(Setting::Profile(Profile::Modern)),
+            Does(Peers(1)),
+            Does(CheckTo(0, FIRST, false)),
+            Does(Timeout(10)),
+            Write(Message::Request(false, false), "nearpass"),
+            Does(Timeout(499)),
+            Emits(Sends),
+            Does(Timeout(500)),
+            Takes(Served(505, FIRST)),
+            Shows(NextAt(550)),
+            // a new candidate begins it again
+            Does(Peers(2)),
+            Shows(NextAt(510)),
+        ],
+    ),
+    // without the peer's credentials no check is sent
+    Story(
+        "an_agent_that_waits_for_credentials_is_paced_as_ever",
+        &[
+            Begin(Early),
+            Set(Setting::Profile(Profile::Modern)),
+            Does(Peers(5)),
+            Does(Timeout(0)),
+            Emits(NoPacket),
+            Shows(NextAt(50)),
         ],
     ),
     // the packet is still queued

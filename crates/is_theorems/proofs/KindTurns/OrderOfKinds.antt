@@ -45,7 +45,7 @@ version-most a = by (is_v4 a) where
 
 pub kind-within : (local : List CandidateRecord) (l r : CandidateRecord) → kind_between local l r < KINDS
 kind-within local l r = sums (if is_outer local l then 0 else 8) (kind_rank (counted_kind r)) (version_rank r.addr) (side-most (is_outer local l)) (rank-most (counted_kind r)) (version-most r.addr) where
-  sums : (a b c : ℕ) → a ≤ 8 → b ≤ 3 → c ≤ 1 → a + 2 * b + c < 16
+  sums : (a b c : ℕ) → a ≤ 8 → b ≤ 3 → c ≤ 1 → a + (2 * b + c) < 16
   sums a b c h k l = omega (arith, h, k, l)
 
 -- ---- turns

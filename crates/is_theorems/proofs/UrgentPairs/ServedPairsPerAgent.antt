@@ -437,7 +437,7 @@ module _ {H P : Type 0} (mac : H → List ℕ → List ℕ → List ℕ) (answer
                     young = lt-from (unanswered_count v.pair.checks) run.1.timing.max_retransmits v.young;
                     lasting = λ valid. never valid;
                   })
-                  (record { rule = search (rule); requested = search (requested); invalid = λ valid. none valid }) more (λ x has. opens x has) (λ x has valid. never valid) (λ x has. silent x has) (let enough = s.enough in omega (arith, enough)))
+                  (record { modern = search (rule); requested = search (requested); invalid = λ valid. none valid }) more (λ x has. opens x has) (λ x has valid. never valid) (λ x has. silent x has) (let enough = s.enough in omega (arith, enough)))
             ] where
               v : Waits by p.number path (answered_at start p) r.now run.1
               v = k.waits
@@ -449,7 +449,7 @@ module _ {H P : Type 0} (mac : H → List ℕ → List ℕ → List ℕ) (answer
               none (q, there, valid, on) = no-case (sym (k.quiet.invalid q there) ∙ valid)
 
               rule : is_modern run.1.timing ≡ true
-              modern = let was : is_modern start.timing ≡ true = search (s.served.modern) in k.rules ∙ was
+              rule = let was : is_modern start.timing ≡ true = search (s.served.modern) in k.rules ∙ was
 
               requested : nat_lt 0 v.pair.requests ≡ true
               requested =
