@@ -5,9 +5,9 @@ use Rattle.is_stun.specs.Message.{Message}
 use Rattle.is_stun.specs.Reading.{Reads, FailsBy}
 use Rattle.is_rules.specs.declared.emitted.Path.{Path}
 use Rattle.is_rules.specs.Accepting.{IsAccepted, IsAcceptedOn}
-use Rattle.is_c.specs.Codes.{BAD_ADDRESS, UNPARSED, found_code}
-use Rattle.is_c.specs.Held.{Held, HomeRecord}
-use Rattle.is_c.specs.Packets.{Mac}
+use Rattle.is_c_calls.specs.Codes.{BAD_ADDRESS, UNPARSED, found_code}
+use Rattle.is_c_calls.specs.Held.{Held, HomeRecord}
+use Rattle.is_c_calls.specs.Packets.{Mac}
 
 -- OK exactly if the bytes encode a message of which P holds, UNPARSED exactly if they encode none
 abbrev pub ReturnsWhether : (Message → Type 0) → List ℕ → ℤ → Type 0

@@ -1,15 +1,17 @@
 //! Which datagrams are for an agent, queried before one is passed in: for example if several agents share a socket.
+ghost use Rattle.std.specs.Prelude.{◌≡◌};
 ghost use Rattle.is_rules.specs.Accepting.{IsAcceptedOn};
 ghost use Rattle.is_agent.specs.View.{record_of};
 ghost use Rattle.is_c.specs.Accepting.{ReturnsWhether, AsksWay, AsksMessage};
-ghost use Rattle.is_c.specs.Held.{held_by, At};
-ghost use Rattle.is_c.specs.Packets.{packet_path};
+ghost use Rattle.is_c.specs.Slots.{held_by};
+ghost use Rattle.is_c_calls.specs.Held.{At};
+ghost use Rattle.is_c_calls.specs.Packets.{packet_path};
 
-use crate::address::Address;
 use crate::codes;
 use crate::home::Home;
 use crate::packets::packet_path;
 use crate::slot::Slot;
+use is_c_calls::Address;
 use is_proto::{DefaultSha1HmacProvider, Sha1HmacProvider};
 use is_rules::emitted::Path;
 use is_stun::stun::{StunMessage, StunPacket};
@@ -42,8 +44,9 @@ pub extern "C" fn is_ice_accepts_packet(
     destination: &Address,
     bytes: &[u8],
 ) -> i32
-    ensures { At (AsksWay ⟦<DefaultSha1HmacProvider as Sha1HmacProvider>⟧.mac (packet_path protocol source.now destination.now) bytes.now)
+    ensures returned { At (AsksWay ⟦<DefaultSha1HmacProvider as Sha1HmacProvider>⟧.mac (packet_path protocol source.now destination.now) bytes.now)
         (held_by slot.old) result (held_by slot.new) }
+    ensures stays { held_by slot.new ≡ held_by slot.old }
 {
     let Some(home) = slot.home() else {
         return codes::NO_AGENT;
@@ -57,7 +60,8 @@ pub extern "C" fn is_ice_accepts_packet(
 /// Whether the message is for this agent, whatever its source. The agent is unchanged.
 #[unsafe(no_mangle)]
 pub extern "C" fn is_ice_accepts_message(alloc: Global, slot: &mut Slot, bytes: &[u8]) -> i32
-    ensures { At (AsksMessage ⟦<DefaultSha1HmacProvider as Sha1HmacProvider>⟧.mac bytes.now) (held_by slot.old) result (held_by slot.new) }
+    ensures returned { At (AsksMessage ⟦<DefaultSha1HmacProvider as Sha1HmacProvider>⟧.mac bytes.now) (held_by slot.old) result (held_by slot.new) }
+    ensures stays { held_by slot.new ≡ held_by slot.old }
 {
     let Some(home) = slot.home() else {
         return codes::NO_AGENT;

@@ -1,7 +1,7 @@
 //! The return codes of the exports.
 
 ghost use Rattle.std.specs.Prelude.{◌≡◌};
-ghost use Rattle.is_c.specs.Codes as code;
+ghost use Rattle.is_c_calls.specs.Codes as code;
 
 use is_proto::IceError;
 

@@ -12,19 +12,16 @@ mod stun;
 mod texts;
 
 use crate::accepting::{is_ice_accepts_message, is_ice_accepts_packet};
-use crate::address::Address;
-use crate::candidate::LocalCandidate;
 use crate::candidates::{NO_INDEX, is_ice_add_local, is_ice_add_remote, is_ice_invalidate};
 use crate::codes;
 use crate::credentials::{
     is_ice_local_pass, is_ice_local_ufrag, is_ice_make_credentials, is_ice_set_remote_credentials,
 };
-use crate::events::{Event, is_ice_poll_event};
+use crate::events::is_ice_poll_event;
 use crate::making::{free, is_ice_agent_new};
 use crate::packets::{
-    Packet, is_ice_handle_packet, is_ice_handle_timeout, is_ice_poll_timeout, is_ice_poll_transmit,
+    is_ice_handle_packet, is_ice_handle_timeout, is_ice_poll_timeout, is_ice_poll_transmit,
 };
-use crate::preference::{KindPreferences, PreferenceTable};
 use crate::questions::{Status, is_ice_has_viable_remote, is_ice_local_candidate, is_ice_status};
 use crate::rejections::{is_ice_candidate_refusal, is_ice_line_refusal};
 use crate::session::is_ice_restart;
@@ -34,6 +31,7 @@ use crate::settings::{
 };
 use crate::slot::Slot;
 use early::{sent_to, takes};
+use is_c_calls::{Address, Event, KindPreferences, LocalCandidate, Packet, PreferenceTable};
 use std::alloc::Global;
 
 const REQUEST: [u8; 100] = [

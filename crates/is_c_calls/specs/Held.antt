@@ -1,13 +1,10 @@
--- What a slot holds, and what the contracts of the exports have in common.
-use Rattle.std.specs.Prelude.{◌≡◌, ℕ, Option, Some, None, option_map, ℤ}
+-- What a slot of C holds, and what the relations of the calls have in common.
+use Rattle.std.specs.Prelude.{◌≡◌, ℕ, Option, Some, None, ℤ}
 use Rattle.is_proto.specs.declared.hmac_provider.DefaultSha1HmacProvider.{DefaultSha1HmacProvider}
-use Rattle.is_proto.specs.Packets.{Packet, packet_of}
+use Rattle.is_proto.specs.Packets.{Packet}
 use Rattle.is_rules.specs.Agent.{AgentRecord}
-use Rattle.is_agent.specs.View.{record_of}
-use Rattle.is_c.specs.Codes.{OK, NO_AGENT}
-use Rattle.is_c.specs.declared.preference.Preference.{Preference}
-use Rattle.is_c.specs.declared.home.Home.{Home}
-use Rattle.is_c.specs.declared.slot.Slot.{Slot}
+use Rattle.is_c_calls.specs.Codes.{OK, NO_AGENT}
+use Rattle.is_c_calls.specs.declared.preference.Preference.{Preference}
 
 abbrev pub Held : Type 0
 Held = AgentRecord DefaultSha1HmacProvider Preference
@@ -17,12 +14,6 @@ pub record HomeRecord : Type 0 where
   pub agent : Held
   pub waiting : Option Packet
   pub max_candidates : ℕ
-
-abbrev pub home_of : Home → HomeRecord
-home_of h = record { agent = record_of h.agent; waiting = option_map packet_of h.waiting; max_candidates = h.max_candidates }
-
-abbrev pub held_by : Slot → Option HomeRecord
-held_by slot = option_map home_of slot.handle.home
 
 -- what an export returns and does: without an agent nothing, and it returns `NO_AGENT`
 abbrev pub At : (HomeRecord → ℤ → HomeRecord → Type 0) → Option HomeRecord → ℤ → Option HomeRecord → Type 0

@@ -8,10 +8,10 @@ use Rattle.is_stun.specs.Timing.{is_modern_profile}
 use Rattle.is_rules.specs.declared.settings.Settings.{Settings}
 use Rattle.is_rules.specs.Settings as rules
 use Rattle.is_rules.specs.Settings.{with_settings}
-use Rattle.is_c.specs.declared.agent_settings.AgentSettings.{AgentSettings}
-use Rattle.is_c.specs.Codes.{OK, BAD_LIMIT}
-use Rattle.is_c.specs.Held.{HomeRecord, Rejects}
-use Rattle.is_c.specs.Limits.{NO_LIMIT, limit_of}
+use Rattle.is_c_calls.specs.declared.agent_settings.AgentSettings.{AgentSettings}
+use Rattle.is_c_calls.specs.Codes.{OK, BAD_LIMIT}
+use Rattle.is_c_calls.specs.Held.{HomeRecord, Rejects}
+use Rattle.is_c_calls.specs.Limits.{NO_LIMIT, limit_of}
 
 abbrev pub profile_of : Bool → Profile
 profile_of true = Modern
