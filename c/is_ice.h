@@ -82,6 +82,14 @@ enum {
     IS_ICE_NOTHING = 1,                /* nothing to return; packet not accepted; candidate not added or not found */
     IS_ICE_OTHER_COMPONENT = 2,        /* the remote candidate was ignored: it is of another component than 1 */
     IS_ICE_OTHER_UFRAG = 3,            /* the remote candidate was ignored: of another username fragment than the peer's */
+    IS_ICE_REJECTED_METHOD = 4,        /* see is_ice_rejection, for this and the codes up to 11 */
+    IS_ICE_REJECTED_CLASS = 5,
+    IS_ICE_REJECTED_LOCAL_UFRAG = 6,
+    IS_ICE_REJECTED_REMOTE_UFRAG = 7,
+    IS_ICE_REJECTED_LOCAL_PASSWORD = 8,
+    IS_ICE_REJECTED_NO_CHECK = 9,
+    IS_ICE_REJECTED_PATH = 10,
+    IS_ICE_REJECTED_REMOTE_PASSWORD = 11,
     IS_ICE_NO_AGENT = -1,              /* the is_ice_agent holds no agent */
     IS_ICE_HAS_AGENT = -2,             /* the is_ice_agent holds one already */
     IS_ICE_NOT_UTF8 = -3,              /* a text is not UTF-8 */
@@ -110,6 +118,14 @@ static inline const char *is_ice_code_text(int32_t code)
     case IS_ICE_NOTHING: return "nothing";
     case IS_ICE_OTHER_COMPONENT: return "candidate of another component";
     case IS_ICE_OTHER_UFRAG: return "candidate of another username fragment";
+    case IS_ICE_REJECTED_METHOD: return "not a Binding message";
+    case IS_ICE_REJECTED_CLASS: return "neither a request nor a response";
+    case IS_ICE_REJECTED_LOCAL_UFRAG: return "request to another username fragment than the agent's";
+    case IS_ICE_REJECTED_REMOTE_UFRAG: return "request from another username fragment than the peer's";
+    case IS_ICE_REJECTED_LOCAL_PASSWORD: return "request signed with another password than the agent's";
+    case IS_ICE_REJECTED_NO_CHECK: return "response to no pending check";
+    case IS_ICE_REJECTED_PATH: return "response on another path than that of its check";
+    case IS_ICE_REJECTED_REMOTE_PASSWORD: return "response signed with another password than the peer's";
     case IS_ICE_NO_AGENT: return "no agent";
     case IS_ICE_HAS_AGENT: return "there is an agent already";
     case IS_ICE_NOT_UTF8: return "text is not UTF-8";
@@ -823,6 +839,28 @@ IS_ICE_CALL int32_t is_ice_handle_packet(
  * IS_ICE_OK: it would. IS_ICE_NOTHING, IS_ICE_UNPARSED: it would not. IS_ICE_BAD_ADDRESS: an unknown family or
  * protocol. */
 IS_ICE_CALL int32_t is_ice_accepts_packet(
+    is_ice_agent *agent, uint8_t protocol, const is_ice_address *source, const is_ice_address *destination,
+    const uint8_t *bytes, size_t length);
+
+/* is_ice_rejection - returns why is_ice_handle_packet would not accept the datagram, and changes nothing: so a program can
+ * say after the first packet that the other agent has a wrong password. Ask before is_ice_handle_packet, with the same
+ * arguments, or after it returned IS_ICE_NOTHING or IS_ICE_UNPARSED. Does not allocate.
+ *
+ * Anybody can send a datagram that is rejected, also one of the other agent again. Show the reason, and end no session for
+ * it. is_ice_code_text describes each code.
+ *
+ * IS_ICE_OK: it would accept it. Else the first of these that applies:
+ * - IS_ICE_BAD_ADDRESS, IS_ICE_UNPARSED: see is_ice_handle_packet.
+ * - IS_ICE_REJECTED_METHOD: the method is not Binding. IS_ICE_REJECTED_CLASS: neither a request nor a response.
+ * - IS_ICE_REJECTED_LOCAL_UFRAG: a request whose USERNAME does not begin with the local username fragment. It is for
+ *   another agent, or from before an ICE restart.
+ * - IS_ICE_REJECTED_REMOTE_UFRAG: a request whose USERNAME does not end with the other agent's username fragment. That
+ *   agent has new credentials, or it is a third one.
+ * - IS_ICE_REJECTED_LOCAL_PASSWORD: a request that is not signed with the local password: the other agent has a wrong one.
+ * - IS_ICE_REJECTED_NO_CHECK: a response to no pending transaction, as one from before an ICE restart.
+ * - IS_ICE_REJECTED_PATH: a response that was not received on the reverse of its check's path.
+ * - IS_ICE_REJECTED_REMOTE_PASSWORD: a response that is not signed with the other agent's password. */
+IS_ICE_CALL int32_t is_ice_rejection(
     is_ice_agent *agent, uint8_t protocol, const is_ice_address *source, const is_ice_address *destination,
     const uint8_t *bytes, size_t length);
 

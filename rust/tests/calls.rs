@@ -2,9 +2,9 @@
 
 mod world;
 
-use is::stun::{StunMessage, StunPacket};
+use is::stun::{StunMessage, StunMessageBuilder, StunPacket, TransId};
 use is::{CallError, Candidate, CandidateKind, CheckState, Consent, IceAgent, IceAgentEvent, IceConnectionState, IceCreds};
-use is::{IceError, KindPreferences, LocalPreference, PreferenceTable, Profile, Protocol, Settings, StunError, TcpType};
+use is::{IceError, KindPreferences, LocalPreference, PreferenceTable, Profile, Protocol, Rejection, Settings, StunError, TcpType};
 use std::time::{Duration, Instant};
 use world::{at, creds, host, ms};
 
@@ -64,9 +64,27 @@ fn a_forged_request_changes_nothing() {
     let (mut agent, mut bytes) = (addressed(), unhex(REQUEST));
     bytes[67] ^= 1;
     assert!(!agent.accepts_message(&StunMessage::parse(&bytes).unwrap()) && !agent.accepts_packet(&from_peer(&bytes)));
+    assert_eq!(agent.rejection(&from_peer(&bytes)), Some(Rejection::LocalPassword));
     assert!(!agent.handle_packet(Instant::now(), from_peer(&bytes)));
     assert_eq!((agent.poll_transmit(), agent.poll_event()), (None, None));
     assert_eq!(agent.stats(), Default::default());
+}
+
+#[test]
+fn a_rejected_packet_has_a_reason() {
+    let (mut agent, bytes) = (addressed(), unhex(REQUEST));
+    assert_eq!(agent.rejection(&from_peer(&bytes)), None);
+    let other = IceAgent::new(creds("near"));
+    assert_eq!(other.rejection(&from_peer(&bytes)), Some(Rejection::LocalUfrag));
+    agent.set_remote_credentials(creds("farr"));
+    let why = agent.rejection(&from_peer(&bytes)).expect("a reason");
+    assert_eq!((why, why.to_string().as_str()), (Rejection::RemoteUfrag, "request from another username fragment than the peer's"));
+    agent.set_local_credentials(IceCreds { ufrag: "p9KA".to_owned(), pass: "wrong".to_owned() });
+    agent.set_remote_credentials(creds("SQAt"));
+    assert_eq!(agent.rejection(&from_peer(&bytes)), Some(Rejection::LocalPassword));
+    let mut packet = from_peer(&bytes);
+    packet.message = StunMessageBuilder::new().binding().success().build(TransId([7; 12]));
+    assert_eq!(agent.rejection(&packet), Some(Rejection::Unparsed));
 }
 
 #[test]

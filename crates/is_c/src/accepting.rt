@@ -1,7 +1,8 @@
-//! Which datagrams are for an agent, queried before one is passed in: for example if several agents share a socket.
+//! Which datagrams are for an agent, and why one is not: queried before one is passed in, for example if several agents share
+//! a socket.
 ghost use Rattle.is_rules.specs.Accepting.{IsAcceptedOn};
 ghost use Rattle.is_agent.specs.View.{record_of};
-ghost use Rattle.is_c.specs.Accepting.{ReturnsWhether, AsksWay, AsksMessage};
+ghost use Rattle.is_c.specs.Accepting.{ReturnsWhether, AsksWay, AsksMessage, ReturnsReason, AsksReason};
 ghost use Rattle.is_c.specs.Held.{held_by, At};
 ghost use Rattle.is_c.specs.Packets.{packet_path};
 
@@ -65,5 +66,44 @@ pub extern "C" fn is_ice_accepts_message(alloc: Global, slot: &mut Slot, bytes: 
     match StunMessage::parse(bytes) {
         Ok(message) => codes::found_code(home.agent.accepts_message(&message)),
         Err(_) => codes::UNPARSED,
+    }
+}
+
+fn bytes_rejection(home: &Home, path: Path, bytes: &[u8]) -> i32
+    ensures { ReturnsReason ⟦<DefaultSha1HmacProvider as Sha1HmacProvider>⟧.mac (record_of home.now.agent) path bytes.now result }
+{
+    match StunMessage::parse(bytes) {
+        Ok(message) => {
+            let packet = StunPacket {
+                proto: path.proto,
+                source: path.source,
+                destination: path.destination,
+                message,
+            };
+            codes::rejection_code(home.agent.rejection(&packet))
+        }
+        Err(_) => codes::UNPARSED,
+    }
+}
+
+/// Why `is_ice_handle_packet` would not accept the datagram. The agent is unchanged.
+#[unsafe(no_mangle)]
+pub extern "C" fn is_ice_rejection(
+    alloc: Global,
+    slot: &mut Slot,
+    protocol: u8,
+    source: &Address,
+    destination: &Address,
+    bytes: &[u8],
+) -> i32
+    ensures { At (AsksReason ⟦<DefaultSha1HmacProvider as Sha1HmacProvider>⟧.mac (packet_path protocol source.now destination.now) bytes.now)
+        (held_by slot.old) result (held_by slot.new) }
+{
+    let Some(home) = slot.home() else {
+        return codes::NO_AGENT;
+    };
+    match packet_path(protocol, source, destination) {
+        Some(path) => bytes_rejection(home, path, bytes),
+        None => codes::BAD_ADDRESS,
     }
 }
