@@ -1,2 +1,3 @@
 -- What a datagram says to a client, and what it changes.
 mod Answers
+mod Receiving

@@ -7,3 +7,11 @@ pub mod Verdict
 pub mod Incoming
 pub mod Client
 pub mod Response
+pub mod Attempts
+pub mod Operations
+pub mod Tried
+pub mod Session
+pub mod Alternate
+pub mod Outcome
+pub mod Turn
+pub mod Receiving
