@@ -1,5 +1,5 @@
 -- The transaction IDs under which a request was sent.
-use Rattle.std.specs.Prelude.{Bool, true, false, bytes_eq, Option, Some, None, if◌then◌else◌}
+use Rattle.std.specs.Prelude.{Bool, false, bytes_eq, Option, Some, None, if◌then◌else◌}
 use Rattle.is_stun.specs.declared.trans_id.TransId.{TransId}
 use Rattle.is_turn.specs.declared.attempts.Attempt.{Attempt}
 use Rattle.is_turn.specs.declared.attempts.Attempts.{Attempts}

@@ -13,5 +13,10 @@ pub mod Tried
 pub mod Session
 pub mod Alternate
 pub mod Outcome
+pub mod Receipts
 pub mod Turn
+pub mod Leases
+pub mod Places
+pub mod Relaying
+pub mod LeaseResponses
 pub mod Receiving

@@ -1,5 +1,5 @@
 -- A request of a TURN client with its repetitions: what is kept of it, and what happens to it (RFC 8489, sections 6.2.1 and 9.2.5).
-use Rattle.std.specs.Prelude.{ℕ, ◌+◌, not, ◌&&◌, ◌||◌, ◌==◌, Bool, true, false, min, nat_le, nat_lt, Option, Some, None, if◌then◌else◌}
+use Rattle.std.specs.Prelude.{ℕ, ◌+◌, not, ◌&&◌, ◌||◌, ◌==◌, Bool, true, false, min, nat_le, nat_lt, Some, None, if◌then◌else◌}
 use Rattle.is_proto.specs.Times.{later}
 use Rattle.is_proto.specs.declared.proto.Instant.{Instant}
 use Rattle.is_stun.specs.declared.trans_id.TransId.{TransId}

@@ -1,5 +1,5 @@
 -- What a response does to a TURN client (RFC 8489, section 9.2.5; RFC 8656, sections 7 and 8).
-use Rattle.std.specs.Prelude.{ℕ, not, ◌&&◌, ◌||◌, ◌==◌, Bool, true, false, List, is_some, Option, Some, None, if◌then◌else◌}
+use Rattle.std.specs.Prelude.{ℕ, not, ◌&&◌, ◌==◌, Bool, true, false, List, is_some, Option, Some, None, if◌then◌else◌}
 use Rattle.std.specs.declared.net.socket_addr.SocketAddr.{SocketAddr}
 use Rattle.is_stun.specs.declared.header.Method.{Method}
 use Rattle.is_stun.specs.declared.header.Method.TheVariants as methods
@@ -8,7 +8,7 @@ use Rattle.is_stun.specs.Message.{Message}
 use Rattle.is_turn.specs.declared.attempts.Attempt.{Attempt}
 use Rattle.is_turn.specs.declared.operation.Operation.{Operation}
 use Rattle.is_turn.specs.declared.outcome.Outcome.{Outcome}
-use Rattle.is_turn.specs.declared.outcome.Outcome.TheVariants.{Dropped, Doubted, Hinted, Challenged, Allocated, Refreshed, Redirected, Failed}
+use Rattle.is_turn.specs.declared.outcome.Outcome.TheVariants.{Dropped, Doubted, Hinted, Challenged, Allocated, Refreshed, Lasting, Redirected, Failed}
 use Rattle.is_turn.specs.declared.outcome.Reason.TheVariants as reasons
 use Rattle.is_turn.specs.declared.requests.Request.{Request}
 use Rattle.is_turn.specs.declared.requests.Request.TheVariants as requests
@@ -83,7 +83,8 @@ on_refreshed a m = Refreshed a.since (seconds_or_none m.attributes.lifetime)
 abbrev pub on_success : Request → Attempt → Message → Outcome
 on_success (requests.Allocate seconds family) a m = on_allocated a m
 on_success (requests.Refresh seconds) a m = on_refreshed a m
-on_success _ a m = Dropped reasons.Unasked
+on_success (requests.CreatePermission peer) a m = Lasting a.since
+on_success (requests.ChannelBind number peer) a m = Lasting a.since
 
 abbrev pub on_code : Phase → Request → Attempt → Message → Option SocketAddr → Option ℕ → Outcome
 on_code phase r a m alternate None = on_success r a m

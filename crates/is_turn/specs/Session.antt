@@ -1,9 +1,11 @@
 -- What a TURN client knows of its allocation, and what calls, responses and the clock do to it (RFC 8656, sections 6 to 8).
 use Rattle.std.specs.Prelude.{List, ℕ, ◌*◌, ◌-◌, ◌/◌, ◌&&◌, ◌||◌, ◌==◌, not, Bool, true, false, min, max, nat_le, nat_lt, is_some, is_none, Option, Some, None, if◌then◌else◌}
 use Rattle.std.specs.declared.net.socket_addr.SocketAddr.{SocketAddr}
+use Rattle.std.specs.declared.net.socket_addr.SocketAddr.TheVariants.{V4, V6}
 use Rattle.is_proto.specs.Times.{MILLISECOND, SECOND}
 use Rattle.is_proto.specs.declared.proto.Instant.{Instant}
 use Rattle.is_stun.specs.declared.requested.AddressFamily.{AddressFamily}
+use Rattle.is_stun.specs.declared.requested.AddressFamily.TheVariants.{Ipv6}
 use Rattle.is_stun.specs.declared.trans_id.TransId.{TransId}
 use Rattle.is_turn.specs.declared.attempts.Attempt.{Attempt}
 use Rattle.is_turn.specs.declared.operation.Operation.{Operation}
@@ -220,6 +222,40 @@ failed_in _ now code s = not_allocated code s
 -- an error response with this code, or no response
 abbrev pub has_failed : Instant → Option ℕ → Session → Session
 has_failed now code s = failed_in s.phase now code s
+
+-- ---- leases
+
+abbrev pub is_v6 : SocketAddr → Bool
+is_v6 (V4 a) = false
+is_v6 (V6 a) = true
+
+abbrev pub is_v6_family : Option AddressFamily → Bool
+is_v6_family (Some Ipv6) = true
+is_v6_family _ = false
+
+abbrev pub takes_permissions : Phase → Bool
+takes_permissions Asking = true
+takes_permissions Ready = true
+takes_permissions _ = false
+
+-- there is an allocation, or one is requested, and the peer has its IP version
+abbrev pub may_permit : SocketAddr → Session → Bool
+may_permit peer s = takes_permissions s.phase && (if is_v6_family s.family then is_v6 peer else not (is_v6 peer))
+
+-- the server is asked whether it has the allocation
+abbrev pub probed : Instant → Session → Session
+probed now s = if is_ready s.phase && is_none s.operation then with_request now (Refresh s.lifetime) s else s
+
+-- An error response to the request for a lease. Some servers without an allocation return 400 to it, and 437 only to a Refresh.
+abbrev pub lease_failed : Instant → ℕ → Session → Session
+lease_failed now code s =
+    if is_gone (Some code) then lost (Some code) None s
+    else if code == 403 || code == 443 then s
+    else probed now s
+
+-- a keep-alive is due later: something is sent
+abbrev pub quiet_after : Instant → Session → Session
+quiet_after now s = record s { quiet = time_after now s.timing.keep_alive.0 }
 
 -- ---- the clock
 

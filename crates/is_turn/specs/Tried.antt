@@ -1,5 +1,5 @@
 -- The servers to which a client sent Allocate requests (RFC 8489, section 10).
-use Rattle.std.specs.Prelude.{◌≡◌, ◌⊎◌, Bool, is_some, Option, Some, None}
+use Rattle.std.specs.Prelude.{◌≡◌, ◌⊎◌, Bool, is_some, Some, None}
 use Rattle.std.specs.declared.net.socket_addr.SocketAddr.{SocketAddr}
 use Rattle.is_turn.specs.declared.tried.Tried.{Tried}
 

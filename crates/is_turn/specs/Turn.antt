@@ -1,5 +1,5 @@
 -- A TURN client: its session and its credentials, and what each call does to them.
-use Rattle.std.specs.Prelude.{◌≡◌, ℕ, ◌||◌, ◌⊎◌, Bool, true, false, List, [], length, is_some, nat_lt, Option, Some, None, option_map, Result, Ok, Err, if◌then◌else◌}
+use Rattle.std.specs.Prelude.{◌≡◌, ℕ, ◌⊎◌, Bool, true, false, List, length, Option, Some, None, option_map, Result, Ok, Err, if◌then◌else◌}
 use Rattle.std.specs.declared.net.socket_addr.SocketAddr.{SocketAddr}
 use Rattle.rand_core.specs.Stream.{Stream, fill_bytes}
 use Rattle.is_proto.specs.declared.error.StunError.{StunError}
@@ -12,7 +12,7 @@ use Rattle.is_stun.specs.Message.{Message, no_attributes}
 use Rattle.is_stun.specs.Writing.{rejection, rows_rejection, written, written_rows, WritesOr}
 use Rattle.is_turn.specs.declared.operation.Operation.{Operation}
 use Rattle.is_turn.specs.declared.outcome.Outcome.{Outcome}
-use Rattle.is_turn.specs.declared.outcome.Outcome.TheVariants.{Dropped, Doubted, Hinted, Challenged, Allocated, Refreshed, Redirected, Failed}
+use Rattle.is_turn.specs.declared.outcome.Outcome.TheVariants.{Dropped, Doubted, Hinted, Challenged, Allocated, Refreshed, Lasting, Redirected, Failed}
 use Rattle.is_turn.specs.declared.outcome.Reason.TheVariants as reasons
 use Rattle.is_turn.specs.declared.requests.Request.{Request}
 use Rattle.is_turn.specs.declared.session.Allocation.{Allocation}
@@ -26,14 +26,13 @@ use Rattle.is_turn.specs.declared.turn.Packet.{Packet}
 use Rattle.is_turn.specs.declared.turn.Packet.TheVariants as packets
 use Rattle.is_turn.specs.declared.turn.TurnEvent.{TurnEvent}
 use Rattle.is_turn.specs.declared.turn.TurnEvent.TheVariants as events
-use Rattle.is_turn.specs.declared.turn.TurnReceived.{TurnReceived}
-use Rattle.is_turn.specs.declared.turn.TurnReceived.TheVariants as results
 use Rattle.is_turn.specs.declared.attempts.Attempt.{Attempt}
 use Rattle.is_turn.specs.declared.credentials.Credentials.{Credentials as RawCredentials}
 use Rattle.is_turn.specs.Credentials.{Credentials, credentials_of, challenged, forgotten, without_challenge}
 use Rattle.is_turn.specs.Operations.{polled, hinted, doubted, another}
+use Rattle.is_turn.specs.Receipts.{Receipt, own, dropped}
 use Rattle.is_turn.specs.Requests.{type_of, signer_of, key_of, request_rows}
-use Rattle.is_turn.specs.Session.{changed_by, is_allocated, is_refreshed, is_redirected, has_failed, request_timing, step_of, with_renewal, tried_with, repeated_at, kept_alive, lapsed}
+use Rattle.is_turn.specs.Session.{changed_by, is_allocated, is_refreshed, is_redirected, has_failed, request_timing, tried_with, repeated_at, kept_alive, lapsed}
 use Rattle.is_turn.specs.Tried.{HasTried, is_full}
 
 -- ---- credentials
@@ -78,12 +77,6 @@ after_step steps.Repeat now key stream s = (repeated_at now s, stream)
 after_step steps.TimeOut now key stream s = (has_failed now None s, stream)
 after_step steps.KeepAlive now key stream s = alive_by_drawn now (fill_bytes 12 stream) s
 
-abbrev pub after_step_due : Instant → Option (List ℕ) → Stream → Session → Session × Stream
-after_step_due now key stream s = after_step (step_of now s) now key stream s
-
-abbrev pub after_turn_timeout : Instant → Option (List ℕ) → Stream → Session → Session × Stream
-after_turn_timeout now key stream s = after_step_due now key stream (with_renewal now s)
-
 -- ---- packets and events
 
 -- a Binding indication without attributes (RFC 8656, section 5)
@@ -116,14 +109,18 @@ PollsPacket (packets.Request r id) mac c old (Ok (Some n)) new =
 PollsPacket (packets.Request r id) mac c old (Err e) new =
     WritesOr (Err e) old new (rows_rejection (key_now c) (length old) (request_rows id.0 r (signer_of c)))
     (written_rows mac (key_now c) (type_of r) id.0 (request_rows id.0 r (signer_of c)))
+PollsPacket (packets.Lease place r id) mac c old (Ok None) new = ⊥
+PollsPacket (packets.Lease place r id) mac c old (Ok (Some n)) new =
+    WritesOr (Ok n) old new (rows_rejection (key_now c) (length old) (request_rows id.0 r (signer_of c)))
+    (written_rows mac (key_now c) (type_of r) id.0 (request_rows id.0 r (signer_of c)))
+PollsPacket (packets.Lease place r id) mac c old (Err e) new =
+    WritesOr (Err e) old new (rows_rejection (key_now c) (length old) (request_rows id.0 r (signer_of c)))
+    (written_rows mac (key_now c) (type_of r) id.0 (request_rows id.0 r (signer_of c)))
 PollsPacket (packets.KeepAlive id) mac c old (Ok None) new = ⊥
 PollsPacket (packets.KeepAlive id) mac c old (Ok (Some n)) new =
     WritesOr (Ok n) old new (rejection None (length old) (alive_message id)) (written mac None (alive_message id))
 PollsPacket (packets.KeepAlive id) mac c old (Err e) new =
     WritesOr (Err e) old new (rejection None (length old) (alive_message id)) (written mac None (alive_message id))
-
-abbrev pub PollsTurn : (List ℕ → List ℕ → List ℕ) → Option Credentials → Session → List ℕ → Result (Option ℕ) StunError → List ℕ → Type 0
-PollsTurn mac c s old result new = PollsPacket (packet_due s) mac c old result new
 
 abbrev pub request_polled : Session → Session
 request_polled s = changed_by polled s.operation s
@@ -132,11 +129,7 @@ abbrev pub packet_polled : Packet → Session → Session
 packet_polled packets.Nothing s = s
 packet_polled (packets.Request r id) s = request_polled s
 packet_polled (packets.KeepAlive id) s = record s { alive = None }
-
--- what was polled is polled once; after an error nothing is changed
-abbrev pub after_poll : Result (Option ℕ) StunError → Session → Session
-after_poll (Ok (Some n)) s = packet_polled (packet_due s) s
-after_poll _ s = s
+packet_polled (packets.Lease place r id) s = s
 
 abbrev pub ended_event : Option Ending → Option TurnEvent
 ended_event ending = option_map events.Ended ending
@@ -178,33 +171,34 @@ Follows now server s new =
     (IsFollowed server s × (new ≡ is_redirected now server s)) ⊎ (IsNotFollowed server s × (new ≡ has_failed now (Some 300) s))
 
 -- the REALM and the NONCE are taken and another attempt is due, or only the code is kept
-abbrev pub IsChallengedBy : Instant → Bool → ℕ → Session → Option Credentials × Bool → TurnReceived → Session → Option Credentials → Type 0
+abbrev pub IsChallengedBy : Instant → Bool → ℕ → Session → Option Credentials × Bool → Receipt → Session → Option Credentials → Type 0
 IsChallengedBy now is_signed code s taken result new c_new =
-    (result ≡ (if taken.1 then results.Own else results.Dropped reasons.Challenge))
+    (result ≡ (if taken.1 then own else dropped reasons.Challenge))
     × (new ≡ (if taken.1 then with_another now is_signed code s else with_doubt code s))
     × (c_new ≡ taken.0)
 
 abbrev pub IsChallenged : Instant → Bool → ℕ → Option (List ℕ) → Option (List ℕ) → Session → Option Credentials
-    → TurnReceived → Session → Option Credentials → Type 0
+    → Receipt → Session → Option Credentials → Type 0
 IsChallenged now is_signed code realm nonce s c result new c_new =
     IsChallengedBy now is_signed code s (challenge_taken realm nonce c) result new c_new
 
 -- a genuine response: the server has shown that it knows the password
-abbrev pub IsTaken : Session → Option Credentials → TurnReceived → Session → Option Credentials → Type 0
-IsTaken after c result new c_new = (result ≡ results.Own) × (new ≡ after) × (c_new ≡ kept_credentials after (option_map forgotten c))
+abbrev pub IsTaken : Session → Option Credentials → Receipt → Session → Option Credentials → Type 0
+IsTaken after c result new c_new = (result ≡ own) × (new ≡ after) × (c_new ≡ kept_credentials after (option_map forgotten c))
 
 -- what each outcome does to the session and the credentials, given the REALM and the NONCE of the response
 abbrev pub OutcomeApplies : Instant → Outcome → Option (List ℕ) → Option (List ℕ) → Session → Option Credentials
-    → TurnReceived → Session → Option Credentials → Type 0
-OutcomeApplies now (Dropped reason) realm nonce s c result new c_new = (result ≡ results.Dropped reason) × (new ≡ s) × (c_new ≡ c)
+    → Receipt → Session → Option Credentials → Type 0
+OutcomeApplies now (Dropped reason) realm nonce s c result new c_new = (result ≡ dropped reason) × (new ≡ s) × (c_new ≡ c)
 OutcomeApplies now (Doubted code) realm nonce s c result new c_new =
-    (result ≡ results.Dropped reasons.Unauthentic) × (new ≡ with_doubt code s) × (c_new ≡ c)
-OutcomeApplies now (Hinted code) realm nonce s c result new c_new = (result ≡ results.Own) × (new ≡ with_hint now code s) × (c_new ≡ c)
+    (result ≡ dropped reasons.Unauthentic) × (new ≡ with_doubt code s) × (c_new ≡ c)
+OutcomeApplies now (Hinted code) realm nonce s c result new c_new = (result ≡ own) × (new ≡ with_hint now code s) × (c_new ≡ c)
 OutcomeApplies now (Challenged is_signed code) realm nonce s c result new c_new =
     IsChallenged now is_signed code realm nonce s c result new c_new
 OutcomeApplies now (Allocated since seconds allocation) realm nonce s c result new c_new =
-    (result ≡ results.Own) × (new ≡ is_allocated now since seconds allocation s) × (c_new ≡ option_map forgotten c)
+    (result ≡ own) × (new ≡ is_allocated now since seconds allocation s) × (c_new ≡ option_map forgotten c)
 OutcomeApplies now (Refreshed since seconds) realm nonce s c result new c_new = IsTaken (is_refreshed since seconds s) c result new c_new
+OutcomeApplies now (Lasting since) realm nonce s c result new c_new = (result ≡ dropped reasons.Unasked) × (new ≡ s) × (c_new ≡ c)
 OutcomeApplies now (Redirected server) realm nonce s c result new c_new =
-    (result ≡ results.Own) × Follows now server s new × (c_new ≡ kept_credentials new (option_map without_challenge c))
+    (result ≡ own) × Follows now server s new × (c_new ≡ kept_credentials new (option_map without_challenge c))
 OutcomeApplies now (Failed code) realm nonce s c result new c_new = IsTaken (has_failed now (Some code) s) c result new c_new

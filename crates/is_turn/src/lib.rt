@@ -1,18 +1,26 @@
 //! Clients of STUN and TURN servers, without I/O (RFC 8489, RFC 8656): a whole STUN client, which finds the address at which a server sees
-//! a socket, and keeps the mapping of the NATs between them alive; and a TURN client up to its allocation.
+//! a socket, and keeps the mapping of the NATs between them alive; and a TURN client, with permissions and channels.
 #![tactic(auto)]
 
 mod alternate;
 mod answer;
 mod attempts;
+mod channel_data;
 mod client;
+mod clock;
 mod credentials;
+mod datagrams;
 mod incoming;
+mod lease;
+mod lease_requests;
 mod octets;
 mod operation;
 mod outcome;
+mod places;
+mod relaying;
 mod requests;
 mod session;
+mod steps;
 mod timing;
 mod tried;
 mod turn;

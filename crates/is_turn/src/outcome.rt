@@ -5,7 +5,8 @@ ghost use Rattle.std.specs.Option.{option_copied, option_map};
 ghost use Rattle.is_stun.specs.MessageView.{message_view};
 ghost use Rattle.is_turn.specs.Credentials.{credentials_of};
 ghost use Rattle.is_turn.specs.Verdict.{IsSignedFor};
-ghost use Rattle.is_turn.specs.Outcome.{answers_request, answered_in, key_in, key_answered, code_or_success, on_challenge, on_alternate, on_allocated, on_refreshed, on_success, on_genuine, is_unknown, is_last_sent, outcome_by, outcome_in, outcome_on, outcome_for};
+ghost use Rattle.is_turn.specs.Outcome.{answers_request, answered_in, key_in, key_answered, code_or_success, on_challenge, on_alternate, on_allocated, on_refreshed, on_success, on_genuine, is_unknown, is_last_sent, outcome_by, outcome_in, outcome_on, outcome_with, outcome_for};
+ghost use Rattle.is_turn.specs.Outcome.{answered_by};
 
 use crate::attempts::Attempt;
 use crate::credentials::Credentials;
@@ -30,6 +31,8 @@ pub enum Reason {
     Unauthentic,
     /// A challenge beyond the limits, or one that forbids to go on (RFC 8489, section 9.2.5).
     Challenge,
+    /// Data of a peer that is not permitted, or of no channel.
+    NotPermitted,
 }
 
 /// What a response does.
@@ -47,6 +50,8 @@ pub(crate) enum Outcome {
     Allocated(Instant, u32, Allocation),
     /// The server has the allocation: since when, for how many seconds.
     Refreshed(Instant, u32),
+    /// The server has the permission or the channel: since when.
+    Lasting(Instant),
     /// Another server is to be asked.
     Redirected(SocketAddr),
     /// An error response with this code.
@@ -66,7 +71,7 @@ fn answers_request(request: &Request, method: Method) -> bool
 }
 
 /// Returns the attempt that a message answers: by its method and transaction ID.
-fn answered_in(operation: &Operation, message: &StunMessage<'_>) -> Option<Attempt>
+pub(crate) fn answered_in(operation: &Operation, message: &StunMessage<'_>) -> Option<Attempt>
     ensures { result ≡ answered_in (message_view message.now) operation.now }
 {
     if answers_request(&operation.request, message.method()) {
@@ -144,7 +149,9 @@ fn on_success(request: &Request, attempt: &Attempt, message: &StunMessage<'_>) -
     match request {
         Request::Allocate(_, _) => on_allocated(attempt, message),
         Request::Refresh(_) => on_refreshed(attempt, message),
-        _ => Outcome::Dropped(Reason::Unasked),
+        Request::CreatePermission(_) | Request::ChannelBind(_, _) => {
+            Outcome::Lasting(attempt.since)
+        }
     }
 }
 
@@ -257,6 +264,25 @@ fn outcome_on<H: Sha1HmacProvider>(
     }
 }
 
+/// Decides what a success or error response does to a request, if there is one.
+pub(crate) fn outcome_with<H: Sha1HmacProvider>(
+    phase: Phase,
+    operation: &Option<Operation>,
+    credentials: Option<&Credentials>,
+    message: &StunMessage<'_>,
+    alternate: Option<SocketAddr>,
+    provider: &H,
+) -> Outcome
+    ensures { (is_signed : Bool)
+        × (IsTrue is_signed ↔ IsSignedFor (H.mac provider.now) (message_view message.now) (key_in (answered_by (message_view message.now) operation.now)))
+        × (result ≡ outcome_with is_signed phase (option_map credentials_of (option_copied credentials.entry)) (message_view message.now) alternate operation.now) }
+{
+    match operation {
+        Some(operation) => outcome_on(phase, operation, credentials, message, alternate, provider),
+        None => Outcome::Dropped(Reason::Unasked),
+    }
+}
+
 /// Decides what a success or error response does to a client.
 pub(crate) fn outcome_for<H: Sha1HmacProvider>(
     session: &Session,
@@ -269,15 +295,12 @@ pub(crate) fn outcome_for<H: Sha1HmacProvider>(
         × (IsTrue is_signed ↔ IsSignedFor (H.mac provider.now) (message_view message.now) (key_answered (message_view message.now) session.now))
         × (result ≡ outcome_for is_signed session.now (option_map credentials_of (option_copied credentials.entry)) (message_view message.now) alternate) }
 {
-    match &session.operation {
-        Some(operation) => outcome_on(
-            session.phase,
-            operation,
-            credentials,
-            message,
-            alternate,
-            provider,
-        ),
-        None => Outcome::Dropped(Reason::Unasked),
-    }
+    outcome_with(
+        session.phase,
+        &session.operation,
+        credentials,
+        message,
+        alternate,
+        provider,
+    )
 }

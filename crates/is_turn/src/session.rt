@@ -3,10 +3,8 @@
 ghost use Rattle.std.specs.Prelude.{◌≡◌};
 ghost use Rattle.is_turn.specs.Session.{new_session, request_timing, with_request, allocate, turn_started, ended, freed, may_be_made, turn_closed, left};
 ghost use Rattle.is_turn.specs.Session.{extended, is_allocated, is_refreshed, is_redirected, doubt_of, unverified, not_allocated, has_failed, not_renewed};
-ghost use Rattle.is_turn.specs.Session.{with_renewal, due_of, keep_alive_due, step_of, tried_with, repeated_at, sending, kept_alive, lapsed};
-ghost use Rattle.is_turn.specs.Session.{next_turn_time, with_end, paced_at, earlier};
+ghost use Rattle.is_turn.specs.Session.{probed, lease_failed, quiet_after, is_v6, is_v6_family, may_permit};
 
-use crate::attempts::Attempt;
 use crate::operation::Operation;
 use crate::requests::Request;
 use crate::timing::ClientTiming;
@@ -20,9 +18,6 @@ const LEAD: u64 = 120_000_000_000;
 
 /// After a renewal that failed.
 const RETRY: Duration = Duration(10_000_000_000);
-
-/// Between two packets of a client (RFC 8445, section 14.2).
-const PACE: Duration = Duration(5_000_000);
 
 /// The longest lifetime that counts, in seconds.
 const LONGEST_LIFETIME: u32 = 3600;
@@ -166,7 +161,7 @@ impl Session {
     }
 
     /// Begins a request.
-    fn begin(&mut self, now: Instant, request: Request)
+    pub(crate) fn begin(&mut self, now: Instant, request: Request)
         ensures { self.new ≡ with_request now request self.old }
     {
         self.operation = Some(Operation::new(request, now));
@@ -383,155 +378,72 @@ impl Session {
         }
     }
 
-    // ---- the clock
+    // ---- leases
 
-    /// Begins the renewal that is due.
-    fn renew_if_due(&mut self, now: Instant)
-        ensures { self.new ≡ with_renewal now self.old }
+    /// Whether the relayed address is to have the version 6.
+    fn is_v6_family(&self) -> bool
+        ensures { result ≡ is_v6_family self.now.family }
     {
-        if self.phase == Phase::Ready && self.operation.is_none() && self.renew <= now {
+        match self.family {
+            Some(AddressFamily::Ipv6) => true,
+            _ => false,
+        }
+    }
+
+    /// Whether permissions are taken: there is an allocation, or one is requested, and the peer has its IP version.
+    pub(crate) fn may_permit(&self, peer: SocketAddr) -> bool
+        ensures { result ≡ may_permit peer self.now }
+    {
+        match self.phase {
+            Phase::Asking | Phase::Ready => {
+                if self.is_v6_family() {
+                    is_v6(peer)
+                } else {
+                    !is_v6(peer)
+                }
+            }
+            _ => false,
+        }
+    }
+
+    /// Asks the server whether it has the allocation.
+    pub(crate) fn probe(&mut self, now: Instant)
+        ensures { self.new ≡ probed now self.old }
+    {
+        if self.phase == Phase::Ready && self.operation.is_none() {
             self.begin(now, Request::Refresh(self.lifetime));
         }
     }
 
-    /// What the pending request has due.
-    fn due_of(&self, now: Instant, operation: &Operation) -> Step
-        ensures { result ≡ due_of now self.now operation.now }
+    /// An error response to the request for a lease: 437 and 441 say that there is no allocation of ours. At others but 403 and 443 the
+    /// server is asked: some return 400 if they have no allocation.
+    pub(crate) fn lease_failed(&mut self, now: Instant, code: u16)
+        ensures { self.new ≡ lease_failed now code self.old }
     {
-        if now < operation.due {
-            self.keep_alive_due(now)
-        } else if operation.is_fresh {
-            Step::Attempt
-        } else if operation.is_exhausted(&self.request_timing()) {
-            Step::TimeOut
-        } else {
-            Step::Repeat
+        if code == 437 || code == 441 {
+            self.end(Ending {
+                why: Why::Lost,
+                code: Some(code),
+                unverified: None,
+            });
+        } else if code != 403 && code != 443 {
+            self.probe(now);
         }
     }
 
-    fn keep_alive_due(&self, now: Instant) -> Step
-        ensures { result ≡ keep_alive_due now self.now }
+    /// Data is sent: a keep-alive is due later.
+    pub(crate) fn is_sending_data(&mut self, now: Instant)
+        ensures { self.new ≡ quiet_after now self.old }
     {
-        if self.phase == Phase::Ready && self.quiet <= now {
-            Step::KeepAlive
-        } else {
-            Step::Nothing
-        }
-    }
-
-    /// What the time makes due.
-    fn step(&self, now: Instant) -> Step
-        ensures { result ≡ step_of now self.now }
-    {
-        if self.phase == Phase::Ready && self.until <= now {
-            return Step::Lapse;
-        }
-        if now < self.paced {
-            return Step::Nothing;
-        }
-        match &self.operation {
-            Some(operation) => self.due_of(now, operation),
-            None => self.keep_alive_due(now),
-        }
-    }
-
-    /// Begins the renewal that is due, and returns what else is.
-    pub(crate) fn advance(&mut self, now: Instant) -> Step
-        ensures renewed { self.new ≡ with_renewal now self.old }
-        ensures step { result ≡ step_of now self.new }
-    {
-        self.renew_if_due(now);
-        self.step(now)
-    }
-
-    /// Another attempt, with this ID and key.
-    pub(crate) fn attempt(&mut self, now: Instant, id: TransId, key: Option<[u8; 16]>)
-        ensures { self.new ≡ tried_with now id key self.old }
-    {
-        let timing = self.request_timing();
-        if let Some(operation) = self.operation {
-            let attempt = Attempt {
-                id,
-                key,
-                since: now,
-            };
-            self.operation = Some(operation.attempted(attempt, &timing));
-            self.is_sending(now);
-        }
-    }
-
-    /// Another packet of the last attempt, if there is one more.
-    pub(crate) fn repeat(&mut self, now: Instant)
-        ensures { self.new ≡ repeated_at now self.old }
-    {
-        let timing = self.request_timing();
-        if let Some(operation) = self.operation {
-            if !operation.is_exhausted(&timing) {
-                self.operation = Some(operation.sent_once_more(now, &timing));
-                self.is_sending(now);
-            }
-        }
-    }
-
-    /// A packet is to be polled: the next one follows 5 ms later at the earliest, and a keep-alive after the usual time.
-    fn is_sending(&mut self, now: Instant)
-        ensures { self.new ≡ sending now self.old }
-    {
-        self.paced = now + PACE;
         self.quiet = now + self.timing.keep_alive;
     }
-
-    /// A keep-alive with this ID.
-    pub(crate) fn keep_alive(&mut self, now: Instant, id: TransId)
-        ensures { self.new ≡ kept_alive now id self.old }
-    {
-        self.alive = Some(id);
-        self.is_sending(now);
-    }
-
-    /// The allocation is at its end.
-    pub(crate) fn lapse(&mut self)
-        ensures { self.new ≡ lapsed self.old }
-    {
-        self.end(Ending {
-            why: Why::Lost,
-            code: None,
-            unverified: self.doubt,
-        });
-    }
-
-    /// Returns when something is due.
-    pub(crate) fn next_time(&self) -> Option<Instant>
-        ensures { result ≡ next_turn_time self.now }
-    {
-        match self.operation {
-            Some(operation) => Some(self.with_end(paced_at(operation.due, self.paced))),
-            None if self.phase == Phase::Ready => Some(self.with_end(self.renew)),
-            None => None,
-        }
-    }
-
-    /// The earliest of this time and, with an allocation, of the next keep-alive and its end.
-    fn with_end(&self, time: Instant) -> Instant
-        ensures { result ≡ with_end time self.now }
-    {
-        if self.phase == Phase::Ready {
-            earlier(time, earlier(self.until, paced_at(self.quiet, self.paced)))
-        } else {
-            time
-        }
-    }
 }
 
-/// A packet that is due then goes out no sooner than the pace allows.
-fn paced_at(due: Instant, paced: Instant) -> Instant
-    ensures { result ≡ paced_at due paced }
+fn is_v6(peer: SocketAddr) -> bool
+    ensures { result ≡ is_v6 peer }
 {
-    Instant(due.0.max(paced.0))
-}
-
-fn earlier(a: Instant, b: Instant) -> Instant
-    ensures { result ≡ earlier a b }
-{
-    Instant(a.0.min(b.0))
+    match peer {
+        SocketAddr::V4(_) => false,
+        SocketAddr::V6(_) => true,
+    }
 }

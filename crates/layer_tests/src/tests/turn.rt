@@ -3,3 +3,5 @@
 mod allocating;
 mod binding;
 mod messages;
+mod relaying;
+mod side;
