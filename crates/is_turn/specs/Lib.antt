@@ -18,5 +18,6 @@ pub mod Turn
 pub mod Leases
 pub mod Places
 pub mod Relaying
+pub mod Numbers
 pub mod LeaseResponses
 pub mod Receiving

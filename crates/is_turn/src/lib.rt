@@ -21,6 +21,7 @@ mod relaying;
 mod requests;
 mod session;
 mod steps;
+pub mod theorems;
 mod timing;
 mod tried;
 mod turn;
