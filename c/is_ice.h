@@ -1000,7 +1000,7 @@ enum {
     IS_ICE_STUN_DATA = 0x0013,       /* any bytes; the others are UTF-8 */
     IS_ICE_STUN_REALM = 0x0014,
     IS_ICE_STUN_NONCE = 0x0015,
-    IS_ICE_STUN_SOFTWARE = 0x0022    /* SOFTWARE with the type that libwebrtc gives it, not 0x8022: for no TURN server */
+    IS_ICE_STUN_SOFTWARE = 0x0022    /* SOFTWARE with the type that the original gives it, not 0x8022: for no TURN server */
 };
 
 /* is_ice_stun_text - returns a text of a message: the value of the last attribute of this type before
