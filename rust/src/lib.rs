@@ -40,6 +40,7 @@ mod removed;
 mod serde;
 mod session_log;
 mod settings;
+mod skipped;
 pub mod stun;
 mod stun_builder;
 mod stun_texts;

@@ -3,11 +3,15 @@
 
 use std::fmt;
 
-/// Logs an event of a level, as `logged!(debug, "max_rto = {timeout:?}")`; of a pair as `logged!(pair debug, ..)`.
+/// Logs an event of a level, as `logged!(debug, "max_rto = {timeout:?}")`; of a pair as `logged!(pair debug, ..)`, of a
+/// message as `logged!(stun warn, ..)`.
 #[cfg(str0m_types)]
 macro_rules! logged {
     (pair $level:ident, $($words:tt)*) => {
         tracing::$level!(target: "is::pair", $($words)*)
+    };
+    (stun $level:ident, $($words:tt)*) => {
+        tracing::$level!(target: "is::stun", $($words)*)
     };
     ($level:ident, $($words:tt)*) => {
         tracing::$level!(target: "is::agent", $($words)*)
@@ -17,6 +21,9 @@ macro_rules! logged {
 #[cfg(not(str0m_types))]
 macro_rules! logged {
     (pair $level:ident, $($words:tt)*) => {
+        logged!($level, $($words)*)
+    };
+    (stun $level:ident, $($words:tt)*) => {
         logged!($level, $($words)*)
     };
     ($level:ident, $($words:tt)*) => {
@@ -32,6 +39,15 @@ pub(crate) use logged;
 pub(crate) fn is_heard() -> bool {
     #[cfg(str0m_types)]
     return tracing::enabled!(target: "is::agent", tracing::Level::DEBUG) || tracing::enabled!(target: "is::pair", tracing::Level::DEBUG);
+    #[cfg(not(str0m_types))]
+    false
+}
+
+/// Whether anybody listens to warnings of messages that were parsed.
+#[inline]
+pub(crate) fn is_stun_heard() -> bool {
+    #[cfg(str0m_types)]
+    return tracing::enabled!(target: "is::stun", tracing::Level::WARN);
     #[cfg(not(str0m_types))]
     false
 }

@@ -2,7 +2,9 @@
 
 use crate::error::{CallError, or_panic};
 use crate::ffi;
+use crate::logs::is_stun_heard;
 use crate::proto::socket_of;
+use crate::skipped::log_skipped;
 use crate::stun_texts::{Texts, find, write};
 use crate::types::Protocol;
 use std::marker::PhantomData;
@@ -162,13 +164,27 @@ impl<'a> StunMessage<'a> {
     /// response of a STUN server, which has no MESSAGE-INTEGRITY.
     #[inline]
     pub fn parse(bytes: &'a [u8]) -> Result<StunMessage<'a>, StunError> {
-        StunMessage::parsed(bytes, ffi::is_ice_stun_read_strict)
+        StunMessage::heard(StunMessage::parsed(bytes, ffi::is_ice_stun_read_strict))
     }
 
     /// Parses a message that need not have the attributes that ICE requires, as the response of a STUN server. Nothing is verified.
     #[inline]
     pub fn parse_any(bytes: &'a [u8]) -> Result<StunMessage<'a>, StunError> {
-        StunMessage::parsed(bytes, ffi::is_ice_stun_read)
+        StunMessage::heard(StunMessage::parsed(bytes, ffi::is_ice_stun_read))
+    }
+
+    /// As `parse`, without events.
+    pub(crate) fn parsed_again(bytes: &'a [u8]) -> Result<StunMessage<'a>, StunError> {
+        StunMessage::parsed(bytes, ffi::is_ice_stun_read_strict)
+    }
+
+    /// The same, once it is logged what the message has that is skipped.
+    #[inline]
+    fn heard(parsed: Result<StunMessage<'a>, StunError>) -> Result<StunMessage<'a>, StunError> {
+        if let (true, Ok(message)) = (is_stun_heard(), &parsed) {
+            log_skipped(message.bytes);
+        }
+        parsed
     }
 
     /// Programs get this inline, so that they do not copy the message once more.
