@@ -254,6 +254,7 @@ fn what_is_left_out_is_logged() {
     tracing::subscriber::with_default(lines.clone(), || {
         // A second remote candidate with the same address and less priority, and one that is invalidated.
         let mut side = Rtc::new(true);
+        side.ice.set_remote_credentials(is::IceCreds::new());
         side.add_host(at("10.0.0.1:5000"), Protocol::Udp).unwrap();
         let host = is::Candidate::host(at("10.0.0.2:5000"), "udp").unwrap();
         side.ice.add_remote_candidate(host.clone());
