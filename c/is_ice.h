@@ -82,6 +82,14 @@ enum {
     IS_ICE_NOTHING = 1,                /* nothing to return; packet not accepted; candidate not added or not found */
     IS_ICE_OTHER_COMPONENT = 2,        /* the remote candidate was ignored: it is of another component than 1 */
     IS_ICE_OTHER_UFRAG = 3,            /* the remote candidate was ignored: of another username fragment than the peer's */
+    IS_ICE_REJECTED_METHOD = 4,        /* see is_ice_rejection, for this and the codes up to 11 */
+    IS_ICE_REJECTED_CLASS = 5,
+    IS_ICE_REJECTED_LOCAL_UFRAG = 6,
+    IS_ICE_REJECTED_REMOTE_UFRAG = 7,
+    IS_ICE_REJECTED_LOCAL_PASSWORD = 8,
+    IS_ICE_REJECTED_NO_CHECK = 9,
+    IS_ICE_REJECTED_PATH = 10,
+    IS_ICE_REJECTED_REMOTE_PASSWORD = 11,
     IS_ICE_NO_AGENT = -1,              /* the is_ice_agent holds no agent */
     IS_ICE_HAS_AGENT = -2,             /* the is_ice_agent holds one already */
     IS_ICE_NOT_UTF8 = -3,              /* a text is not UTF-8 */
@@ -110,6 +118,14 @@ static inline const char *is_ice_code_text(int32_t code)
     case IS_ICE_NOTHING: return "nothing";
     case IS_ICE_OTHER_COMPONENT: return "candidate of another component";
     case IS_ICE_OTHER_UFRAG: return "candidate of another username fragment";
+    case IS_ICE_REJECTED_METHOD: return "not a Binding message";
+    case IS_ICE_REJECTED_CLASS: return "neither a request nor a response";
+    case IS_ICE_REJECTED_LOCAL_UFRAG: return "request to another username fragment than the agent's";
+    case IS_ICE_REJECTED_REMOTE_UFRAG: return "request from another username fragment than the peer's";
+    case IS_ICE_REJECTED_LOCAL_PASSWORD: return "request signed with another password than the agent's";
+    case IS_ICE_REJECTED_NO_CHECK: return "response to no pending check";
+    case IS_ICE_REJECTED_PATH: return "response on another path than that of its check";
+    case IS_ICE_REJECTED_REMOTE_PASSWORD: return "response signed with another password than the peer's";
     case IS_ICE_NO_AGENT: return "no agent";
     case IS_ICE_HAS_AGENT: return "there is an agent already";
     case IS_ICE_NOT_UTF8: return "text is not UTF-8";
@@ -475,8 +491,8 @@ IS_ICE_QUIET_CALL int32_t is_ice_set_max_candidates(is_ice_agent *agent, size_t 
 /* is_ice_set_timing_advance - sets the pacing interval Ta (RFC 8445, section 14.2): the least time from the last
  * is_ice_handle_timeout call to the next one that is_ice_poll_timeout returns. A lite agent, and one without pairs, waits
  * no longer than 3 s. Each is_ice_handle_timeout call sends at most one packet. With `modern` of is_ice_set_settings the
- * interval is shorter until half a second after the first check of the newest pair, at most until the agent has a path and,
- * if it is controlling, has sent the check that nominates it. IS_ICE_OK. Value: 50 ms. */
+ * interval is shorter until half a second after the first check of the newest pair. It is not once the agent has a path
+ * and, if it is controlling, has sent the check that nominates it. IS_ICE_OK. Value: 50 ms. */
 IS_ICE_QUIET_CALL int32_t is_ice_set_timing_advance(is_ice_agent *agent, uint64_t nanoseconds);
 
 /* is_ice_set_initial_rto - sets the time from a pair's first check until the second one is due. It doubles with each
@@ -826,6 +842,28 @@ IS_ICE_CALL int32_t is_ice_accepts_packet(
     is_ice_agent *agent, uint8_t protocol, const is_ice_address *source, const is_ice_address *destination,
     const uint8_t *bytes, size_t length);
 
+/* is_ice_rejection - returns why is_ice_handle_packet would not accept the datagram, and changes nothing: so a program can
+ * say after the first packet that the other agent has a wrong password. Ask before is_ice_handle_packet, with the same
+ * arguments, or after it returned IS_ICE_NOTHING or IS_ICE_UNPARSED. Does not allocate.
+ *
+ * Anybody can send a datagram that is rejected, also one of the other agent again. Show the reason, and end no session for
+ * it. is_ice_code_text describes each code.
+ *
+ * IS_ICE_OK: it would accept it. Else the first of these that applies:
+ * - IS_ICE_BAD_ADDRESS, IS_ICE_UNPARSED: see is_ice_handle_packet.
+ * - IS_ICE_REJECTED_METHOD: the method is not Binding. IS_ICE_REJECTED_CLASS: neither a request nor a response.
+ * - IS_ICE_REJECTED_LOCAL_UFRAG: a request whose USERNAME does not begin with the local username fragment. It is for
+ *   another agent, or from before an ICE restart.
+ * - IS_ICE_REJECTED_REMOTE_UFRAG: a request whose USERNAME does not end with the other agent's username fragment. That
+ *   agent has new credentials, or it is a third one.
+ * - IS_ICE_REJECTED_LOCAL_PASSWORD: a request that is not signed with the local password: the other agent has a wrong one.
+ * - IS_ICE_REJECTED_NO_CHECK: a response to no pending transaction, as one from before an ICE restart.
+ * - IS_ICE_REJECTED_PATH: a response that was not received on the reverse of its check's path.
+ * - IS_ICE_REJECTED_REMOTE_PASSWORD: a response that is not signed with the other agent's password. */
+IS_ICE_CALL int32_t is_ice_rejection(
+    is_ice_agent *agent, uint8_t protocol, const is_ice_address *source, const is_ice_address *destination,
+    const uint8_t *bytes, size_t length);
+
 /* is_ice_accepts_message - returns whether the message is for this agent, from any source, and changes nothing. Does
  * not allocate.
  *
@@ -1000,7 +1038,7 @@ enum {
     IS_ICE_STUN_DATA = 0x0013,       /* any bytes; the others are UTF-8 */
     IS_ICE_STUN_REALM = 0x0014,
     IS_ICE_STUN_NONCE = 0x0015,
-    IS_ICE_STUN_SOFTWARE = 0x0022    /* SOFTWARE with the type that libwebrtc gives it, not 0x8022: for no TURN server */
+    IS_ICE_STUN_SOFTWARE = 0x0022    /* SOFTWARE with the type that the original gives it, not 0x8022: for no TURN server */
 };
 
 /* is_ice_stun_text - returns a text of a message: the value of the last attribute of this type before

@@ -137,6 +137,20 @@ struct removed_pair : is_ice_removed_pair {
     removal why() const noexcept { return static_cast<removal>(reason); }
 };
 
+/* Why a datagram is rejected: see is_ice_rejection. */
+enum class rejection : int32_t {
+    unparsed = IS_ICE_UNPARSED,
+    method = IS_ICE_REJECTED_METHOD,
+    message_class = IS_ICE_REJECTED_CLASS,
+    local_ufrag = IS_ICE_REJECTED_LOCAL_UFRAG,
+    remote_ufrag = IS_ICE_REJECTED_REMOTE_UFRAG,
+    local_password = IS_ICE_REJECTED_LOCAL_PASSWORD,
+    no_check = IS_ICE_REJECTED_NO_CHECK,
+    path = IS_ICE_REJECTED_PATH,
+    remote_password = IS_ICE_REJECTED_REMOTE_PASSWORD
+};
+inline const char *text_of(rejection why) { return is_ice_code_text(static_cast<int32_t>(why)); }
+
 /* A packet to send. */
 struct packet {
     uint8_t protocol;
@@ -520,6 +534,13 @@ public:
     {
         return verdict(is_ice_accepts_packet(at(), protocol, &source, &destination, detail::at(data), length));
     }
+    std::optional<is_ice::rejection> rejection(
+        uint8_t protocol, const address &source, const address &destination, const void *data, size_t length) const
+    {
+        int32_t code = is_ice_rejection(at(), protocol, &source, &destination, detail::at(data), length);
+        if (code != IS_ICE_UNPARSED && done(code)) return std::nullopt;
+        return static_cast<is_ice::rejection>(code);
+    }
     handled accepts_message(const void *data, size_t length) const
     {
         return verdict(is_ice_accepts_message(at(), detail::at(data), length));
@@ -533,6 +554,11 @@ public:
     handled accepts_packet(uint8_t protocol, const address &source, const address &destination, bytes data) const
     {
         return accepts_packet(protocol, source, destination, data.data(), data.size());
+    }
+    std::optional<is_ice::rejection> rejection(
+        uint8_t protocol, const address &source, const address &destination, bytes data) const
+    {
+        return rejection(protocol, source, destination, data.data(), data.size());
     }
     handled accepts_message(bytes data) const { return accepts_message(data.data(), data.size()); }
 #endif

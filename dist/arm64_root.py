@@ -9,7 +9,7 @@ import shutil
 import zipfile
 
 from building import Failed, run
-from roots import MIRROR, SUITE, made
+from roots import SUITE, debootstrap, made
 from trying import Skipped, bare, found_paths, require, top
 from trying_targets import optional
 
@@ -39,12 +39,12 @@ def script(root, folder):
 
 def unpacked_root(place):
     """The kept root with Python."""
-    require("debootstrap", "dpkg-deb", "qemu-aarch64-static")
+    require("debootstrap", "unshare", "dpkg-deb", "qemu-aarch64-static")
     if os.geteuid() != 0:
         raise Skipped("it needs root")
 
     def build(root):
-        run("debootstrap", "--arch=arm64", "--foreign", "--variant=minbase", f"--include={PACKAGE}", SUITE, root, MIRROR)
+        debootstrap(root, "--arch=arm64", "--foreign", f"--include={PACKAGE}")
         for package in sorted((root / "var" / "cache" / "apt" / "archives").glob("*.deb")):
             run("dpkg-deb", "-x", package, root)
             package.unlink()

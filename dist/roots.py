@@ -48,8 +48,14 @@ def made(name, packages, build):
     return root
 
 
+def debootstrap(root, *options, env=None):
+    """Runs debootstrap in namespaces of its own: if it is killed, what it mounted and started goes with it."""
+    alone = ("unshare", "--mount", "--pid", "--fork", "--kill-child", "--mount-proc")
+    run(*alone, "debootstrap", "--variant=minbase", *options, SUITE, root, MIRROR, env=env)
+
+
 def minimal(root):
-    run("debootstrap", "--variant=minbase", SUITE, root, MIRROR, env=QUIET)
+    debootstrap(root, env=QUIET)
 
 
 def root_of(language):

@@ -125,9 +125,9 @@ def unanswered(checks: tuple[Check, ...]) -> int:
 @dataclass(frozen=True)
 class Pair:
     """A pair. `nomination` is none, nominated, attempt or success; `state` is waiting, progress or succeeded. `sent`, `requests` and
-    `answers` count checks, checks of the peer, and responses. `first_sent` is when its first check was sent, `first_after_request`
-    when the first one after a request of the peer was, `consented` when the last check that got a response was, `greatest` the greatest number by which the peer nominated it, and `error` the code of the last error
-    response."""
+    `answers` count checks, checks of the peer, and responses. `first_sent` is when its first check was sent, `first_after_request` when
+    the first one after a request of the peer was, `consented` when the last check that got a response was, `greatest` the greatest
+    number by which the peer nominated it, and `error` the code of the last error response."""
 
     number: int
     local: int
@@ -282,9 +282,8 @@ class Pair:
         again = self.first_after_request
         if self.requests > 0 and again is None:
             again = now
-        return replace(
-            self, checks=checks, due=None, sent=self.sent + 1, first_sent=first, first_after_request=again, nomination=nomination, state=state
-        )
+        sent = replace(self, checks=checks, due=None, sent=self.sent + 1, first_sent=first, first_after_request=again)
+        return replace(sent, nomination=nomination, state=state)
 
     def answered(self, now: int, id: bytes) -> Pair:
         """Returns it after a success response to the check."""

@@ -89,8 +89,10 @@ static void take(is_ice_agent *agent)
     bytes[67] ^= 1;
     want("a forged request", is_ice_handle_packet(agent, 0, IS_ICE_UDP, &peer, &own, bytes, 100), IS_ICE_NOTHING);
     want("is it accepted", is_ice_accepts_packet(agent, IS_ICE_UDP, &peer, &own, bytes, 100), IS_ICE_NOTHING);
+    want("why not", is_ice_rejection(agent, IS_ICE_UDP, &peer, &own, bytes, 100), IS_ICE_REJECTED_LOCAL_PASSWORD);
     bytes[67] ^= 1;
     want("is it accepted", is_ice_accepts_packet(agent, IS_ICE_UDP, &peer, &own, bytes, 100), IS_ICE_OK);
+    want("why not", is_ice_rejection(agent, IS_ICE_UDP, &peer, &own, bytes, 100), IS_ICE_OK);
     want("transmit before", is_ice_poll_transmit(agent, buffer, sizeof buffer, &packet), IS_ICE_NOTHING);
     want("the request", is_ice_handle_packet(agent, 0, IS_ICE_UDP, &peer, &own, bytes, 100), IS_ICE_OK);
 }

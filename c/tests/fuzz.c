@@ -484,6 +484,10 @@ static void receive(uint8_t protocol, const is_ice_address *source, const is_ice
         is_ice_accepts_packet(agents[on], protocol, source, destination, bytes, length));
     int32_t is_for = CALL(OK | NOTHING | UNPARSED | QUIET | QUERY, is_ice_accepts_message(agents[on], bytes, length));
     if (would == IS_ICE_OK && is_for != IS_ICE_OK) stop("is_ice_accepts_message and is_ice_accepts_packet differ");
+    int32_t why = CALL(OK | REJECTED | UNPARSED | BAD_ADDRESS | QUIET | QUERY,
+        is_ice_rejection(agents[on], protocol, source, destination, bytes, length));
+    saw(REASONS, (size_t)why);
+    if (why != would && (would != IS_ICE_NOTHING || why < IS_ICE_REJECTED_METHOD)) stop("is_ice_rejection and is_ice_accepts_packet differ");
     size_t agent = on;
     is_ice_stun_message *read = argument(sizeof *read);
     on = AGENTS;

@@ -31,7 +31,7 @@ static size_t subject_of(const char *call, size_t place)
     return (hash >> 8) % (SUBJECTS - 16) + 16;
 }
 
-enum { EVENTS = 0, STATES = 1, PAIRS = 4, PAIR_COUNTS = 7 }; /* the subjects below 16; of each agent one of the last three */
+enum { EVENTS = 0, STATES = 1, PAIRS = 4, REASONS = 10, PAIR_COUNTS = 7 }; /* the subjects below 16; of each agent one of the last three */
 
 /* ---- the input */
 
@@ -87,10 +87,11 @@ struct view {
     uint64_t values[35];
 };
 
-/* A code as the number of a bit. */
+/* A code as the number of a bit: the reasons of is_ice_rejection have one. */
 static unsigned bit_of(int32_t code)
 {
-    if (code > IS_ICE_OTHER_UFRAG || code < IS_ICE_LITE_STAYS_CONTROLLED) stop("there is no such code");
+    if (code > IS_ICE_REJECTED_REMOTE_PASSWORD || code < IS_ICE_LITE_STAYS_CONTROLLED) stop("there is no such code");
+    if (code >= IS_ICE_REJECTED_METHOD) return 22;
     return code > IS_ICE_OK ? 18 + (unsigned)code : (unsigned)-code;
 }
 
@@ -161,10 +162,11 @@ enum {
     TOO_LONG = 1u << 16,
     TOO_MANY = 1u << 17,
     LITE_STAYS = 1u << 18,
-    QUIET = 1u << 22, /* the call does not allocate */
-    QUERY = 1u << 23, /* nor change the agent */
-    MOVES = 1u << 24, /* IS_ICE_BUFFER_TOO_SHORT takes the packet out of those for which is_ice_poll_timeout returns an early time */
-    LISTS = 1u << 25  /* it lists the pairs that it removes, and leaves one out if that allocation fails */
+    REJECTED = 1u << 22,
+    QUIET = 1u << 23, /* the call does not allocate */
+    QUERY = 1u << 24, /* nor change the agent */
+    MOVES = 1u << 25, /* IS_ICE_BUFFER_TOO_SHORT takes the packet out of those for which is_ice_poll_timeout returns an early time */
+    LISTS = 1u << 26  /* it lists the pairs that it removes, and leaves one out if that allocation fails */
 };
 
 static struct view before;

@@ -247,6 +247,11 @@ static int32_t next_packet(is_ice_agent *from, uint8_t *bytes, size_t size, is_i
     return code;
 }
 
+static bool is_response(const uint8_t *bytes)
+{
+    return bytes[0] == 1;
+}
+
 static void deliver(struct story *s, is_ice_agent *from, is_ice_agent *to, uint64_t now)
 {
     uint8_t bytes[1500];
@@ -256,7 +261,10 @@ static void deliver(struct story *s, is_ice_agent *from, is_ice_agent *to, uint6
         add(s, bytes, packet.length);
         bytes[packet.length - 9] ^= 1; /* the last byte of the MAC, before FINGERPRINT */
         QUIET(IS_ICE_NOTHING, is_ice_handle_packet(to, now, packet.protocol, &packet.source, &packet.destination, bytes, packet.length));
+        int32_t why = is_response(bytes) ? IS_ICE_REJECTED_REMOTE_PASSWORD : IS_ICE_REJECTED_LOCAL_PASSWORD;
+        QUIET(why, is_ice_rejection(to, packet.protocol, &packet.source, &packet.destination, bytes, packet.length));
         bytes[packet.length - 9] ^= 1;
+        QUIET(IS_ICE_OK, is_ice_rejection(to, packet.protocol, &packet.source, &packet.destination, bytes, packet.length));
         QUIET(IS_ICE_OK, is_ice_accepts_packet(to, packet.protocol, &packet.source, &packet.destination, bytes, packet.length));
         QUIET(IS_ICE_OK, is_ice_accepts_message(to, bytes, packet.length));
         QUIET(IS_ICE_UNPARSED,

@@ -165,6 +165,7 @@ static void deliver(struct story *s, is_ice_agent *from, is_ice_agent *to, bool 
         p.source.bytes[0] = p.source.bytes[0] == 192 ? 10 : p.source.bytes[0];
         CALL(ANY, is_ice_accepts_packet(to, p.protocol, &p.source, &p.destination, m->bytes, p.length));
         CALL(ANY, is_ice_accepts_message(to, m->bytes, p.length));
+        CALL(ANY, is_ice_rejection(to, p.protocol, &p.source, &p.destination, m->bytes, p.length));
         CALL(ANY, is_ice_handle_packet(to, s->now, p.protocol, &p.source, &p.destination, m->bytes, p.length));
         p.source.port++; /* the same message from another address, and to one that is not there */
         CALL(ANY, is_ice_handle_packet(to, s->now, p.protocol, &p.source, &p.destination, m->bytes, p.length));

@@ -159,6 +159,25 @@ static void has_a_session()
     HOLD(agent.local_credentials().ufrag == "again" && agent.removed_pairs().empty());
 }
 
+static void says_why_a_datagram_is_rejected()
+{
+    is_ice::agent asks("ufrag", "password of one", 1), responds("peer", "password", 2), other("other", "password", 3);
+    asks.set_remote_credentials("peer", "a wrong password");
+    HOLD(asks.add_local(host(1)) && asks.add_remote(is_ice::candidate_line(host(2))) == is_ice::added::yes);
+    asks.handle_timeout(1s, NONE);
+    auto check = *asks.poll_transmit();
+    auto why = [&](const is_ice::agent &agent, size_t length) {
+        return agent.rejection(IS_ICE_UDP, check.source, check.destination, check.contents.data(), length);
+    };
+    HOLD(why(responds, check.contents.size()) == is_ice::rejection::local_password);
+    HOLD(why(other, check.contents.size()) == is_ice::rejection::local_ufrag);
+    HOLD(why(responds, 3) == is_ice::rejection::unparsed);
+    HOLD(std::string(is_ice::text_of(is_ice::rejection::local_password)) == is_ice_code_text(IS_ICE_REJECTED_LOCAL_PASSWORD));
+    responds.set_local_credentials("peer", "a wrong password");
+    HOLD(!why(responds, check.contents.size()));
+    HOLD(thrown([&] { responds.rejection(9, check.source, check.destination, "", 0); }).code() == IS_ICE_BAD_ADDRESS);
+}
+
 static void says_why_a_pair_was_removed()
 {
     is_ice::agent agent("ufrag", "pass", 1);
@@ -216,6 +235,7 @@ static void takes_spans()
     is_ice::bytes all(longer), sent = all.first(check.contents.size());
     HOLD(responds.accepts_message(sent) == is_ice::handled::accepted && responds.accepts_message(all) == is_ice::handled::unparsed);
     HOLD(responds.accepts_packet(IS_ICE_UDP, check.source, check.destination, sent) == is_ice::handled::accepted);
+    HOLD(!responds.rejection(IS_ICE_UDP, check.source, check.destination, sent));
     HOLD(responds.handle_packet(1s, IS_ICE_UDP, check.source, check.destination, {}) == is_ice::handled::unparsed);
     HOLD(responds.handle_packet(1s, IS_ICE_UDP, check.source, check.destination, check.contents) == is_ice::handled::accepted);
     HOLD(is_ice::stun_read_strict(sent).has_fingerprint && is_ice::stun_read(sent).method == IS_ICE_STUN_BINDING);
@@ -236,6 +256,7 @@ int main()
     reads_what_the_library_reads();
     settings_are_kept();
     has_a_session();
+    says_why_a_datagram_is_rejected();
     says_why_a_pair_was_removed();
     has_stun_messages();
     passes_codes_on();

@@ -2,7 +2,8 @@ import type { Bytes, Protocol, SocketAddress } from "./address.js";
 import type { Candidate, CandidateFields } from "./candidate.js";
 import type { IceCreds } from "./credentials.js";
 import type {
-  AddResult, CandidatePair, IceAgentEvent, IceAgentStats, IceConnectionState, MediaPath, NominatedPair, RemovedPair, Transmit,
+  AddResult, CandidatePair, IceAgentEvent, IceAgentStats, IceConnectionState, MediaPath, NominatedPair, Rejection, RemovedPair,
+  Transmit,
 } from "./events.js";
 import { Settings } from "./settings.js";
 
@@ -53,6 +54,11 @@ export class IceAgent extends Settings {
   handlePacket(now: number, source: SocketAddress, destination: SocketAddress, contents: Bytes, protocol?: Protocol): boolean;
   /** Returns whether `handlePacket` would accept it, and changes nothing. */
   acceptsPacket(source: SocketAddress, destination: SocketAddress, contents: Bytes, protocol?: Protocol): boolean;
+  /**
+   * Returns why `handlePacket` would not accept it, or null if it would, and changes nothing. So a program says after the first packet
+   * that the peer has a wrong password. Anybody can send a datagram that is rejected: show the reason, and end no session for it.
+   */
+  rejection(source: SocketAddress, destination: SocketAddress, contents: Bytes, protocol?: Protocol): Rejection | null;
   /** Returns whether it is a message for this agent, from any source, and changes nothing. */
   acceptsMessage(contents: Bytes): boolean;
   /**

@@ -3,7 +3,7 @@ import { NUMBERS } from "./abi.js";
 import { putAddress } from "./address.js";
 import { fieldsFrom, protocolNumber, putCandidate } from "./candidate.js";
 import { checkedCreds, newCreds, random } from "./credentials.js";
-import { done, explained } from "./errors.js";
+import { done, explained, isRejected, rejectionOf } from "./errors.js";
 import { eventFrom, nominatedFrom, packetFrom, pairFrom, pathOf, removedFrom } from "./events.js";
 import { CALL, MEMORY, SLOT, WITH_CREDS } from "./handle.js";
 import { candidateRefusal, lineRefusal } from "./lines.js";
@@ -83,6 +83,12 @@ export class IceAgent extends Settings {
 
   acceptsPacket(source, destination, contents, protocol = "udp") {
     return this[CALL]("is_ice_accepts_packet", ...this.#packet(source, destination, contents, protocol));
+  }
+
+  /** Why handlePacket would not accept it, or null if it would. */
+  rejection(source, destination, contents, protocol = "udp") {
+    const code = this[MEMORY].call("is_ice_rejection", this[SLOT], ...this.#packet(source, destination, contents, protocol));
+    return isRejected(code) ? rejectionOf(code) : (done(code), null);
   }
 
   #packet(source, destination, contents, protocol) {

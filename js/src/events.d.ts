@@ -13,6 +13,18 @@ export type AddResult = "added" | "known" | "other-component" | "other-ufrag";
 export type CheckState = "waiting" | "in-progress" | "succeeded";
 /** Why a pair was removed. */
 export type Removal = "no-response" | "consent-lost" | "peer-silent" | "evicted" | "replaced" | "invalidated";
+/**
+ * Why a datagram is rejected: the first reason that applies, and a text for people. `unparsed`: no STUN message, or one without what ICE
+ * requires. `local-ufrag`, `remote-ufrag`: a request to another username fragment than the agent's, or from another one than the peer's.
+ * `local-password`: a request that is not signed with the agent's password: the peer has a wrong one. `no-check`: a response to no pending
+ * transaction. `path`: one that was not received on the reverse of its check's path. `remote-password`: one that is not signed with the
+ * peer's password.
+ */
+export interface Rejection {
+  reason:
+    | "unparsed" | "method" | "class" | "local-ufrag" | "remote-ufrag" | "local-password" | "no-check" | "path" | "remote-password";
+  text: string;
+}
 
 /** A path for media, from `source`, a local address, to `destination`. */
 export interface MediaPath {

@@ -46,6 +46,21 @@ test("a path that no packet takes is left, with the reason", () => {
   closed(agents);
 });
 
+test("a wrong password is named after the first packet", () => {
+  const agents = pair(), [agent, peer] = agents;
+  agent.setRemoteCredentials({ ...peer.localCredentials, pass: "a".repeat(22) });
+  agent.handleTimeout(0);
+  const { source, destination, contents } = agent.pollTransmit();
+  const why = peer.rejection(source, destination, contents);
+  assert.deepEqual(why, { reason: "local-password", text: "request signed with another password than the agent's" });
+  assert.equal(peer.handlePacket(0, source, destination, contents), false);
+  assert.equal(agent.rejection(source, destination, contents).reason, "local-ufrag");
+  assert.equal(peer.rejection(source, destination, contents.slice(1)).reason, "unparsed");
+  peer.setLocalCredentials(agent.remoteCredentials);
+  assert.equal(peer.rejection(source, destination, contents), null);
+  closed(agents);
+});
+
 test("an ICE restart", () => {
   const agents = pair();
   run(agents, 0, 1000);

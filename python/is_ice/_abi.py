@@ -12,6 +12,14 @@ OK = 0
 NOTHING = 1
 OTHER_COMPONENT = 2
 OTHER_UFRAG = 3
+REJECTED_METHOD = 4
+REJECTED_CLASS = 5
+REJECTED_LOCAL_UFRAG = 6
+REJECTED_REMOTE_UFRAG = 7
+REJECTED_LOCAL_PASSWORD = 8
+REJECTED_NO_CHECK = 9
+REJECTED_PATH = 10
+REJECTED_REMOTE_PASSWORD = 11
 NO_AGENT = -1
 HAS_AGENT = -2
 NOT_UTF8 = -3
@@ -115,6 +123,14 @@ TEXTS = {
     NOTHING: "nothing",
     OTHER_COMPONENT: "candidate of another component",
     OTHER_UFRAG: "candidate of another username fragment",
+    REJECTED_METHOD: "not a Binding message",
+    REJECTED_CLASS: "neither a request nor a response",
+    REJECTED_LOCAL_UFRAG: "request to another username fragment than the agent's",
+    REJECTED_REMOTE_UFRAG: "request from another username fragment than the peer's",
+    REJECTED_LOCAL_PASSWORD: "request signed with another password than the agent's",
+    REJECTED_NO_CHECK: "response to no pending check",
+    REJECTED_PATH: "response on another path than that of its check",
+    REJECTED_REMOTE_PASSWORD: "response signed with another password than the peer's",
     NO_AGENT: "no agent",
     HAS_AGENT: "there is an agent already",
     NOT_UTF8: "text is not UTF-8",
@@ -448,6 +464,7 @@ PROTOTYPES: dict[str, list[object]] = {
     "is_ice_handle_timeout": [POINTER(Agent), c_uint64, c_char_p, c_size_t],
     "is_ice_handle_packet": [POINTER(Agent), c_uint64, c_uint8, POINTER(Address), POINTER(Address), c_char_p, c_size_t],
     "is_ice_accepts_packet": [POINTER(Agent), c_uint8, POINTER(Address), POINTER(Address), c_char_p, c_size_t],
+    "is_ice_rejection": [POINTER(Agent), c_uint8, POINTER(Address), POINTER(Address), c_char_p, c_size_t],
     "is_ice_accepts_message": [POINTER(Agent), c_char_p, c_size_t],
     "is_ice_poll_timeout": [POINTER(Agent), POINTER(c_uint64)],
     "is_ice_poll_timeout_soon": [POINTER(Agent), POINTER(c_uint64)],

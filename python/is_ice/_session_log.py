@@ -11,7 +11,7 @@ from typing import TYPE_CHECKING, Any
 from .address import SocketAddress
 from .agent import IceAgent
 from .errors import IceError, NoAgent
-from .events import DiscoveredRecv, IceAgentEvent, IceConnectionStateChange, IceRestart, NominatedSend, RemovedPair
+from .events import DiscoveredRecv, IceAgentEvent, IceConnectionStateChange, IceRestart, NominatedSend, Rejection, RemovedPair
 from .stun import StunClass, StunMessage
 
 _MOST_KINDS = 32  # of messages that are counted each for itself
@@ -37,7 +37,7 @@ def kind_of_message(data: bytes) -> str:
 class SessionLog(_Adapter):
     """A logger whose lines begin with the username fragment of an agent: the checks of its peer have it too.
 
-    `discarded` counts the STUN messages that nobody took, by their kind.
+    `discarded` counts the STUN messages that nobody took, by their kind and by why the agent rejected them.
     """
 
     def __init__(self, logger: logging.Logger, agent: IceAgent) -> None:
@@ -78,10 +78,18 @@ class SessionLog(_Adapter):
         self._removed = listed
 
     def message_discarded(self, source: SocketAddress, local: SocketAddress, data: bytes) -> None:
-        """Counts a STUN message, and logs it if it is the first of its kind."""
-        kind = kind_of_message(data)
+        """Counts a STUN message, and logs it if it is the first of its kind: with the reason, as a password that the peer does not know."""
+        kind = self._kind_and_reason(source, local, data)
         if kind not in self.discarded and len(self.discarded) >= _MOST_KINDS:
             kind = "other STUN message"
         self.discarded[kind] += 1
         if self.discarded[kind] == 1:
             self.info("discarded %s from %s at %s", kind, source, local)
+
+    def _kind_and_reason(self, source: SocketAddress, local: SocketAddress, data: bytes) -> str:
+        kind = kind_of_message(data)
+        try:
+            why = self._agent.rejection(source, local, data)
+        except NoAgent:
+            return kind  # a handler closed it
+        return kind if why in (None, Rejection.UNPARSED) else f"{kind} ({why})"

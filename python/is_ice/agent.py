@@ -30,6 +30,7 @@ from .events import (
     MediaPath,
     NominatedPair,
     NominatedSend,
+    Rejection,
     Removal,
     RemovedPair,
     Transmit,
@@ -200,6 +201,16 @@ class IceAgent(Setters):
         """Returns whether `handle_packet` would accept it, and changes nothing."""
         return done(self._c.is_ice_accepts_packet(self._at, protocol, address_of(source), address_of(destination), contents,
                                                   len(contents)))
+
+    def rejection(self, source: SocketAddress, destination: SocketAddress, contents: bytes,
+                  protocol: Protocol = Protocol.UDP) -> Rejection | None:
+        """Returns why `handle_packet` would not accept the datagram, or None if it would, and changes nothing.
+
+        So a program says after the first packet that the peer has a wrong password. Anybody can send a datagram that is rejected: show
+        the reason, and end no session for it.
+        """
+        code = self._c.is_ice_rejection(self._at, protocol, address_of(source), address_of(destination), contents, len(contents))
+        return Rejection.UNPARSED if code == _abi.UNPARSED else None if done(code) else Rejection(code)
 
     def accepts_message(self, contents: bytes) -> bool:
         """Returns whether it is a message for this agent, from any source, and changes nothing."""

@@ -165,6 +165,32 @@ class Removal(enum.IntEnum):
         return format(str(self), spec)
 
 
+class Rejection(enum.IntEnum):
+    """Why a datagram is rejected: the first reason that applies. It prints as `request signed with another password than the agent's`.
+
+    UNPARSED: see the exception. METHOD: the method is not Binding. CLASS: neither a request nor a response. LOCAL_UFRAG: a request to
+    another username fragment than the agent's. REMOTE_UFRAG: one from another fragment than the peer's. LOCAL_PASSWORD: one that is not
+    signed with the agent's password: the peer has a wrong one. NO_CHECK: a response to no pending transaction. PATH: one that was not
+    received on the reverse of its check's path. REMOTE_PASSWORD: one that is not signed with the peer's password.
+    """
+
+    UNPARSED = _abi.UNPARSED
+    METHOD = _abi.REJECTED_METHOD
+    CLASS = _abi.REJECTED_CLASS
+    LOCAL_UFRAG = _abi.REJECTED_LOCAL_UFRAG
+    REMOTE_UFRAG = _abi.REJECTED_REMOTE_UFRAG
+    LOCAL_PASSWORD = _abi.REJECTED_LOCAL_PASSWORD
+    NO_CHECK = _abi.REJECTED_NO_CHECK
+    PATH = _abi.REJECTED_PATH
+    REMOTE_PASSWORD = _abi.REJECTED_REMOTE_PASSWORD
+
+    def __str__(self) -> str:
+        return _abi.TEXTS[self]
+
+    def __format__(self, spec: str) -> str:
+        return format(str(self), spec)
+
+
 @dataclass(frozen=True)
 class RemovedPair:
     """A pair that was removed, as it was then.

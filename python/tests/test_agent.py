@@ -49,6 +49,7 @@ from is_ice import (
     NominatedSend,
     Profile,
     Protocol,
+    Rejection,
     Removal,
     RemovedPair,
     Settings,
@@ -684,6 +685,43 @@ class Values(unittest.TestCase):
                 self.assertNotIn("secret", text)
         self.assertIn("abcd", repr(IceRestart(creds)))
         self.assertNotEqual(creds, IceCreds("abcd", "other"))
+
+    def test_a_wrong_password_is_named_after_the_first_packet(self) -> None:
+        a, b = two_agents()
+        a.set_remote_credentials(IceCreds("BBBB", "W" * 22))
+        a.handle_timeout(BEGINNING)
+        packet = a.poll_transmit()
+        assert packet is not None
+        way = (packet.source, packet.destination)
+        self.assertIs(b.rejection(*way, packet.contents), Rejection.LOCAL_PASSWORD)
+        self.assertEqual(f"{b.rejection(*way, packet.contents)}", "request signed with another password than the agent's")
+        self.assertFalse(b.handle_packet(BEGINNING, *way, packet.contents))
+        b.set_local_credentials(IceCreds("BBBB", "W" * 22))
+        self.assertIsNone(b.rejection(*way, packet.contents))
+        self.assertTrue(b.handle_packet(BEGINNING, *way, packet.contents))
+
+    def test_a_rejected_datagram_has_a_reason(self) -> None:
+        a, b = two_agents()
+        a.handle_timeout(BEGINNING)
+        check = a.poll_transmit()
+        assert check is not None
+        b.handle_packet(BEGINNING, check.source, check.destination, check.contents)
+        response = b.poll_transmit()
+        assert response is not None
+        back, elsewhere = (THERE, HERE), (SocketAddress("10.0.0.3", 2000), HERE)
+        self.assertIsNone(a.rejection(*back, response.contents))
+        self.assertIs(a.rejection(*elsewhere, response.contents), Rejection.PATH)
+        self.assertIs(b.rejection(*back, response.contents), Rejection.NO_CHECK)
+        self.assertIs(a.rejection(*back, b"media"), Rejection.UNPARSED)
+        a.set_remote_credentials(IceCreds("BBBB", "W" * 22))
+        self.assertIs(a.rejection(*back, response.contents), Rejection.REMOTE_PASSWORD)
+        self.assertIs(a.rejection(*back, check.contents), Rejection.LOCAL_UFRAG)
+        b.set_remote_credentials(IceCreds("CCCC", "P" * 22))
+        self.assertIs(b.rejection(HERE, THERE, check.contents), Rejection.REMOTE_UFRAG)
+        for method, kind, why in ((StunMethod.ALLOCATE, StunClass.REQUEST, Rejection.METHOD),
+                                  (StunMethod.BINDING, StunClass.INDICATION, Rejection.CLASS)):
+            other = write_message(method, kind, bytes(12))
+            self.assertIs(b.rejection(HERE, THERE, other), why)
 
     def test_candidates_of_each_kind(self) -> None:
         agent = IceAgent()

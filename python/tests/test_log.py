@@ -80,7 +80,9 @@ class Lines(unittest.IsolatedAsyncioTestCase):
             for message in (BINDING_RESPONSE, unauthorized(), BINDING_REQUEST, unauthorized(), unauthorized(420), BINDING_REQUEST):
                 a._loop.receive(THERE, HERE, message)
         told = [record.getMessage().split(": ", 1)[1] for record in logged.records if "discarded" in record.getMessage()]
-        kinds = {"Binding success response": 1, "Binding error response 401": 2, "Binding request": 2, "Binding error response 420": 1}
+        stray = "(response to no pending check)"
+        kinds = {"Binding success response": 1, f"Binding error response 401 {stray}": 2, "Binding request": 2,
+                 f"Binding error response 420 {stray}": 1}
         self.assertEqual(told, [f"discarded {kind} from {THERE} at {HERE}" for kind in kinds])
         self.assertEqual(a._loop.log.discarded, kinds)
         await a.close()
@@ -172,7 +174,7 @@ class Failures(unittest.IsolatedAsyncioTestCase):
         port = a.local_candidates[0].port
         self.assertRegex(told, "^ICE negotiation failed: there is no path after 0.2 s; state Checking; ")
         self.assertRegex(told, f"; pairs: 127.0.0.1:{port} -> 127.0.0.1:9 in progress, [1-9] checks sent, 0 answered, 0 received; ")
-        self.assertIn("; discarded: 1 x Binding error response 401; ", told)
+        self.assertIn("; discarded: 1 x Binding error response 401 (response to no pending check); ", told)
         self.assertRegex(told, "; the peer did not signal the end of its candidates$")
         await a.close()
 
@@ -183,7 +185,8 @@ class Failures(unittest.IsolatedAsyncioTestCase):
         a.remote_password = "q" * 22
         with mock.patch.object(is_ice.connection, "_PATIENCE", 0.3):
             results = await asyncio.gather(a.connect(), b.connect(), return_exceptions=True)
-        self.assertRegex(str(results[1]), "; discarded: [1-9][0-9]* x Binding request")  # a signs with what b does not know
+        self.assertRegex(str(results[1]), "; discarded: [1-9][0-9]* x Binding request "
+                         r"\(request signed with another password than the agent's\)")
         await close(a, b)
 
     async def test_names_that_nobody_resolves(self) -> None:

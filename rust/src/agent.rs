@@ -212,7 +212,7 @@ impl IceAgent {
         }
         logged!(debug, "Add local candidate ({index}): {:?}", Pii(&c));
         if let Some(before) = before {
-            before.log_added_local(self, &c);
+            before.log_added_local(self, &c, index);
         }
         self.added = Some(Box::new(self.local_candidate(index).map_err(CallError::of)?));
         Ok(self.added.as_deref())
@@ -258,7 +258,7 @@ impl IceAgent {
             _ => {}
         }
         if let Some(before) = before.filter(|_| code == ffi::OK) {
-            before.log_added_remote(self, &c);
+            before.log_added_remote(self, &c, index);
         }
         found(code)
     }

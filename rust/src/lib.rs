@@ -35,6 +35,7 @@ mod logs;
 mod pair;
 mod preference;
 mod proto;
+mod rejection;
 mod removed;
 #[cfg(any(feature = "serde", str0m_types))]
 mod serde;
@@ -60,6 +61,7 @@ pub use event::{IceAgentEvent, IceAgentStats, IceConnectionState, MediaPath};
 pub use hmac::DefaultSha1HmacProvider;
 pub use pair::{CandidatePair, CheckState};
 pub use preference::{KindPreferences, LocalPreference, PreferenceTable, default_local_preference, try_default_local_preference};
+pub use rejection::Rejection;
 pub use removed::{Removal, RemovedPair};
 pub use session_log::SessionLog;
 pub use types::{Protocol, Sha1HmacProvider, TcpType, Transmit};

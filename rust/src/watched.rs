@@ -45,9 +45,9 @@ impl fmt::Debug for Shown<'_> {
     }
 }
 
-/// Those of the candidates that are not among the others.
-fn missing<'a>(candidates: &'a [Candidate], others: &'a [Candidate]) -> impl Iterator<Item = &'a Candidate> {
-    candidates.iter().filter(|candidate| !others.contains(candidate))
+/// Those of the candidates that are not among the others, with their indexes.
+fn missing<'a>(candidates: &'a [Candidate], others: &'a [Candidate]) -> impl Iterator<Item = (usize, &'a Candidate)> {
+    candidates.iter().enumerate().filter(|(_, candidate)| !others.contains(candidate))
 }
 
 impl Seen {
@@ -96,7 +96,12 @@ impl Seen {
                     logged!(warn, "Exceeded max number of candidate pairs");
                     logged!(debug, "Remove overflow pair {:?}", Pii(pair));
                 }
-                Removal::Replaced => logged!(debug, "Replace redundant pair, current: {:?}", Pii(pair)),
+                Removal::Replaced => {
+                    logged!(debug, "Replace redundant pair, current: {:?}", Pii(pair));
+                    if now.is_lite {
+                        logged!(debug, "Retain incoming binding requests for pair");
+                    }
+                }
                 Removal::Invalidated => logged!(trace, "Discard pair of an invalidated candidate: {:?}", Pii(pair)),
             }
         }
@@ -111,22 +116,43 @@ impl Seen {
         }
     }
 
-    /// Logs what adding a local candidate did.
-    pub(crate) fn log_added_local(&self, agent: &IceAgent, c: &Candidate) {
+    /// Logs what adding the local candidate of this index did.
+    pub(crate) fn log_added_local(&self, agent: &IceAgent, c: &Candidate, index: usize) {
         let now = Seen::of(agent);
-        for gone in missing(&self.local, &now.local) {
+        for (place, gone) in missing(&self.local, &now.local) {
             logged!(debug, "Replace redundant candidate, current: {:?} replaced with: {:?}", Pii(gone), Pii(c));
+            logged!(trace, "Discard pairs for local candidate index: {place:?}");
+        }
+        for remote in 0..now.remote.len() {
+            self.log_pair_of(&now, (index, remote), |pair| pair.local == index);
         }
         self.log_formed(&now);
     }
 
-    /// Logs what adding a remote candidate did.
-    pub(crate) fn log_added_remote(&self, agent: &IceAgent, c: &Candidate) {
+    /// Logs what adding the remote candidate of this index did.
+    pub(crate) fn log_added_remote(&self, agent: &IceAgent, c: &Candidate, index: usize) {
         let now = Seen::of(agent);
-        for gone in missing(&self.remote, &now.remote) {
+        for (_, gone) in missing(&self.remote, &now.remote) {
             logged!(debug, "Replace peer reflexive candidate, current: {:?} replaced with: {:?}", Pii(gone), Pii(c));
         }
+        for local in 0..now.local.len() {
+            self.log_pair_of(&now, (local, index), |pair| pair.remote == index);
+        }
         self.log_formed(&now);
+    }
+
+    /// Logs that a pair of two candidates was formed, and whether it was redundant: another pair has its path, and `is_theirs` is false
+    /// of that.
+    fn log_pair_of(&self, now: &Seen, (local, remote): (usize, usize), is_theirs: impl Fn(&CandidatePair) -> bool) {
+        let (Some(local), Some(remote)) = (now.local.get(local), now.remote.get(remote)) else { return };
+        if local.proto() != remote.proto() || local.addr().is_ipv4() != remote.addr().is_ipv4() {
+            return;
+        }
+        logged!(trace, "Form pair local: {:?} remote: {:?}", Pii(local), Pii(remote));
+        let path = (local.proto(), local.local(), remote.addr());
+        if let Some(pair) = now.pair_on(path).filter(|pair| self.pair_on(path).is_some() && !is_theirs(pair)) {
+            logged!(debug, "Reject redundant pair, current: {:?} rejected: {:?} {:?}", Pii(Shown(now, pair)), Pii(local), Pii(remote));
+        }
     }
 
     /// Logs the pairs that a call formed or removed.
@@ -143,8 +169,12 @@ impl Seen {
     /// Logs which side's candidate was removed.
     pub(crate) fn log_discarded(&self, agent: &IceAgent, c: &Candidate) {
         let now = Seen::of(agent);
-        let side = if missing(&self.local, &now.local).next().is_some() { "Local" } else { "Remote" };
+        let (local, remote) = (missing(&self.local, &now.local).next(), missing(&self.remote, &now.remote).next());
+        let side = if local.is_some() { "Local" } else { "Remote" };
         logged!(debug, "{side} candidate to discard {:?}", Pii(c));
+        if let Some((index, _)) = local.or(remote) {
+            logged!(trace, "Discard pairs for {} candidate index: {index:?}", side.to_lowercase());
+        }
         self.log_pairs(&now);
     }
 
@@ -165,6 +195,9 @@ impl Seen {
     pub(crate) fn log_timeout(&self, agent: &IceAgent) {
         let now = Seen::of(agent);
         if now.early < self.early {
+            for _ in 1..self.early - now.early {
+                logged!(trace, "Drop too old enqueued STUN request: {} wait", now.early);
+            }
             logged!(debug, "Handle enqueued STUN request: {} wait", now.early);
             self.log_new_pairs(&now, "Created new pair for STUN request:");
         } else if agent.remote_credentials().is_none() {

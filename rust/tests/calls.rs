@@ -2,9 +2,9 @@
 
 mod world;
 
-use is::stun::{StunMessage, StunPacket};
+use is::stun::{StunMessage, StunMessageBuilder, StunPacket, TransId};
 use is::{CallError, Candidate, CandidateKind, CheckState, Consent, IceAgent, IceAgentEvent, IceConnectionState, IceCreds};
-use is::{IceError, KindPreferences, LocalPreference, PreferenceTable, Profile, Protocol, Settings, StunError, TcpType};
+use is::{IceError, KindPreferences, LocalPreference, PreferenceTable, Profile, Protocol, Rejection, Settings, StunError, TcpType};
 use std::time::{Duration, Instant};
 use world::{at, creds, host, ms};
 
@@ -64,9 +64,27 @@ fn a_forged_request_changes_nothing() {
     let (mut agent, mut bytes) = (addressed(), unhex(REQUEST));
     bytes[67] ^= 1;
     assert!(!agent.accepts_message(&StunMessage::parse(&bytes).unwrap()) && !agent.accepts_packet(&from_peer(&bytes)));
+    assert_eq!(agent.rejection(&from_peer(&bytes)), Some(Rejection::LocalPassword));
     assert!(!agent.handle_packet(Instant::now(), from_peer(&bytes)));
     assert_eq!((agent.poll_transmit(), agent.poll_event()), (None, None));
     assert_eq!(agent.stats(), Default::default());
+}
+
+#[test]
+fn a_rejected_packet_has_a_reason() {
+    let (mut agent, bytes) = (addressed(), unhex(REQUEST));
+    assert_eq!(agent.rejection(&from_peer(&bytes)), None);
+    let other = IceAgent::new(creds("near"));
+    assert_eq!(other.rejection(&from_peer(&bytes)), Some(Rejection::LocalUfrag));
+    agent.set_remote_credentials(creds("farr"));
+    let why = agent.rejection(&from_peer(&bytes)).expect("a reason");
+    assert_eq!((why, why.to_string().as_str()), (Rejection::RemoteUfrag, "request from another username fragment than the peer's"));
+    agent.set_local_credentials(IceCreds { ufrag: "p9KA".to_owned(), pass: "wrong".to_owned() });
+    agent.set_remote_credentials(creds("SQAt"));
+    assert_eq!(agent.rejection(&from_peer(&bytes)), Some(Rejection::LocalPassword));
+    let mut packet = from_peer(&bytes);
+    packet.message = StunMessageBuilder::new().binding().success().build(TransId([7; 12]));
+    assert_eq!(agent.rejection(&packet), Some(Rejection::Unparsed));
 }
 
 #[test]
@@ -100,9 +118,10 @@ fn checks_go_out_after(mut agent: IceAgent, delays: &[u64]) {
     assert!(agent.state().is_disconnected());
 }
 
-/// By the settings of a new agent: when the checks after the first one are due, until the last one, and then the end.
-fn early_checks(last: u64, end: u64) -> Vec<u64> {
-    [100, 200].into_iter().chain((400..=last).step_by(350)).chain([end]).collect()
+/// By the settings of a new agent: when the checks after the first one are due, and then the end. They are repeated early until 2.5 s,
+/// and then each 2.9 s.
+fn early_checks(end: u64) -> Vec<u64> {
+    [100, 200].into_iter().chain((400..=2500).step_by(350)).chain((5400..=end).step_by(2900)).collect()
 }
 
 /// Gives the agent this behavior, and leaves its other settings.
@@ -114,14 +133,14 @@ fn set_profile(agent: &mut IceAgent, profile: Profile) {
 
 #[test]
 fn checks_go_out_by_the_schedule() {
-    // the last check is the first one after `ice_timeout`, which is 26.7 s here and 9.3 s below, and the end is one RTO later
-    checks_go_out_after(paired(), &early_checks(27000, 29900));
+    // the last check is the last one before `ice_timeout`, which is 26.7 s here and 9.3 s below, and the end is one RTO later
+    checks_go_out_after(paired(), &early_checks(28600));
     let mut agent = paired();
     set_profile(&mut agent, Profile::Original);
     checks_go_out_after(agent, &[250, 750, 1750, 3750, 6650, 9550, 12450, 15350, 18250, 21150, 24050]);
     let mut few = paired();
     few.set_max_stun_retransmits(5);
-    checks_go_out_after(few, &early_checks(9500, 12400));
+    checks_go_out_after(few, &early_checks(11200));
 }
 
 #[test]

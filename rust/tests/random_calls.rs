@@ -388,6 +388,7 @@ impl Session {
         let agent = &mut self.agents[side];
         let accepts = agent.accepts_packet(&packet);
         black_box(agent.accepts_message(&message));
+        assert_eq!(agent.rejection(&packet).is_none(), accepts);
         let accepted =
             if self.random.once_in(2) { agent.handle_packet(now, packet) } else { agent.try_handle_packet(now, packet).unwrap() };
         assert_eq!(accepts, accepted);

@@ -21,6 +21,7 @@ mod pairs;
 mod polled;
 mod progress;
 mod queue;
+mod rejections;
 mod removed;
 mod renomination;
 mod requests;

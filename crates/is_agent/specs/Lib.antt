@@ -8,3 +8,4 @@ pub mod Room
 pub mod Keys
 pub mod Removed
 pub mod Polls
+pub mod Rejecting

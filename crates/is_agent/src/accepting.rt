@@ -36,7 +36,7 @@ impl<H: Sha1HmacProvider + Drop, P: LocalPreference> Agent<H, P> {
     }
 
     /// The USERNAME is the agent's own username fragment, a colon and the peer's, if that is known.
-    fn is_addressed(&self, message: &StunMessage<'_>) -> bool
+    pub(crate) fn is_addressed(&self, message: &StunMessage<'_>) -> bool
         ensures { IsTrue result ↔ IsAddressed (record_of self.now) (message_view message.now) }
     {
         match message.split_username() {
@@ -47,11 +47,18 @@ impl<H: Sha1HmacProvider + Drop, P: LocalPreference> Agent<H, P> {
         }
     }
 
+    /// The message is signed with the agent's own password.
+    pub(crate) fn is_by_local(&self, message: &StunMessage<'_>) -> bool
+        ensures { IsTrue result ↔ IsSignedBy (H.mac (record_of self.now).provider) (message_view message.now) (record_of self.now).local_creds.pass }
+    {
+        let password = self.local_creds.pass.as_str().as_bytes();
+        message.verify(password, &self.by_local_key())
+    }
+
     fn accepts_request(&self, message: &StunMessage<'_>) -> bool
         ensures { IsTrue result ↔ (IsAddressed (record_of self.now) (message_view message.now) × IsSignedBy (H.mac (record_of self.now).provider) (message_view message.now) (record_of self.now).local_creds.pass) }
     {
-        let password = self.local_creds.pass.as_str().as_bytes();
-        self.is_addressed(message) && message.verify(password, &self.by_local_key())
+        self.is_addressed(message) && self.is_by_local(message)
     }
 
     /// Whether the agent accepts the message, as far as the message shows: a Binding request whose USERNAME is the agent's
@@ -74,22 +81,12 @@ impl<H: Sha1HmacProvider + Drop, P: LocalPreference> Agent<H, P> {
     }
 
     /// Whether `handle_packet` accepts the packet: the message is accepted (`accepts_message`), and a response was received
-    /// on the reverse path of the pair with its pending transaction, from the remote address to the local base. Does not
-    /// allocate.
+    /// on the reverse path of the pair with its pending transaction, from the remote address to the local base. `rejection`
+    /// says why it does not. Does not allocate.
     pub fn accepts_packet(&self, packet: &StunPacket<'_>) -> bool
         ensures { IsTrue result ↔ IsAcceptedOn H.mac (record_of self.now) (packet_path packet.now) (message_view packet.now.message) }
     {
-        let message = &packet.message;
-        if message.method() != Method::Binding {
-            return false;
-        }
-        match message.class() {
-            Class::Request => self.accepts_request(message),
-            Class::Success | Class::Failure => {
-                self.awaited_pair(&packet_path(packet), message).is_some()
-            }
-            _ => false,
-        }
+        self.rejection(packet).is_none()
     }
 
     /// As many events wait to be polled as the limit on discovered candidates allows sources.

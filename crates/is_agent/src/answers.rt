@@ -35,7 +35,7 @@ use std::net::SocketAddr;
 impl<H: Sha1HmacProvider + Drop, P: LocalPreference> Agent<H, P> {
     /// The number of a pair that has a pending transaction with this ID, and on the reverse of whose path the packet was
     /// received, if there is one.
-    fn pair_awaiting(&self, path: &Path, id: TransId) -> Option<u64>
+    pub(crate) fn pair_awaiting(&self, path: &Path, id: TransId) -> Option<u64>
         ensures any { list_any (keeps_check_on (record_of self.now) path.now id.0) (record_of self.now).pairs ≡ is_some result }
         ensures kept { IfSome result (λ number. KeepsCheckOn (record_of self.now) path.now id.0 number) }
     {

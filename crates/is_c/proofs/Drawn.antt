@@ -3,8 +3,8 @@ use Rattle.std.proofs.Common.{◌≡◌, ℕ, List, refl}
 use Rattle.rand_core.specs.Steps.{stream_of}
 use Rattle.rand_core.proofs.StepsLemmas.{fill_bytes-stream_of}
 use Rattle.is_rules.specs.Credentials.{drawn_creds}
-use Rattle.is_c.specs.Random.{given, given_steps}
-use Rattle.is_c.specs.Credentials.{drawn}
+use Rattle.is_c_calls.specs.Random.{given, given_steps}
+use Rattle.is_c_calls.specs.Credentials.{drawn}
 
 pub drawn_again : (bytes : List ℕ) → (drawn_creds (stream_of given_steps bytes)).0 ≡ drawn bytes
 drawn_again bytes =

@@ -5,9 +5,9 @@ use Rattle.is_proto.specs.declared.error.StunError.TheVariants.{BufferTooShort}
 use Rattle.is_stun.specs.Header.{header}
 use Rattle.is_stun.specs.Message.{Message}
 use Rattle.is_stun.specs.Writing.{attribute, rows_text, front_of, sealed_of, written_rows, value_rejection, rejection, written, fingerprint_text, WritesOr}
-use Rattle.is_c.specs.Codes.{OK, BUFFER_TOO_SHORT}
+use Rattle.is_c_calls.specs.Codes.{OK, BUFFER_TOO_SHORT}
 use Rattle.is_c.specs.StunClient.{binding_query}
-use Rattle.is_c.specs.Texts.{with_front, Puts}
+use Rattle.is_c_calls.specs.Texts.{with_front, Puts}
 
 fingerprint_len : (bytes : List ℕ) → length (fingerprint_text bytes) ≡ 8
 unfolding attribute

@@ -9,8 +9,8 @@ use Rattle.is_stun.specs.Writing.{WritesOr}
 use Rattle.is_c.specs.declared.stun_message.Message.{Message as Flat}
 use Rattle.is_c.specs.declared.stun_texts.Texts.{Texts}
 use Rattle.is_c.specs.declared.stun_texts.Words.{Words}
-use Rattle.is_c.specs.Addresses.{socket_of}
-use Rattle.is_c.specs.Codes.{OK}
+use Rattle.is_c_calls.specs.Addresses.{socket_of}
+use Rattle.is_c_calls.specs.Codes.{OK}
 use Rattle.is_c.specs.StunFill.{numbers_set, addresses_set, words_set, error_of}
 use Rattle.is_c.specs.StunMessage.{number_in}
 use Rattle.is_c.specs.StunTexts.{piece_in, AreWords}

@@ -8,15 +8,15 @@ use Rattle.is_candidate.specs.Candidates.{CandidateRecord}
 use Rattle.is_candidate.specs.Foundations.{foundation_of}
 use Rattle.is_candidate.specs.Priorities.{candidate_priority}
 use Rattle.is_rules.specs.Questions.{live}
-use Rattle.is_c.specs.declared.candidate.LocalCandidate.{LocalCandidate}
+use Rattle.is_c_calls.specs.declared.candidate.LocalCandidate.{LocalCandidate}
 use Rattle.is_c.specs.declared.fields.Fields.{Fields}
-use Rattle.is_c.specs.Addresses.{socket_of, protocol_of}
-use Rattle.is_c.specs.Candidates.{Made, MakesCandidate, ReadsBytes}
-use Rattle.is_c.specs.Codes.{OK, BAD_ADDRESS, NOT_UTF8, code_of}
-use Rattle.is_c.specs.Held.{Held, HomeRecord}
+use Rattle.is_c_calls.specs.Addresses.{socket_of, protocol_of}
+use Rattle.is_c_calls.specs.Candidates.{Made, MakesCandidate, ReadsBytes}
+use Rattle.is_c_calls.specs.Codes.{OK, BAD_ADDRESS, NOT_UTF8, code_of}
+use Rattle.is_c_calls.specs.Held.{Held, HomeRecord}
 use Rattle.is_c.specs.Questions.{PutsLine}
 use Rattle.is_c.specs.StunMessage.{IsAddress}
-use Rattle.is_c.specs.Texts.{PutsNone}
+use Rattle.is_c_calls.specs.Texts.{PutsNone}
 
 -- the numbers of the kinds: of those that a caller gathers, as it passes them in
 abbrev pub kind_number : CandidateKind → ℕ

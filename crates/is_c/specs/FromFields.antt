@@ -12,14 +12,14 @@ use Rattle.is_candidate.specs.Candidates.{CandidateRecord}
 use Rattle.is_candidate.specs.Making.{signalled_candidate}
 use Rattle.is_candidate.specs.Rejections.{RejectsWith}
 use Rattle.is_candidate.specs.Words.{IsWord}
-use Rattle.is_c.specs.declared.address.Address.{Address}
+use Rattle.is_c_calls.specs.declared.address.Address.{Address}
 use Rattle.is_c.specs.declared.fields.Fields.{Fields}
 use Rattle.is_c.specs.declared.from_fields.Meant.{Meant}
-use Rattle.is_c.specs.Addresses.{socket_of, protocol_of}
-use Rattle.is_c.specs.Candidates.{Made, role_of}
-use Rattle.is_c.specs.Codes.{BAD_ADDRESS, NOT_UTF8}
+use Rattle.is_c_calls.specs.Addresses.{socket_of, protocol_of}
+use Rattle.is_c_calls.specs.Candidates.{Made, role_of}
+use Rattle.is_c_calls.specs.Codes.{BAD_ADDRESS, NOT_UTF8}
 use Rattle.is_c.specs.Fields.{PutsMadeFields}
-use Rattle.is_c.specs.Texts.{PutsNone}
+use Rattle.is_c_calls.specs.Texts.{PutsNone}
 
 -- the kind for the number
 abbrev pub kind_of : ℕ → Option CandidateKind

@@ -7,12 +7,12 @@ use Rattle.is_candidate.specs.Candidates.{CandidateRecord}
 use Rattle.is_candidate.specs.Infos.{info_of, ReadsInfoText}
 use Rattle.is_candidate.specs.Rejections.{RejectsWith}
 use Rattle.is_c.specs.declared.fields.Fields.{Fields}
-use Rattle.is_c.specs.Candidates.{Made, ReadsBytes}
-use Rattle.is_c.specs.Codes.{NOT_UTF8, OUT_OF_MEMORY, code_of}
+use Rattle.is_c_calls.specs.Candidates.{Made, ReadsBytes}
+use Rattle.is_c_calls.specs.Codes.{NOT_UTF8, OUT_OF_MEMORY, code_of}
 use Rattle.is_c.specs.Fields.{PutsMadeFields}
 use Rattle.is_c.specs.Lines.{KeepsWord, PutsMade}
 use Rattle.is_c.specs.Rejections.{ReturnsWhy}
-use Rattle.is_c.specs.Texts.{Puts, PutsNone}
+use Rattle.is_c_calls.specs.Texts.{Puts, PutsNone}
 
 -- '[' or '{'
 abbrev pub is_bracket : ℕ → Bool

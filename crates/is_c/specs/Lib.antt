@@ -1,25 +1,10 @@
 -- What C holds, and what the exports do to it.
 pub mod Handles
-pub mod Codes
-pub mod Addresses
-pub mod Random
-pub mod Texts
-pub mod Preferences
-pub mod Candidates
-pub mod Held
+pub mod Slots
 pub mod Borrowing
-pub mod Limits
-pub mod AgentSettings
-pub mod Given
-pub mod Adding
 pub mod Rejections
-pub mod Credentials
-pub mod Making
 pub mod Freeing
-pub mod Clock
-pub mod Packets
 pub mod Accepting
-pub mod Events
 pub mod Questions
 pub mod StunRead
 pub mod StunNames

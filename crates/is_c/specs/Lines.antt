@@ -9,13 +9,13 @@ use Rattle.is_candidate.specs.Infos.{with_ufrag}
 use Rattle.is_candidate.specs.Preferences.{default_preference}
 use Rattle.is_candidate.specs.Rejections.{RejectsWith}
 use Rattle.is_candidate.specs.Words.{IsWord}
-use Rattle.is_c.specs.declared.candidate.LocalCandidate.{LocalCandidate}
+use Rattle.is_c_calls.specs.declared.candidate.LocalCandidate.{LocalCandidate}
 use Rattle.is_c.specs.declared.fields.Fields.{Fields}
-use Rattle.is_c.specs.Candidates.{Made, MakesCandidate, ReadsBytes}
-use Rattle.is_c.specs.Codes.{OK, BAD_ADDRESS, NOT_UTF8, code_of}
+use Rattle.is_c_calls.specs.Candidates.{Made, MakesCandidate, ReadsBytes}
+use Rattle.is_c_calls.specs.Codes.{OK, BAD_ADDRESS, NOT_UTF8, code_of}
 use Rattle.is_c.specs.Fields.{PutsMadeFields}
 use Rattle.is_c.specs.Questions.{PutsLine}
-use Rattle.is_c.specs.Texts.{PutsNone}
+use Rattle.is_c_calls.specs.Texts.{PutsNone}
 
 -- the text of the candidate, or the code of why there is none
 abbrev pub PutsMade : ℤ → Made → List ℕ → ℕ → ℤ → List ℕ → ℕ → Type 0

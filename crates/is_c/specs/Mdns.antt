@@ -11,14 +11,14 @@ use Rattle.is_candidate.specs.Candidates.{CandidateRecord}
 use Rattle.is_candidate.specs.Faults.{ReadsLine}
 use Rattle.is_candidate.specs.Lines.{HasRest}
 use Rattle.is_candidate.specs.Words.{IsGap, BeginsWithWord, HasWords}
-use Rattle.is_c.specs.declared.address.Address.{Address}
+use Rattle.is_c_calls.specs.declared.address.Address.{Address}
 use Rattle.is_c.specs.declared.fields.Fields.{Fields}
-use Rattle.is_c.specs.Addresses.{socket_of}
-use Rattle.is_c.specs.Candidates.{Made}
-use Rattle.is_c.specs.Codes.{NOTHING, NOT_UTF8, BAD_ADDRESS}
+use Rattle.is_c_calls.specs.Addresses.{socket_of}
+use Rattle.is_c_calls.specs.Candidates.{Made}
+use Rattle.is_c_calls.specs.Codes.{NOTHING, NOT_UTF8, BAD_ADDRESS}
 use Rattle.is_c.specs.Fields.{PutsMadeFields}
 use Rattle.is_c.specs.Lines.{PutsMade}
-use Rattle.is_c.specs.Texts.{Puts, PutsNone}
+use Rattle.is_c_calls.specs.Texts.{Puts, PutsNone}
 
 -- this is the word after n others, if there are so many
 abbrev pub HasNth : ℕ → List ℕ → Option (List ℕ) → Type 0

@@ -8,10 +8,10 @@ use Rattle.is_rules.specs.Questions.{FindsEquivalent}
 use Rattle.is_agent.specs.Added.{listed_index}
 use Rattle.is_agent.specs.Pairs.{is_selected, next_due}
 use Rattle.is_c.specs.declared.pairs.Pair.{Pair}
-use Rattle.is_c.specs.Candidates.{Made, ReadsBytes}
-use Rattle.is_c.specs.Clock.{caller_time}
-use Rattle.is_c.specs.Codes.{OK, NOTHING, NOT_UTF8, code_of}
-use Rattle.is_c.specs.Held.{Held, HomeRecord}
+use Rattle.is_c_calls.specs.Candidates.{Made, ReadsBytes}
+use Rattle.is_c_calls.specs.Clock.{caller_time}
+use Rattle.is_c_calls.specs.Codes.{OK, NOTHING, NOT_UTF8, code_of}
+use Rattle.is_c_calls.specs.Held.{Held, HomeRecord}
 
 abbrev pub check_number : CheckState → ℤ
 check_number Waiting = pos 0

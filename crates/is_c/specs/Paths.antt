@@ -3,9 +3,9 @@ use Rattle.std.specs.Prelude.{◌≡◌, Option, Some, None, ℤ}
 use Rattle.is_rules.specs.declared.emitted.Path.{Path}
 use Rattle.is_rules.specs.Questions.{FindsValidPath}
 use Rattle.is_c.specs.declared.paths.MediaPath.{MediaPath}
-use Rattle.is_c.specs.Addresses.{socket_of, protocol_of}
-use Rattle.is_c.specs.Codes.{OK, NOTHING}
-use Rattle.is_c.specs.Held.{HomeRecord}
+use Rattle.is_c_calls.specs.Addresses.{socket_of, protocol_of}
+use Rattle.is_c_calls.specs.Codes.{OK, NOTHING}
+use Rattle.is_c_calls.specs.Held.{HomeRecord}
 
 -- C gets this path
 abbrev pub IsMediaPath : Path → MediaPath → Type 0

@@ -7,12 +7,12 @@ use Rattle.is_rules.specs.Questions.{live, has_viable_remote, ice_timeout}
 use Rattle.is_rules.specs.declared.credentials.IceCreds.{IceCreds}
 use Rattle.is_c.specs.declared.questions.Stats.{Stats}
 use Rattle.is_c.specs.declared.questions.Status.{Status}
-use Rattle.is_c.specs.declared.address.Address.{Address}
-use Rattle.is_c.specs.Addresses.{socket_of}
-use Rattle.is_c.specs.Codes.{OK, NOTHING, BAD_ADDRESS, OUT_OF_MEMORY, found_code}
-use Rattle.is_c.specs.Events.{state_number}
-use Rattle.is_c.specs.Held.{Held, HomeRecord}
-use Rattle.is_c.specs.Texts.{Puts, PutsNone}
+use Rattle.is_c_calls.specs.declared.address.Address.{Address}
+use Rattle.is_c_calls.specs.Addresses.{socket_of}
+use Rattle.is_c_calls.specs.Codes.{OK, NOTHING, BAD_ADDRESS, OUT_OF_MEMORY, found_code}
+use Rattle.is_c_calls.specs.Events.{state_number}
+use Rattle.is_c_calls.specs.Held.{Held, HomeRecord}
+use Rattle.is_c_calls.specs.Texts.{Puts, PutsNone}
 
 -- `is_ice_status`
 abbrev pub IsStatus : HomeRecord → Status → Type 0

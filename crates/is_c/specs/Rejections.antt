@@ -3,10 +3,10 @@ use Rattle.std.specs.Prelude.{ℕ, List, Option, Some, None, MatchOption, Result
 use Rattle.is_proto.specs.declared.error.IceError.{IceError}
 use Rattle.is_proto.specs.declared.error.IceError.TheVariants as errors
 use Rattle.is_candidate.specs.Candidates.{CandidateRecord}
-use Rattle.is_c.specs.declared.candidate.LocalCandidate.{LocalCandidate}
-use Rattle.is_c.specs.Candidates.{Made, MakesCandidate, ReadsBytes}
-use Rattle.is_c.specs.Codes.{NOTHING, NOT_UTF8, BAD_ADDRESS, code_of}
-use Rattle.is_c.specs.Texts.{Puts, PutsNone}
+use Rattle.is_c_calls.specs.declared.candidate.LocalCandidate.{LocalCandidate}
+use Rattle.is_c_calls.specs.Candidates.{Made, MakesCandidate, ReadsBytes}
+use Rattle.is_c_calls.specs.Codes.{NOTHING, NOT_UTF8, BAD_ADDRESS, code_of}
+use Rattle.is_c_calls.specs.Texts.{Puts, PutsNone}
 
 -- the error of an invalid candidate has a message, and no other error has one
 abbrev pub message_of : IceError → Option (List ℕ)

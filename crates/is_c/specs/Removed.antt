@@ -9,8 +9,8 @@ use Rattle.is_agent.specs.Removed.{removed_of, path_between_some}
 use Rattle.is_c.specs.declared.paths.MediaPath.{MediaPath}
 use Rattle.is_c.specs.declared.removed.Removed.{Removed}
 use Rattle.is_c.specs.declared.slot.Slot.{Slot}
-use Rattle.is_c.specs.Codes.{OK, NOTHING}
-use Rattle.is_c.specs.Held.{Held, HomeRecord}
+use Rattle.is_c_calls.specs.Codes.{OK, NOTHING}
+use Rattle.is_c_calls.specs.Held.{Held, HomeRecord}
 use Rattle.is_c.specs.Pairs.{check_number}
 use Rattle.is_c.specs.Paths.{IsMediaPath}
 

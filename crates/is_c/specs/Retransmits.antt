@@ -3,7 +3,7 @@ use Rattle.std.specs.Prelude.{◌≡◌, ℕ, ◌==◌, MatchBool, ℤ}
 use Rattle.is_stun.specs.declared.timing.StunTiming.{StunTiming}
 use Rattle.is_stun.specs.Timing.{resend_delay, timeout_of}
 use Rattle.is_rules.specs.Agent.{default_timing}
-use Rattle.is_c.specs.Codes.{OK, BAD_LIMIT}
+use Rattle.is_c_calls.specs.Codes.{OK, BAD_LIMIT}
 
 -- a timing with these three settings
 abbrev pub timing_of : ℕ → ℕ → ℕ → StunTiming

@@ -6,9 +6,9 @@ use Rattle.is_pair.specs.Pairs.{PairRecord}
 use Rattle.is_rules.specs.Questions.{live, nominated_pair}
 use Rattle.is_agent.specs.Added.{listed_index}
 use Rattle.is_c.specs.declared.questions.Nominated.{Nominated}
-use Rattle.is_c.specs.Addresses.{socket_of, protocol_of}
-use Rattle.is_c.specs.Codes.{OK, NOTHING}
-use Rattle.is_c.specs.Held.{Held, HomeRecord}
+use Rattle.is_c_calls.specs.Addresses.{socket_of, protocol_of}
+use Rattle.is_c_calls.specs.Codes.{OK, NOTHING}
+use Rattle.is_c_calls.specs.Held.{Held, HomeRecord}
 use Rattle.is_c.specs.Pairs.{IsTime}
 
 -- the candidate of a pair, as it is listed

@@ -8,8 +8,8 @@ use Rattle.is_stun.specs.declared.header.Method.TheVariants.{Binding}
 use Rattle.is_stun.specs.Builder.{built}
 use Rattle.is_stun.specs.Message.{AttributesRecord, Message, no_attributes}
 use Rattle.is_c.specs.declared.stun_client.Response.{Response}
-use Rattle.is_c.specs.Addresses.{socket_of}
-use Rattle.is_c.specs.Codes.{OK, NOTHING}
+use Rattle.is_c_calls.specs.Addresses.{socket_of}
+use Rattle.is_c_calls.specs.Codes.{OK, NOTHING}
 
 -- a Binding request without attributes; FINGERPRINT is added when it is written
 abbrev pub binding_query : List ℕ → Message

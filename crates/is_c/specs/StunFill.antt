@@ -7,7 +7,7 @@ use Rattle.is_stun.specs.Builder.{attributes_so_far, kind_so_far}
 use Rattle.is_stun.specs.Message.{AttributesRecord}
 use Rattle.is_c.specs.declared.stun_message.Message.{Message as Flat}
 use Rattle.is_c.specs.declared.stun_texts.Words.{Words}
-use Rattle.is_c.specs.Addresses.{socket_of}
+use Rattle.is_c_calls.specs.Addresses.{socket_of}
 use Rattle.is_c.specs.StunMessage.{number_in}
 use Rattle.is_c.specs.StunWrite.{cost_in, reason_of}
 

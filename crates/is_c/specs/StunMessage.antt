@@ -11,11 +11,11 @@ use Rattle.is_stun.specs.Header.{method_bits}
 use Rattle.is_stun.specs.Integrity.{IsSignedBy}
 use Rattle.is_stun.specs.Message.{Message}
 use Rattle.is_stun.specs.Requested.{requested_in}
-use Rattle.is_c.specs.declared.address.Address.{Address}
+use Rattle.is_c_calls.specs.declared.address.Address.{Address}
 use Rattle.is_c.specs.declared.stun_message.Message.{Message as Flat}
 use Rattle.is_c.specs.declared.stun_message.Number.{Number}
-use Rattle.is_c.specs.Addresses.{socket_of}
-use Rattle.is_c.specs.Codes.{OK, found_code}
+use Rattle.is_c_calls.specs.Addresses.{socket_of}
+use Rattle.is_c_calls.specs.Codes.{OK, found_code}
 
 abbrev pub class_number : Class → ℕ
 class_number classes.Request = 0

@@ -2,8 +2,8 @@
 use Rattle.std.specs.Prelude.{◌≡◌, ◌⊎◌, ℕ, List, length, Option, Some, None, ℤ}
 use Rattle.std.specs.Str.{IsUtf8}
 use Rattle.is_stun.specs.Message.{split_at_colon}
-use Rattle.is_c.specs.Codes.{OK, NOTHING, NOT_UTF8}
-use Rattle.is_c.specs.Texts.{Puts}
+use Rattle.is_c_calls.specs.Codes.{OK, NOTHING, NOT_UTF8}
+use Rattle.is_c_calls.specs.Texts.{Puts}
 
 -- the text in the caller's buffer, and the length of its first part; neither if the text has no two parts
 abbrev pub PutsName : Option (List ℕ) → Option (List ℕ × List ℕ) → List ℕ → ℕ → ℕ → ℤ → List ℕ → ℕ → ℕ → Type 0

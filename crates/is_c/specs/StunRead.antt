@@ -6,8 +6,8 @@ use Rattle.is_stun.specs.Form.{ReadsAny, FailsAnyBy}
 use Rattle.is_stun.specs.Reading.{Reads, FailsBy}
 use Rattle.is_stun.specs.Message.{AttributesRecord, Message}
 use Rattle.is_stun.specs.Numbers.{USERNAME, ERROR_CODE, DATA, REALM, NONCE, SOFTWARE}
-use Rattle.is_c.specs.Codes.{NOTHING, UNPARSED}
-use Rattle.is_c.specs.Texts.{Puts}
+use Rattle.is_c_calls.specs.Codes.{NOTHING, UNPARSED}
+use Rattle.is_c_calls.specs.Texts.{Puts}
 
 -- the magic cookie, in network order
 abbrev pub has_cookie : List ℕ → Bool

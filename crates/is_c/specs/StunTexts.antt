@@ -5,7 +5,7 @@ use Rattle.std.specs.Str.{is_utf8}
 use Rattle.is_c.specs.declared.stun_texts.Span.{Span}
 use Rattle.is_c.specs.declared.stun_texts.Texts.{Texts}
 use Rattle.is_c.specs.declared.stun_texts.Words.{Words}
-use Rattle.is_c.specs.Codes.{NOT_UTF8, BAD_MESSAGE}
+use Rattle.is_c_calls.specs.Codes.{NOT_UTF8, BAD_MESSAGE}
 
 -- the text where the span says, if it is set
 abbrev pub piece_in : List ℕ → Span → Option (List ℕ)

@@ -16,11 +16,11 @@ use Rattle.is_stun.specs.declared.requested.Requested.{Requested}
 use Rattle.is_c.specs.declared.stun_message.Message.{Message as Flat}
 use Rattle.is_c.specs.declared.stun_message.Number.{Number}
 use Rattle.is_c.specs.declared.stun_texts.Texts.{Texts}
-use Rattle.is_c.specs.Addresses.{socket_of}
-use Rattle.is_c.specs.Codes.{OK, BAD_ADDRESS, BUFFER_TOO_SHORT, BAD_MESSAGE, MESSAGE_TOO_LONG}
+use Rattle.is_c_calls.specs.Addresses.{socket_of}
+use Rattle.is_c_calls.specs.Codes.{OK, BAD_ADDRESS, BUFFER_TOO_SHORT, BAD_MESSAGE, MESSAGE_TOO_LONG}
 use Rattle.is_c.specs.StunMessage.{number_in}
 use Rattle.is_c.specs.StunTexts.{piece_in, texts_fault}
-use Rattle.is_c.specs.Texts.{with_front}
+use Rattle.is_c_calls.specs.Texts.{with_front}
 
 -- ---- the method and the class of their numbers
 

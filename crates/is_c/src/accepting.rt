@@ -1,15 +1,18 @@
-//! Which datagrams are for an agent, queried before one is passed in: for example if several agents share a socket.
+//! Which datagrams are for an agent, and why one is not: queried before one is passed in, for example if several agents share
+//! a socket.
+ghost use Rattle.std.specs.Prelude.{◌≡◌};
 ghost use Rattle.is_rules.specs.Accepting.{IsAcceptedOn};
 ghost use Rattle.is_agent.specs.View.{record_of};
-ghost use Rattle.is_c.specs.Accepting.{ReturnsWhether, AsksWay, AsksMessage};
-ghost use Rattle.is_c.specs.Held.{held_by, At};
-ghost use Rattle.is_c.specs.Packets.{packet_path};
+ghost use Rattle.is_c.specs.Accepting.{ReturnsWhether, AsksWay, AsksMessage, ReturnsReason, AsksReason};
+ghost use Rattle.is_c.specs.Slots.{held_by};
+ghost use Rattle.is_c_calls.specs.Held.{At};
+ghost use Rattle.is_c_calls.specs.Packets.{packet_path};
 
-use crate::address::Address;
 use crate::codes;
 use crate::home::Home;
 use crate::packets::packet_path;
 use crate::slot::Slot;
+use is_c_calls::Address;
 use is_proto::{DefaultSha1HmacProvider, Sha1HmacProvider};
 use is_rules::emitted::Path;
 use is_stun::stun::{StunMessage, StunPacket};
@@ -42,8 +45,9 @@ pub extern "C" fn is_ice_accepts_packet(
     destination: &Address,
     bytes: &[u8],
 ) -> i32
-    ensures { At (AsksWay ⟦<DefaultSha1HmacProvider as Sha1HmacProvider>⟧.mac (packet_path protocol source.now destination.now) bytes.now)
+    ensures returned { At (AsksWay ⟦<DefaultSha1HmacProvider as Sha1HmacProvider>⟧.mac (packet_path protocol source.now destination.now) bytes.now)
         (held_by slot.old) result (held_by slot.new) }
+    ensures stays { held_by slot.new ≡ held_by slot.old }
 {
     let Some(home) = slot.home() else {
         return codes::NO_AGENT;
@@ -57,7 +61,8 @@ pub extern "C" fn is_ice_accepts_packet(
 /// Whether the message is for this agent, whatever its source. The agent is unchanged.
 #[unsafe(no_mangle)]
 pub extern "C" fn is_ice_accepts_message(alloc: Global, slot: &mut Slot, bytes: &[u8]) -> i32
-    ensures { At (AsksMessage ⟦<DefaultSha1HmacProvider as Sha1HmacProvider>⟧.mac bytes.now) (held_by slot.old) result (held_by slot.new) }
+    ensures returned { At (AsksMessage ⟦<DefaultSha1HmacProvider as Sha1HmacProvider>⟧.mac bytes.now) (held_by slot.old) result (held_by slot.new) }
+    ensures stays { held_by slot.new ≡ held_by slot.old }
 {
     let Some(home) = slot.home() else {
         return codes::NO_AGENT;
@@ -65,5 +70,45 @@ pub extern "C" fn is_ice_accepts_message(alloc: Global, slot: &mut Slot, bytes: 
     match StunMessage::parse(bytes) {
         Ok(message) => codes::found_code(home.agent.accepts_message(&message)),
         Err(_) => codes::UNPARSED,
+    }
+}
+
+fn bytes_rejection(home: &Home, path: Path, bytes: &[u8]) -> i32
+    ensures { ReturnsReason ⟦<DefaultSha1HmacProvider as Sha1HmacProvider>⟧.mac (record_of home.now.agent) path bytes.now result }
+{
+    match StunMessage::parse(bytes) {
+        Ok(message) => {
+            let packet = StunPacket {
+                proto: path.proto,
+                source: path.source,
+                destination: path.destination,
+                message,
+            };
+            codes::rejection_code(home.agent.rejection(&packet))
+        }
+        Err(_) => codes::UNPARSED,
+    }
+}
+
+/// Why `is_ice_handle_packet` would not accept the datagram. The agent is unchanged.
+#[unsafe(no_mangle)]
+pub extern "C" fn is_ice_rejection(
+    alloc: Global,
+    slot: &mut Slot,
+    protocol: u8,
+    source: &Address,
+    destination: &Address,
+    bytes: &[u8],
+) -> i32
+    ensures returned { At (AsksReason ⟦<DefaultSha1HmacProvider as Sha1HmacProvider>⟧.mac (packet_path protocol source.now destination.now) bytes.now)
+        (held_by slot.old) result (held_by slot.new) }
+    ensures stays { held_by slot.new ≡ held_by slot.old }
+{
+    let Some(home) = slot.home() else {
+        return codes::NO_AGENT;
+    };
+    match packet_path(protocol, source, destination) {
+        Some(path) => bytes_rejection(home, path, bytes),
+        None => codes::BAD_ADDRESS,
     }
 }

@@ -2,50 +2,21 @@
 
 ghost use Rattle.std.specs.Prelude.{◌≡◌, None};
 ghost use Rattle.is_rules.specs.Settings.{original_settings, modern_settings};
-ghost use Rattle.is_c.specs.Held.{held_by, At};
-ghost use Rattle.is_c.specs.Limits.{CANDIDATE_LIMIT, NO_LIMIT};
-ghost use Rattle.is_c.specs.AgentSettings.{profile_of, timeout_of, settings_of, reported_settings, GivesSettings, ReturnsSettings, SetsSettings};
+ghost use Rattle.is_c.specs.Slots.{held_by};
+ghost use Rattle.is_c_calls.specs.Held.{At};
+ghost use Rattle.is_c_calls.specs.Limits.{CANDIDATE_LIMIT, NO_LIMIT};
+ghost use Rattle.is_c_calls.specs.AgentSettings.{profile_of, timeout_of, settings_of, reported_settings, GivesSettings, ReturnsSettings};
+ghost use Rattle.is_c_calls.specs.Uses.{Does, SetSettings};
 
 use crate::codes;
 use crate::making::candidate_limit;
 use crate::settings::limit_of;
 use crate::slot::Slot;
+use is_c_calls::AgentSettings;
 use is_proto::Duration;
 use is_rules::settings::Settings;
 use is_stun::stun::{ConsentSetting, Profile};
 use std::alloc::Global;
-
-/// What a user of C chooses: `Settings` of the library, and how many candidates of each side may be listed. Times are in nanoseconds.
-#[repr(C)]
-#[derive(Clone, Copy)]
-pub struct AgentSettings {
-    /// The pacing interval Ta.
-    pub timing_advance: u64,
-    /// The RTO after a pair's first check,
-    pub initial_rto: u64,
-    /// and the greatest one.
-    pub max_rto: u64,
-    /// How long a lite agent keeps a pair without a check.
-    pub lite_timeout: u64,
-    /// How long a response keeps a pair. 0: by the timing.
-    pub consent_timeout: u64,
-    /// How many checks a pair sends without a response: at least 1.
-    pub max_retransmits: usize,
-    /// The greatest number of pairs after forming.
-    pub max_pairs: usize,
-    /// How many candidates packets may bring of each side; the greatest number: as many as come.
-    pub max_discovered: usize,
-    /// How many candidates of each side may be listed.
-    pub max_candidates: usize,
-    /// Room for later versions, in which these are fields.
-    pub room: [u64; 4],
-    /// Whether the profile is `Modern`.
-    pub modern: bool,
-    /// Whether only responses keep a pair.
-    pub strict_consent: bool,
-    /// Whether each nomination replaces the ones before.
-    pub renomination: bool,
-}
 
 fn profile_of(modern: bool) -> Profile
     ensures { result ≡ profile_of modern }
@@ -137,7 +108,7 @@ pub extern "C" fn is_ice_set_settings(
     slot: &mut Slot,
     settings: &AgentSettings,
 ) -> i32
-    ensures { At (SetsSettings settings.now) (held_by slot.old) result (held_by slot.new) }
+    ensures { At (Does (SetSettings settings.now)) (held_by slot.old) result (held_by slot.new) }
 {
     let Some(home) = slot.home() else {
         return codes::NO_AGENT;
@@ -158,6 +129,7 @@ pub extern "C" fn is_ice_settings(
     settings: &mut AgentSettings,
 ) -> i32
     ensures returned { At (ReturnsSettings settings.new) (held_by slot.old) result (held_by slot.new) }
+    ensures stays { held_by slot.new ≡ held_by slot.old }
     ensures without { held_by slot.old ≡ None → settings.new ≡ settings.old }
 {
     let Some(home) = slot.home() else {

@@ -2,12 +2,14 @@
 
 ghost use Rattle.std.specs.Prelude.{◌≡◌, None};
 ghost use Rattle.is_agent.specs.View.{record_of};
-ghost use Rattle.is_c.specs.Adding.{addition_index, addition_code, has_room, PutsAddition, AddsGiven, AddsRead};
-ghost use Rattle.is_c.specs.Codes.{flag_code};
-ghost use Rattle.is_c.specs.Held.{home_of, held_by, At};
-ghost use Rattle.is_c.specs.Given.{CallsMade, CallsGiven, CallsRead, Discards, CountsMade, CountsGiven};
+ghost use Rattle.is_c_calls.specs.Adding.{addition_index, addition_code, has_room, PutsAddition};
+ghost use Rattle.is_c_calls.specs.Codes.{flag_code};
+ghost use Rattle.is_c.specs.Slots.{home_of, held_by};
+ghost use Rattle.is_c_calls.specs.Held.{At};
+ghost use Rattle.is_c_calls.specs.Given.{CallsMade, Discards, CountsMade, CountsGiven};
+ghost use Rattle.is_c_calls.specs.Uses.{Does, AddLocal, AddRemote, InvalidateLocal, Invalidate};
 
-use crate::candidate::{LocalCandidate, line_candidate, local_candidate};
+use crate::candidate::{line_candidate, local_candidate};
 use crate::codes;
 use crate::home::Home;
 use crate::questions::{local_at, remote_at};
@@ -15,6 +17,7 @@ use crate::slot::Slot;
 use is_agent::Addition;
 use is_agent::added::{add_local_listed, add_remote_listed};
 use is_agent::questions::alike_local;
+use is_c_calls::LocalCandidate;
 use is_candidate::Candidate;
 use is_proto::IceError;
 use std::alloc::Global;
@@ -99,7 +102,7 @@ pub extern "C" fn is_ice_add_local(
     candidate: &LocalCandidate,
     index: &mut usize,
 ) -> i32
-    ensures added { At (AddsGiven candidate.now index.old index.new) (held_by slot.old) result (held_by slot.new) }
+    ensures added { At (Does (AddLocal candidate.now index.old index.new)) (held_by slot.old) result (held_by slot.new) }
     ensures without { held_by slot.old ≡ None → index.new ≡ index.old }
 {
     let Some(home) = slot.home() else {
@@ -124,7 +127,7 @@ pub extern "C" fn is_ice_add_remote(
     line: &[u8],
     index: &mut usize,
 ) -> i32
-    ensures added { At (AddsRead line.now index.old index.new) (held_by slot.old) result (held_by slot.new) }
+    ensures added { At (Does (AddRemote line.now index.old index.new)) (held_by slot.old) result (held_by slot.new) }
     ensures without { held_by slot.old ≡ None → index.new ≡ index.old }
 {
     let Some(home) = slot.home() else {
@@ -158,7 +161,7 @@ pub extern "C" fn is_ice_invalidate_local(
     slot: &mut Slot,
     candidate: &LocalCandidate,
 ) -> i32
-    ensures { At (CallsGiven Discards flag_code candidate.now) (held_by slot.old) result (held_by slot.new) }
+    ensures { At (Does (InvalidateLocal candidate.now)) (held_by slot.old) result (held_by slot.new) }
 {
     let Some(home) = slot.home() else {
         return codes::NO_AGENT;
@@ -169,7 +172,7 @@ pub extern "C" fn is_ice_invalidate_local(
 /// Discards a candidate that equals the one of the candidate attribute.
 #[unsafe(no_mangle)]
 pub extern "C" fn is_ice_invalidate(alloc: Global, slot: &mut Slot, line: &[u8]) -> i32
-    ensures { At (CallsRead Discards flag_code line.now) (held_by slot.old) result (held_by slot.new) }
+    ensures { At (Does (Invalidate line.now)) (held_by slot.old) result (held_by slot.new) }
 {
     let Some(home) = slot.home() else {
         return codes::NO_AGENT;
@@ -200,6 +203,7 @@ pub extern "C" fn is_ice_alike_local(
     count: &mut usize,
 ) -> i32
     ensures counted { At (CountsGiven candidate.now count.old count.new) (held_by slot.old) result (held_by slot.new) }
+    ensures stays { held_by slot.new ≡ held_by slot.old }
     ensures without { held_by slot.old ≡ None → count.new ≡ count.old }
 {
     let Some(home) = slot.home() else {

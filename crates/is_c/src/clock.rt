@@ -4,7 +4,7 @@
 //! without the minute a clock that starts at 0 would have no such time.
 
 ghost use Rattle.std.specs.Prelude.{◌≡◌};
-ghost use Rattle.is_c.specs.Clock.{agent_time, caller_time};
+ghost use Rattle.is_c_calls.specs.Clock.{agent_time, caller_time};
 
 use is_proto::{Duration, Instant};
 

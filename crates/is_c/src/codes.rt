@@ -1,8 +1,9 @@
 //! The return codes of the exports.
 
 ghost use Rattle.std.specs.Prelude.{◌≡◌};
-ghost use Rattle.is_c.specs.Codes as code;
+ghost use Rattle.is_c_calls.specs.Codes as code;
 
+use is_agent::Rejection;
 use is_proto::IceError;
 
 /// Done. Of a poll: there was something to return. Of a packet: it was accepted.
@@ -13,6 +14,22 @@ pub const NOTHING: i32 = 1;
 pub const OTHER_COMPONENT: i32 = 2;
 /// The remote candidate was ignored: it is of another username fragment than the peer's.
 pub const OTHER_UFRAG: i32 = 3;
+/// A datagram is rejected: see `Rejection`, for this and the codes below.
+pub const REJECTED_METHOD: i32 = 4;
+
+pub const REJECTED_CLASS: i32 = 5;
+
+pub const REJECTED_LOCAL_UFRAG: i32 = 6;
+
+pub const REJECTED_REMOTE_UFRAG: i32 = 7;
+
+pub const REJECTED_LOCAL_PASSWORD: i32 = 8;
+
+pub const REJECTED_NO_CHECK: i32 = 9;
+
+pub const REJECTED_PATH: i32 = 10;
+
+pub const REJECTED_REMOTE_PASSWORD: i32 = 11;
 /// The slot holds no agent.
 pub const NO_AGENT: i32 = -1;
 /// The slot holds an agent already.
@@ -90,4 +107,21 @@ pub(crate) fn found_code(found: bool) -> i32
     ensures { result ≡ code.found_code found }
 {
     if found { OK } else { NOTHING }
+}
+
+/// The code of the reason for which a message is rejected, if it is.
+pub(crate) fn rejection_code(why: Option<Rejection>) -> i32
+    ensures { result ≡ code.rejection_code why }
+{
+    match why {
+        None => OK,
+        Some(Rejection::OtherMethod) => REJECTED_METHOD,
+        Some(Rejection::OtherClass) => REJECTED_CLASS,
+        Some(Rejection::OtherLocalUfrag) => REJECTED_LOCAL_UFRAG,
+        Some(Rejection::OtherRemoteUfrag) => REJECTED_REMOTE_UFRAG,
+        Some(Rejection::OtherLocalPassword) => REJECTED_LOCAL_PASSWORD,
+        Some(Rejection::NoPendingCheck) => REJECTED_NO_CHECK,
+        Some(Rejection::OtherPath) => REJECTED_PATH,
+        Some(Rejection::OtherRemotePassword) => REJECTED_REMOTE_PASSWORD,
+    }
 }

@@ -1,9 +1,10 @@
 //! Credentials: set, made and read.
 
 ghost use Rattle.std.specs.Prelude.{◌≡◌, None, IfOk};
-ghost use Rattle.is_c.specs.Credentials.{MakesCreds, CallsWith, drawn, PutsBoth, Draws, Returns};
-ghost use Rattle.is_c.specs.Held.{held_by, At};
-ghost use Rattle.is_rules.specs.Credentials.{SetsLocal, SetsRemote};
+ghost use Rattle.is_c_calls.specs.Credentials.{MakesCreds, drawn, PutsBoth, Draws, Returns};
+ghost use Rattle.is_c.specs.Slots.{held_by};
+ghost use Rattle.is_c_calls.specs.Held.{At};
+ghost use Rattle.is_c_calls.specs.Uses.{Does, SetLocalCredentials, SetRemoteCredentials};
 
 use crate::codes;
 use crate::random::Given;
@@ -34,7 +35,7 @@ pub extern "C" fn is_ice_set_local_credentials(
     ufrag: &[u8],
     pass: &[u8],
 ) -> i32
-    ensures { At (CallsWith SetsLocal ufrag.now pass.now) (held_by slot.old) result (held_by slot.new) }
+    ensures { At (Does (SetLocalCredentials ufrag.now pass.now)) (held_by slot.old) result (held_by slot.new) }
 {
     let Some(home) = slot.home() else {
         return codes::NO_AGENT;
@@ -53,7 +54,7 @@ pub extern "C" fn is_ice_set_remote_credentials(
     ufrag: &[u8],
     pass: &[u8],
 ) -> i32
-    ensures { At (CallsWith SetsRemote ufrag.now pass.now) (held_by slot.old) result (held_by slot.new) }
+    ensures { At (Does (SetRemoteCredentials ufrag.now pass.now)) (held_by slot.old) result (held_by slot.new) }
 {
     let Some(home) = slot.home() else {
         return codes::NO_AGENT;
@@ -121,6 +122,7 @@ pub extern "C" fn is_ice_local_ufrag(
     length: &mut usize,
 ) -> i32
     ensures returned { At (Returns (λ a. a.local_creds.ufrag) buffer.old buffer.new length.new) (held_by slot.old) result (held_by slot.new) }
+    ensures stays { held_by slot.new ≡ held_by slot.old }
     ensures without { held_by slot.old ≡ None → (buffer.new ≡ buffer.old) × (length.new ≡ length.old) }
 {
     let Some(home) = slot.home() else {
@@ -139,6 +141,7 @@ pub extern "C" fn is_ice_local_pass(
     length: &mut usize,
 ) -> i32
     ensures returned { At (Returns (λ a. a.local_creds.pass) buffer.old buffer.new length.new) (held_by slot.old) result (held_by slot.new) }
+    ensures stays { held_by slot.new ≡ held_by slot.old }
     ensures without { held_by slot.old ≡ None → (buffer.new ≡ buffer.old) × (length.new ≡ length.old) }
 {
     let Some(home) = slot.home() else {

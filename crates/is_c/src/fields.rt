@@ -5,14 +5,16 @@ ghost use Rattle.is_proto.specs.declared.error.IceError.TheVariants.{OutOfMemory
 ghost use Rattle.is_candidate.specs.Foundations.{foundation_of};
 ghost use Rattle.is_c.specs.Fields.{kind_number, role_number, AreFields, PutsFields, PutsMadeFields, ReturnsLineFields, ReturnsGivenFields};
 ghost use Rattle.is_c.specs.Fields.{ReturnsListedFields};
-ghost use Rattle.is_c.specs.Held.{held_by, At};
+ghost use Rattle.is_c.specs.Slots.{held_by};
+ghost use Rattle.is_c_calls.specs.Held.{At};
 
-use crate::address::{Address, address_of, number_of};
-use crate::candidate::{LocalCandidate, line_candidate, local_candidate};
+use crate::address::{address_of, number_of};
+use crate::candidate::{line_candidate, local_candidate};
 use crate::codes;
 use crate::questions::{local_at, put_line, remote_at};
 use crate::slot::Slot;
 use crate::stun_message::address_if;
+use is_c_calls::{Address, LocalCandidate};
 use is_candidate::candidate::foundation::Foundation;
 use is_candidate::candidate::internals::{component, raddr};
 use is_candidate::{Candidate, CandidateKind};
@@ -176,6 +178,7 @@ pub extern "C" fn is_ice_local_fields(
 ) -> i32
     ensures listed { At (ReturnsListedFields (λ a. a.local) index buffer.old length.old fields.old buffer.new length.new fields.new)
         (held_by slot.old) result (held_by slot.new) }
+    ensures stays { held_by slot.new ≡ held_by slot.old }
     ensures without { held_by slot.old ≡ None → (buffer.new ≡ buffer.old) × (length.new ≡ length.old) × (fields.new ≡ fields.old) }
 {
     let Some(home) = slot.home() else {
@@ -197,6 +200,7 @@ pub extern "C" fn is_ice_remote_fields(
 ) -> i32
     ensures listed { At (ReturnsListedFields (λ a. a.remote) index buffer.old length.old fields.old buffer.new length.new fields.new)
         (held_by slot.old) result (held_by slot.new) }
+    ensures stays { held_by slot.new ≡ held_by slot.old }
     ensures without { held_by slot.old ≡ None → (buffer.new ≡ buffer.old) × (length.new ≡ length.old) × (fields.new ≡ fields.old) }
 {
     let Some(home) = slot.home() else {

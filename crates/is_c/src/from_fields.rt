@@ -3,11 +3,12 @@
 ghost use Rattle.std.specs.Prelude.{◌≡◌};
 ghost use Rattle.is_c.specs.FromFields.{kind_of, printed_socket, related_in, tcptype_in, Means, Drafts, DraftsBytes, ReturnsDrafted};
 
-use crate::address::{Address, protocol_of, socket_of};
+use crate::address::{protocol_of, socket_of};
 use crate::candidate::role_of;
 use crate::codes;
 use crate::fields::{Fields, put_made_fields};
 use crate::lines::{is_word, rejection};
+use is_c_calls::Address;
 use is_candidate::{Candidate, CandidateKind};
 use is_proto::{IceError, Protocol, TcpType, Text};
 use std::alloc::Global;

@@ -2,7 +2,7 @@
 
 ghost use Rattle.std.specs.Prelude.{◌≡◌};
 ghost use Rattle.std.specs.List.{list_all};
-ghost use Rattle.is_c.specs.Codes.{found_code};
+ghost use Rattle.is_c_calls.specs.Codes.{found_code};
 ghost use Rattle.is_c.specs.Grammar.{is_ice_char, is_token, is_in_grammar};
 
 use crate::codes;

@@ -25,7 +25,6 @@ mod packets;
 mod pairs;
 mod parts;
 mod paths;
-mod preference;
 mod questions;
 mod random;
 mod rejections;
@@ -43,17 +42,15 @@ mod stun_texts;
 mod stun_write;
 mod text;
 
-pub use address::Address;
-pub use agent_settings::AgentSettings;
-pub use candidate::LocalCandidate;
-pub use events::Event;
 pub use fields::Fields;
 pub use handle::{Handle, Opaque};
 pub use home::Home;
-pub use packets::Packet;
+pub use is_c_calls::{
+    Address, AgentSettings, Event, KindPreferences, LocalCandidate, Packet, Preference,
+    PreferenceTable,
+};
 pub use pairs::Pair;
 pub use paths::MediaPath;
-pub use preference::{KindPreferences, Preference, PreferenceTable};
 pub use questions::{Nominated, Stats, Status};
 pub use removed::Removed;
 pub use slot::Slot;

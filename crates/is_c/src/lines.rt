@@ -9,10 +9,11 @@ ghost use Rattle.is_candidate.specs.Words.{IsWord};
 ghost use Rattle.is_c.specs.Lines.{HasWordUfrag, KeepsWord, NamesAs, NamesBytes, PutsMade, ReturnsGiven, ReturnsNamed, PutsPreference, PrefersGiven};
 ghost use Rattle.is_c.specs.Lines.{PrefersRead, ReturnsNamedFields};
 
-use crate::candidate::{LocalCandidate, line_candidate, local_candidate};
+use crate::candidate::{line_candidate, local_candidate};
 use crate::codes;
 use crate::fields::{Fields, put_made_fields};
 use crate::questions::put_line;
+use is_c_calls::LocalCandidate;
 use is_candidate::candidate::round_trip::printed_line_round_trips;
 use is_candidate::{Candidate, default_local_preference};
 use is_proto::IceError;

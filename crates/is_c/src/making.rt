@@ -5,12 +5,12 @@ ghost use Rattle.std.specs.Borrow.{full_share, sem};
 ghost use Rattle.std.specs.Prelude.{◌≡◌, None, false, IfOk, IfErr, MatchBool};
 ghost use Rattle.std.specs.Ptr.{lies_at, if_non_null};
 ghost use Rattle.is_rules.specs.Fitting.{are_too_long};
-ghost use Rattle.is_c.specs.Codes.{OUT_OF_MEMORY, CREDENTIALS_TOO_LONG};
-ghost use Rattle.is_c.specs.Making.{fresh_home, MakesAt};
+ghost use Rattle.is_c_calls.specs.Codes.{OUT_OF_MEMORY, CREDENTIALS_TOO_LONG};
+ghost use Rattle.is_c_calls.specs.Making.{fresh_home, MakesAt};
 ghost use Rattle.is_c.specs.Freeing.{freed_at};
 ghost use Rattle.is_c.specs.contracts.slot.Slot.{the_row as slot_row};
-ghost use Rattle.is_c.specs.Held.{home_of, held_by};
-ghost use Rattle.is_c.specs.Limits.{CANDIDATE_LIMIT};
+ghost use Rattle.is_c.specs.Slots.{home_of, held_by};
+ghost use Rattle.is_c_calls.specs.Limits.{CANDIDATE_LIMIT};
 
 use crate::codes;
 use crate::credentials::creds_of;

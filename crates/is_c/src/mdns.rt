@@ -6,11 +6,12 @@ ghost use Rattle.is_candidate.specs.Words.{HasWords};
 ghost use Rattle.is_c.specs.Mdns.{spaced, with_nth, HasNth, IsLocalName, HasName, Addresses, AddressesBytes, ReturnsName, ReturnsAddressed};
 ghost use Rattle.is_c.specs.Mdns.{ReturnsAddressedFields};
 
-use crate::address::{Address, socket_of};
+use crate::address::socket_of;
 use crate::codes;
 use crate::fields::{Fields, put_made_fields};
 use crate::lines::put_made;
 use crate::text::put;
+use is_c_calls::Address;
 use is_candidate::Candidate;
 use is_proto::IceError;
 use std::alloc::{AllocError, Global};

@@ -2,32 +2,23 @@
 
 ghost use Rattle.std.specs.Prelude.{◌≡◌, None, option_map};
 ghost use Rattle.is_proto.specs.Packets.{packet_of};
-ghost use Rattle.is_c.specs.Held.{home_of, held_by, At};
-ghost use Rattle.is_c.specs.Packets.{packet_path, TakesBytes, HandlesDatagram, IsSettled, TimesOutBy, WritesTime, ReturnsTimeout};
-ghost use Rattle.is_c.specs.Packets.{ReturnsTimeoutSoon, TakesNext, IsReported, GivesFirst, Gives};
+ghost use Rattle.is_c.specs.Slots.{home_of, held_by};
+ghost use Rattle.is_c_calls.specs.Held.{At};
+ghost use Rattle.is_c_calls.specs.Packets.{packet_path, TakesBytes, HandlesDatagram, IsSettled, WritesTime};
+ghost use Rattle.is_c_calls.specs.Packets.{TakesNext, IsReported, GivesFirst, Gives};
+ghost use Rattle.is_c_calls.specs.Uses.{Does, HandlePacket, HandleTimeout, PollTransmit, PollTimeout, PollTimeoutSoon};
 
-use crate::address::{Address, address_of, number_of, protocol_of, socket_of};
+use crate::address::{address_of, number_of, protocol_of, socket_of};
 use crate::clock::{agent_time, caller_time};
 use crate::codes;
 use crate::home::Home;
 use crate::random::Given;
 use crate::slot::Slot;
+use is_c_calls::{Address, Packet};
 use is_proto::{DefaultSha1HmacProvider, Instant, Sha1HmacProvider, Transmit};
 use is_rules::emitted::Path;
 use is_stun::stun::{StunMessage, StunPacket};
 use std::alloc::Global;
-
-/// A packet to send. Its bytes are in the buffer that the caller passed.
-#[repr(C)]
-#[derive(Clone, Copy)]
-pub struct Packet {
-    /// The local address to send it from.
-    pub source: Address,
-    /// Where to send it.
-    pub destination: Address,
-    pub length: usize,
-    pub protocol: u8,
-}
 
 // ---- received packets
 
@@ -89,8 +80,7 @@ pub extern "C" fn is_ice_handle_packet(
     destination: &Address,
     bytes: &[u8],
 ) -> i32
-    ensures step { At (HandlesDatagram ⟦<DefaultSha1HmacProvider as Sha1HmacProvider>⟧.mac now (packet_path protocol source.now destination.now)
-        bytes.now) (held_by slot.old) result (held_by slot.new) }
+    ensures step { At (Does (HandlePacket now protocol source.now destination.now bytes.now)) (held_by slot.old) result (held_by slot.new) }
     ensures settled { At (IsSettled ⟦<DefaultSha1HmacProvider as Sha1HmacProvider>⟧.mac (packet_path protocol source.now destination.now)
         bytes.now) (held_by slot.old) result (held_by slot.new) }
 {
@@ -113,7 +103,7 @@ pub extern "C" fn is_ice_handle_timeout(
     now: u64,
     random: &[u8],
 ) -> i32
-    ensures { At (TimesOutBy ⟦<DefaultSha1HmacProvider as Sha1HmacProvider>⟧.mac now random.now) (held_by slot.old) result (held_by slot.new) }
+    ensures { At (Does (HandleTimeout now random.now)) (held_by slot.old) result (held_by slot.new) }
 {
     let Some(home) = slot.home() else {
         return codes::NO_AGENT;
@@ -141,7 +131,7 @@ fn write_time(time: Option<Instant>, at: &mut u64) -> i32
 /// The time of the next `is_ice_handle_timeout` call.
 #[unsafe(no_mangle)]
 pub extern "C" fn is_ice_poll_timeout(alloc: Global, slot: &mut Slot, at: &mut u64) -> i32
-    ensures polled { At (ReturnsTimeout at.old at.new) (held_by slot.old) result (held_by slot.new) }
+    ensures polled { At (Does (PollTimeout at.old at.new)) (held_by slot.old) result (held_by slot.new) }
     ensures without { held_by slot.old ≡ None → at.new ≡ at.old }
 {
     let Some(home) = slot.home() else {
@@ -153,7 +143,7 @@ pub extern "C" fn is_ice_poll_timeout(alloc: Global, slot: &mut Slot, at: &mut u
 /// The time of the next `is_ice_handle_timeout` call for an agent that changed since the last one: 5 ms after that call at the latest.
 #[unsafe(no_mangle)]
 pub extern "C" fn is_ice_poll_timeout_soon(alloc: Global, slot: &mut Slot, at: &mut u64) -> i32
-    ensures polled { At (ReturnsTimeoutSoon at.old at.new) (held_by slot.old) result (held_by slot.new) }
+    ensures polled { At (Does (PollTimeoutSoon at.old at.new)) (held_by slot.old) result (held_by slot.new) }
     ensures without { held_by slot.old ≡ None → at.new ≡ at.old }
 {
     let Some(home) = slot.home() else {
@@ -221,7 +211,7 @@ pub extern "C" fn is_ice_poll_transmit(
     buffer: &mut [u8],
     packet: &mut Packet,
 ) -> i32
-    ensures polled { At (Gives buffer.old buffer.new packet.old packet.new) (held_by slot.old) result (held_by slot.new) }
+    ensures polled { At (Does (PollTransmit buffer.old buffer.new packet.old packet.new)) (held_by slot.old) result (held_by slot.new) }
     ensures without { held_by slot.old ≡ None → (buffer.new ≡ buffer.old) × (packet.new ≡ packet.old) }
 {
     let Some(home) = slot.home() else {

@@ -3,7 +3,8 @@
 ghost use Rattle.std.specs.Prelude.{◌≡◌, None};
 ghost use Rattle.std.specs.Option.{option_copied};
 ghost use Rattle.is_agent.specs.View.{record_of};
-ghost use Rattle.is_c.specs.Held.{held_by, At};
+ghost use Rattle.is_c.specs.Slots.{held_by};
+ghost use Rattle.is_c_calls.specs.Held.{At};
 ghost use Rattle.is_c.specs.Pairs.{check_number, IsPair, ReturnsOfPair, ReturnsPair, ReportsCount, ReturnsFound};
 
 use crate::candidate::line_candidate;
@@ -112,6 +113,7 @@ pub extern "C" fn is_ice_pair_at(
     pair: &mut Pair,
 ) -> i32
     ensures returned { At (ReturnsPair index pair.old pair.new) (held_by slot.old) result (held_by slot.new) }
+    ensures stays { held_by slot.new ≡ held_by slot.old }
     ensures without { held_by slot.old ≡ None → pair.new ≡ pair.old }
 {
     let Some(home) = slot.home() else {
@@ -124,6 +126,7 @@ pub extern "C" fn is_ice_pair_at(
 #[unsafe(no_mangle)]
 pub extern "C" fn is_ice_pair_count(alloc: Global, slot: &mut Slot, count: &mut usize) -> i32
     ensures returned { At (ReportsCount count.new) (held_by slot.old) result (held_by slot.new) }
+    ensures stays { held_by slot.new ≡ held_by slot.old }
     ensures without { held_by slot.old ≡ None → count.new ≡ count.old }
 {
     let Some(home) = slot.home() else {
@@ -142,6 +145,7 @@ pub extern "C" fn is_ice_find_pair(
     pair: &mut Pair,
 ) -> i32
     ensures found { At (ReturnsFound line.now pair.old pair.new) (held_by slot.old) result (held_by slot.new) }
+    ensures stays { held_by slot.new ≡ held_by slot.old }
     ensures without { held_by slot.old ≡ None → pair.new ≡ pair.old }
 {
     let Some(home) = slot.home() else {

@@ -1,12 +1,14 @@
 //! A path for media before one is selected.
 
 ghost use Rattle.std.specs.Prelude.{◌≡◌, None};
-ghost use Rattle.is_c.specs.Held.{held_by, At};
+ghost use Rattle.is_c.specs.Slots.{held_by};
+ghost use Rattle.is_c_calls.specs.Held.{At};
 ghost use Rattle.is_c.specs.Paths.{IsMediaPath, ReturnsValidPath};
 
-use crate::address::{Address, address_of, number_of};
+use crate::address::{address_of, number_of};
 use crate::codes;
 use crate::slot::Slot;
+use is_c_calls::Address;
 use is_rules::emitted::Path;
 use std::alloc::Global;
 
@@ -37,6 +39,7 @@ pub(crate) fn reported_path(path: Path) -> MediaPath
 #[unsafe(no_mangle)]
 pub extern "C" fn is_ice_valid_path(alloc: Global, slot: &mut Slot, path: &mut MediaPath) -> i32
     ensures returned { At (ReturnsValidPath path.old path.new) (held_by slot.old) result (held_by slot.new) }
+    ensures stays { held_by slot.new ≡ held_by slot.old }
     ensures without { held_by slot.old ≡ None → path.new ≡ path.old }
 {
     let Some(home) = slot.home() else {

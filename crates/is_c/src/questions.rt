@@ -6,17 +6,19 @@ ghost use Rattle.is_pair.specs.Pairs.{PairRecord};
 ghost use Rattle.is_rules.specs.Questions.{live, nominated_pair};
 ghost use Rattle.is_agent.specs.Added.{listed_index};
 ghost use Rattle.is_agent.specs.View.{record_of};
-ghost use Rattle.is_c.specs.Held.{home_of, held_by, At};
+ghost use Rattle.is_c.specs.Slots.{home_of, held_by};
+ghost use Rattle.is_c_calls.specs.Held.{At};
 ghost use Rattle.is_c.specs.Questions.{IsStatus, ReturnsStatus, stats_of, ReturnsStats, PutsLine, ReturnsLine};
 ghost use Rattle.is_c.specs.Questions.{CountsEarly, ReturnsRemote, ReturnsViable};
 ghost use Rattle.is_c.specs.Selected.{candidate_of, IsNominated, IsNominatedIn, ReturnsNominated};
 
-use crate::address::{Address, address_of, number_of, socket_of};
+use crate::address::{address_of, number_of, socket_of};
 use crate::codes;
 use crate::events::state_number;
 use crate::home::Home;
 use crate::slot::Slot;
 use crate::text::put;
+use is_c_calls::Address;
 use is_candidate::Candidate;
 use is_candidate::candidate::internals::base;
 use is_pair::pair::CandidatePair;
@@ -86,6 +88,7 @@ fn reported_status(home: &Home) -> Status
 #[unsafe(no_mangle)]
 pub extern "C" fn is_ice_status(alloc: Global, slot: &mut Slot, figures: &mut Status) -> i32
     ensures returned { At (ReturnsStatus figures.new) (held_by slot.old) result (held_by slot.new) }
+    ensures stays { held_by slot.new ≡ held_by slot.old }
     ensures without { held_by slot.old ≡ None → figures.new ≡ figures.old }
 {
     let Some(home) = slot.home() else {
@@ -112,6 +115,7 @@ fn reported_stats(home: &Home) -> Stats
 #[unsafe(no_mangle)]
 pub extern "C" fn is_ice_stats(alloc: Global, slot: &mut Slot, figures: &mut Stats) -> i32
     ensures returned { At (ReturnsStats figures.new) (held_by slot.old) result (held_by slot.new) }
+    ensures stays { held_by slot.new ≡ held_by slot.old }
     ensures without { held_by slot.old ≡ None → figures.new ≡ figures.old }
 {
     let Some(home) = slot.home() else {
@@ -125,6 +129,7 @@ pub extern "C" fn is_ice_stats(alloc: Global, slot: &mut Slot, figures: &mut Sta
 #[unsafe(no_mangle)]
 pub extern "C" fn is_ice_early_count(alloc: Global, slot: &mut Slot, count: &mut usize) -> i32
     ensures counted { At (CountsEarly count.new) (held_by slot.old) result (held_by slot.new) }
+    ensures stays { held_by slot.new ≡ held_by slot.old }
     ensures without { held_by slot.old ≡ None → count.new ≡ count.old }
 {
     let Some(home) = slot.home() else {
@@ -179,6 +184,7 @@ fn selected(home: &Home) -> Option<Nominated>
 #[unsafe(no_mangle)]
 pub extern "C" fn is_ice_nominated(alloc: Global, slot: &mut Slot, figures: &mut Nominated) -> i32
     ensures selected { At (ReturnsNominated figures.old figures.new) (held_by slot.old) result (held_by slot.new) }
+    ensures stays { held_by slot.new ≡ held_by slot.old }
     ensures without { held_by slot.old ≡ None → figures.new ≡ figures.old }
 {
     let Some(home) = slot.home() else {
@@ -236,6 +242,7 @@ pub extern "C" fn is_ice_local_candidate(
     length: &mut usize,
 ) -> i32
     ensures listed { At (ReturnsLine (λ a. a.local) index buffer.old length.old buffer.new length.new) (held_by slot.old) result (held_by slot.new) }
+    ensures stays { held_by slot.new ≡ held_by slot.old }
     ensures without { held_by slot.old ≡ None → (buffer.new ≡ buffer.old) × (length.new ≡ length.old) }
 {
     let Some(home) = slot.home() else {
@@ -254,6 +261,7 @@ pub extern "C" fn is_ice_remote_candidate(
     length: &mut usize,
 ) -> i32
     ensures listed { At (ReturnsLine (λ a. a.remote) index buffer.old length.old buffer.new length.new) (held_by slot.old) result (held_by slot.new) }
+    ensures stays { held_by slot.new ≡ held_by slot.old }
     ensures without { held_by slot.old ≡ None → (buffer.new ≡ buffer.old) × (length.new ≡ length.old) }
 {
     let Some(home) = slot.home() else {
@@ -265,7 +273,8 @@ pub extern "C" fn is_ice_remote_candidate(
 /// Whether a check succeeded on a pair whose remote candidate has this address.
 #[unsafe(no_mangle)]
 pub extern "C" fn is_ice_has_viable_remote(alloc: Global, slot: &mut Slot, address: &Address) -> i32
-    ensures { At (ReturnsViable address.now) (held_by slot.old) result (held_by slot.new) }
+    ensures returned { At (ReturnsViable address.now) (held_by slot.old) result (held_by slot.new) }
+    ensures stays { held_by slot.new ≡ held_by slot.old }
 {
     let Some(home) = slot.home() else {
         return codes::NO_AGENT;
@@ -287,6 +296,7 @@ pub extern "C" fn is_ice_remote_ufrag(
     length: &mut usize,
 ) -> i32
     ensures returned { At (ReturnsRemote (λ creds. creds.ufrag) buffer.old length.old buffer.new length.new) (held_by slot.old) result (held_by slot.new) }
+    ensures stays { held_by slot.new ≡ held_by slot.old }
     ensures without { held_by slot.old ≡ None → (buffer.new ≡ buffer.old) × (length.new ≡ length.old) }
 {
     let Some(home) = slot.home() else {
@@ -307,6 +317,7 @@ pub extern "C" fn is_ice_remote_pass(
     length: &mut usize,
 ) -> i32
     ensures returned { At (ReturnsRemote (λ creds. creds.pass) buffer.old length.old buffer.new length.new) (held_by slot.old) result (held_by slot.new) }
+    ensures stays { held_by slot.new ≡ held_by slot.old }
     ensures without { held_by slot.old ≡ None → (buffer.new ≡ buffer.old) × (length.new ≡ length.old) }
 {
     let Some(home) = slot.home() else {

@@ -1,9 +1,10 @@
 //! The error messages of invalid candidates, which a code does not contain.
 ghost use Rattle.is_c.specs.Rejections.{PutsMessage, PutsRejection, ReturnsOfLine, ReturnsOfCandidate};
 
-use crate::candidate::{LocalCandidate, line_candidate, local_candidate};
+use crate::candidate::{line_candidate, local_candidate};
 use crate::codes;
 use crate::text::put;
+use is_c_calls::LocalCandidate;
 use is_candidate::Candidate;
 use is_proto::IceError;
 use std::alloc::Global;

@@ -3,7 +3,8 @@
 ghost use Rattle.std.specs.Prelude.{◌≡◌, None};
 ghost use Rattle.std.specs.Option.{option_copied};
 ghost use Rattle.is_agent.specs.View.{record_of};
-ghost use Rattle.is_c.specs.Held.{held_by, At};
+ghost use Rattle.is_c.specs.Slots.{held_by};
+ghost use Rattle.is_c_calls.specs.Held.{At};
 ghost use Rattle.is_c.specs.Removed.{error_number, removal_number, removed_by, IsRemoved, ReturnsOfRemoved, ReturnsRemoved, ReportsRemoved};
 
 use crate::codes;
@@ -96,6 +97,7 @@ pub extern "C" fn is_ice_removed_at(
     removed: &mut Removed,
 ) -> i32
     ensures returned { At (ReturnsRemoved (removed_by slot.old) index removed.old removed.new) (held_by slot.old) result (held_by slot.new) }
+    ensures stays { held_by slot.new ≡ held_by slot.old }
     ensures kept { removed_by slot.new ≡ removed_by slot.old }
     ensures without { held_by slot.old ≡ None → removed.new ≡ removed.old }
 {
@@ -109,6 +111,7 @@ pub extern "C" fn is_ice_removed_at(
 #[unsafe(no_mangle)]
 pub extern "C" fn is_ice_removed_count(alloc: Global, slot: &mut Slot, count: &mut usize) -> i32
     ensures returned { At (ReportsRemoved (removed_by slot.old) count.new) (held_by slot.old) result (held_by slot.new) }
+    ensures stays { held_by slot.new ≡ held_by slot.old }
     ensures kept { removed_by slot.new ≡ removed_by slot.old }
     ensures without { held_by slot.old ≡ None → count.new ≡ count.old }
 {

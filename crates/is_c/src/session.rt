@@ -1,8 +1,9 @@
 //! ICE restarts.
-ghost use Rattle.is_rules.specs.Restarting.{Recreates};
-ghost use Rattle.is_c.specs.Codes.{done_code};
-ghost use Rattle.is_c.specs.Held.{home_of, held_by, At, Calls};
-ghost use Rattle.is_c.specs.Packets.{Restarted, RestartsWith};
+ghost use Rattle.is_c_calls.specs.Codes.{done_code};
+ghost use Rattle.is_c.specs.Slots.{home_of, held_by};
+ghost use Rattle.is_c_calls.specs.Held.{At};
+ghost use Rattle.is_c_calls.specs.Packets.{Restarted};
+ghost use Rattle.is_c_calls.specs.Uses.{Does, Restart, RecreatePairs};
 
 use crate::codes;
 use crate::credentials::creds_of;
@@ -30,7 +31,7 @@ pub extern "C" fn is_ice_restart(
     pass: &[u8],
     keep: bool,
 ) -> i32
-    ensures { At (RestartsWith keep ufrag.now pass.now) (held_by slot.old) result (held_by slot.new) }
+    ensures { At (Does (Restart ufrag.now pass.now keep)) (held_by slot.old) result (held_by slot.new) }
 {
     let Some(home) = slot.home() else {
         return codes::NO_AGENT;
@@ -44,7 +45,7 @@ pub extern "C" fn is_ice_restart(
 /// Forms all pairs again, of all candidates that are not discarded.
 #[unsafe(no_mangle)]
 pub extern "C" fn is_ice_recreate_pairs(alloc: Global, slot: &mut Slot) -> i32
-    ensures { At (Calls (λ a r b. Recreates a r b) done_code) (held_by slot.old) result (held_by slot.new) }
+    ensures { At (Does RecreatePairs) (held_by slot.old) result (held_by slot.new) }
 {
     let Some(home) = slot.home() else {
         return codes::NO_AGENT;

@@ -1,24 +1,24 @@
 //! Settings that the caller may change.
 
-ghost use Rattle.std.specs.Prelude.{◌≡◌, ◌==◌, Some, MatchBool};
-ghost use Rattle.is_rules.specs.Settings.{SetsControlling, SetsMtu, with_rtos, with_retransmits, with_lite_timeout, numbers_skipped};
-ghost use Rattle.is_c.specs.Adding.{SetsMaxCandidates};
-ghost use Rattle.is_c.specs.Codes.{BAD_LIMIT, done_code, found_code};
-ghost use Rattle.is_c.specs.Limits.{limit_of};
+ghost use Rattle.std.specs.Prelude.{◌≡◌, ◌==◌, Some};
+ghost use Rattle.is_c_calls.specs.Codes.{BAD_LIMIT, done_code, found_code};
+ghost use Rattle.is_c_calls.specs.Limits.{limit_of};
 ghost use Rattle.is_c.specs.Roles.{is_controlling};
-ghost use Rattle.is_c.specs.Held.{held_by, At, AgentBecomes, Calls, Rejects};
-ghost use Rattle.is_c.specs.declared.preference.Preference.TheVariants.{ByDefault, Fixed, ByTable};
+ghost use Rattle.is_c.specs.Slots.{held_by};
+ghost use Rattle.is_c_calls.specs.Held.{At};
+ghost use Rattle.is_c_calls.specs.declared.preference.Preference.TheVariants.{ByDefault, Fixed, ByTable};
+ghost use Rattle.is_c_calls.specs.Uses.{Does, SetControlling, SetLite, SetRenomination, SetTieBreaker, SetMaxPairs, SetMaxDiscovered, SetMaxCandidates, SetTimingAdvance, SetInitialRto, SetMaxRto, SetLiteTimeout, SetMaxRetransmits, SetMtu, SetPreference, SkipPairIds};
 
 use crate::codes;
-use crate::preference::{Preference, PreferenceTable};
 use crate::slot::Slot;
+use is_c_calls::{Preference, PreferenceTable};
 use is_proto::Duration;
 use std::alloc::Global;
 
 /// Gives the agent the controlling or the controlled role. Fails for a lite agent that keeps its role.
 #[unsafe(no_mangle)]
 pub extern "C" fn is_ice_set_controlling(alloc: Global, slot: &mut Slot, controlling: bool) -> i32
-    ensures { At (Calls (λ old outcome new. SetsControlling old controlling outcome new) done_code) (held_by slot.old) result (held_by slot.new) }
+    ensures { At (Does (SetControlling controlling)) (held_by slot.old) result (held_by slot.new) }
 {
     let Some(home) = slot.home() else {
         return codes::NO_AGENT;
@@ -47,7 +47,7 @@ pub extern "C" fn is_ice_role(made_offer: bool, lite: bool, other_is_lite: bool)
 /// Makes the agent a lite agent, or a full one.
 #[unsafe(no_mangle)]
 pub extern "C" fn is_ice_set_lite(alloc: Global, slot: &mut Slot, lite: bool) -> i32
-    ensures { At (AgentBecomes (λ a. record a { lite = lite })) (held_by slot.old) result (held_by slot.new) }
+    ensures { At (Does (SetLite lite)) (held_by slot.old) result (held_by slot.new) }
 {
     let Some(home) = slot.home() else {
         return codes::NO_AGENT;
@@ -59,7 +59,7 @@ pub extern "C" fn is_ice_set_lite(alloc: Global, slot: &mut Slot, lite: bool) ->
 /// Lets each nomination replace the ones before, so that both agents select the same path.
 #[unsafe(no_mangle)]
 pub extern "C" fn is_ice_set_renomination(alloc: Global, slot: &mut Slot, enabled: bool) -> i32
-    ensures { At (AgentBecomes (λ a. record a { renominates = enabled })) (held_by slot.old) result (held_by slot.new) }
+    ensures { At (Does (SetRenomination enabled)) (held_by slot.old) result (held_by slot.new) }
 {
     let Some(home) = slot.home() else {
         return codes::NO_AGENT;
@@ -71,7 +71,7 @@ pub extern "C" fn is_ice_set_renomination(alloc: Global, slot: &mut Slot, enable
 /// Sets the number that resolves role conflicts.
 #[unsafe(no_mangle)]
 pub extern "C" fn is_ice_set_tie_breaker(alloc: Global, slot: &mut Slot, tie_breaker: u64) -> i32
-    ensures { At (AgentBecomes (λ a. record a { tie_breaker = tie_breaker })) (held_by slot.old) result (held_by slot.new) }
+    ensures { At (Does (SetTieBreaker tie_breaker)) (held_by slot.old) result (held_by slot.new) }
 {
     let Some(home) = slot.home() else {
         return codes::NO_AGENT;
@@ -83,7 +83,7 @@ pub extern "C" fn is_ice_set_tie_breaker(alloc: Global, slot: &mut Slot, tie_bre
 /// Sets the greatest number of pairs after forming.
 #[unsafe(no_mangle)]
 pub extern "C" fn is_ice_set_max_pairs(alloc: Global, slot: &mut Slot, limit: usize) -> i32
-    ensures { At (AgentBecomes (λ a. record a { max_pairs = limit })) (held_by slot.old) result (held_by slot.new) }
+    ensures { At (Does (SetMaxPairs limit)) (held_by slot.old) result (held_by slot.new) }
 {
     let Some(home) = slot.home() else {
         return codes::NO_AGENT;
@@ -106,7 +106,7 @@ pub(crate) fn limit_of(number: usize) -> Option<usize>
 /// Sets how many remote candidates requests may bring; the greatest number means that there is no limit.
 #[unsafe(no_mangle)]
 pub extern "C" fn is_ice_set_max_discovered(alloc: Global, slot: &mut Slot, limit: usize) -> i32
-    ensures { At (AgentBecomes (λ a. record a { max_discovered = limit_of limit })) (held_by slot.old) result (held_by slot.new) }
+    ensures { At (Does (SetMaxDiscovered limit)) (held_by slot.old) result (held_by slot.new) }
 {
     let Some(home) = slot.home() else {
         return codes::NO_AGENT;
@@ -118,7 +118,7 @@ pub extern "C" fn is_ice_set_max_discovered(alloc: Global, slot: &mut Slot, limi
 /// Sets how many candidates of each side may be listed: at the limit none is added.
 #[unsafe(no_mangle)]
 pub extern "C" fn is_ice_set_max_candidates(alloc: Global, slot: &mut Slot, limit: usize) -> i32
-    ensures { At (SetsMaxCandidates limit) (held_by slot.old) result (held_by slot.new) }
+    ensures { At (Does (SetMaxCandidates limit)) (held_by slot.old) result (held_by slot.new) }
 {
     let Some(home) = slot.home() else {
         return codes::NO_AGENT;
@@ -130,7 +130,7 @@ pub extern "C" fn is_ice_set_max_candidates(alloc: Global, slot: &mut Slot, limi
 /// Sets the pacing interval of what the agent sends, in nanoseconds.
 #[unsafe(no_mangle)]
 pub extern "C" fn is_ice_set_timing_advance(alloc: Global, slot: &mut Slot, nanoseconds: u64) -> i32
-    ensures { At (AgentBecomes (λ a. record a { timing_advance = nanoseconds })) (held_by slot.old) result (held_by slot.new) }
+    ensures { At (Does (SetTimingAdvance nanoseconds)) (held_by slot.old) result (held_by slot.new) }
 {
     let Some(home) = slot.home() else {
         return codes::NO_AGENT;
@@ -142,7 +142,7 @@ pub extern "C" fn is_ice_set_timing_advance(alloc: Global, slot: &mut Slot, nano
 /// Sets the RTO after a pair's first check, in nanoseconds.
 #[unsafe(no_mangle)]
 pub extern "C" fn is_ice_set_initial_rto(alloc: Global, slot: &mut Slot, nanoseconds: u64) -> i32
-    ensures { At (AgentBecomes (λ a. with_rtos nanoseconds a.timing.max_rto.0 a)) (held_by slot.old) result (held_by slot.new) }
+    ensures { At (Does (SetInitialRto nanoseconds)) (held_by slot.old) result (held_by slot.new) }
 {
     let Some(home) = slot.home() else {
         return codes::NO_AGENT;
@@ -154,7 +154,7 @@ pub extern "C" fn is_ice_set_initial_rto(alloc: Global, slot: &mut Slot, nanosec
 /// Sets the greatest RTO after a check, in nanoseconds.
 #[unsafe(no_mangle)]
 pub extern "C" fn is_ice_set_max_rto(alloc: Global, slot: &mut Slot, nanoseconds: u64) -> i32
-    ensures { At (AgentBecomes (λ a. with_rtos a.timing.initial_rto.0 nanoseconds a)) (held_by slot.old) result (held_by slot.new) }
+    ensures { At (Does (SetMaxRto nanoseconds)) (held_by slot.old) result (held_by slot.new) }
 {
     let Some(home) = slot.home() else {
         return codes::NO_AGENT;
@@ -166,7 +166,7 @@ pub extern "C" fn is_ice_set_max_rto(alloc: Global, slot: &mut Slot, nanoseconds
 /// Sets how long an ICE-lite agent keeps a pair after the peer's last check on it, in nanoseconds.
 #[unsafe(no_mangle)]
 pub extern "C" fn is_ice_set_lite_timeout(alloc: Global, slot: &mut Slot, nanoseconds: u64) -> i32
-    ensures { At (AgentBecomes (with_lite_timeout nanoseconds)) (held_by slot.old) result (held_by slot.new) }
+    ensures { At (Does (SetLiteTimeout nanoseconds)) (held_by slot.old) result (held_by slot.new) }
 {
     let Some(home) = slot.home() else {
         return codes::NO_AGENT;
@@ -178,7 +178,7 @@ pub extern "C" fn is_ice_set_lite_timeout(alloc: Global, slot: &mut Slot, nanose
 /// Makes the number of the next pair at least this one.
 #[unsafe(no_mangle)]
 pub extern "C" fn is_ice_skip_pair_ids(alloc: Global, slot: &mut Slot, number: u64) -> i32
-    ensures { At (AgentBecomes (numbers_skipped number)) (held_by slot.old) result (held_by slot.new) }
+    ensures { At (Does (SkipPairIds number)) (held_by slot.old) result (held_by slot.new) }
 {
     let Some(home) = slot.home() else {
         return codes::NO_AGENT;
@@ -190,7 +190,7 @@ pub extern "C" fn is_ice_skip_pair_ids(alloc: Global, slot: &mut Slot, number: u
 /// Sets how long packets may be, and the length from which they cause a warning, in bytes.
 #[unsafe(no_mangle)]
 pub extern "C" fn is_ice_set_mtu(alloc: Global, slot: &mut Slot, mtu: usize, warn: usize) -> i32
-    ensures { At (Calls (λ a r b. SetsMtu a mtu warn r b) done_code) (held_by slot.old) result (held_by slot.new) }
+    ensures { At (Does (SetMtu mtu warn)) (held_by slot.old) result (held_by slot.new) }
 {
     let Some(home) = slot.home() else {
         return codes::NO_AGENT;
@@ -205,7 +205,7 @@ pub extern "C" fn is_ice_set_local_preference(
     slot: &mut Slot,
     preference: u16,
 ) -> i32
-    ensures { At (AgentBecomes (λ a. record a { preference = Some (Fixed preference) })) (held_by slot.old) result (held_by slot.new) }
+    ensures { At (Does (SetPreference (Fixed preference))) (held_by slot.old) result (held_by slot.new) }
 {
     let Some(home) = slot.home() else {
         return codes::NO_AGENT;
@@ -222,7 +222,7 @@ pub extern "C" fn is_ice_set_preference_table(
     slot: &mut Slot,
     table: &PreferenceTable,
 ) -> i32
-    ensures { At (AgentBecomes (λ a. record a { preference = Some (ByTable table.now) })) (held_by slot.old) result (held_by slot.new) }
+    ensures { At (Does (SetPreference (ByTable table.now))) (held_by slot.old) result (held_by slot.new) }
 {
     let Some(home) = slot.home() else {
         return codes::NO_AGENT;
@@ -234,7 +234,7 @@ pub extern "C" fn is_ice_set_preference_table(
 /// Resets the preferences of local candidates that are added from now on to the default.
 #[unsafe(no_mangle)]
 pub extern "C" fn is_ice_reset_local_preference(alloc: Global, slot: &mut Slot) -> i32
-    ensures { At (AgentBecomes (λ a. record a { preference = Some ByDefault })) (held_by slot.old) result (held_by slot.new) }
+    ensures { At (Does (SetPreference ByDefault)) (held_by slot.old) result (held_by slot.new) }
 {
     let Some(home) = slot.home() else {
         return codes::NO_AGENT;
@@ -246,8 +246,7 @@ pub extern "C" fn is_ice_reset_local_preference(alloc: Global, slot: &mut Slot) 
 /// Sets how many checks a pair sends without a response before it is removed. Fails with `BAD_LIMIT` if the limit is 0.
 #[unsafe(no_mangle)]
 pub extern "C" fn is_ice_set_max_retransmits(alloc: Global, slot: &mut Slot, limit: usize) -> i32
-    ensures { At (λ old code new. MatchBool (limit == 0) (Rejects BAD_LIMIT old code new) (AgentBecomes (with_retransmits limit) old code new))
-        (held_by slot.old) result (held_by slot.new) }
+    ensures { At (Does (SetMaxRetransmits limit)) (held_by slot.old) result (held_by slot.new) }
 {
     let Some(home) = slot.home() else {
         return codes::NO_AGENT;

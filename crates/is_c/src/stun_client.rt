@@ -7,10 +7,11 @@ ghost use Rattle.is_stun.specs.MessageView.{message_view};
 ghost use Rattle.is_stun.specs.Writing.{written};
 ghost use Rattle.is_c.specs.StunClient.{binding_query, said_of, ReturnsSaid, ReturnsResponse};
 ghost use Rattle.is_c.specs.StunRead.{ReturnsMessage};
-ghost use Rattle.is_c.specs.Texts.{Puts};
+ghost use Rattle.is_c_calls.specs.Texts.{Puts};
 
-use crate::address::{Address, address_of};
+use crate::address::address_of;
 use crate::codes;
+use is_c_calls::Address;
 use is_proto::DefaultSha1HmacProvider;
 use is_stun::stun::{Builder, Class, Method, StunMessage, TransId};
 

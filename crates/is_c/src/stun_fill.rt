@@ -4,7 +4,7 @@ ghost use Rattle.std.specs.Prelude.{◌≡◌, None, IsTrue, true, false};
 ghost use Rattle.std.specs.Option.{option_copied, option_or};
 ghost use Rattle.is_stun.specs.Builder.{attributes_so_far, kind_so_far};
 ghost use Rattle.is_stun.specs.Message.{no_attributes};
-ghost use Rattle.is_c.specs.Addresses.{socket_of};
+ghost use Rattle.is_c_calls.specs.Addresses.{socket_of};
 ghost use Rattle.is_c.specs.StunMessage.{number_in};
 ghost use Rattle.is_c.specs.StunWrite.{is_above, has_bad_number, cost_in};
 ghost use Rattle.is_c.specs.StunFill.{error_of, Sets, numbers_set, addresses_set, words_set};

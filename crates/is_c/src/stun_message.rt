@@ -7,12 +7,13 @@ ghost use Rattle.is_stun.specs.Header.{method_bits};
 ghost use Rattle.is_stun.specs.MessageView.{message_view};
 ghost use Rattle.is_c.specs.StunMessage.{class_number, number_of, IsAddress, IsFlat, family_number, transport_number, HasRequested, IsFlatOf, AnswersSigned};
 ghost use Rattle.is_c.specs.StunRead.{ReturnsMessage, ReturnsStrict};
-ghost use Rattle.is_c.specs.Texts.{Puts};
+ghost use Rattle.is_c_calls.specs.Texts.{Puts};
 
-use crate::address::{Address, address_of};
+use crate::address::address_of;
 use crate::codes;
 use crate::stun_client::Transaction;
 use crate::text::put;
+use is_c_calls::Address;
 use is_proto::{DefaultSha1HmacProvider, Sha1HmacProvider};
 use is_stun::stun::{AddressFamily, Class, Method, Requested, StunMessage};
 use std::net::SocketAddr;

@@ -4,7 +4,7 @@ ghost use Rattle.std.specs.Prelude.{◌≡◌, ◌≤◌, length};
 ghost use Rattle.std.specs.Option.{option_copied, option_map};
 ghost use Rattle.is_stun.specs.ErrorCodeView.{error_view};
 ghost use Rattle.is_stun.specs.MessageView.{message_view};
-ghost use Rattle.is_c.specs.Codes.{found_code};
+ghost use Rattle.is_c_calls.specs.Codes.{found_code};
 ghost use Rattle.is_c.specs.StunRead.{has_cookie, begins_as_stun, text_of, PutsText, ReturnsMessage};
 
 use crate::codes;

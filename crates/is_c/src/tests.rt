@@ -11,20 +11,17 @@ mod selected;
 mod stun;
 mod texts;
 
-use crate::accepting::{is_ice_accepts_message, is_ice_accepts_packet};
-use crate::address::Address;
-use crate::candidate::LocalCandidate;
+use crate::accepting::{is_ice_accepts_message, is_ice_accepts_packet, is_ice_rejection};
 use crate::candidates::{NO_INDEX, is_ice_add_local, is_ice_add_remote, is_ice_invalidate};
 use crate::codes;
 use crate::credentials::{
     is_ice_local_pass, is_ice_local_ufrag, is_ice_make_credentials, is_ice_set_remote_credentials,
 };
-use crate::events::{Event, is_ice_poll_event};
+use crate::events::is_ice_poll_event;
 use crate::making::{free, is_ice_agent_new};
 use crate::packets::{
-    Packet, is_ice_handle_packet, is_ice_handle_timeout, is_ice_poll_timeout, is_ice_poll_transmit,
+    is_ice_handle_packet, is_ice_handle_timeout, is_ice_poll_timeout, is_ice_poll_transmit,
 };
-use crate::preference::{KindPreferences, PreferenceTable};
 use crate::questions::{Status, is_ice_has_viable_remote, is_ice_local_candidate, is_ice_status};
 use crate::rejections::{is_ice_candidate_refusal, is_ice_line_refusal};
 use crate::session::is_ice_restart;
@@ -34,6 +31,7 @@ use crate::settings::{
 };
 use crate::slot::Slot;
 use early::{sent_to, takes};
+use is_c_calls::{Address, Event, KindPreferences, LocalCandidate, Packet, PreferenceTable};
 use std::alloc::Global;
 
 const REQUEST: [u8; 100] = [
@@ -170,6 +168,39 @@ fn a_packet_is_accepted_or_not(rt: HostRuntime) {
     assert!(rt; mine == codes::OK);
     let answer = is_ice_accepts_message(alloc, &mut slot, &REPLY);
     assert!(rt; answer == codes::NOTHING);
+    free(alloc, &mut slot);
+}
+
+#[test]
+fn a_rejected_packet_has_a_reason(rt: HostRuntime) {
+    let alloc = rt.alloc();
+    let own = address(1, 1000);
+    let peer = address(2, 2000);
+    let mut slot = Slot::empty(alloc);
+    let none = is_ice_rejection(alloc, &mut slot, 0, &peer, &own, &REQUEST);
+    assert!(rt; none == codes::NO_AGENT);
+    assert!(rt; serves(alloc, &mut slot));
+    let taken = is_ice_rejection(alloc, &mut slot, 0, &peer, &own, &REQUEST);
+    assert!(rt; taken == codes::OK);
+    let cut = is_ice_rejection(alloc, &mut slot, 0, &peer, &own, &REQUEST[..99]);
+    assert!(rt; cut == codes::UNPARSED);
+    let nowhere = is_ice_rejection(alloc, &mut slot, 9, &peer, &own, &REQUEST);
+    assert!(rt; nowhere == codes::BAD_ADDRESS);
+    let stray = is_ice_rejection(alloc, &mut slot, 0, &peer, &own, &REPLY);
+    assert!(rt; stray == codes::REJECTED_NO_CHECK);
+    free(alloc, &mut slot);
+}
+
+#[test]
+fn a_wrong_password_is_named(rt: HostRuntime) {
+    let alloc = rt.alloc();
+    let own = address(1, 1000);
+    let peer = address(2, 2000);
+    let mut slot = Slot::empty(alloc);
+    let made = is_ice_agent_new(alloc, &mut slot, b"p9KA", b"wrong", 1);
+    assert!(rt; made == codes::OK);
+    let wrong = is_ice_rejection(alloc, &mut slot, 0, &peer, &own, &REQUEST);
+    assert!(rt; wrong == codes::REJECTED_LOCAL_PASSWORD);
     free(alloc, &mut slot);
 }
 

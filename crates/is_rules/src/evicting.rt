@@ -80,7 +80,7 @@ fn least_of_kind<'a>(
     })
 }
 
-/// Removes a pair of lowest priority of the kind with the most pairs, and counts it off; tells whether there was a pair.
+/// Removes a pair of lowest priority of the kind with the most pairs, and counts it off. Returns whether there was a pair.
 fn evict_one(
     pairs: &mut Checklist,
     counts: &mut [usize; 16],

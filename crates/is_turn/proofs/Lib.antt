@@ -1,2 +1,4 @@
 -- What a datagram says to a client, and what it changes.
 mod Answers
+mod ChannelNumbers
+mod Receiving

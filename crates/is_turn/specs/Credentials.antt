@@ -1,5 +1,5 @@
 -- The long-term credentials of a TURN client (RFC 8489, section 9.2): what a challenge makes of a USERNAME and a password.
-use Rattle.std.specs.Prelude.{ℕ, ◌<◌, ◌≤◌, ◌⊎◌, ◌||◌, Bool, true, false, List, [], ◌∷◌, ◌++◌, length, nat_lt, bytes_eq, Option, Some, None, option_map, if◌then◌else◌}
+use Rattle.std.specs.Prelude.{ℕ, ◌<◌, ◌≤◌, ◌⊎◌, ◌||◌, Bool, true, false, List, [], ◌∷◌, ◌++◌, length, nat_lt, bytes_eq, is_some, Option, Some, None, option_map, if◌then◌else◌}
 use Rattle.md5.specs.Md5.{md5}
 use Rattle.is_turn.specs.declared.credentials.Challenge.{Challenge as RawChallenge}
 use Rattle.is_turn.specs.declared.credentials.Credentials.{Credentials as RawCredentials}
@@ -65,3 +65,7 @@ challenged (Some realm) None c = (c, false)
 
 abbrev pub forgotten : Credentials → Credentials
 forgotten c = record c { password = None }
+
+-- at another server: while the password is known, its challenges count and no former one does
+abbrev pub without_challenge : Credentials → Credentials
+without_challenge c = if is_some c.password then record c { challenge = None } else c

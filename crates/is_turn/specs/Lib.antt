@@ -7,3 +7,17 @@ pub mod Verdict
 pub mod Incoming
 pub mod Client
 pub mod Response
+pub mod Attempts
+pub mod Operations
+pub mod Tried
+pub mod Session
+pub mod Alternate
+pub mod Outcome
+pub mod Receipts
+pub mod Turn
+pub mod Leases
+pub mod Places
+pub mod Relaying
+pub mod Numbers
+pub mod LeaseResponses
+pub mod Receiving

@@ -2,7 +2,7 @@
 
 ghost use Rattle.std.specs.Prelude.{◌≡◌, MatchOption};
 ghost use Rattle.std.specs.Option.{option_copied};
-ghost use Rattle.is_turn.specs.Credentials.{long_term_key, credentials_of, new_credentials, challenged, forgotten, IsShort, IsTooLong};
+ghost use Rattle.is_turn.specs.Credentials.{long_term_key, credentials_of, new_credentials, challenged, forgotten, without_challenge, IsShort, IsTooLong};
 
 use crate::octets::{LONGEST, Octets};
 use md5::{Digest, Md5};
@@ -100,5 +100,14 @@ impl Credentials {
         ensures { credentials_of self.new ≡ forgotten (credentials_of self.old) }
     {
         self.password = None;
+    }
+
+    /// Another server: while the password is known, the last challenge is of no use there.
+    pub(crate) fn drop_challenge(&mut self)
+        ensures { credentials_of self.new ≡ without_challenge (credentials_of self.old) }
+    {
+        if self.password.is_some() {
+            self.challenge = None;
+        }
     }
 }

@@ -29,7 +29,7 @@ pub enum Verdict {
 }
 
 /// Returns the code of an error response.
-fn code_of(message: &StunMessage<'_>) -> Option<u16>
+pub(crate) fn code_of(message: &StunMessage<'_>) -> Option<u16>
     ensures { result ≡ code_of (message_view message.now) }
 {
     if message.class() != Class::Failure {

@@ -13,6 +13,14 @@ pub(crate) const OK: i32 = 0;
 pub(crate) const NOTHING: i32 = 1;
 pub(crate) const OTHER_COMPONENT: i32 = 2;
 pub(crate) const OTHER_UFRAG: i32 = 3;
+pub(crate) const REJECTED_METHOD: i32 = 4;
+pub(crate) const REJECTED_CLASS: i32 = 5;
+pub(crate) const REJECTED_LOCAL_UFRAG: i32 = 6;
+pub(crate) const REJECTED_REMOTE_UFRAG: i32 = 7;
+pub(crate) const REJECTED_LOCAL_PASSWORD: i32 = 8;
+pub(crate) const REJECTED_NO_CHECK: i32 = 9;
+pub(crate) const REJECTED_PATH: i32 = 10;
+pub(crate) const REJECTED_REMOTE_PASSWORD: i32 = 11;
 pub(crate) const NO_AGENT: i32 = -1;
 pub(crate) const HAS_AGENT: i32 = -2;
 pub(crate) const NOT_UTF8: i32 = -3;
@@ -117,6 +125,14 @@ pub(crate) fn text_of(code: i32) -> &'static str {
         NOTHING => "nothing",
         OTHER_COMPONENT => "candidate of another component",
         OTHER_UFRAG => "candidate of another username fragment",
+        REJECTED_METHOD => "not a Binding message",
+        REJECTED_CLASS => "neither a request nor a response",
+        REJECTED_LOCAL_UFRAG => "request to another username fragment than the agent's",
+        REJECTED_REMOTE_UFRAG => "request from another username fragment than the peer's",
+        REJECTED_LOCAL_PASSWORD => "request signed with another password than the agent's",
+        REJECTED_NO_CHECK => "response to no pending check",
+        REJECTED_PATH => "response on another path than that of its check",
+        REJECTED_REMOTE_PASSWORD => "response signed with another password than the peer's",
         NO_AGENT => "no agent",
         HAS_AGENT => "there is an agent already",
         NOT_UTF8 => "text is not UTF-8",
@@ -730,6 +746,14 @@ pub(super) mod raw {
             bytes: *const u8,
             length: usize,
         ) -> i32;
+        pub(crate) fn is_ice_rejection(
+            agent: &mut Agent,
+            protocol: u8,
+            source: &Address,
+            destination: &Address,
+            bytes: *const u8,
+            length: usize,
+        ) -> i32;
         pub(crate) fn is_ice_accepts_message(agent: &mut Agent, bytes: *const u8, length: usize) -> i32;
         pub(crate) fn is_ice_poll_transmit(agent: &mut Agent, buffer: *mut u8, size: usize, packet: &mut Packet) -> i32;
         pub(crate) fn is_ice_restart(
@@ -965,6 +989,11 @@ pub(crate) fn is_ice_handle_packet(
 pub(crate) fn is_ice_accepts_packet(agent: &mut Agent, protocol: u8, source: &Address, destination: &Address, bytes: &[u8]) -> i32 {
     // SAFETY: as the module says.
     unsafe { raw::is_ice_accepts_packet(agent, protocol, source, destination, bytes.as_ptr(), bytes.len()) }
+}
+
+pub(crate) fn is_ice_rejection(agent: &mut Agent, protocol: u8, source: &Address, destination: &Address, bytes: &[u8]) -> i32 {
+    // SAFETY: as the module says.
+    unsafe { raw::is_ice_rejection(agent, protocol, source, destination, bytes.as_ptr(), bytes.len()) }
 }
 
 pub(crate) fn is_ice_accepts_message(agent: &mut Agent, bytes: &[u8]) -> i32 {

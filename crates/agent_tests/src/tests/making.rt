@@ -95,6 +95,13 @@ pub(super) fn numbered_id(number: u8) -> TransId {
 fn content(message: Message, sent: Option<TransId>) -> Option<StunMessage<'static>> {
     match message {
         Message::Success(mapped) => Some(StunMessage::binding_reply(sent?, mapped.socket())),
+        Message::Indication => Some(
+            Builder::new()
+                .binding()
+                .indication()
+                .build(TransId([7; 12])),
+        ),
+        Message::Allocate => Some(Builder::new().allocate().request().build(TransId([7; 12]))),
         Message::Conflict => Some(StunMessage::binding_role_conflict_reply(sent?)),
         Message::BadRequest => Some(bad_request(sent?)),
         Message::Stray => {

@@ -6,7 +6,7 @@ use super::step::{At, Count, Held, Shown};
 use super::story::same;
 use super::*;
 use is::pair::CheckState;
-use is::{CandidateKind, Duration, IceAgentStats, Path};
+use is::{CandidateKind, Duration, IceAgentStats, Path, Rejection};
 use is_agent::removed::Removal;
 
 /// What can be seen of a pair.
@@ -220,6 +220,10 @@ impl Player {
     /// The same; the value that is not the expected one is stored.
     fn compares_shown(&mut self, shown: Shown) -> bool {
         match shown {
+            Shown::Rejects(from, to, expected) => {
+                let actual = rejection(&self.agent, &self.coming, from, to);
+                self.compares(actual, Some(expected))
+            }
             Shown::State(state) => {
                 let actual = self.agent.state();
                 self.compares(actual, state)
@@ -306,6 +310,12 @@ fn accepts(agent: &Agent, bytes: &[u8]) -> bool {
         Ok(message) => agent.accepts_message(&message),
         Err(_) => false,
     }
+}
+
+/// Why it would reject the bytes between these addresses; none if they are no message.
+fn rejection(agent: &Agent, bytes: &[u8], from: At, to: At) -> Option<Option<Rejection>> {
+    let packet = packet(bytes, Protocol::Udp, from, to)?;
+    Some(agent.rejection(&packet))
 }
 
 /// Whether it would accept the packet.

@@ -3,7 +3,7 @@
 
 use super::*;
 use is::pair::CheckState;
-use is::{Profile, Settings};
+use is::{Profile, Rejection, Settings};
 use is_agent::removed::Removal;
 
 /// The address 10.0.0.HOST:PORT.
@@ -199,6 +199,10 @@ pub(super) enum Message {
     BothRoles,
     /// A request from `SQAt` to `p9KA`, whose id begins with this number.
     Numbered(u8),
+    /// A Binding indication, as some agents send it to keep a path.
+    Indication,
+    /// A request to a TURN server.
+    Allocate,
 }
 
 /// A packet that arrives.
@@ -341,6 +345,8 @@ pub(super) enum Shown {
     Accepts(bool),
     /// The same between these addresses.
     AcceptsFrom(At, At, bool),
+    /// The agent would reject the written message between these addresses for this reason, or it would accept it.
+    Rejects(At, At, Option<Rejection>),
     /// The agent would not accept an error response of no attribute with the id of twelve zeros.
     NoBareFailure,
     /// The statistics are those of a new agent, or not.

@@ -1,12 +1,12 @@
 //! All that a user may choose, set and read.
 
 use crate::agent_settings::{
-    AgentSettings, is_ice_modern_settings, is_ice_original_settings, is_ice_set_settings,
-    is_ice_settings,
+    is_ice_modern_settings, is_ice_original_settings, is_ice_set_settings, is_ice_settings,
 };
 use crate::codes;
 use crate::making::{free, is_ice_agent_new};
 use crate::slot::Slot;
+use is_c_calls::AgentSettings;
 
 /// The numbers of the original, and of RFC 8445, sections 14.2 and 14.3.
 pub(super) const ORIGINAL: AgentSettings = AgentSettings {

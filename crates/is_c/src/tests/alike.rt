@@ -1,13 +1,12 @@
 //! How many local candidates are alike.
 
 use super::{address, host};
-use crate::address::Address;
-use crate::candidate::LocalCandidate;
 use crate::candidates::{is_ice_add_local, is_ice_alike_local, is_ice_invalidate_local};
 use crate::codes;
 use crate::making::{free, is_ice_agent_new};
 use crate::session::is_ice_restart;
 use crate::slot::Slot;
+use is_c_calls::{Address, LocalCandidate};
 use std::alloc::Global;
 
 /// 2001:db8::`last`.

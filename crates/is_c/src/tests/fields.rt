@@ -1,7 +1,6 @@
 //! The fields of a candidate, username fragments that are no word, and mDNS names.
 
 use super::{address, gathers, host, is_new, signals};
-use crate::address::Address;
 use crate::codes;
 use crate::fields::{
     Fields, is_ice_candidate_fields, is_ice_line_fields, is_ice_local_fields, is_ice_remote_fields,
@@ -11,6 +10,7 @@ use crate::lines::is_ice_line_with_ufrag;
 use crate::making::free;
 use crate::mdns::{is_ice_line_name, is_ice_line_with_address};
 use crate::slot::Slot;
+use is_c_calls::Address;
 use std::alloc::Global;
 
 // The server-reflexive candidate of RFC 8839, appendix A, with two spaces, an extension and a username fragment.

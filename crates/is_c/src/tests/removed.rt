@@ -4,7 +4,6 @@ use super::agent_settings::ORIGINAL;
 use super::selected::is_at;
 use super::stun::no_texts;
 use super::{REQUEST, address, host, no_packet, passes};
-use crate::address::Address;
 use crate::agent_settings::is_ice_set_settings;
 use crate::candidates::{is_ice_add_local, is_ice_add_remote, is_ice_invalidate};
 use crate::codes;
@@ -21,6 +20,7 @@ use crate::slot::Slot;
 use crate::stun_client::Transaction;
 use crate::stun_message::{Message, Number};
 use crate::stun_write::is_ice_stun_write;
+use is_c_calls::Address;
 use std::alloc::Global;
 
 const MS: u64 = 1_000_000;

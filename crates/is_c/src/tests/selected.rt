@@ -1,11 +1,10 @@
 //! The selected path and that of a valid pair, and what a new agent begins with.
 
 use super::{address, host, no_event, passes};
-use crate::address::Address;
 use crate::candidates::{is_ice_add_local, is_ice_add_remote};
 use crate::codes;
 use crate::credentials::is_ice_set_remote_credentials;
-use crate::events::{Event, is_ice_poll_event};
+use crate::events::is_ice_poll_event;
 use crate::making::{free, is_ice_agent_new};
 use crate::packets::is_ice_handle_timeout;
 use crate::paths::{MediaPath, is_ice_valid_path};
@@ -13,6 +12,7 @@ use crate::questions::{Nominated, Status, is_ice_nominated, is_ice_status};
 use crate::session::is_ice_restart;
 use crate::settings::is_ice_set_controlling;
 use crate::slot::Slot;
+use is_c_calls::{Address, Event};
 use std::alloc::Global;
 
 fn no_path() -> Nominated {

@@ -1,7 +1,6 @@
 //! Candidates as texts and as JSON, without an agent, and the pair of one.
 
 use super::{address, host};
-use crate::candidate::LocalCandidate;
 use crate::candidates::{is_ice_add_local, is_ice_add_remote};
 use crate::codes;
 use crate::infos::{is_ice_json_refusal, is_ice_line_from_json, is_ice_line_to_json};
@@ -13,6 +12,7 @@ use crate::making::{free, is_ice_agent_new};
 use crate::pairs::{Pair, is_ice_find_pair};
 use crate::questions::is_ice_local_candidate;
 use crate::slot::Slot;
+use is_c_calls::LocalCandidate;
 
 // The example of the interface RTCIceCandidate in MDN, and its attribute with an RFC 8839 username fragment.
 const LINE: &[u8] = b"candidate:4234997325 1 udp 2043278322 192.0.2.172 44323 typ host";

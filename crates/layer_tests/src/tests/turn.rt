@@ -1,4 +1,7 @@
 //! The client of a STUN server, and the messages of a TURN client.
 
+mod allocating;
 mod binding;
 mod messages;
+mod relaying;
+mod side;

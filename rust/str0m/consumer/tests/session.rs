@@ -90,7 +90,7 @@ impl Lines {
     /// Each of these is the beginning of a line, and all lines have a target of the original's.
     fn have(&self, beginnings: &[&str]) {
         let lines = self.0.lock().unwrap();
-        assert!(lines.iter().all(|line| matches!(line.split(' ').nth(1), Some("is::agent" | "is::pair"))), "{lines:#?}");
+        assert!(lines.iter().all(|line| matches!(line.split(' ').nth(1), Some("is::agent" | "is::pair" | "is::stun"))), "{lines:#?}");
         for beginning in beginnings {
             assert!(lines.iter().any(|line| line.starts_with(beginning)), "{beginning}\n{lines:#?}");
         }
@@ -233,5 +233,47 @@ fn what_packets_do_is_logged() {
         "TRACE is::agent Message rejected, local user mismatch: ",
         "DEBUG is::agent Reject redundant candidate, current: Candidate",
         "DEBUG is::agent Reject non-host candidate due to ice-lite mode: Candidate",
+    ]);
+}
+
+#[test]
+fn what_is_left_out_is_logged() {
+    let _alone = alone();
+    let (lines, now) = (Lines::default(), Instant::now());
+    tracing::subscriber::with_default(lines.clone(), || {
+        // A second remote candidate with the same address and less priority, and one that is invalidated.
+        let mut side = Rtc::new(true);
+        side.ice.set_remote_credentials(is::IceCreds::new());
+        side.add_host(at("10.0.0.1:5000"), Protocol::Udp).unwrap();
+        let host = is::Candidate::host(at("10.0.0.2:5000"), "udp").unwrap();
+        side.ice.add_remote_candidate(host.clone());
+        let mapped = is::Candidate::server_reflexive(at("10.0.0.2:5000"), at("10.0.0.3:5000"), "udp").unwrap();
+        side.ice.add_remote_candidate(mapped);
+        assert!(side.ice.invalidate_candidate(&host));
+        // A lite agent gets a check before it knows its peer, and again a minute later. Then the peer's candidate is signaled.
+        let mut sides = [Rtc::new(true), Rtc::new(false)];
+        let creds = [sides[0].ice.local_credentials().clone(), sides[1].ice.local_credentials().clone()];
+        sides[1].ice.set_ice_lite(true);
+        sides[1].add_host(host.addr(), Protocol::Udp).unwrap();
+        let signaled = sides[0].add_host(at("10.0.0.1:5000"), Protocol::Udp).unwrap().clone();
+        sides[0].ice.set_remote_credentials(creds[1].clone());
+        sides[0].ice.add_remote_candidate(host);
+        sides[0].ice.handle_timeout(now);
+        let check = sides[0].ice.poll_transmit().unwrap();
+        for seconds in [0, 60] {
+            let received = Receive { proto: check.proto, source: check.source, destination: check.destination, contents: &check.contents };
+            assert!(sides[1].handle(now + Duration::from_secs(seconds), received));
+        }
+        sides[1].ice.set_remote_credentials(creds[0].clone());
+        sides[1].ice.handle_timeout(now + Duration::from_secs(61));
+        sides[1].ice.add_remote_candidate(signaled);
+    });
+    lines.have(&[
+        "TRACE is::agent Form pair local: Candidate",
+        "DEBUG is::agent Reject redundant pair, current: 10.0.0.1:5000 -> 10.0.0.2:5000 CandidatePair",
+        "TRACE is::agent Discard pairs for remote candidate index: 0",
+        "TRACE is::agent Drop too old enqueued STUN request: 0 wait",
+        "DEBUG is::agent Replace redundant pair, current: RemovedPair",
+        "DEBUG is::agent Retain incoming binding requests for pair",
     ]);
 }

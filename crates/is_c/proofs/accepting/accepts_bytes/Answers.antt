@@ -1,6 +1,6 @@
 use Rattle.std.proofs.Common.{rules, ◌≡◌, ◌∙◌, inr, w32, to_z, of_z}
 use Rattle.is_stun.specs.MessageView.{message_view}
-use Rattle.is_c.specs.Codes.{found_code}
+use Rattle.is_c_calls.specs.Codes.{found_code}
 use Rattle.is_c.proofs.accepting.accepts_bytes.Goals as goal
 
 -- the bytes read as the message that the agent is to accept or not

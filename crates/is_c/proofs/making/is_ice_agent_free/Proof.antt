@@ -42,7 +42,8 @@ use Rattle.std.specs.Global.{Global}
 use Rattle.std_heap.specs.contracts.Global as Heap
 use Rattle.is_c.proofs.AsBox.{E}
 use Rattle.is_c.specs.Freeing.{freed_at}
-use Rattle.is_c.specs.Held.{HomeRecord, held_by}
+use Rattle.is_c.specs.Slots.{held_by}
+use Rattle.is_c_calls.specs.Held.{HomeRecord}
 use Rattle.is_c.specs.declared.slot.Slot.{Slot}
 use Rattle.is_c.specs.contracts.slot.Slot.{the_row as slot_row}
 use Rattle.is_c.specs.contracts.making.free as g

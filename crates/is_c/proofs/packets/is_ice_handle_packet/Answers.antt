@@ -1,8 +1,9 @@
 use Rattle.std.proofs.Common.{rules, ◌≡◌, Some, Option, ℤ, option_map, w32, to_z, of_z, subst, sym}
 use Rattle.is_proto.specs.contracts.hmac_provider.DefaultSha1HmacProviderSha1HmacProvider.TheImpl.{mac-value}
 use Rattle.is_c.specs.declared.home.Home.{Home}
-use Rattle.is_c.specs.Held.{HomeRecord, home_of, At}
-use Rattle.is_c.specs.Packets.{packet_path, IsSettled}
+use Rattle.is_c.specs.Slots.{home_of}
+use Rattle.is_c_calls.specs.Held.{HomeRecord, At}
+use Rattle.is_c_calls.specs.Packets.{packet_path, IsSettled}
 use Rattle.is_c.proofs.packets.is_ice_handle_packet.Goals as goal
 
 -- what was borrowed is what is held

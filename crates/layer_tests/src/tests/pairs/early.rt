@@ -1,5 +1,5 @@
-//! Early retransmissions: as long as a pair has no response, its checks come soon after one another, until a whole series of checks would
-//! have ended.
+//! Early retransmissions: for some time the checks of a pair without a response come soon after one another, and again after the peer's
+//! first request.
 
 use super::{Path, at};
 use is_pair::take_over;
@@ -9,6 +9,9 @@ use std::alloc::Global;
 
 /// How long a whole series of checks takes, in milliseconds: 0.5, 1 and 2 s, five times 3 s to the ninth one, and 3 s more.
 const SERIES: u64 = 21_500;
+
+/// How long they come, in milliseconds.
+const EARLY: u64 = 2_500;
 
 /// A path with the profile `Modern`: two early retransmissions 100 ms apart, and delays of at most 350 ms.
 fn early_path(alloc: Global) -> Path {
@@ -90,10 +93,10 @@ fn check_until_removed(path: &mut Path, start: Instant) -> Option<(usize, Instan
 // ---- when checks are due
 
 static FIRST: [u64; 12] = [
-    100, 200, 400, 750, 1100, 1450, 1800, 2150, 2500, 2850, 3200, 3550,
+    100, 200, 400, 750, 1100, 1450, 1800, 2150, 2500, 5500, 8500, 11_500,
 ];
 
-/// Two retransmissions after 100 ms each, one after 200 ms, and the others after 350 ms, more than nine of them.
+/// Two retransmissions after 100 ms each, one after 200 ms, and the others after 350 ms until 2.5 s. Then the RTO counts, 3 s.
 #[test]
 fn checks_without_a_response_are_repeated_early(rt: HostRuntime) {
     let mut path = early_path(rt.alloc());
@@ -103,8 +106,8 @@ fn checks_without_a_response_are_repeated_early(rt: HostRuntime) {
 
 /// Just before its end the second early retransmission still follows, after 100 ms. Then the RTO counts: 500 ms after the second check.
 #[test]
-fn after_a_whole_series_the_rto_counts(rt: HostRuntime) {
-    for (sent, due) in [(SERIES - 1, SERIES + 99), (SERIES, SERIES + 500)] {
+fn after_some_time_the_rto_counts(rt: HostRuntime) {
+    for (sent, due) in [(EARLY - 1, EARLY + 99), (EARLY, EARLY + 500)] {
         let mut path = early_path(rt.alloc());
         assert!(rt; path.checks(at(0)));
         assert!(rt; next_after(&mut path, at(sent)) == Some(at(due)));
@@ -215,25 +218,25 @@ fn eight_checks_end_no_pair(rt: HostRuntime) {
     assert!(rt; path.is_possible(at(1_000_000)));
 }
 
-/// The fourth check is sent at 0.4 s, and sixty more every 0.35 s until 21.4 s. The next one is due at 21.75 s, while the response to that one
-/// may still come. It is the last one, and is waited for by the RTO, 3 s.
+/// The tenth check is sent at 2.5 s, and six more every 3 s until 20.5 s, the last one before the series is over. It is waited for by the
+/// RTO, 3 s.
 #[test]
-fn a_pair_without_a_response_has_65_checks(rt: HostRuntime) {
+fn a_pair_without_a_response_has_16_checks(rt: HostRuntime) {
     let mut path = early_path(rt.alloc());
-    assert!(rt; check_until_removed(&mut path, at(0)) == Some((65, at(24_750))));
+    assert!(rt; check_until_removed(&mut path, at(0)) == Some((16, at(23_500))));
 }
 
-/// A check from the peer at 21 s keeps it until 36 s, and the response to the last check, at 33.75 s, may come until 36.75 s.
+/// A check from the peer at 21 s keeps it until 36 s. The next check, at 23.5 s, and seven more until 25.95 s are repeated early, and the
+/// one at 26.3 s and later ones by the RTO. The response to the last one, at 35.3 s, may come until 38.3 s.
 #[test]
-fn a_pair_that_is_still_heard_goes_on_with_the_rto(rt: HostRuntime) {
+fn a_pair_that_is_still_heard_is_repeated_early_again(rt: HostRuntime) {
     let mut path = early_path(rt.alloc());
-    assert!(rt; check_until(&mut path, at(SERIES)) == Some((64, at(21_750))));
+    assert!(rt; check_until(&mut path, at(SERIES)) == Some((16, at(23_500))));
     path.pair.increase_remote_binding_requests(at(21_000));
-    assert!(rt; path.is_possible(at(21_750)));
-    assert!(rt; next_after(&mut path, at(21_750)) == Some(at(24_750)));
-    assert!(rt; path.is_possible(at(24_750)));
-    assert!(rt; due_after(&mut path, at(24_750), 4) == Some(at(36_750)));
-    assert!(rt; ends_at(&path, 36_750));
+    assert!(rt; path.is_possible(at(23_500)));
+    assert!(rt; due_after(&mut path, at(23_500), 8) == Some(at(26_300)));
+    assert!(rt; due_after(&mut path, at(26_300), 4) == Some(at(38_300)));
+    assert!(rt; ends_at(&path, 38_300));
 }
 
 /// With one check a whole series takes 250 ms. The first three are sent at 0, 100 and 200 ms; the next one is due at 400 ms, and by then the

@@ -1,0 +1,19 @@
+-- What C calls, and what each call does to what a slot holds.
+pub mod Held
+pub mod Codes
+pub mod Addresses
+pub mod Candidates
+pub mod Clock
+pub mod Random
+pub mod Texts
+pub mod Preferences
+pub mod Limits
+pub mod AgentSettings
+pub mod Credentials
+pub mod Making
+pub mod Given
+pub mod Adding
+pub mod Packets
+pub mod Events
+pub mod Uses
+pub mod Sessions

@@ -1,0 +1,234 @@
+-- Each path that C gets by a `NominatedSend` was answered, by bytes that C passed. What mutants/specifications changes is read by tactics.
+use Rattle.std.proofs.Common.{◌≡◌, ◌⊎◌, ℕ, false, List, [], ◌∷◌, length, Option, Some, None, inl, inr, refl, ap, sym, ◌∙◌, subst}
+use Rattle.rand_core.specs.Stream.{Stream}
+use Rattle.is_proto.specs.Lists.{Has}
+use Rattle.is_proto.specs.Packets as packets
+use Rattle.is_proto.specs.declared.hmac_provider.DefaultSha1HmacProvider.{DefaultSha1HmacProvider}
+use Rattle.is_stun.specs.declared.header.Class.{Class}
+use Rattle.is_stun.specs.declared.header.Class.TheVariants as class
+use Rattle.is_stun.specs.Message.{Message}
+use Rattle.is_rules.specs.declared.credentials.IceCreds.{IceCreds}
+use Rattle.is_rules.specs.declared.emitted.Issued.{Issued}
+use Rattle.is_rules.specs.declared.emitted.Path.{Path}
+use Rattle.is_rules.specs.declared.settings.Settings.{Settings}
+use Rattle.is_rules.specs.Brought.{Brings}
+use Rattle.is_rules.specs.Effects.{clears, PathTheorem, TradeTheorem}
+use Rattle.is_rules.specs.Emitted.{issued_as}
+use Rattle.is_rules.specs.Issuing.{via_out, IsIssued, Says}
+use Rattle.is_rules.specs.Settings.{modern_settings}
+use Rattle.is_rules.specs.Sound.{IsSound, FreshIsSound}
+use Rattle.is_rules.specs.Steps as agent
+use Rattle.is_rules.specs.Steps.{Call, Answer, Entry, Done, Step, is_done, quiet, Becomes}
+use Rattle.is_theorems.specs.Logs.{Logged, IsSent, AnswersAt, Answered}
+use Rattle.is_theorems.specs.Polled as polled
+use Rattle.is_theorems.specs.Polled.{SelectedSince, IsAnsweredSince, IsControlledSinceRestart, WaitingAreAnswered, WaitingAreNominatedByPeer}
+use Rattle.is_theorems.specs.Logs.{IsAnsweredBy}
+use Rattle.is_theorems.specs.Reporting.{QueuesTheorem}
+use Rattle.is_theorems.specs.Settings.{AllAreSetInTurn, setters_of}
+use Rattle.is_c_calls.specs.declared.preference.Preference.{Preference}
+use Rattle.is_c_calls.specs.AgentSettings.{settings_of}
+use Rattle.is_c_calls.specs.Held.{Held, HomeRecord}
+use Rattle.is_c_calls.specs.Preferences.{answers}
+use Rattle.is_c_calls.specs.Sessions.{Used}
+use Rattle.is_c_calls.specs.Uses.{Does, mac_of}
+use Rattle.is_c_theorems.specs.CallLogs.{setters_onto, settings_onto, IsLogOf, newborn}
+use Rattle.is_c_theorems.specs.Chosen.{EachKeeps, keeps_modern}
+use Rattle.is_c_theorems.specs.Seen.{Gets, IsCheckIn, is_restart, Since, IsChecked}
+use Rattle.is_c_theorems.specs.Headline.{Answers, SelectedAreAnswered}
+use Rattle.is_c_theorems.proofs.AlongExecutions.{is_new, full_log}
+use Rattle.is_c_theorems.proofs.LogsOfCalls.{Ran, Walk, walk, log_is, run_is}
+use Rattle.is_c_theorems.proofs.SeenCalls.{peers, not_restarted, idle_restart, set_restart, accepts, none_brought}
+use Rattle.is_c_theorems.proofs.SettingsOfCalls.{Log}
+use Rattle.is_c_theorems.proofs.WaitingPackets.{is_polling, not_poll, kept_packets, carry_queue}
+use Rattle.is_c_theorems.proofs.PolledPaths.{waited}
+
+abbrev pub Turn : Type 0
+Turn = AllAreSetInTurn {H = _} {P = Preference} mac_of answers
+
+abbrev pub setter : Call Preference → Log → Logged Preference
+setter call log = record { number = length log; call = call; entry = quiet Done }
+
+-- ---- answered since the last restart
+
+-- An entry of the log answers the path, and no restart came since.
+abbrev AnsweredSince : Log → Path → Type 0
+AnsweredSince [] path = ⊥
+AnsweredSince (x ∷ before) path = AnswersAt mac_of (record {}) x before path ⊎ ((polled.restarts x.call x.entry.answer ≡ false) × AnsweredSince before path)
+
+-- a clear is a restart, or it is none
+not_clear : (call : Call Preference) (a : Answer) → clears call a ≡ false → polled.restarts call a ≡ false
+not_clear (agent.RestartIce creds keep) a is = is
+not_clear _ a is = refl
+
+answered_since : (log : Log) (path : Path) → Answered mac_of (record {}) log path → AnsweredSince log path
+answered_since [] path none = none
+answered_since (x ∷ before) path (inl now) = inl now
+answered_since (x ∷ before) path (inr (kept, was)) = inr (not_clear x.call x.entry.answer kept, answered_since before path was)
+
+not_selected : {Z : Type 0} (path : Path) → None ≡ Some path → Z
+not_selected path is = let wrong_ : None ≡ Some path = is in absurd (cc)
+
+-- a restart selects no path
+no_restart : (old new : Held) (s t : Stream) (call : Call Preference) (e : Entry) (path : Path) → Step mac_of answers old s call e new t
+    → Has e.emitted.selected_paths (Some path) → polled.restarts call e.answer ≡ false
+no_restart old new s t (agent.RestartIce creds keep) e path (r, is, does, drawn) has = elim (subst (λ (x : Entry). Has x.emitted.selected_paths (Some path)) is has) [
+  | inl wrong_ ↦ not_selected path wrong_
+  | inr (inl wrong_) ↦ not_selected path wrong_
+  | inr (inr none) ↦ absurd none
+]
+no_restart old new s t _ e path step has = refl
+
+since : (first last : Held) (log : Log) (path : Path) → Ran first log last → SelectedSince (λ x before. IsAnsweredBy mac_of (record {}) x before path) log path
+    → AnsweredSince log path
+since first last [] path run none = none
+since first last (x ∷ before) path (mid, s, t, run, given, step) (inl (now, inl here)) = inl here
+since first last (x ∷ before) path (mid, s, t, run, given, step) (inl (now, inr earlier)) =
+    inr (no_restart mid last s t x.call x.entry path step now, answered_since before path earlier)
+since first last (x ∷ before) path (mid, s, t, run, given, step) (inr (none, was)) = inr (none, since first mid before path run was)
+
+-- ---- sent since the last restart
+
+abbrev SentSince : Log → Path → List ℕ → Type 0
+SentSince [] path id = ⊥
+SentSince (x ∷ before) path id =
+    (x.entry.emitted.issued ≡ Some (issued_as path class.Request id)) ⊎ ((polled.restarts x.call x.entry.answer ≡ false) × SentSince before path id)
+
+sent_since : (log : Log) (path : Path) (id : List ℕ) → IsSent log path id → SentSince log path id
+sent_since [] path id none = none
+sent_since (x ∷ before) path id (inl is) = inl is
+sent_since (x ∷ before) path id (inr (kept, was)) = inr (not_clear x.call x.entry.answer kept, sent_since before path id was)
+
+-- ---- setters in turn
+
+-- none of them answers a path, or sends a check
+answered_before : (calls : List (Call Preference)) (log : Log) (path : Path) → AnsweredSince (setters_onto calls log) path → AnsweredSince log path
+answered_before [] log path answered = answered
+answered_before (call ∷ more) log path answered = by (answered_before more (setter call log ∷ log) path answered) where
+  by : AnsweredSince (setter call log ∷ log) path → AnsweredSince log path
+  by (inl (at, via, m, peer, brings, binding, success, known, signed, sent, back)) = absurd (none_brought call at via m brings)
+  by (inr (none, was)) = was
+
+sent_before : (calls : List (Call Preference)) (log : Log) (path : Path) (id : List ℕ) → SentSince (setters_onto calls log) path id → SentSince log path id
+sent_before [] log path id sent = sent
+sent_before (call ∷ more) log path id sent = by (sent_before more (setter call log ∷ log) path id sent) where
+  by : SentSince (setter call log ∷ log) path id → SentSince log path id
+  by (inl is) = let wrong_ : None ≡ Some (issued_as path class.Request id) = is in absurd (cc)
+  by (inr (none, was)) = was
+
+-- and none restarts
+sent_after : (settings : Settings) (log : Log) (path : Path) (id : List ℕ) → SentSince log path id → SentSince (settings_onto settings log) path id
+sent_after settings log path id sent =
+    inr (refl, inr (refl, inr (refl, inr (refl, inr (refl, inr (refl, inr (refl, inr (refl, inr (refl, inr (refl, sent))))))))))
+
+-- ---- checks that were sent are given to C, or wait
+
+abbrev class_or : Option Issued → Class
+class_or None = class.Request
+class_or (Some i) = i.class
+
+abbrev id_or : Option Issued → List ℕ
+id_or None = []
+id_or (Some i) = i.id.0
+
+is_check : (old new : Held) (call : Call Preference) (e : Entry) (p : packets.Packet) (path : Path) (id : List ℕ) → e.emitted.issued ≡ Some (issued_as path class.Request id)
+    → IsIssued mac_of old call e p new.controlling → IsCheckIn p.contents id
+is_check old new call e p path id is (m, contents, issued, says) =
+    let one_ : m.class ≡ class.Request = ap (λ o. class_or o) (sym issued ∙ is) in
+    let two_ : m.id ≡ id = ap (λ o. id_or o) (sym issued ∙ is) in
+    (m, (subst (λ (c : Class). Says c old call e p.contents m (via_out p) new.controlling) one_ says).7, one_, two_)
+
+-- a packet is no restart
+not_restart_brought : (call : Call Preference) (e : Entry) (at : ℕ) (by : Path) (m : Message) → Brings call e at by m → polled.restarts call e.answer ≡ false
+not_restart_brought (agent.RestartIce creds keep) e at by m brings = absurd brings
+not_restart_brought _ e at by m brings = refl
+
+carried : (path : Path) (id : List ℕ) (u : Used) (before : List Used) (mid home : HomeRecord) → Does u.export mid u.code home → is_restart u ≡ false
+    → (is_polling u.export ≡ false → (p : packets.Packet) → Has mid.agent.packets p → Has home.agent.packets p)
+    → IsChecked before mid path id → IsChecked (u ∷ before) home path id
+carried path id u before mid home does none on (inl was) = inl (inr (none, was))
+carried path id u before mid home does none on (inr (p, has, via, check)) = elim (carry_queue u.export u.code mid home does none on p has) [
+  | inl there ↦ inr (p, there, via, check)
+  | inr gets ↦ inl (inl (p.contents, subst (λ (to : Path). Gets u to p.contents) via gets, check))
+]
+
+abbrev Paths : Type 0
+Paths = PathTheorem {H = DefaultSha1HmacProvider} {P = Preference} mac_of answers
+
+abbrev Fresh : Type 0
+Fresh = FreshIsSound DefaultSha1HmacProvider Preference
+
+module _ (turn : Turn) (creds : IceCreds) (tie_breaker : ℕ) where
+  abbrev Walked : List Used → Log → HomeRecord → Type 0
+  Walked uses log home = Walk turn creds tie_breaker uses log home
+
+  sound_run : Paths → Fresh → (log : Log) (last : Held) → Ran (newborn creds tie_breaker) log last → IsSound last
+  sound_run law new [] last run = subst (λ (a : Held). IsSound a) (sym run) (new (record {}) creds tie_breaker)
+  sound_run law new (x ∷ before) last (mid, s, t, run, given, step) = (law mid last s t x.call x.entry (sound_run law new before mid run) given step).1
+
+  module _ (law : Paths) (new : Fresh) (trade : TradeTheorem {H = _} {P = Preference} mac_of answers) (queues : QueuesTheorem {H = _} {P = Preference} mac_of answers) where
+    flow : (uses : List Used) (log : Log) (home : HomeRecord) → Walked uses log home → (path : Path) (id : List ℕ) → SentSince log path id → IsChecked uses home path id
+    flow [] log home (is, same) path id sent =
+        absurd (sent_before (setters_of modern_settings) [] path id (subst (λ (l : Log). SentSince l path id) is sent))
+    flow (u ∷ before) log home (mid, does, inl (same, none, walked)) path id sent =
+        carried path id u before mid home does (idle_restart u.export u.code none)
+        (λ _ p has. subst (λ (a : Held). Has a.packets p) (sym same) has) (flow before log mid walked path id sent)
+    flow (u ∷ before) log home (mid, does, inr (inl (x, rest, s, t, is, of, given, step, walked))) path id sent =
+        by (λ was. flow before rest mid walked path id was) (subst (λ (l : Log). SentSince l path id) is sent) where
+          by : (SentSince rest path id → IsChecked before mid path id) → SentSince (x ∷ rest) path id → IsChecked (u ∷ before) home path id
+          by on (inl now) =
+              let k = (trade mid.agent home.agent s t x.call x.entry (sound_run law new rest mid.agent (run_is turn creds tie_breaker before rest mid walked)) given step).issued (issued_as path class.Request id) now in
+              inr (k.0, inr k.1, k.2, is_check mid.agent home.agent x.call x.entry k.0 path id now k.3)
+          by on (inr (kept, was)) =
+              carried path id u before mid home does (not_restarted u.export x.call x.entry.answer u.code of.makes of.answers kept)
+              (λ other p has. kept_packets x.call x.entry mid.agent.packets home.agent.packets (queues mid.agent home.agent s t x.call x.entry step).0 kept
+              (not_poll u.export x.call of.makes other) p has) (on was)
+    flow (u ∷ before) log home (mid, does, inr (inr (all, rest, is, walked))) path id sent =
+        carried path id u before mid home does (set_restart u all.settings all.export)
+        (λ other p has. subst (λ (a : Held). Has a.packets p) (sym all.sets) has)
+        (flow before rest mid walked path id (sent_before (setters_of (settings_of all.settings)) rest path id (subst (λ (l : Log). SentSince l path id) is sent)))
+
+-- ---- the answer, in C's words
+
+checked : (whole : List Used) (home : HomeRecord) (path : Path) (uses : List Used) (log : Log) → IsLogOf uses log
+    → ((id : List ℕ) → SentSince log path id → IsChecked whole home path id) → AnsweredSince log path → Since (Answers whole home path) uses
+checked whole home path [] log is lift answered =
+    absurd (answered_before (setters_of modern_settings) [] path (subst (λ (l : Log). AnsweredSince l path) is answered))
+checked whole home path (u ∷ before) log (inl (none, logs)) lift answered = inr (idle_restart u.export u.code none, checked whole home path before log logs lift answered)
+checked whole home path (u ∷ before) log (inr (rest, inl (x, is, of), logs)) lift answered =
+    by (λ l was. checked whole home path before rest logs l was) (subst (λ (l : Log). (id : List ℕ) → SentSince l path id → IsChecked whole home path id) is lift)
+    (subst (λ (l : Log). AnsweredSince l path) is answered) where
+      by : (((id : List ℕ) → SentSince rest path id → IsChecked whole home path id) → AnsweredSince rest path → Since (Answers whole home path) before)
+          → ((id : List ℕ) → SentSince (x ∷ rest) path id → IsChecked whole home path id) → AnsweredSince (x ∷ rest) path → Since (Answers whole home path) (u ∷ before)
+      by on lift (inl (at, via, m, peer, brings, binding, success, known, signed, sent, back)) =
+          inl (
+            via,
+            m,
+            peer,
+            accepts u.export x.call x.entry u.code at via m of.makes of.answers brings,
+            binding,
+            success,
+            sym (peers before rest logs) ∙ known,
+            signed,
+            back,
+            lift m.id (inr (not_restart_brought x.call x.entry at via m brings, sent_since rest path m.id sent)),
+          )
+      by on lift (inr (kept, was)) =
+          inr (not_restarted u.export x.call x.entry.answer u.code of.makes of.answers kept, on (λ id sent. lift id (inr (kept, sent))) was)
+checked whole home path (u ∷ before) log (inr (rest, inr (s, export, ok, is), logs)) lift answered =
+    let here = subst (λ (l : Log). (id : List ℕ) → SentSince l path id → IsChecked whole home path id) is lift in
+    inr (
+      set_restart u s export,
+      checked whole home path before rest logs (λ id sent. here id (sent_after (settings_of s) rest path id sent))
+          (answered_before (setters_of (settings_of s)) rest path (subst (λ (l : Log). AnsweredSince l path) is answered)),
+    )
+
+pub are_answered : Turn → Paths → Fresh → TradeTheorem {H = _} {P = Preference} mac_of answers → QueuesTheorem {H = _} {P = Preference} mac_of answers
+    → WaitingAreAnswered {H = _} {P = Preference} mac_of answers → SelectedAreAnswered
+are_answered turn paths new trade queues law creds tie_breaker before home after u path session each does selects =
+    let k = walk turn creds tie_breaker before home session in
+    let logs = log_is turn creds tie_breaker before k.0 home k.1 in
+    let run = run_is turn creds tie_breaker before k.0 home k.1 in
+    let kept : EachKeeps keeps_modern before = search each in
+    let found = law (newborn creds tie_breaker) home.agent k.0 (is_new creds tie_breaker) (full_log before k.0 logs kept) run path (waited u home after path does selects) in
+    search (checked before home path before k.0 logs (λ id sent. flow turn creds tie_breaker paths new trade queues before k.0 home k.1 path id sent)
+    (since (newborn creds tie_breaker) home.agent k.0 path run found))

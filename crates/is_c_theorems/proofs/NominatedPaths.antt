@@ -1,0 +1,165 @@
+-- Each path that C gets by a `NominatedSend` from an agent that was always controlled was nominated by the peer. What mutants/specifications
+-- changes is read by tactics.
+use Rattle.std.proofs.Common.{◌≡◌, ◌⊎◌, ◌==◌, ◌<◌, ℕ, Bool, true, false, List, [], ◌∷◌, length, map, inl, inr, refl, ap, sym, ◌∙◌, subst, arith}
+use Rattle.rand_core.specs.Stream.{Stream}
+use Rattle.is_stun.specs.Message.{Message}
+use Rattle.is_rules.specs.declared.credentials.IceCreds.{IceCreds}
+use Rattle.is_rules.specs.declared.emitted.Path.{Path}
+use Rattle.is_rules.specs.declared.settings.Settings.{Settings}
+use Rattle.is_rules.specs.Request.{request_in}
+use Rattle.is_rules.specs.Serving.{as_taken}
+use Rattle.is_rules.specs.Settings.{modern_settings, with_settings}
+use Rattle.is_rules.specs.Steps as agent
+use Rattle.is_rules.specs.Steps.{Call, Answer, Entry, Done, Step, is_done, quiet, Becomes}
+use Rattle.is_theorems.specs.Exchange.{Course}
+use Rattle.is_theorems.specs.Logs.{AsksAt, AskedBy, NominatedByPeer, has_numbers}
+use Rattle.is_theorems.specs.Polled.{IsControlledSinceRestart, WaitingAreNominatedByPeer}
+use Rattle.is_theorems.specs.Settings.{setters_of}
+use Rattle.is_c_calls.specs.declared.preference.Preference.{Preference}
+use Rattle.is_c_calls.specs.AgentSettings.{settings_of}
+use Rattle.is_c_calls.specs.Held.{Held, HomeRecord}
+use Rattle.is_c_calls.specs.Making.{fresh_home}
+use Rattle.is_c_calls.specs.Preferences.{answers}
+use Rattle.is_c_calls.specs.Sessions.{Used, Session}
+use Rattle.is_c_calls.specs.Uses.{mac_of}
+use Rattle.is_c_theorems.specs.CallLogs.{setters_onto, settings_onto, IsLogOf, newborn}
+use Rattle.is_c_theorems.specs.Chosen.{EachKeeps, keeps_modern}
+use Rattle.is_c_theorems.specs.Seen.{nominates, Ever}
+use Rattle.is_c_theorems.specs.Headline.{Nominates, StaysControlled, SelectedAreNominatedByPeer}
+use Rattle.is_c_theorems.proofs.AlongExecutions.{is_new, full_log}
+use Rattle.is_c_theorems.proofs.CallsAsSteps.{never, either, one}
+use Rattle.is_c_theorems.proofs.LogsOfCalls.{Ran, any}
+use Rattle.is_c_theorems.proofs.SeenCalls.{accepts, none_brought}
+use Rattle.is_c_theorems.proofs.SettingsOfCalls.{Log}
+use Rattle.is_c_theorems.proofs.AnsweredPaths.{Turn, setter}
+use Rattle.is_c_theorems.proofs.PolledPaths.{waited}
+
+abbrev AskedSome : Log → Path → Type 0
+AskedSome [] path = ⊥
+AskedSome (x ∷ before) path = ((numbered : Bool) × AsksAt numbered x path) ⊎ AskedSome before path
+
+asked_some : (numbered : Bool) (log : Log) (path : Path) → AskedBy numbered log path → AskedSome log path
+asked_some numbered [] path none = none
+asked_some numbered (x ∷ before) path (inl now) = inl (numbered, now)
+asked_some numbered (x ∷ before) path (inr was) = inr (asked_some numbered before path was)
+
+nominated_some : (log : Log) (path : Path) → NominatedByPeer log path → AskedSome log path
+nominated_some [] path none = none
+nominated_some (x ∷ before) path (inl now) = asked_some (has_numbers before) (x ∷ before) path now
+nominated_some (x ∷ before) path (inr was) = inr (nominated_some before path was)
+
+asked_before : (calls : List (Call Preference)) (log : Log) (path : Path) → AskedSome (setters_onto calls log) path → AskedSome log path
+asked_before [] log path asked = asked
+asked_before (call ∷ more) log path asked = by (asked_before more (setter call log ∷ log) path asked) where
+  by : AskedSome (setter call log ∷ log) path → AskedSome log path
+  by (inl (numbered, (at, via, m, brings, binding, request, asks_it, to))) = absurd (none_brought call at via m brings)
+  by (inr was) = was
+
+taken : (numbered : Bool) (at : ℕ) (by : Path) (m : Message) → (as_taken numbered (request_in at by m)).use_candidate ≡ true → nominates numbered m ≡ true
+taken true at by m is = search is
+taken false at by m is = search is
+
+asked : (uses : List Used) (log : Log) (path : Path) → IsLogOf uses log → AskedSome log path → Ever (Nominates path) uses
+asked [] log path is k = absurd (asked_before (setters_of modern_settings) [] path (subst (λ (l : Log). AskedSome l path) is k))
+asked (u ∷ before) log path (inl (none, logs)) k = inr (asked before log path logs k)
+asked (u ∷ before) log path (inr (rest, inl (x, is, of), logs)) k = by (λ was. asked before rest path logs was) (subst (λ (l : Log). AskedSome l path) is k) where
+  by : (AskedSome rest path → Ever (Nominates path) before) → AskedSome (x ∷ rest) path → Ever (Nominates path) (u ∷ before)
+  by on (inl (numbered, (at, via, m, brings, binding, request, asks_it, to))) =
+      inl (via, m, numbered, accepts u.export x.call x.entry u.code at via m of.makes of.answers brings, binding, request, taken numbered at via m asks_it, to)
+  by on (inr was) = inr (on was)
+asked (u ∷ before) log path (inr (rest, inr (s, export, ok, is), logs)) k =
+    inr (asked before rest path logs (asked_before (setters_of (settings_of s)) rest path (subst (λ (l : Log). AskedSome l path) is k)))
+
+-- ---- controlled in each state of the log
+
+-- a setter that leaves the role
+abbrev leaves_role : Call Preference → Bool
+leaves_role (agent.SetProfile profile) = true
+leaves_role (agent.SetConsent consent) = true
+leaves_role (agent.SetMaxStunRetransmits n) = true
+leaves_role (agent.SetLiteTimeout by) = true
+leaves_role (agent.SetInitialStunRto rto) = true
+leaves_role (agent.SetMaxStunRto rto) = true
+leaves_role (agent.SetTimingAdvance by) = true
+leaves_role (agent.SetMaxCandidatePairs n) = true
+leaves_role (agent.SetMaxDiscovered limit) = true
+leaves_role (agent.SetRenomination renominates) = true
+leaves_role _ = false
+
+role_kept : (call : Call Preference) → leaves_role call ≡ true → (old new : Held) (s t : Stream) (e : Entry) → Step mac_of answers old s call e new t
+    → new.controlling ≡ old.controlling
+role_kept (agent.SetProfile profile) is old new s t e step = ap (λ (a : Held). a.controlling) step.1
+role_kept (agent.SetConsent consent) is old new s t e step = ap (λ (a : Held). a.controlling) step.1
+role_kept (agent.SetMaxStunRetransmits n) is old new s t e step =
+    either (n == 0) (λ k. ap (λ (a : Held). a.controlling) k.1) (λ k. ap (λ (a : Held). a.controlling) k.1) step
+role_kept (agent.SetLiteTimeout by) is old new s t e step = ap (λ (a : Held). a.controlling) step.1
+role_kept (agent.SetInitialStunRto rto) is old new s t e step = ap (λ (a : Held). a.controlling) step.1
+role_kept (agent.SetMaxStunRto rto) is old new s t e step = ap (λ (a : Held). a.controlling) step.1
+role_kept (agent.SetTimingAdvance by) is old new s t e step = ap (λ (a : Held). a.controlling) step.1
+role_kept (agent.SetMaxCandidatePairs n) is old new s t e step = ap (λ (a : Held). a.controlling) step.1
+role_kept (agent.SetMaxDiscovered limit) is old new s t e step = ap (λ (a : Held). a.controlling) step.1
+role_kept (agent.SetRenomination renominates) is old new s t e step = ap (λ (a : Held). a.controlling) step.1
+role_kept _ is old new s t e step = never is
+
+abbrev AllLeave : List (Call Preference) → Type 0
+AllLeave [] = Unit {0}
+AllLeave (call ∷ more) = (leaves_role call ≡ true) × AllLeave more
+
+all_leave : (settings : Settings) → AllLeave (setters_of settings)
+all_leave settings = (refl, (refl, (refl, (refl, (refl, (refl, (refl, (refl, (refl, (refl, tt))))))))))
+
+-- an execution in which the agent is controlled in each state
+abbrev Calm : Held → Log → Held → Type 0
+Calm first log last = (run : Ran first log last) × IsControlledSinceRestart mac_of answers first log last run
+
+calm_setters : (calls : List (Call Preference)) → AllLeave calls → (first mid last : Held) (log : Log) → Calm first log mid → mid.controlling ≡ false
+    → Course mac_of answers (map (λ call. (call, quiet Done)) calls) mid last → Calm first (setters_onto calls log) last
+calm_setters [] leave first mid last log calm role course = subst (λ (a : Held). Calm first log a) (sym course) calm
+calm_setters (call ∷ more) (here, leave) first mid last log (run, since_it) role (next, s, t, given, step, course) =
+    let kept : next.controlling ≡ false = role_kept call here mid next s t (quiet Done) step ∙ role in
+    calm_setters more leave first next last (setter call log ∷ log) ((mid, s, t, run, given, step), (kept, inr since_it)) kept course
+
+module _ (turn : Turn) (creds : IceCreds) (tie_breaker : ℕ) where
+  calm_all : (settings : Settings) (mid last : Held) (log : Log) → 0 < settings.max_retransmits → last ≡ with_settings settings mid
+      → Calm (newborn creds tie_breaker) log mid → mid.controlling ≡ false → Calm (newborn creds tie_breaker) (settings_onto settings log) last
+  calm_all settings mid last log some is calm role =
+      subst (λ (a : Held). Calm (newborn creds tie_breaker) (settings_onto settings log) a) (sym is)
+      (calm_setters (setters_of settings) (all_leave settings) (newborn creds tie_breaker) mid (with_settings settings mid) log calm role (turn mid settings any some))
+
+  -- with the log of C's calls
+  calm_of : (uses : List Used) (home : HomeRecord) (session : Session (fresh_home creds tie_breaker) uses home) → StaysControlled (fresh_home creds tie_breaker) uses home session
+      → (log : Log) × IsLogOf uses log × Calm (newborn creds tie_breaker) log home.agent × (home.agent.controlling ≡ false)
+  calm_of [] home is c = (
+    settings_onto modern_settings [],
+    refl,
+    calm_all modern_settings (newborn creds tie_breaker) home.agent [] (omega arith) (ap (λ (h : HomeRecord). h.agent) is) (refl, refl) refl,
+    c,
+  )
+  calm_of (u ∷ before) home (mid, session, does) c = next (calm_of before mid session c.1) where
+    next : (log : Log) × IsLogOf before log × Calm (newborn creds tie_breaker) log mid.agent × (mid.agent.controlling ≡ false)
+        → (log : Log) × IsLogOf (u ∷ before) log × Calm (newborn creds tie_breaker) log home.agent × (home.agent.controlling ≡ false)
+    next (log, logs, calm, role) = elim (one (length log) u.export u.code mid home does)
+        as (λ _. (log : Log) × IsLogOf (u ∷ before) log × Calm (newborn creds tie_breaker) log home.agent × (home.agent.controlling ≡ false)) [
+          | inl (same, none) ↦ (log, inl (none, logs), subst (λ (a : Held). Calm (newborn creds tie_breaker) log a) (sym same) calm, c.0)
+          | inr (inl (x, s, t, is, given, step)) ↦ (
+            x ∷ log,
+            inr (log, inl (x, refl, is), logs),
+            ((mid.agent, s, t, calm.0, given, step), (c.0, inr calm.1)),
+            c.0,
+          )
+          | inr (inr all) ↦ (
+            settings_onto (settings_of all.settings) log,
+            inr (log, inr (all.settings, all.export, all.ok, refl), logs),
+            calm_all (settings_of all.settings) mid.agent home.agent log all.some all.sets calm role,
+            c.0,
+          )
+        ]
+
+pub are_nominated_by_peer : Turn → WaitingAreNominatedByPeer {H = _} {P = Preference} mac_of answers → SelectedAreNominatedByPeer
+are_nominated_by_peer turn law creds tie_breaker before home after u path session each controlled does selects =
+    let stays : StaysControlled (fresh_home creds tie_breaker) before home session = search controlled in
+    let k = calm_of turn creds tie_breaker before home session stays in
+    let kept : EachKeeps keeps_modern before = search each in
+    let found = law (newborn creds tie_breaker) home.agent k.0 (is_new creds tie_breaker) (full_log before k.0 k.1 kept) k.2.0 k.2.1 path
+    (waited u home after path does selects) in
+    search (asked before k.0 path k.1 (nominated_some k.0 path found))

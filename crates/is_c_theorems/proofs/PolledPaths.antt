@@ -1,0 +1,53 @@
+-- The path that C gets by a `NominatedSend` waited before.
+use Rattle.std.proofs.Common.{◌≡◌, List, Option, Some, None, option_map, ℤ, pos, inl, ap, sym, ◌∙◌, subst}
+use Rattle.std.specs.Option.{option_and_then}
+use Rattle.std.specs.declared.net.socket_addr.SocketAddr.{SocketAddr}
+use Rattle.is_proto.specs.Lists.{Has}
+use Rattle.is_proto.specs.declared.proto.Protocol.{Protocol}
+use Rattle.is_rules.specs.declared.emitted.Path.{Path}
+use Rattle.is_rules.specs.declared.event.IceAgentEvent.{IceAgentEvent}
+use Rattle.is_rules.specs.declared.event.IceAgentEvent.TheVariants.{IceRestart, IceConnectionStateChange, DiscoveredRecv, NominatedSend}
+use Rattle.is_rules.specs.Polls.{IsPolled}
+use Rattle.is_theorems.specs.Reporting.{selecting}
+use Rattle.is_c_calls.specs.declared.events.Event.{Event}
+use Rattle.is_c_calls.specs.Addresses.{socket_of, protocol_of}
+use Rattle.is_c_calls.specs.Codes.{OK}
+use Rattle.is_c_calls.specs.Events.{IsEvent, ReturnsOf}
+use Rattle.is_c_calls.specs.Held.{HomeRecord}
+use Rattle.is_c_calls.specs.Packets.{packet_path}
+use Rattle.is_c_calls.specs.Sessions.{Used}
+use Rattle.is_c_calls.specs.Uses.{Use, PollEvent, Does}
+use Rattle.is_c_theorems.specs.Seen.{Selects}
+
+whole : (after : Event) (proto : Protocol) (source destination : SocketAddr) → protocol_of after.protocol ≡ Some proto → socket_of after.source ≡ Some source
+    → socket_of after.destination ≡ Some destination
+    → packet_path after.protocol after.source after.destination ≡ Some (record { proto = proto; source = source; destination = destination })
+whole after proto source destination p s d =
+    ap (λ o. option_and_then (λ proto. option_and_then (λ source. option_map (λ to. record { proto = proto; source = source; destination = to }) (socket_of after.destination)) (socket_of after.source)) o) p
+    ∙ (ap (λ o. option_and_then (λ source. option_map (λ to. record { proto = proto; source = source; destination = to }) (socket_of after.destination)) o) s
+    ∙ ap (λ o. option_map (λ to. record { proto = proto; source = source; destination = to }) o) d)
+
+event_path : (e : IceAgentEvent) (before after : Event) (path : Path) → IsEvent e before after → after.kind ≡ pos 4
+    → packet_path after.protocol after.source after.destination ≡ Some path → e ≡ selecting path
+event_path (IceRestart creds) before after path is kind to =
+    let wrong_ : pos 1 ≡ pos 4 = sym (ap (λ (x : Event). x.kind) is) ∙ kind in absurd (cc)
+event_path (IceConnectionStateChange state) before after path is kind to =
+    let wrong_ : pos 2 ≡ pos 4 = sym (ap (λ (x : Event). x.kind) is) ∙ kind in absurd (cc)
+event_path (DiscoveredRecv proto source) before after path (is, p, s) kind to =
+    let wrong_ : pos 3 ≡ pos 4 = sym (ap (λ (x : Event). x.kind) is) ∙ kind in absurd (cc)
+event_path (NominatedSend proto source destination) before after path (is, p, s, d) kind to =
+    ap (λ (o : Path). selecting o) (some_path (record { proto = proto; source = source; destination = destination }) path (sym (whole after proto source destination p s d) ∙ to)) where
+      some_path : (x y : Path) → Some x ≡ Some y → x ≡ y
+      some_path x y same = let k : x ≡ y = cc in k
+
+-- the path that C gets waited before
+poll : (given : Option IceAgentEvent) (before after : Event) (path : Path) (old new : List IceAgentEvent) → ReturnsOf given before after OK → IsPolled old given new
+    → after.kind ≡ pos 4 → packet_path after.protocol after.source after.destination ≡ Some path → Has old (selecting path)
+poll None before after path old new (coded, same) polls kind to = let wrong_ : pos 0 ≡ pos 1 = coded in absurd (cc)
+poll (Some e) before after path old new (coded, is) polls kind to =
+    subst (λ (es : List IceAgentEvent). Has es (selecting path)) (sym polls) (inl (event_path e before after path is kind to))
+
+pub waited : (u : Used) (home after : HomeRecord) (path : Path) → Does u.export home u.code after → Selects u path → Has home.agent.events (selecting path)
+waited u home after path does (b, a, is, kind, to, ok) =
+    let d : Does (PollEvent b a) home OK after = subst (λ (e : Use). Does e home OK after) is (subst (λ (c : ℤ). Does u.export home c after) ok does) in
+    poll d.0 b a path home.agent.events after.agent.events d.2 d.1.0 kind to

@@ -1,0 +1,6 @@
+-- What is proved of lists of C's calls.
+pub mod CallLogs
+pub mod Chosen
+pub mod Seen
+pub mod Headline
+pub mod Executions

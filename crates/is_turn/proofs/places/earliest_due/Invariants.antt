@@ -1,0 +1,8 @@
+use Rattle.std.proofs.Common.{◌≡◌, map, fold, min, drop}
+use Rattle.is_proto.specs.Times.{MAX}
+use Rattle.is_turn.specs.Leases.{due_of}
+use Rattle.is_turn.proofs.places.earliest_due.Given as goal
+
+-- the least of what is left and of what was visited is the least of all
+abbrev pub invariant-loop-lease : goal.invariant-loop-lease
+invariant-loop-lease l = fold min l.first.0 (map due_of (drop l.lease-index l.leases)) ≡ fold min MAX (map due_of l.leases)
