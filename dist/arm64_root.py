@@ -23,7 +23,7 @@ CUSTOMIZED = "import os, sys\nsys.executable = os.environ['IS_ICE_PYTHON']\n"
 # What is imported once when the root is made, so that it is kept compiled: an emulated Python would compile it at each start.
 IMPORTED = "asyncio, ctypes, email.message, http.client, json, logging, secrets, ssl, subprocess, tempfile, unittest.mock, urllib.request"
 # How many times as long as usual the tests wait: an emulated processor takes so much longer.
-PATIENCE = "20"
+PATIENCE = "40"
 # The tests that the step runs, by what begins their names: calls of the library, texts, sessions over sockets.
 SOME = ("test_abi.", "test_agent.", "test_texts.", "test_connection.Sessions.")
 

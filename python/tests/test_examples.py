@@ -8,12 +8,15 @@ import sys
 import unittest
 from pathlib import Path
 
+from pairs import PATIENCE
+
 EXAMPLES = Path(__file__).resolve().parent.parent / "examples"
 PLAYS_CHATS = EXAMPLES.parent.parent / "c" / "tests" / "chat.py"
 
 
 def output(name: str, *arguments: str) -> str:
-    return subprocess.run([sys.executable, EXAMPLES / name, *arguments], capture_output=True, text=True, check=True, timeout=120).stdout
+    command = [sys.executable, str(EXAMPLES / name), *arguments]
+    return subprocess.run(command, capture_output=True, text=True, check=True, timeout=120 * PATIENCE).stdout
 
 
 class Examples(unittest.TestCase):
@@ -30,7 +33,7 @@ class Examples(unittest.TestCase):
 
     def test_chats_restart_lose_their_peer_and_move(self) -> None:
         program = [sys.executable, str(EXAMPLES / "chat.py")]
-        ran = subprocess.run([sys.executable, PLAYS_CHATS, *program], capture_output=True, text=True, timeout=120)
+        ran = subprocess.run([sys.executable, PLAYS_CHATS, *program], capture_output=True, text=True, timeout=120 * PATIENCE)
         self.assertEqual(ran.returncode, 0, ran.stdout + ran.stderr)
 
     def test_calls_are_measured(self) -> None:

@@ -17,7 +17,7 @@ from is_ice.demux import PacketKind, is_stun, packet_kind
 from is_ice.loop import IceLoop
 from is_ice.stun import StunClass, StunMethod, write_message
 
-from pairs import PATIENCE, check_soon, within
+from pairs import check_soon, until, within
 
 COOKIE = bytes.fromhex("2112a442")
 BINDING_RESPONSE = b"\x01\x01\0\0" + COOKIE + bytes(12)  # without MESSAGE-INTEGRITY
@@ -174,7 +174,7 @@ class Datagrams(unittest.IsolatedAsyncioTestCase):
             b.loop.wake()
             if not begins_first:
                 b.loop.begin()
-            await asyncio.sleep(0.2)
+            await until(lambda: not b.agent.early_requests, 2)
             with self.subTest(settings=settings, begins_first=begins_first):
                 self.assertEqual((b.agent.early_requests, b.agent.stats.bind_request_recv), (0, 20))
             a.loop.close()
@@ -289,7 +289,6 @@ def receive_from(side: Side, local: SocketAddress, first: int, forged: bytes) ->
 
 
 class Many(unittest.IsolatedAsyncioTestCase):
-    @unittest.skipIf(PATIENCE > 1, "an emulated processor takes minutes for 22,000 datagrams whose memory is traced")
     async def test_requests_of_strangers_cost_no_memory_and_no_more_time(self) -> None:
         """From 22,000 addresses: some have no MESSAGE-INTEGRITY, the others one under a wrong password."""
         side = Side(False)

@@ -15,7 +15,7 @@ from is_ice import line_name
 from is_ice.connection import Connection, TransportPolicy
 from is_ice.mdns import Mdns
 
-from pairs import HIDDEN, LOOPBACK, add_candidates, agent, aioice, close, gather, join, nobody, other_tasks, talk, within
+from pairs import HIDDEN, LOOPBACK, PATIENCE, add_candidates, agent, aioice, close, gather, join, nobody, other_tasks, talk, within
 from test_stun_client import SEEN, StunServer
 
 # Two connections over loopback in a new process. Prints the seconds from the first candidate until both connect, and the modules that were
@@ -163,7 +163,7 @@ class Sessions(unittest.IsolatedAsyncioTestCase):
         """Ten names of a second each before the candidate with an address, on both sides: at most 0.3 s in all."""
         with mock.patch.object(Mdns, "resolve", nobody):
             took = [9.0]
-            while min(took) > 0.3 and len(took) < 10:  # the machine may be busy
+            while min(took) > 0.3 * PATIENCE and len(took) < 10:  # the machine may be busy
                 a, b = agent(True), agent(False)
                 await gather(a, b)
                 start = time.monotonic()
@@ -176,7 +176,7 @@ class Sessions(unittest.IsolatedAsyncioTestCase):
                 await talk(a, b)
                 await close(a, b)
                 self.assertEqual(other_tasks(), set())
-            self.assertLess(min(took), 0.3)
+            self.assertLess(min(took), 0.3 * PATIENCE)
 
     async def test_the_end_of_candidates_waits_for_names(self) -> None:
         for found, outcome in (("not an address", False), ("127.0.0.1", True)):
@@ -305,9 +305,9 @@ class Delays(unittest.TestCase):
             took, modules = session_took(f"{uuid.uuid4()}.local")
             self.assertEqual([module for module in modules if module.partition(".")[0] in ("aioice", "dns")], [])
             delay = min(delay, took - session_took("")[0])
-            if delay <= 0.3:
+            if delay <= 0.3 * PATIENCE:
                 break
-        self.assertLessEqual(delay, 0.3)
+        self.assertLessEqual(delay, 0.3 * PATIENCE)
 
 
 if __name__ == "__main__":

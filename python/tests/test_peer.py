@@ -27,7 +27,7 @@ except ImportError:
     aioice = None
 
 
-async def start(role: str, *program: str, seconds: int = 15) -> asyncio.subprocess.Process:
+async def start(role: str, *program: str, seconds: float = 15) -> asyncio.subprocess.Process:
     pipe = asyncio.subprocess.PIPE
     words = *(program or (sys.executable, str(PEER))), "-a", "127.0.0.1", "-m", "hello", "-t", str(int(seconds * PATIENCE)), role
     return await asyncio.create_subprocess_exec(*words, stdin=pipe, stdout=pipe, stderr=pipe)
@@ -165,14 +165,14 @@ class Peers(unittest.TestCase):
 
     def test_out_of_time(self) -> None:
         async def play() -> tuple[int, str]:
-            peer = await start("controlling", seconds=1)
+            peer = await start("controlling", seconds=min(1, 15 / PATIENCE))  # after 27 s the pair is removed
             assert peer.stdin is not None
             peer.stdin.write(b"signal abcdefgh abcdefghijklmnopqrstuv candidate:1 1 udp 2130706431 127.0.0.1 9 typ host\n")
             return await end(peer)
 
         status, told = asyncio.run(play())
         self.assertEqual(status, 1)
-        self.assertRegex(told, "peer: out of time; state Checking; .* -> 127.0.0.1:9 in progress, [1-9] checks sent, 0 answered, ")
+        self.assertRegex(told, r"peer: out of time; state Checking; .* -> 127.0.0.1:9 in progress, [1-9]\d* checks sent, 0 answered, ")
 
     def test_media_delays_no_state(self) -> None:
         """Whatever arrives, a peer calls `handle_timeout` one pacing interval later, when its state follows, and not at its next check."""

@@ -135,16 +135,19 @@ class SignalHandlers(unittest.TestCase):
         agent._loop._new = watched  # type: ignore[assignment]
         agent._loop._spare.clear()
 
+        deadline, count = time.monotonic() + 0.5, 0
+
         def interrupt(*_: object) -> None:
             try:
                 agent.handle_packet(60_000_000_001, THERE, HERE, b"\x80" * 60000)
             except Unparsed:
                 pass
+            if time.monotonic() < deadline:  # the next one after this: on a slow processor handlers would interrupt each other without end
+                signal.setitimer(signal.ITIMER_REAL, 0.0005)
 
         self.addCleanup(signal.signal, signal.SIGALRM, signal.signal(signal.SIGALRM, interrupt))
         self.addCleanup(signal.setitimer, signal.ITIMER_REAL, 0)
-        signal.setitimer(signal.ITIMER_REAL, 0.0005, 0.0005)
-        deadline, count = time.monotonic() + 0.5, 0
+        signal.setitimer(signal.ITIMER_REAL, 0.0005)
         while time.monotonic() < deadline:
             count += 1
             with self.assertRaises(Unparsed):
