@@ -39,6 +39,8 @@ pub record PairRecord : Type 0 where
   pub consented : Option ℕ
   -- the due time of the next check, if it is fixed
   pub due : Option ℕ
+  -- the code of the last error response to one of its checks
+  pub last_error : Option ℕ
 
 -- arguments: number, local index, remote index, priority
 abbrev pub new_pair : ℕ → ℕ → ℕ → ℕ → PairRecord
@@ -60,6 +62,7 @@ new_pair number local remote priority = record {
   total_round_trip = 0;
   consented = None;
   due = None;
+  last_error = None;
 }
 
 abbrev pub is_valid : PairRecord → Bool
@@ -117,6 +120,10 @@ heard_at now (Some at) p = p
 
 abbrev pub heard : ℕ → PairRecord → PairRecord
 heard now p = heard_at now p.last_request p
+
+-- after an error response with this code to one of its checks
+abbrev pub with_error : ℕ → PairRecord → PairRecord
+with_error code p = record p { last_error = Some code }
 
 -- the due time of the next check is no longer fixed
 abbrev pub undue : PairRecord → PairRecord

@@ -25,6 +25,7 @@ pub record IsOf (p : PairRecord) (r : RemovedPair) : Type 0 where
   pub state : r.state ≡ p.state
   pub checks : r.checks_sent ≡ p.checks_sent
   pub responses : r.responses_received ≡ p.answers
+  pub error : r.error ≡ p.last_error
 
 -- with one more at the end; beyond the limit, the oldest is dropped
 abbrev pub with_removed : RemovedPair → List RemovedPair → List RemovedPair

@@ -54,7 +54,7 @@ pub struct CandidatePair {
     consented: Option<Instant>,
     /// The due time of the next check, if it is fixed.
     cached_next_attempt_time: Option<Instant>,
-    /// The code of the last error response, if one arrived. Nothing is decided by it.
+    /// The code of the last error response to one of its checks, if one arrived. Nothing is decided by it.
     last_error: Option<u16>,
 }
 
@@ -82,6 +82,7 @@ impl Model for CandidatePair {
       total_round_trip = p.total_round_trip_time.0;
       consented = option_map (λ at. at.0) p.consented;
       due = option_map (λ at. at.0) p.cached_next_attempt_time;
+      last_error = p.last_error;
     } };
 }
 

@@ -2,7 +2,7 @@
 
 ghost use Rattle.std.specs.Prelude.{◌≡◌, ◌<◌, ℕ, true, map};
 ghost use Rattle.is_pair.specs.Multiset.{are_below, change_pair, with_priority, KeepsKeys};
-ghost use Rattle.is_pair.specs.Pairs.{heard, undue};
+ghost use Rattle.is_pair.specs.Pairs.{heard, undue, with_error};
 ghost use Rattle.is_pair.specs.Due.{asked};
 ghost use Rattle.is_pair.specs.Checklists.{multiset_of, HasRoom, HasCheckRoom};
 ghost use Rattle.is_pair.specs.Removed.{removed_of};
@@ -62,6 +62,22 @@ impl PairChange for Asked<'_> {
     }
 }
 
+/// Notes the code of an error response to a check of the pair.
+#[derive(Clone, Copy)]
+struct Errored {
+    code: u16,
+}
+
+impl PairChange for Errored {
+    ghost use Rattle.is_pair.specs.Pairs.{with_error};
+
+    ghost makes = { λ t p. with_error t.code p };
+
+    fn change(&self, pair: &mut CandidatePair) {
+        pair.note_error(self.code);
+    }
+}
+
 impl Checklist {
     /// Changes the pair with the number, if there is one.
     pub fn change<C: PairChange>(&mut self, number: u64, change: &C)
@@ -73,6 +89,17 @@ impl Checklist {
         ensures removed { removed_of self.new ≡ removed_of self.old }
     {
         listed::change(&mut self.pairs, number, change);
+    }
+
+    /// Notes the code of an error response to a check of the pair with the number, if there is one.
+    pub fn note_error(&mut self, number: u64, code: u16)
+        ensures noted { multiset_of self.new ≡ change_pair number (with_error code) (multiset_of self.old) }
+        ensures room { (n : ℕ) → HasRoom n self.old → HasRoom n self.new }
+        ensures check_room { (n : ℕ) → HasCheckRoom n self.old → HasCheckRoom n self.new }
+        ensures below { (n : ℕ) → are_below n (multiset_of self.old) ≡ true → are_below n (multiset_of self.new) ≡ true }
+        ensures removed { removed_of self.new ≡ removed_of self.old }
+    {
+        self.change(number, &Errored { code });
     }
 
     /// Changes all pairs.

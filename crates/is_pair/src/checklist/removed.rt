@@ -153,18 +153,6 @@ impl Checklist {
         self.removed.clear();
     }
 
-    /// Notes the code of an error response to a check of the pair with the number.
-    pub fn note_error(&mut self, number: u64, code: u16)
-        ensures multiset { multiset_of self.new ≡ multiset_of self.old }
-        ensures room { (n : ℕ) → HasRoom n self.old → HasRoom n self.new }
-        ensures check_room { (n : ℕ) → HasCheckRoom n self.old → HasCheckRoom n self.new }
-        ensures removed { removed_of self.new ≡ removed_of self.old }
-    {
-        if let Some(place) = listed::place_of(&self.pairs, number) {
-            self.pairs[place].note_error(code);
-        }
-    }
-
     /// Forgets the removed pairs of the remote candidate at an index, which another candidate gets.
     pub fn forget_removed(&mut self, remote: usize)
         ensures multiset { multiset_of self.new ≡ multiset_of self.old }

@@ -2,6 +2,7 @@
 
 ghost use Rattle.std.specs.Prelude.{◌≡◌, option_map};
 ghost use Rattle.is_pair.specs.Checks.{last_round_trip};
+ghost use Rattle.is_pair.specs.Pairs.{with_error};
 
 use super::{CandidatePair, attempts};
 use is_proto::Duration;
@@ -30,13 +31,15 @@ impl CandidatePair {
     }
 
     /// Returns the code of the last error response to a check of the pair, if one arrived.
-    pub fn last_error(&self) -> Option<u16> {
+    pub fn last_error(&self) -> Option<u16>
+        ensures { result ≡ self.now.last_error }
+    {
         self.last_error
     }
 
     /// Notes the code of an error response.
     pub(crate) fn note_error(&mut self, code: u16)
-        ensures { self.new ≡ self.old }
+        ensures { self.new ≡ with_error code self.old }
     {
         self.last_error = Some(code);
     }
