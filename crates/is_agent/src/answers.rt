@@ -16,7 +16,7 @@ ghost use Rattle.is_agent.specs.Room.{HasEventRoom, HasNewsRoom, UsesNews};
 ghost use Rattle.is_rules.specs.Due.{KeepsCheckOn, IsRecorded, IsSentUnder};
 ghost use Rattle.is_rules.specs.Accepting.{IsAwaited};
 ghost use Rattle.is_rules.specs.Answers.{is_left_out, is_role_conflict, keeps_check_on, joined_by, local_with, mapped_candidate};
-ghost use Rattle.is_rules.specs.Answers.{success_counted, Concludes, LeavesRole, TakesSuccess, TakesFailure};
+ghost use Rattle.is_rules.specs.Answers.{error_noted, success_counted, Concludes, LeavesRole, TakesSuccess, TakesFailure};
 
 use crate::agent::{Agent, sides};
 use is_candidate::candidate::making::peer_reflexive;
@@ -198,9 +198,10 @@ impl<H: Sha1HmacProvider + Drop, P: LocalPreference> Agent<H, P> {
 
     /// Switches the role if the check of the pair with this number was sent in the current role (RFC 8445, section 7.2.5.1), unless the
     /// agent keeps its role.
-    fn leave_role(&mut self, number: u64, path: &Path, message: &StunMessage<'_>)
-        requires kept { KeepsCheckOn (record_of self.old) path.now (message_view message.now).id number }
-        ensures removes_expired { LeavesRole (record_of self.old) path.now (message_view message.now) nothing_emitted (record_of self.new) }
+    fn leave_role(&mut self, number: u64, message: &StunMessage<'_>)
+        requires kept { IfSome (pair_numbered number (record_of self.old).pairs) (λ p. IsTrue (is_kept (message_view message.now).id p.checks)) }
+        ensures leaves { IfSome (pair_numbered number (record_of self.old).pairs) (λ p. LeavesRole p (message_view message.now)
+            (record_of self.old) nothing_emitted (record_of self.new)) }
         ensures news { UsesNews 0 self.old self.new }
     {
         let present = self.is_of_present_role(number, message.trans_id());
@@ -210,9 +211,9 @@ impl<H: Sha1HmacProvider + Drop, P: LocalPreference> Agent<H, P> {
         }
     }
 
-    /// The pair with this number got this error response.
+    /// The pair with this number keeps the code of the error response.
     fn note_error(&mut self, number: u64, message: &StunMessage<'_>)
-        ensures record { record_of self.new ≡ record_of self.old }
+        ensures noted { record_of self.new ≡ error_noted number (message_view message.now) (record_of self.old) }
         ensures news { UsesNews 0 self.old self.new }
     {
         if let Some((code, _)) = message.error_code() {
@@ -220,7 +221,7 @@ impl<H: Sha1HmacProvider + Drop, P: LocalPreference> Agent<H, P> {
         }
     }
 
-    /// An error response with code 487 may switch the role. Any other one only leaves its code at the pair.
+    /// The pair with this number, on the reverse of whose path the error response arrived, keeps its code. Code 487 may switch the role.
     pub(crate) fn take_failure(&mut self, number: u64, path: &Path, message: &StunMessage<'_>)
         requires kept { KeepsCheckOn (record_of self.old) path.now (message_view message.now).id number }
         ensures taken { TakesFailure (record_of self.old) path.now (message_view message.now) nothing_emitted (record_of self.new) }
@@ -228,7 +229,7 @@ impl<H: Sha1HmacProvider + Drop, P: LocalPreference> Agent<H, P> {
     {
         self.note_error(number, message);
         if is_role_conflict(message) {
-            self.leave_role(number, path, message);
+            self.leave_role(number, message);
         }
     }
 }

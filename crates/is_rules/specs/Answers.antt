@@ -10,9 +10,9 @@ use Rattle.is_candidate.specs.Addresses.{same_address}
 use Rattle.is_candidate.specs.Candidates.{CandidateRecord, base_of, candidate_at}
 use Rattle.is_candidate.specs.Making.{peer_reflexive_candidate}
 use Rattle.is_candidate.specs.Priorities.{check_priority}
-use Rattle.is_pair.specs.Multiset.{keeps_check}
+use Rattle.is_pair.specs.Multiset.{change_pair, keeps_check}
 use Rattle.is_pair.specs.Checks.{Check}
-use Rattle.is_pair.specs.Pairs.{PairRecord, TakesAnswer}
+use Rattle.is_pair.specs.Pairs.{PairRecord, TakesAnswer, with_error}
 use Rattle.is_stun.specs.Checks.{ROLE_CONFLICT}
 use Rattle.is_stun.specs.Message.{Message}
 use Rattle.is_rules.specs.declared.emitted.Path.{Path}
@@ -37,6 +37,10 @@ is_left_out limit local mapped = is_known_address local mapped || not (has_local
 -- an error response with code 487
 abbrev pub is_role_conflict : Message → Bool
 is_role_conflict m = option_map_or (λ (e : ℕ × List ℕ). e.0 == ROLE_CONFLICT) m.attributes.error_code false
+
+-- the pair after an error response: it keeps the code, if the response has one
+abbrev pub after_error : Message → PairRecord → PairRecord
+after_error m p = option_map_or (λ (e : ℕ × List ℕ). with_error e.0 p) m.attributes.error_code p
 
 -- one more candidate, if there is one
 abbrev pub joined_by : Option CandidateRecord → List CandidateRecord → List CandidateRecord
@@ -87,14 +91,21 @@ module _ {H P : Type 0} where
   TakesSuccess now old via m emitted new =
       (recorded : AgentRecord H P) × Records now old via m recorded × Concludes now recorded emitted new
 
-  -- ---- errors: a 487 (RFC 8445, section 7.2.5.1) has an effect only if its check was sent in the present role, and the agent does not
-  -- keep its role
+  -- ---- errors: any pair with the pending transaction, on the reverse of whose path the packet was received, may take it
+
+  -- The pair with this number keeps the code.
+  abbrev pub error_noted : ℕ → Message → AgentRecord H P → AgentRecord H P
+  error_noted number m a = record a { pairs = change_pair number (after_error m) a.pairs }
+
+  -- A 487 (RFC 8445, section 7.2.5.1) switches the role only if the pair's check was sent in the present role, and the agent does not keep
+  -- its role.
+  abbrev pub LeavesRole : PairRecord → Message → AgentRecord H P → Emitted → AgentRecord H P → Type 0
+  LeavesRole p m s emitted new =
+      (c : Check) × Has p.checks c × (c.id ≡ m.id)
+      × MatchBool (same c.controlling s.controlling && not (keeps_role s)) (Drops (switched s) emitted new) (Drops s emitted new)
 
   -- Nomination and state are not evaluated, and the check is not marked as answered.
-  abbrev pub LeavesRole : AgentRecord H P → Path → Message → Emitted → AgentRecord H P → Type 0
-  LeavesRole old via m emitted new =
-      (p : PairRecord) × (c : Check) × Has old.pairs p × (keeps_check_on old via m.id p ≡ true) × Has p.checks c × (c.id ≡ m.id)
-      × MatchBool (same c.controlling old.controlling && not (keeps_role old)) (Drops (switched old) emitted new) (Drops old emitted new)
-
   abbrev pub TakesFailure : AgentRecord H P → Path → Message → Emitted → AgentRecord H P → Type 0
-  TakesFailure old via m emitted new = MatchBool (is_role_conflict m) (LeavesRole old via m emitted new) (Drops old emitted new)
+  TakesFailure old via m emitted new =
+      (p : PairRecord) × Has old.pairs p × (keeps_check_on old via m.id p ≡ true)
+      × MatchBool (is_role_conflict m) (LeavesRole p m (error_noted p.number m old) emitted new) (Drops (error_noted p.number m old) emitted new)

@@ -6,3 +6,4 @@ pub mod NominatedPairs
 pub mod ChangedPairs
 pub mod TriggeredPairs
 pub mod Reselection
+pub mod NotedErrors

@@ -40,6 +40,7 @@ use Rattle.is_theorems.proofs.RuleEffects.UnchangedSettings.{either}
 use Rattle.is_theorems.proofs.RuleEffects.NominatedPairs.{SelectsPath, selects_path}
 use Rattle.is_theorems.proofs.CallEffects.FailedCallsAndNewAgents.{mtu_kept, controlling_kept, local_kept, remote_kept, restart_kept, recreation_kept, enrolment_kept, storing_kept}
 use Rattle.is_theorems.specs.Settings.{SettingsRecord, all_settings_of, SettingsAreSet}
+use Rattle.is_theorems.proofs.RuleEffects.NotedErrors.{coded, recoded, by_failure}
 
 module _ {H P : Type 0} where
   abbrev Same : AgentRecord H P → AgentRecord H P → Type 0
@@ -71,13 +72,7 @@ module _ {H P : Type 0} where
   -- ---- responses
 
   failure : (old new : AgentRecord H P) (via : Path) (m : Message) (emitted : Emitted) → TakesFailure old via m emitted new → Same old new
-  failure old new via m emitted h = either (is_role_conflict m) h
-      (λ _ k. expired k)
-      (λ _ k. made-of old new k.1) where
-        expired : LeavesRole old via m emitted new → Same old new
-        expired (p, c, has, keeps, kept, is, acts) = either (same c.controlling old.controlling && not (keeps_role old)) acts
-            (λ _ k. made-of (switched old) new k.1)
-            (λ _ k. made-of old new k.1)
+  failure old new via m emitted h = by_failure (λ _ a. Same old a) old new via m emitted (λ code. refl) (λ code. refl) h
 
   success : (now : ℕ) (old new : AgentRecord H P) (via : Path) (m : Message) (emitted : Emitted) → TakesSuccess now old via m emitted new → Same old new
   success now old new via m emitted (recorded, (place, p, after, at, keeps, answered, made), (named, mid, nominates, emitted_is, done)) =

@@ -53,9 +53,10 @@ use Rattle.is_theorems.proofs.RuleEffects.SelectedPaths.{Returns, returns_none, 
 use Rattle.is_theorems.proofs.CallEffects.CallsThatEmitNothing.{Silent, is_calm, is_of_candidate}
 use Rattle.is_theorems.proofs.CallEffects.CallsThatEmitNothing as calls
 use Rattle.is_theorems.proofs.CallEffects.TimeoutsAndSuccesses.{CheckOut, maintains_pairs, only_pair, succeeds}
-use Rattle.is_theorems.proofs.CallEffects.ServedRequests.{Replied, ConflictSent, AcceptedNominations, serves_does, switches}
+use Rattle.is_theorems.proofs.CallEffects.ServedRequests.{Replied, ConflictSent, AcceptedNominations, serves_does, notes, notes_and_switches}
 use Rattle.is_theorems.proofs.CallEffects.ChangedCandidates.{local_goes, remote_goes, without_goes, reselects_goes, recreates_goes, restarts_goes, skips_goes, rtos_goes, polls_goes}
 use Rattle.is_rules.specs.Nominating.{numbers}
+use Rattle.is_theorems.proofs.RuleEffects.NotedErrors.{coded, recoded, by_failure}
 
 or_true : (a b : Bool) → (a || b) ≡ true → (a ≡ true) ⊎ (b ≡ true)
 or_true true b h = inl refl
@@ -316,13 +317,12 @@ module _ {H P : Type 0} (mac : H → List ℕ → List ℕ → List ℕ) (answer
         inl (now, via, m, c.controlling, peer.0, brought, is, (p, c, has, keeps, id_is, refl, refl), peer.1, peer.2, goes.1)
 
     failure_pairs : TakesFailure old via m emitted mid → PairEffect packet
-    failure_pairs h = either (is_role_conflict m) h
-        (λ _ k. gives k)
-        (λ _ k. drops_pairs old (resting packet fit) refl k) where
-          gives : LeavesRole old via m emitted mid → PairEffect packet
-          gives (p, c, has, on, keeps, id_is, k) = either (same c.controlling old.controlling && not (keeps_role old)) k
-              (λ _ z. drops_pairs (switched old) (switches (Asks packet) (Met packet) Sent old fit) refl z)
-              (λ _ z. drops_pairs old (resting packet fit) refl z)
+    failure_pairs h =
+        let k : (emitted ≡ nothing_emitted) × (mid.selected_pair ≡ old.selected_pair) × Moves packet mid =
+        by_failure (λ x a. (x ≡ nothing_emitted) × (a.selected_pair ≡ old.selected_pair) × Moves packet a) old mid via m emitted
+        (λ code. (refl, refl, notes (Asks packet) (Met packet) Sent code old fit))
+        (λ code. (refl, refl, notes_and_switches (Asks packet) (Met packet) Sent code old fit)) h in
+        drops_pairs mid k.2 k.1 (k.0, refl)
 
     quiet_success : TakesSuccess now old via m emitted mid → emitted.issued ≡ None
     quiet_success (recorded, records_it, (path, named, nominating, is, done)) = ap (λ (x : Emitted). x.issued) is

@@ -44,6 +44,7 @@ use Rattle.is_theorems.proofs.CallEffects.ReceivedAndOwed.{accepts, leaves_unacc
 use Rattle.is_theorems.proofs.PathSelection.NominationPoints.{takes_valid, points_top}
 use Rattle.is_rules.specs.Nominating.{numbers}
 use Rattle.is_rules.specs.Roles.{keeps_role}
+use Rattle.is_theorems.proofs.RuleEffects.NotedErrors.{coded, recoded, by_failure}
 
 module _ {H P : Type 0} (mac : H → List ℕ → List ℕ → List ℕ) (answers : P → CandidateRecord → ℕ → ℕ → Type 0) where
   -- ---- limits and bases
@@ -90,13 +91,8 @@ module _ {H P : Type 0} (mac : H → List ℕ → List ℕ → List ℕ) (answer
   drops_persist old new emitted h = rests old new (ap (λ (a : AgentRecord H P). rest_of a) h.1)
 
   failure_persists : (old new : AgentRecord H P) (via : Path) (m : Message) (emitted : Emitted) → TakesFailure old via m emitted new → Persists old new
-  failure_persists old new via m emitted h = either (is_role_conflict m) h
-      (λ _ k. gives k)
-      (λ _ k. drops_persist old new emitted k) where
-        gives : LeavesRole old via m emitted new → Persists old new
-        gives (p, c, has, on, keeps, id_is, k) = either (same c.controlling old.controlling && not (keeps_role old)) k
-            (λ _ z. rests old new (ap (λ (a : AgentRecord H P). rest_of a) z.1))
-            (λ _ z. drops_persist old new emitted z)
+  failure_persists old new via m emitted h =
+      by_failure (λ _ a. Persists old a) old new via m emitted (λ code. rests old (recoded code old) refl) (λ code. rests old (switched (recoded code old)) refl) h
 
   request_persists : (peer : Option IceCreds) (q : RequestRecord) (old new : AgentRecord H P) (emitted : Emitted)
       → MatchOption peer ((emitted ≡ nothing_emitted) × (new ≡ queued q old)) (λ peer. Serves mac q old emitted new) → Persists old new

@@ -47,6 +47,7 @@ use Rattle.rand_core.specs.Stream.{Stream}
 use Rattle.std.proofs.Common.{Bool, Err, List, None, Ok, Option, Some, [], ap, false, if◌then◌else◌, inl, inr, is_some, length, not, refl, subst, sym, true, ℕ, ◌&&◌, ◌++◌, ◌==◌, ◌∙◌, ◌∷◌, ◌≡◌, ◌⊎◌}
 use Rattle.std.specs.List.{list_any}
 use Rattle.std.specs.Prelude.{MatchBool, MatchOption}
+use Rattle.is_theorems.proofs.RuleEffects.NotedErrors.{coded, recoded, by_failure}
 
 abbrev pub is_other : IceAgentEvent → Bool
 is_other (NominatedSend proto source destination) = false
@@ -172,10 +173,7 @@ module _ {H P : Type 0} (In : Path → Type 0) where
       (evaluated_adds now mid))
 
   failure_adds : (old new : AgentRecord H P) (via : Path) (m : Message) (emitted : Emitted) → TakesFailure old via m emitted new → Adds old new
-  failure_adds old new via m emitted h = either (is_role_conflict m) h (λ _ k. gives k) (λ _ k. kept old new k.1) where
-    gives : LeavesRole old via m emitted new → Adds old new
-    gives (p, c, has, on, keeps, id_is, h) = either (role.same c.controlling old.controlling && not (keeps_role old)) h
-        (λ _ k. same old new (ap (λ (a : AgentRecord H P). a.events) k.1)) (λ _ k. kept old new k.1)
+  failure_adds old new via m emitted h = by_failure (λ _ a. Adds old a) old new via m emitted (λ code. same old (recoded code old) refl) (λ code. same old (switched (recoded code old)) refl) h
 
   forms_adds : (old new : AgentRecord H P) (all : List Combination) → FormsAll old all new → Adds old new
   forms_adds old new all (f, forms, made) = same old new (ap (λ (a : AgentRecord H P). a.events) made)

@@ -46,6 +46,7 @@ use Rattle.is_theorems.proofs.RuleEffects.SelectedPaths.{Evaluates, evaluates_no
 use Rattle.is_theorems.proofs.CallEffects.ChecksAndResponses.{numbered}
 use Rattle.is_theorems.proofs.BasicLemmas.CandidatesByIndex.{at-append, at-end, found-at, is-listed}
 use Rattle.is_theorems.proofs.BasicLemmas.ServedPairs.{numbered-by, uses-taken}
+use Rattle.is_theorems.proofs.RuleEffects.NotedErrors.{coded, recoded}
 
 pub is_at_places : (l r : ℕ) (p : PairRecord) → is_between l r p ≡ true → (p.local ≡ l) × (p.remote ≡ r)
 is_at_places l r p is = let k = both _ _ is in (eqb-true p.local l k.0, eqb-true p.remote r k.1)
@@ -392,6 +393,29 @@ module _ (asks : Path → ℕ → Type 0) (met : Path → Type 0) (sent : Path �
       started = λ t. t;
       consented = λ _ had. had;
     })
+
+    -- a pair keeps the code of an error response
+    pub notes : (code : PairRecord → Option ℕ) (s : AgentRecord H P) → Fit (parts_of asks met sent s) → Onward asks met sent (parts_of asks met sent s) (parts_of asks met sent (recoded code s))
+    notes code s fit = mapped asks met sent (parts_of asks met sent s) (coded code) fit (λ p has. record {
+      number = refl;
+      local = refl;
+      remote = refl;
+      checks = λ c keeps. inl (c, keeps, refl, refl);
+      valid = λ is. inl is;
+      asked = λ is. inl is;
+      numbered = λ m le. inl le;
+      still_valid = λ is. is;
+      still_nominated = λ is. is;
+      started = λ t. t;
+      consented = λ _ had. had;
+    })
+
+    -- and the role switches then
+    pub notes_and_switches : (code : PairRecord → Option ℕ) (s : AgentRecord H P) → Fit (parts_of asks met sent s)
+        → Onward asks met sent (parts_of asks met sent s) (parts_of asks met sent (switched (recoded code s)))
+    notes_and_switches code s fit =
+        let first = notes code s fit in
+        onward asks met sent (parts_of asks met sent s) (parts_of asks met sent (recoded code s)) (parts_of asks met sent (switched (recoded code s))) first (switches (recoded code s) first.fit)
 
     module _ (mac : H → List ℕ → List ℕ → List ℕ) (q : RequestRecord) where
       abbrev pub reply_bytes : AgentRecord H P → List ℕ

@@ -36,7 +36,7 @@ use Rattle.is_rules.specs.Settling.{loses_selected, Reselects}
 use Rattle.is_rules.specs.Restarting.{Restarts, Recreates, restarted, emptied}
 use Rattle.is_rules.specs.Serving.{Drops, Serves}
 use Rattle.is_rules.specs.Queue.{queue_left, next_request, first_taken, request_at, queued, is_outdated}
-use Rattle.is_rules.specs.Answers.{TakesFailure, LeavesRole, is_role_conflict}
+use Rattle.is_rules.specs.Answers.{error_noted, TakesFailure, LeavesRole, is_role_conflict}
 use Rattle.is_rules.specs.Accepting.{Takes, discovered_emitted}
 use Rattle.is_rules.specs.Checking.{all_asked, MayCheck, ChecksTop, check_message}
 use Rattle.is_rules.specs.Timeouts.{at_request, timeout_begun, at_timeout, MaintainsPairs, ServesQueued, TimesOut}
@@ -421,12 +421,15 @@ module _ {H P : Type 0} where
 
       -- an error response: a 487 to a check of the present role switches it
       failed : m.class ≡ class.Failure → TakesFailure old path m emitted mid → FrameEffect old call entry new
-      failed is h = either (is_role_conflict m) h
+      failed is (p, has, on, h) = either (is_role_conflict m) h
           (λ conflict k. gives k conflict)
-          (λ other k. still class.Failure is (but_queue (drops old mid emitted k)) (inl (ap (λ (f : Frame H). f.queue) (drops old mid emitted k).0)) (no_request class.Failure is (λ x. cc))
+          (λ other k. still class.Failure is (but_queue (drops noted mid emitted k)) (inl (ap (λ (f : Frame H). f.queue) (drops noted mid emitted k).0)) (no_request class.Failure is (λ x. cc))
           (λ _ conflict. (let no : false ≡ true = sym other ∙ conflict in cc))) where
-            gives : LeavesRole old path m emitted mid → is_role_conflict m ≡ true → FrameEffect old call entry new
-            gives (p, c, has, on, keeps, id_is, h) conflict = by_rule (keeps_role old) refl h where
+            abbrev noted : AgentRecord H P
+            noted = error_noted p.number m old
+
+            gives : LeavesRole p m noted emitted mid → is_role_conflict m ≡ true → FrameEffect old call entry new
+            gives (c, keeps, id_is, h) conflict = by_rule (keeps_role old) refl h where
               no_serving : (r : RequestRecord) → IsServing old call entry r → IsServedPastTests old r → mid.controlling ≡ role_once (conflict_of old r) old.controlling
               no_serving r serving past =
                   let same_is = same_message serving.0 serving.1 serving.2 serving.3 in
@@ -469,15 +472,15 @@ module _ {H P : Type 0} where
               }
 
               -- a lite agent that keeps its role drops it
-              by_rule : (b : Bool) → keeps_role old ≡ b → MatchBool (same c.controlling old.controlling && not b) (Drops (switched old) emitted mid) (Drops old emitted mid) → FrameEffect old call entry new
-              by_rule true kept k = left_role kept (drops old mid emitted (subst (λ x. MatchBool x (Drops (switched old) emitted mid) (Drops old emitted mid)) (and-false (same c.controlling old.controlling)) k))
-              by_rule false unkept k = either (same c.controlling old.controlling) (subst (λ x. MatchBool x (Drops (switched old) emitted mid) (Drops old emitted mid)) (and-true (same c.controlling old.controlling)) k)
+              by_rule : (b : Bool) → keeps_role old ≡ b → MatchBool (same c.controlling old.controlling && not b) (Drops (switched noted) emitted mid) (Drops noted emitted mid) → FrameEffect old call entry new
+              by_rule true kept k = left_role kept (drops noted mid emitted (subst (λ x. MatchBool x (Drops (switched noted) emitted mid) (Drops noted emitted mid)) (and-false (same c.controlling old.controlling)) k))
+              by_rule false unkept k = either (same c.controlling old.controlling) (subst (λ x. MatchBool x (Drops (switched noted) emitted mid) (Drops noted emitted mid)) (and-true (same c.controlling old.controlling)) k)
                   (λ now_is j. (
-                  let f = drops (switched old) mid emitted j in
+                  let f = drops (switched noted) mid emitted j in
                   let role : mid.controlling ≡ not c.controlling = ap (λ (f : Frame H). f.controlling) f.0 ∙ ap not (sym (same_true c.controlling old.controlling now_is)) in
                   effect unkept (ap (λ (x : Frame H). record x { controlling = not old.controlling }) f.0, f.1) role))
                   (λ other j. (
-                  let f = drops old mid emitted j in
+                  let f = drops noted mid emitted j in
                   let role : mid.controlling ≡ not c.controlling = ap (λ (f : Frame H). f.controlling) f.0 ∙ same_false c.controlling old.controlling other in
                   effect unkept (ap (λ (x : Frame H). record x { controlling = not old.controlling }) f.0, f.1) role))
 

@@ -51,6 +51,7 @@ use Rattle.is_theorems.proofs.RuleEffects.TriggeredPairs.{by_trigger, triggered_
 use Rattle.is_theorems.proofs.RuleEffects.UnchangedSettings.{either}
 use Rattle.is_theorems.proofs.BasicLemmas.PairsInTurn.{by-begins, sent-pairs, sent_at}
 use Rattle.is_theorems.proofs.BasicLemmas.ServedPairs.{numbered-by}
+use Rattle.is_theorems.proofs.RuleEffects.NotedErrors.{coded, recoded, by_failure}
 
 -- ---- one pair
 
@@ -232,10 +233,10 @@ module _ {H P : Type 0} where
   switched-firm a f = (f.0, answered-map (with_priority_in (switched_sides a)) a.pairs (λ p h. h) f.1)
 
   failure-firm : (old new : AgentRecord H P) (via : Path) (m : Message) (emitted : Emitted) → TakesFailure old via m emitted new → Keeps old new
-  failure-firm old new via m emitted h f = either (is_role_conflict m) h (λ _ k. gives k) (λ _ k. made-firm old new k.1 f) where
-    gives : LeavesRole old via m emitted new → IsFirm new
-    gives (p, c, has, on_it, keeps, id_is, h) = either (role.same c.controlling old.controlling && not (keeps_role old)) h
-        (λ _ k. made-firm (switched old) new k.1 (switched-firm old f)) (λ _ k. made-firm old new k.1 f)
+  failure-firm old new via m emitted h f =
+      by_failure (λ _ a. IsFirm a) old new via m emitted notes (λ code. switched-firm (recoded code old) (notes code)) h where
+        notes : (code : PairRecord → Option ℕ) → IsFirm (recoded code old)
+        notes code = (f.0, answered-map (coded code) old.pairs (λ p k. k) f.1)
 
   -- ---- requests
 

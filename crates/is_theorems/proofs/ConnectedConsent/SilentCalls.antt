@@ -46,6 +46,7 @@ use Rattle.is_theorems.proofs.PathSelection.NominationPoints.{All1, All3, AllNum
 use Rattle.is_theorems.proofs.RuleEffects.ChangedPairs.{Has-map}
 use Rattle.is_theorems.proofs.RuleEffects.EarlierAndNewPairs.{Fit, Has-filter}
 use Rattle.is_theorems.proofs.RuleEffects.UnchangedSettings.{either}
+use Rattle.is_theorems.proofs.RuleEffects.NotedErrors.{coded, recoded, by_failure}
 
 -- no response and no request arrives on the path in this call
 pub record IsSilent {P : Type 0} (strict : Bool) (path : Path) (call : Call P) (e : Entry) : Type 0 where
@@ -118,11 +119,11 @@ module _ {H P : Type 0} (mac : H → List ℕ → List ℕ → List ℕ) (answer
       ]
 
   failure : (old new : AgentRecord H P) (via : Path) (m : Message) (emitted : Emitted) → TakesFailure old via m emitted new → Over old → Over new
-  failure old new via m emitted h o = either (is_role_conflict m) h (λ _ k. gives k) (λ _ k. made-of old new k.1 o) where
-    gives : LeavesRole old via m emitted new → Over new
-    gives (p, c, has, on_it, keeps, id_is, h) = either (role.same c.controlling old.controlling && not (keeps_role old)) h
-        (λ _ k. subst (λ (a : AgentRecord H P). Over a) (sym k.1) (same-over (with_priority_in (switched_sides old)) old (λ p. (refl, refl, refl, refl)) o))
-        (λ _ k. made-of old new k.1 o)
+  failure old new via m emitted h o =
+      by_failure (λ _ a. Over a) old new via m emitted notes
+      (λ code. same-over (with_priority_in (switched_sides old)) (recoded code old) (λ p. (refl, refl, refl, refl)) (notes code)) h where
+        notes : (code : PairRecord → Option ℕ) → Over (recoded code old)
+        notes code = same-over (coded code) old (λ p. (refl, refl, refl, refl)) o
 
   -- what an accepted message does
   module _ (now : ℕ) (via : Path) (bytes : List ℕ) (m : Message) (e : Entry) (silent : IsSilent {P = P} strict path (ReceivePacket now via bytes) e)

@@ -52,6 +52,7 @@ use Rattle.is_pair.proofs.DueTimes.CountOfDuePairs.{no-more, not-by}
 use Rattle.is_theorems.specs.Progress.{Arrival, IsSuccess}
 use Rattle.is_theorems.proofs.DuePairs.AfterNominationAndRemoval.{Distinct, last_time_of}
 use Rattle.is_theorems.proofs.DuePairs.FirstDuePair.{Matches, le-from, le-is, matches-on, follows-map}
+use Rattle.is_theorems.proofs.RuleEffects.NotedErrors.{coded, recoded, by_failure}
 
 -- ---- due times
 
@@ -110,6 +111,17 @@ due-same by at t p = record {
   before = λ m le. inl le;
   stays = λ m le now. le;
 }
+
+-- an error response leaves when it is due
+coded-alike : (by at : ℕ) (t : StunTiming) (code : PairRecord → Option ℕ) (p : PairRecord) → DueAlike by at t p (coded code p)
+coded-alike by at t code p = record {
+  matches = record { number = refl; local = refl; remote = refl; valid = refl };
+  checks = refl;
+  before = λ m le. inl (subst (λ k. k ≤ by) (same_due m) le);
+  stays = λ m le now. subst (λ k. k ≤ by) (sym (same_due m)) le;
+} where
+  same_due : (m : ℕ) → due_time_of m t (coded code p) ≡ due_time_of m t p
+  same_due m = ap (λ k. unwrap_or p.due (min k (later m t.max_rto.0))) (computed-same p.nomination m t p (coded code p) (record { checks = refl; sent = refl; first = refl; again = refl; answers = refl; nomination = refl }))
 
 -- computed at the same time
 due-before : (by at : ℕ) (t : StunTiming) (p q : PairRecord) → DueAlike by at t p q → due_time_of at t q ≤ by → due_time_of at t p ≤ by
@@ -420,13 +432,13 @@ module _ {H P : Type 0} where
           (λ _ k. here (local_place s.local q) s new emitted role full none stays k)
 
     failed : (s new : AgentRecord H P) (path : Path) (m : Message) (emitted : Emitted) → s.controlling ≡ true → new.controlling ≡ true → TakesFailure s path m emitted new → Arrived s new
-    failed s new path m emitted role stays h = either (is_role_conflict m) h
-        (λ _ k. expired k)
-        (λ _ k. arrived-same s new k.1) where
-          expired : LeavesRole s path m emitted new → Arrived s new
-          expired (p, c, has, keeps, kept, is, acts) = either (same c.controlling s.controlling && not (keeps_role s)) acts
-              (λ _ k. (let no : true ≡ false = sym stays ∙ (ap (λ (a : AgentRecord H P). a.controlling) k.1 ∙ ap not role) in absurd (cc)))
-              (λ _ k. arrived-same s new k.1)
+    failed s new path m emitted role stays h = by_failure (λ _ a. a.controlling ≡ true → Arrived s a) s new path m emitted
+        (λ code _. arrived s (recoded code s) (
+          refl,
+          refl,
+          spares-map by (last_time_of s) at s.timing s.next_number (coded code) s.pairs (λ p. (coded-alike by at s.timing code p).matches) (λ _ p. coded-alike by at s.timing code p),
+        ))
+        (λ code turned. (let no : true ≡ false = sym turned ∙ ap not role in absurd (cc))) h stays
 
     by-class : (c : Class) (now : ℕ) (old mid : AgentRecord H P) (path : Path) (m : Message) (emitted : Emitted) → is_some old.remote_creds ≡ true → old.controlling ≡ true → old.lite ≡ false
         → NoneValid old.pairs → mid.controlling ≡ true → Takes mac c now old path m emitted mid → (c ≡ class.Success) ⊎ Arrived old mid

@@ -55,6 +55,7 @@ use Rattle.is_theorems.proofs.RuleEffects.ChangedPairs.{Has-map, parts_of}
 use Rattle.is_theorems.proofs.RuleEffects.EarlierAndNewPairs.{Has-filter, Has-push, Onward}
 use Rattle.is_theorems.proofs.RuleEffects.NominatedPairs.{SelectsPath, selects_path}
 use Rattle.is_theorems.proofs.RuleEffects.UnchangedSettings.{either}
+use Rattle.is_theorems.proofs.RuleEffects.NotedErrors.{coded, recoded, by_failure}
 
 no-case : {A : Type 0} → false ≡ true → A
 no-case h = absurd (cc)
@@ -261,13 +262,7 @@ module _ {H P : Type 0} where
     -- ---- packets
 
     failure : (old new : AgentRecord H P) (via : Path) (m : Message) (emitted : Emitted) → TakesFailure old via m emitted new → Calmer old new
-    failure old new via m emitted h = either (is_role_conflict m) h
-        (λ _ k. expired k)
-        (λ _ k. calmer-same old new k.1) where
-          expired : LeavesRole old via m emitted new → Calmer old new
-          expired (p, c, has, keeps, kept, is, acts) = either (same c.controlling old.controlling && not (keeps_role old)) acts
-              (λ _ k. calmer-as old _ new (λ is. is, λ is. is, refl) k.1)
-              (λ _ k. calmer-same old new k.1)
+    failure old new via m emitted h = by_failure (λ _ a. Calmer old a) old new via m emitted (λ code. (λ is. is, λ is. is, refl)) (λ code. (λ is. is, λ is. is, refl)) h
 
     by-class : (c : Class) (now : ℕ) (old mid : AgentRecord H P) (via : Path) (m : Message) (emitted : Emitted) → NoneValid old.pairs → Takes mac c now old via m emitted mid
         → (c ≡ class.Success) ⊎ Calmer old mid

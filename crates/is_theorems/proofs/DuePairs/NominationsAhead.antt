@@ -49,6 +49,7 @@ use Rattle.is_theorems.proofs.DuePairs.FirstDuePair.{next-check}
 use Rattle.is_theorems.proofs.ExecutionLogs.LogSegments.{no-case}
 use Rattle.is_theorems.proofs.RuleEffects.NominatedPairs.{SelectsPath, selects_path}
 use Rattle.is_theorems.proofs.RuleEffects.UnchangedSettings.{either}
+use Rattle.is_theorems.proofs.RuleEffects.NotedErrors.{coded, recoded, by_failure}
 
 -- ---- which paths a call selects
 
@@ -156,13 +157,8 @@ module _ {H P : Type 0} where
       )
 
   failure : (old new : AgentRecord H P) (via : Path) (m : Message) (emitted : Emitted) → TakesFailure old via m emitted new → Dues (selected emitted) old new
-  failure old new via m emitted h = either (is_role_conflict m) h
-      (λ _ k. expired k)
-      (λ _ k. dues-same (selected emitted) old new k.1) where
-        expired : LeavesRole old via m emitted new → Dues (selected emitted) old new
-        expired (p, c, has, keeps, kept, is, acts) = either (same c.controlling old.controlling && not (keeps_role old)) acts
-            (λ _ k. dues-as (selected emitted) old _ new (λ is. is, λ is. inl is) k.1)
-            (λ _ k. dues-same (selected emitted) old new k.1)
+  failure old new via m emitted h =
+      by_failure (λ _ a. Dues (selected emitted) old a) old new via m emitted (λ code. (λ is. is, λ is. inl is)) (λ code. (λ is. is, λ is. inl is)) h
 
   module _ (mac : H → List ℕ → List ℕ → List ℕ) where
     -- ---- requests

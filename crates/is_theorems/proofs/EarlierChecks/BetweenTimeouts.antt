@@ -40,6 +40,7 @@ use Rattle.is_theorems.proofs.DuePairs.AfterNominationAndRemoval.{last_time_of}
 use Rattle.is_theorems.proofs.EarlierChecks.ChecksOfOtherPairs.{lead, own-le, lead-answered}
 use Rattle.is_theorems.proofs.EarlierChecks.ChangedPairs.{MovedUp, moved-mild, triggered-mild, at-moved, self-mild, served-mild, at-mild, Onward, onward-same, onward-on, onward-each, onward-adds, onward-set}
 use Rattle.is_theorems.proofs.RuleEffects.NominatedPairs.{SelectsPath, selects_path}
+use Rattle.is_theorems.proofs.RuleEffects.NotedErrors.{coded, recoded, by_failure}
 
 -- what stays of the agent, in either role
 pub record Ground : Type 0 where
@@ -113,13 +114,15 @@ module _ {H P : Type 0} where
     )
 
     failure : (old new : AgentRecord H P) (via : Path) (m : Message) (emitted : Emitted) → TakesFailure old via m emitted new → Goes old new
-    failure old new via m emitted h = either (is_role_conflict m) h
-        (λ _ k. expired k)
-        (λ _ k. goes-same old new k.1) where
-          expired : LeavesRole old via m emitted new → Goes old new
-          expired (p, c, has, keeps, kept, is, acts) = either (same c.controlling old.controlling && not (keeps_role old)) acts
-              (λ _ k. goes-to old (switched old) new (switches old) k.1)
-              (λ _ k. goes-same old new k.1)
+    failure old new via m emitted h =
+        by_failure (λ _ a. Goes old a) old new via m emitted notes
+        (λ code. goes-on old (recoded code old) (switched (recoded code old)) (notes code) (switches (recoded code old))) h where
+          notes : (code : PairRecord → Option ℕ) → Goes old (recoded code old)
+          notes code = (
+            refl,
+            onward-each n by (last_time_of old) (coded code) old.pairs old.next_number
+                (λ p. moved-mild by (last_time_of old) p (coded code p) (record { number = refl; due = refl; kept = refl; nomination = inl refl })),
+          )
 
     -- ---- responses
 

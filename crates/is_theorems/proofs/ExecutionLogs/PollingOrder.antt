@@ -50,6 +50,7 @@ use Rattle.is_theorems.proofs.RuleEffects.UnchangedSettings.{either}
 use Rattle.is_theorems.proofs.CallEffects.FailedCallsAndNewAgents.{mtu_kept, controlling_kept, local_kept, remote_kept, restart_kept, recreation_kept, enrolment_kept, storing_kept}
 use Rattle.is_theorems.proofs.CallEffects.SettingsRoleAndQueues.{FrameEffect, framed}
 use Rattle.is_theorems.proofs.CallEffects.AddedCandidates.{by_adding_local, by_adding_remote, by_waking}
+use Rattle.is_theorems.proofs.RuleEffects.NotedErrors.{coded, recoded, by_failure}
 
 -- ---- lists
 
@@ -163,10 +164,10 @@ module _ {H P : Type 0} where
       both old mid new (both old recorded mid a b) c
 
   failure_grows : (old new : AgentRecord H P) (via : Path) (m : Message) (emitted : Emitted) → TakesFailure old via m emitted new → Grows old new
-  failure_grows old new via m emitted h = either (is_role_conflict m) h (λ _ k. gives k) (λ _ k. drops_grows old new emitted k) where
-    gives : LeavesRole old via m emitted new → Grows old new
-    gives (p, c, has, on, keeps, id_is, h) = either (same c.controlling old.controlling && not (keeps_role old)) h
-        (λ _ k. drops_grows (switched old) new emitted k) (λ _ k. drops_grows old new emitted k)
+  failure_grows old new via m emitted h =
+      by_failure (λ _ a. Grows old a) old new via m emitted
+      (λ code. drops_grows (recoded code old) (recoded code old) nothing_emitted (refl, refl))
+      (λ code. drops_grows (switched (recoded code old)) (switched (recoded code old)) nothing_emitted (refl, refl)) h
 
   taken_grows : (mac : H → List ℕ → List ℕ → List ℕ) (c : Class) (now : ℕ) (old new : AgentRecord H P) (via : Path) (m : Message) (emitted : Emitted)
       → Takes mac c now old via m emitted new → Grows old new

@@ -53,6 +53,7 @@ use Rattle.is_rules.proofs.PairLists.RisingNumbers.{rising-each}
 use Rattle.is_theorems.proofs.RemainingChecks.RemainingOfPairs.{unspent, unspent-alike, unspent-answered, unspent-checked, all-spent, unspents, unspents-map, unspents-push, unspents-filter, unspents-set, unspents-change}
 use Rattle.is_theorems.proofs.BasicLemmas.PairsInTurn.{by-begins, sent-pairs, sent_at}
 use Rattle.is_theorems.proofs.BasicLemmas.ServedPairs.{numbered-by}
+use Rattle.is_theorems.proofs.RuleEffects.NotedErrors.{coded, recoded, by_failure}
 
 -- what stays of the agent
 pub record Held : Type 0 where
@@ -151,11 +152,11 @@ module _ {H P : Type 0} where
     )
 
     failure : (old new : AgentRecord H P) (via : Path) (message : Message) (emitted : Emitted) → TakesFailure old via message emitted new → Spends 0 old new
-    failure old new via message emitted h = either (is_role_conflict message) h (λ _ k. expired k) (λ _ k. spends-none old new k.1) where
-      expired : LeavesRole old via message emitted new → Spends 0 old new
-      expired (p, c, has, keeps, kept, is, acts) = either (same c.controlling old.controlling && not (keeps_role old)) acts
-          (λ _ k. spends-to 0 old (switched old) new (switches old) k.1)
-          (λ _ k. spends-none old new k.1)
+    failure old new via message emitted h =
+        by_failure (λ _ a. Spends 0 old a) old new via message emitted notes
+        (λ code. spends-on 0 0 old (recoded code old) (switched (recoded code old)) (notes code) (switches (recoded code old))) h where
+          notes : (code : PairRecord → Option ℕ) → Spends 0 old (recoded code old)
+          notes code = (refl, omega arith, each m (coded code) old.pairs (old.next_number * m) (λ p. refl))
 
     -- ---- responses
 

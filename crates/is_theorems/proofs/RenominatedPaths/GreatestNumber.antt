@@ -72,6 +72,7 @@ use Rattle.is_theorems.proofs.RenominatedPaths.OnePathAtBothAgents.{followed-sel
 use Rattle.is_theorems.proofs.RuleEffects.ChangedPairs.{eligible_valid, one_changed, parts_of}
 use Rattle.is_theorems.proofs.RuleEffects.EarlierAndNewPairs.{numbered_before, path_in, pushed}
 use Rattle.is_theorems.proofs.RuleEffects.UnchangedSettings.{either}
+use Rattle.is_theorems.proofs.RuleEffects.NotedErrors.{coded, recoded, by_failure}
 
 -- a number equals itself
 differ : (x y : ℕ) → (x == y) ≡ false → x ≡ y → ⊥
@@ -208,11 +209,7 @@ module _ {H P : Type 0} where
     request-settles (Some peer) q mid emitted h = serves-settles mac q old mid emitted (within q) fit h
 
     failed-settles : (mid : AgentRecord H P) (via : Path) (m : Message) (emitted : Emitted) → TakesFailure old via m emitted mid → Settles old emitted mid
-    failed-settles mid via m emitted h = either (is_role_conflict m) h (λ _ k. leaves k) (λ _ k. settles-same old mid emitted k.0 k.1) where
-      leaves : LeavesRole old via m emitted mid → Settles old emitted mid
-      leaves (p, c, has, on, keeps, id_is, k) = either (same c.controlling old.controlling && not (keeps_role old)) k
-          (λ _ z. inl (ap (λ (a : AgentRecord H P). a.selected_pair) z.1, ap (λ (x : Emitted). last_of x.selected_paths) z.0))
-          (λ _ z. settles-same old mid emitted z.0 z.1)
+    failed-settles mid via m emitted h = by_failure (λ e a. Settles old e a) old mid via m emitted (λ code. inl (refl, refl)) (λ code. inl (refl, refl)) h
 
     taken-settles : (c : Class) (now : ℕ) (mid : AgentRecord H P) (via : Path) (m : Message) (emitted : Emitted) → Takes mac c now old via m emitted mid → Settles old emitted mid
     taken-settles class.Request now mid via m emitted h = request-settles old.remote_creds (request_in now via m) mid emitted h

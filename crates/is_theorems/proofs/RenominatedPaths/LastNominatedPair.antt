@@ -53,6 +53,7 @@ use Rattle.is_theorems.proofs.BasicLemmas.VacantIndices.{known-in, vacant-at, pu
 use Rattle.is_theorems.proofs.BasicLemmas.CandidatesByIndex.{at-end}
 use Rattle.is_theorems.proofs.RuleEffects.TriggeredPairs.{triggered_by, by_trigger}
 use Rattle.is_theorems.proofs.BasicLemmas.ServedPairs.{numbered-by}
+use Rattle.is_theorems.proofs.RuleEffects.NotedErrors.{coded, recoded, by_failure}
 
 -- a request leaves the number and the indices of its pair
 pub record SamePlace (p q : PairRecord) : Type 0 where
@@ -132,11 +133,7 @@ module _ {H P : Type 0} where
       ap (λ (a : AgentRecord H P). a.last_nominated) concluded ∙ nominates-last recorded named path nominating ∙ ap (λ (a : AgentRecord H P). a.last_nominated) made
 
   failure-last : (old new : AgentRecord H P) (via : Path) (m : Message) (emitted : Emitted) → TakesFailure old via m emitted new → new.last_nominated ≡ old.last_nominated
-  failure-last old new via m emitted h = either (is_role_conflict m) h (λ _ k. gives k) (λ _ k. ap (λ (a : AgentRecord H P). a.last_nominated) k.1) where
-    gives : LeavesRole old via m emitted new → new.last_nominated ≡ old.last_nominated
-    gives (p, c, has, on, keeps, id_is, k) = either (same c.controlling old.controlling && not (keeps_role old)) k
-        (λ _ z. ap (λ (a : AgentRecord H P). a.last_nominated) z.1)
-        (λ _ z. ap (λ (a : AgentRecord H P). a.last_nominated) z.1)
+  failure-last old new via m emitted h = by_failure (λ _ a. a.last_nominated ≡ old.last_nominated) old new via m emitted (λ code. refl) (λ code. refl) h
 
   -- ---- serving
 
@@ -330,9 +327,7 @@ module _ {H P : Type 0} where
           (serves mac (request_in now via m) old mid emitted sound.based h)
 
       failure-silent : TakesFailure old via m emitted mid → emitted.issued ≡ None
-      failure-silent h = either (is_role_conflict m) h (λ _ k. gives k) (λ _ k. ap (λ (y : Emitted). y.issued) k.0) where
-        gives : LeavesRole old via m emitted mid → emitted.issued ≡ None
-        gives (p, c, has, on, keeps, id_is, k) = either (same c.controlling old.controlling && not (keeps_role old)) k (λ _ z. ap (λ (y : Emitted). y.issued) z.0) (λ _ z. ap (λ (y : Emitted). y.issued) z.0)
+      failure-silent h = by_failure (λ e _. e.issued ≡ None) old mid via m emitted (λ code. refl) (λ code. refl) h
 
       success-silent : TakesSuccess now old via m emitted mid → emitted.issued ≡ None
       success-silent (recorded, records_it, (path, named, nominating, is, concluded)) = ap (λ (y : Emitted). y.issued) is

@@ -42,6 +42,7 @@ use Rattle.is_theorems.proofs.SettledStates.AfterRequests.{requested, serves, sw
 use Rattle.is_theorems.proofs.SettledStates.LivePairs.{map-back, no-live}
 use Rattle.is_theorems.proofs.SettledStates.Outcomes.{after-preparing, at-rest, HasRules, MayGoOn, new-ruled, new-unsettled, nothing-done, Outcome, Settles, settles-begun}
 use Rattle.is_theorems.proofs.SettledStates.SelectedPairs.{begun-evaluated, begun-next, evaluated-connects, map-selected, nominates-selects, nominates-state, Selects}
+use Rattle.is_theorems.proofs.RuleEffects.NotedErrors.{coded, recoded, by_failure}
 
 module _ {H P : Type 0} where
   -- ---- responses
@@ -60,11 +61,17 @@ module _ {H P : Type 0} where
   module _ (mac : H → List ℕ → List ℕ → List ℕ) where
     failure : (q : RequestRecord) (old new : AgentRecord H P) (via : Path) (m : Message) (emitted : Emitted) → TakesFailure old via m emitted new
         → Outcome old emitted new
-    failure q old new via m emitted h = either (is_role_conflict m) h (λ _ k. gives k) (λ _ k. nothing-done old old new emitted (at-rest old) k.0 k.1) where
-      gives : LeavesRole old via m emitted new → Outcome old emitted new
-      gives (p, c, has, on_it, keeps, id_is, h) = either (role.same c.controlling old.controlling && not (keeps_role old)) h
-          (λ _ k. nothing-done old (switched old) new emitted (switches mac q old) k.0 k.1)
-          (λ _ k. nothing-done old old new emitted (at-rest old) k.0 k.1)
+    failure q old new via m emitted h = by_failure (λ e a. Outcome old e a) old new via m emitted
+        (λ code. nothing-done old (recoded code old) (recoded code old) nothing_emitted (notes code) refl refl)
+        (λ code. after-preparing old (recoded code old) (switched (recoded code old)) nothing_emitted (notes code)
+        (nothing-done (recoded code old) (switched (recoded code old)) (switched (recoded code old)) nothing_emitted (switches mac q (recoded code old)) refl refl)) h where
+          notes : (code : PairRecord → Option ℕ) → Prepares old (recoded code old)
+          notes code = record {
+            state = refl;
+            rules = refl;
+            back = λ live. map-back (coded code) old.pairs (λ p _ is. is) live;
+            keeps = λ was. map-selected old.selected_pair (coded code) old.pairs (λ p. refl) was;
+          }
 
     by-class : (c : Class) (now : ℕ) (old mid : AgentRecord H P) (via : Path) (m : Message) (emitted : Emitted) → old.lite ≡ false
         → Takes mac c now old via m emitted mid → Outcome old emitted mid

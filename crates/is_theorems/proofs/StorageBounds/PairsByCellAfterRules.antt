@@ -57,6 +57,7 @@ use Rattle.is_theorems.proofs.RuleEffects.TriggeredPairs.{triggered_by, by_trigg
 use Rattle.is_theorems.proofs.BasicLemmas.PairsInTurn.{sent-pairs, sent_at}
 use Rattle.is_stun.specs.declared.timing.StunTiming.{StunTiming}
 use Rattle.is_theorems.proofs.BasicLemmas.ServedPairs.{numbered-by}
+use Rattle.is_theorems.proofs.RuleEffects.NotedErrors.{coded, recoded, by_failure}
 
 -- the local candidate at the index was not brought by a response
 abbrev pub own_at : List CandidateRecord → ℕ → Bool
@@ -259,10 +260,11 @@ module _ {H P : Type 0} where
   switched_fewer a = alike a (switched a) (recast a (switched a).pairs (cells-map (with_priority_in (switched_sides a)) (λ p. refl) a.pairs))
 
   failure_fewer : (old new : AgentRecord H P) (via : Path) (m : Message) (emitted : Emitted) → TakesFailure old via m emitted new → Fewer old new
-  failure_fewer old new via m emitted h = either (is_role_conflict m) h (λ _ k. gives k) (λ _ k. unchanged old new k.1) where
-    gives : LeavesRole old via m emitted new → Fewer old new
-    gives (p, c, has, on_it, keeps, id_is, h) = either (role.same c.controlling old.controlling && not (keeps_role old)) h
-        (λ _ k. made-as old (switched old) new k.1 (switched_fewer old)) (λ _ k. unchanged old new k.1)
+  failure_fewer old new via m emitted h =
+      by_failure (λ _ a. Fewer old a) old new via m emitted notes
+      (λ code. on old (recoded code old) (switched (recoded code old)) (notes code) (switched_fewer (recoded code old))) h where
+        notes : (code : PairRecord → Option ℕ) → Fewer old (recoded code old)
+        notes code = alike old (recoded code old) (recast old (recoded code old).pairs (cells-map (coded code) (λ p. refl) old.pairs))
 
   -- ---- forming
 

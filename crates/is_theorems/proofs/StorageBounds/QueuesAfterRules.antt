@@ -38,6 +38,7 @@ use Rattle.is_rules.specs.Timeouts.{RemovesExpired, MaintainsPairs, at_timeout, 
 use Rattle.is_theorems.proofs.RuleEffects.Reselection.{by-reselecting}
 use Rattle.is_theorems.proofs.RuleEffects.UnchangedSettings.{either}
 use Rattle.is_theorems.specs.Waiting.{is_discovery, discovery_count, other_count}
+use Rattle.is_theorems.proofs.RuleEffects.NotedErrors.{coded, recoded, by_failure}
 
 -- ---- queues
 
@@ -197,10 +198,7 @@ module _ {H P : Type 0} where
       (evaluated_adds now mid))
 
   pub failure_adds : (old new : AgentRecord H P) (via : Path) (m : Message) (emitted : Emitted) → TakesFailure old via m emitted new → Adds 0 0 old new
-  failure_adds old new via m emitted h = either (is_role_conflict m) h (λ _ k. gives k) (λ _ k. kept old new k.1) where
-    gives : LeavesRole old via m emitted new → Adds 0 0 old new
-    gives (p, c, has, on, keeps, id_is, h) = either (role.same c.controlling old.controlling && not (keeps_role old)) h
-        (λ _ k. same old new (ap (λ (a : AgentRecord H P). lines_of a) k.1)) (λ _ k. kept old new k.1)
+  failure_adds old new via m emitted h = by_failure (λ _ a. Adds 0 0 old a) old new via m emitted (λ code. same old (recoded code old) refl) (λ code. same old (switched (recoded code old)) refl) h
 
   pub forms_adds : (old new : AgentRecord H P) (all : List Combination) → FormsAll old all new → Adds 0 0 old new
   forms_adds old new all (f, forms, made) = same old new (ap (λ (a : AgentRecord H P). lines_of a) made)

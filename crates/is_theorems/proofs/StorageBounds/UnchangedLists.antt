@@ -20,6 +20,7 @@ use Rattle.is_theorems.proofs.RuleEffects.Reselection.{by-reselecting}
 use Rattle.is_theorems.proofs.RuleEffects.UnchangedSettings.{either}
 use Rattle.is_theorems.proofs.StorageBounds.BoundedLists.{Lists}
 use Rattle.is_rules.specs.Roles.{keeps_role}
+use Rattle.is_theorems.proofs.RuleEffects.NotedErrors.{coded, recoded, by_failure}
 
 module _ {H P : Type 0} where
   abbrev pub lists_of : AgentRecord H P → Lists
@@ -74,10 +75,7 @@ module _ {H P : Type 0} where
       (p, ap (λ (a : AgentRecord H P). lists_of a) done ∙ (nominates_same recorded mid path nominates ∙ ap (λ (a : AgentRecord H P). lists_of a) made))
 
   pub failure_same : (old new : AgentRecord H P) (via : Path) (m : Message) (emitted : Emitted) → TakesFailure old via m emitted new → Same old new
-  failure_same old new via m emitted h = either (is_role_conflict m) h (λ _ k. gives k) (λ _ k. same old new k.1) where
-    gives : LeavesRole old via m emitted new → Same old new
-    gives (p, c, has, on, keeps, id_is, h) = either (role.same c.controlling old.controlling && not (keeps_role old)) h
-        (λ _ k. ap (λ (a : AgentRecord H P). lists_of a) k.1) (λ _ k. same old new k.1)
+  failure_same old new via m emitted h = by_failure (λ _ a. Same old a) old new via m emitted (λ code. refl) (λ code. refl) h
 
   pub forms_same : (old new : AgentRecord H P) (all : List Combination) → FormsAll old all new → Same old new
   forms_same old new all (f, forms, made) = ap (λ (a : AgentRecord H P). lists_of a) made

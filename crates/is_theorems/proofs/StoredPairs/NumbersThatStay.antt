@@ -44,6 +44,7 @@ use Rattle.is_theorems.proofs.RuleEffects.Reselection.{by-reselecting}
 use Rattle.is_theorems.proofs.RuleEffects.TriggeredPairs.{triggered_by, by_trigger}
 use Rattle.is_theorems.proofs.BasicLemmas.PairsInTurn.{by-begins, sent-pairs, sent_at}
 use Rattle.is_theorems.proofs.BasicLemmas.ServedPairs.{numbered-by}
+use Rattle.is_theorems.proofs.RuleEffects.NotedErrors.{coded, recoded, by_failure}
 
 -- ---- lists
 
@@ -297,13 +298,12 @@ module _ {H P : Type 0} where
         (keep-nominates recorded mid path nominates)) done
 
     failure : (old new : AgentRecord H P) (via : Path) (m : Message) (emitted : Emitted) → TakesFailure old via m emitted new → Keep old new
-    failure old new via m emitted h = either (is_role_conflict m) h
-        (λ _ k. expired k)
-        (λ _ k. keep-same old new k.1) where
-          expired : LeavesRole old via m emitted new → Keep old new
-          expired (p, c, has, keeps, kept, is, acts) = either (same c.controlling old.controlling && not (keeps_role old)) acts
-              (λ _ k. keep-as old (switched old) new (keeps-map (with_priority_in (switched_sides old)) old.pairs (λ p. (refl, λ is. is))) k.1)
-              (λ _ k. keep-same old new k.1)
+    failure old new via m emitted h =
+        by_failure (λ _ a. Keep old a) old new via m emitted notes
+        (λ code. keeps-on old.pairs (recoded code old).pairs (switched (recoded code old)).pairs (notes code)
+        (keeps-map (with_priority_in (switched_sides old)) (recoded code old).pairs (λ p. (refl, λ is. is)))) h where
+          notes : (code : PairRecord → Option ℕ) → Keep old (recoded code old)
+          notes code = keeps-map (coded code) old.pairs (λ p. (refl, λ is. is))
 
     -- ---- packets
 

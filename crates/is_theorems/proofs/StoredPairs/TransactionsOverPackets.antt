@@ -54,6 +54,7 @@ use Rattle.is_theorems.proofs.BasicLemmas.VacantIndices.{KeepsRemote, keeps-remo
 use Rattle.is_theorems.proofs.BasicLemmas.CandidatesByIndex.{at-append}
 use Rattle.is_theorems.proofs.RuleEffects.TriggeredPairs.{triggered_by, by_trigger}
 use Rattle.is_theorems.proofs.BasicLemmas.ServedPairs.{numbered-by}
+use Rattle.is_theorems.proofs.RuleEffects.NotedErrors.{coded, recoded, by_failure}
 
 -- ---- lists
 
@@ -304,11 +305,12 @@ module _ {H P : Type 0} where
         (subst (λ (a : AgentRecord H P). Stays mid a) (sym made) (stays_by mid _ (inl refl) (inl refl) (same_pairs mid.pairs))))
 
     fails : (s new : AgentRecord H P) (via : Path) (m : Message) (emitted : Emitted) → TakesFailure s via m emitted new → Stays s new
-    fails s new via m emitted h = either (is_role_conflict m) h (λ _ k. expired k) (λ _ k. stays_same s new k.1) where
-      expired : LeavesRole s via m emitted new → Stays s new
-      expired (p, c, has, keeps, kept, is, acts) = either (same c.controlling s.controlling && not (keeps_role s)) acts
-          (λ _ k. subst (λ (a : AgentRecord H P). Stays s a) (sym k.1) (switches s))
-          (λ _ k. stays_same s new k.1)
+    fails s new via m emitted h =
+        by_failure (λ _ a. Stays s a) s new via m emitted notes
+        (λ code. stays_on s (recoded code s) (switched (recoded code s)) (notes code) (switches (recoded code s))) h where
+          notes : (code : PairRecord → Option ℕ) → Stays s (recoded code s)
+          notes code = stays_by s (recoded code s) (inl refl) (inl refl)
+              (mapped_pairs (coded code) s.pairs (λ p. record { local = refl; remote = refl; checks = λ id. refl }))
 
     by_class : (c : Class) (now : ℕ) (old mid : AgentRecord H P) (via : Path) (m : Message) (emitted : Emitted) → Takes mac c now old via m emitted mid → Stays old mid
     by_class class.Request now old mid via m emitted h = requested (request_in now via m) old.remote_creds old mid emitted h
