@@ -95,7 +95,7 @@ error-found number m (q ∷ qs) p found =
 -- the pair keeps its check
 pub error-awaited : {H P : Type 0} (old noted : AgentRecord H P) (via : Path) (m : Message) (number : ℕ) → KeepsCheckOn old via m.id number → noted ≡ error_noted number m old
     → IfSome (pair_numbered number noted.pairs) (λ (p : PairRecord). IsTrue (is_kept m.id p.checks))
-error-awaited old noted via m number (p, found, on) is =
+error-awaited {H = H} {P = P} old noted via m number (p, found, on) is =
     let at : pair_numbered number noted.pairs ≡ Some (after_error m p) = ap (λ (a : AgentRecord H P). pair_numbered number a.pairs) is ∙ error-found number m old.pairs p found in
     let kept : is_kept m.id p.checks ≡ true = (both (keeps_check m.id p) (goes_back via (path_of old p)) on).0 in
     subst (λ (o : Option PairRecord). IfSome o (λ (x : PairRecord). IsTrue (is_kept m.id x.checks))) (sym at)
@@ -105,7 +105,7 @@ error-awaited old noted via m number (p, found, on) is =
 pub failure-taken : {H P : Type 0} (old noted new : AgentRecord H P) (via : Path) (m : Message) (number : ℕ) → KeepsCheckOn old via m.id number → noted ≡ error_noted number m old
     → MatchBool (is_role_conflict m) (IfSome (pair_numbered number noted.pairs) (λ (p : PairRecord). LeavesRole p m noted nothing_emitted new)) (new ≡ noted)
     → TakesFailure old via m nothing_emitted new
-failure-taken old noted new via m number (p, found, on) is h =
+failure-taken {H = H} {P = P} old noted new via m number (p, found, on) is h =
     let at : pair_numbered number noted.pairs ≡ Some (after_error m p) = ap (λ (a : AgentRecord H P). pair_numbered number a.pairs) is ∙ error-found number m old.pairs p found in
     let has = find-Some (is_numbered number) old.pairs p found in
     let made : noted ≡ error_noted p.number m old = subst (λ n. noted ≡ error_noted n m old) (sym (eqb-true p.number number has.1)) is in

@@ -423,12 +423,9 @@ module _ {H P : Type 0} where
       failed : m.class ≡ class.Failure → TakesFailure old path m emitted mid → FrameEffect old call entry new
       failed is (p, has, on, h) = either (is_role_conflict m) h
           (λ conflict k. gives k conflict)
-          (λ other k. still class.Failure is (but_queue (drops noted mid emitted k)) (inl (ap (λ (f : Frame H). f.queue) (drops noted mid emitted k).0)) (no_request class.Failure is (λ x. cc))
+          (λ other k. still class.Failure is (but_queue (drops (error_noted p.number m old) mid emitted k)) (inl (ap (λ (f : Frame H). f.queue) (drops (error_noted p.number m old) mid emitted k).0)) (no_request class.Failure is (λ x. cc))
           (λ _ conflict. (let no : false ≡ true = sym other ∙ conflict in cc))) where
-            abbrev noted : AgentRecord H P
-            noted = error_noted p.number m old
-
-            gives : LeavesRole p m noted emitted mid → is_role_conflict m ≡ true → FrameEffect old call entry new
+            gives : LeavesRole p m (error_noted p.number m old) emitted mid → is_role_conflict m ≡ true → FrameEffect old call entry new
             gives (c, keeps, id_is, h) conflict = by_rule (keeps_role old) refl h where
               no_serving : (r : RequestRecord) → IsServing old call entry r → IsServedPastTests old r → mid.controlling ≡ role_once (conflict_of old r) old.controlling
               no_serving r serving past =
@@ -472,15 +469,15 @@ module _ {H P : Type 0} where
               }
 
               -- a lite agent that keeps its role drops it
-              by_rule : (b : Bool) → keeps_role old ≡ b → MatchBool (same c.controlling old.controlling && not b) (Drops (switched noted) emitted mid) (Drops noted emitted mid) → FrameEffect old call entry new
-              by_rule true kept k = left_role kept (drops noted mid emitted (subst (λ x. MatchBool x (Drops (switched noted) emitted mid) (Drops noted emitted mid)) (and-false (same c.controlling old.controlling)) k))
-              by_rule false unkept k = either (same c.controlling old.controlling) (subst (λ x. MatchBool x (Drops (switched noted) emitted mid) (Drops noted emitted mid)) (and-true (same c.controlling old.controlling)) k)
+              by_rule : (b : Bool) → keeps_role old ≡ b → MatchBool (same c.controlling old.controlling && not b) (Drops (switched (error_noted p.number m old)) emitted mid) (Drops (error_noted p.number m old) emitted mid) → FrameEffect old call entry new
+              by_rule true kept k = left_role kept (drops (error_noted p.number m old) mid emitted (subst (λ x. MatchBool x (Drops (switched (error_noted p.number m old)) emitted mid) (Drops (error_noted p.number m old) emitted mid)) (and-false (same c.controlling old.controlling)) k))
+              by_rule false unkept k = either (same c.controlling old.controlling) (subst (λ x. MatchBool x (Drops (switched (error_noted p.number m old)) emitted mid) (Drops (error_noted p.number m old) emitted mid)) (and-true (same c.controlling old.controlling)) k)
                   (λ now_is j. (
-                  let f = drops (switched noted) mid emitted j in
+                  let f = drops (switched (error_noted p.number m old)) mid emitted j in
                   let role : mid.controlling ≡ not c.controlling = ap (λ (f : Frame H). f.controlling) f.0 ∙ ap not (sym (same_true c.controlling old.controlling now_is)) in
                   effect unkept (ap (λ (x : Frame H). record x { controlling = not old.controlling }) f.0, f.1) role))
                   (λ other j. (
-                  let f = drops noted mid emitted j in
+                  let f = drops (error_noted p.number m old) mid emitted j in
                   let role : mid.controlling ≡ not c.controlling = ap (λ (f : Frame H). f.controlling) f.0 ∙ same_false c.controlling old.controlling other in
                   effect unkept (ap (λ (x : Frame H). record x { controlling = not old.controlling }) f.0, f.1) role))
 

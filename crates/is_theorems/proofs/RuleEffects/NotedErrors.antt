@@ -55,15 +55,13 @@ module _ {H P : Type 0} where
       → TakesFailure old via m emitted new → Holds emitted new
   by_failure Holds old new via m emitted stays switches (p, has, on, h) =
       either (is_role_conflict m) h
-      (λ _ k. either (same k.0.controlling old.controlling && not (keeps_role old)) k.3 (λ _ z. dropped (switched noted) turned z) (λ _ z. dropped noted still z))
-      (λ _ z. dropped noted still z) where
-        abbrev noted : AgentRecord H P
-        noted = error_noted p.number m old
-
-        still : Holds nothing_emitted noted
+      (λ _ k. either (same k.0.controlling old.controlling && not (keeps_role old)) k.3
+      (λ _ z. dropped (switched (error_noted p.number m old)) turned z) (λ _ z. dropped (error_noted p.number m old) still z))
+      (λ _ z. dropped (error_noted p.number m old) still z) where
+        still : Holds nothing_emitted (error_noted p.number m old)
         still = subst (λ (a : AgentRecord H P). Holds nothing_emitted a) (sym (noted-is p.number m old)) (stays (code_of p.number m))
 
-        turned : Holds nothing_emitted (switched noted)
+        turned : Holds nothing_emitted (switched (error_noted p.number m old))
         turned = subst (λ (a : AgentRecord H P). Holds nothing_emitted (switched a)) (sym (noted-is p.number m old)) (switches (code_of p.number m))
 
         dropped : (a : AgentRecord H P) → Holds nothing_emitted a → Drops a emitted new → Holds emitted new
