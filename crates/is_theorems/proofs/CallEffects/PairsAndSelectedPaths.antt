@@ -37,7 +37,7 @@ use Rattle.is_rules.specs.Restarting.{Restarts, Recreates}
 use Rattle.is_rules.specs.Serving.{Drops, Serves, as_taken}
 use Rattle.is_rules.specs.Queue.{queued, first_taken, request_at}
 use Rattle.is_pair.specs.Multiset.{keeps_check}
-use Rattle.is_rules.specs.Answers.{keeps_check_on, goes_back, is_role_conflict, TakesSuccess, TakesFailure, LeavesRole}
+use Rattle.is_rules.specs.Answers.{keeps_check_on, goes_back, TakesSuccess, TakesFailure}
 use Rattle.is_rules.specs.Accepting.{Takes, IsAcceptedAs, IsAcceptedOn, discovered_emitted}
 use Rattle.is_rules.specs.Timeouts.{at_request, timeout_begun, MaintainsPairs, ServesQueued, TimesOut}
 use Rattle.is_rules.specs.Steps.{Call, SetMtu, SetControlTieBreaker, SetMaxCandidatePairs, SetMaxDiscovered, SetIceLite, SetRenomination, SetConsent, SetProfile, SetTimingAdvance, SetInitialStunRto, SetMaxStunRto, SetMaxStunRetransmits, SetLiteTimeout, SetLocalPreference, SetControlling, SetLocalCredentials, SetRemoteCredentials, SkipPairIds, AddLocalCandidate, AddRemoteCandidate, InvalidateCandidate, RestartIce, RecreateCandidatePairs, ReceivePacket, HandleTimeout, PollTransmit, PollTimeout, PollEvent, Becomes, MayDo, MaySelect, Receives, Step}
@@ -45,7 +45,7 @@ use Rattle.is_rules.specs.Sound.{IsSound}
 use Rattle.is_rules.specs.Brought.{Brings, IsServing, IsAnswered}
 use Rattle.is_theorems.specs.Numbered.{IsNumberedByPeer, given}
 use Rattle.is_theorems.proofs.CallEffects.FailedCallsAndNewAgents.{mtu_kept, controlling_kept, local_kept, remote_kept, restart_kept, recreation_kept}
-use Rattle.is_theorems.proofs.RuleEffects.UnchangedSettings.{Frame, frame_of, packet_along, either}
+use Rattle.is_theorems.proofs.RuleEffects.UnchangedSettings.{Frame, frame_of, packet_along}
 use Rattle.is_theorems.proofs.CallEffects.SettingsRoleAndQueues as frames
 use Rattle.is_theorems.proofs.RuleEffects.EarlierAndNewPairs.{Parts, Fit, IsNominatedIn, Onward, here, onward}
 use Rattle.is_theorems.proofs.RuleEffects.ChangedPairs.{parts_of}
@@ -56,7 +56,7 @@ use Rattle.is_theorems.proofs.CallEffects.TimeoutsAndSuccesses.{CheckOut, mainta
 use Rattle.is_theorems.proofs.CallEffects.ServedRequests.{Replied, ConflictSent, AcceptedNominations, serves_does, notes, notes_and_switches}
 use Rattle.is_theorems.proofs.CallEffects.ChangedCandidates.{local_goes, remote_goes, without_goes, reselects_goes, recreates_goes, restarts_goes, skips_goes, rtos_goes, polls_goes}
 use Rattle.is_rules.specs.Nominating.{numbers}
-use Rattle.is_theorems.proofs.RuleEffects.NotedErrors.{coded, recoded, by_failure}
+use Rattle.is_theorems.proofs.RuleEffects.NotedErrors.{recoded, by_failure}
 
 or_true : (a b : Bool) → (a || b) ≡ true → (a ≡ true) ⊎ (b ≡ true)
 or_true true b h = inl refl

@@ -21,7 +21,7 @@ use Rattle.is_rules.specs.Emitted.{nothing_emitted, reversed}
 use Rattle.is_rules.specs.Sound.{KeepsChecks}
 use Rattle.is_rules.specs.Agent.{AgentRecord}
 use Rattle.is_rules.specs.Queue.{request_at, first_taken, queued}
-use Rattle.is_rules.specs.Answers.{is_left_out, local_with, mapped_candidate, success_counted, is_role_conflict, TakesSuccess, TakesFailure, LeavesRole}
+use Rattle.is_rules.specs.Answers.{is_left_out, local_with, mapped_candidate, success_counted, TakesSuccess, TakesFailure}
 use Rattle.is_rules.specs.Accepting.{Takes}
 use Rattle.is_rules.specs.Serving.{Drops, Serves}
 use Rattle.is_rules.specs.Timeouts.{at_request, timeout_begun, MaintainsPairs, ServesQueued}
@@ -31,7 +31,7 @@ use Rattle.is_rules.specs.Issuing.{QueuesPackets, IsIssued, key_for, via_out, Is
 use Rattle.is_rules.specs.Effects.{PathTheorem, TradeTheorem}
 use Rattle.is_rules.proofs.PairLists.RisingNumbers.{each-rising, each-below}
 use Rattle.is_theorems.proofs.CallEffects.FailedCallsAndNewAgents.{rejection_keeps}
-use Rattle.is_theorems.proofs.RuleEffects.UnchangedSettings.{frame_of, either, packet_along}
+use Rattle.is_theorems.proofs.RuleEffects.UnchangedSettings.{frame_of, packet_along}
 use Rattle.is_theorems.proofs.CallEffects.SettingsRoleAndQueues.{framed}
 use Rattle.is_theorems.proofs.RuleEffects.SelectedPaths.{some_is}
 use Rattle.is_theorems.proofs.RuleEffects.EarlierAndNewPairs.{Has-push}
@@ -43,8 +43,8 @@ use Rattle.is_theorems.proofs.CallEffects.PathEffects.{path_effect}
 use Rattle.is_theorems.proofs.CallEffects.ReceivedAndOwed.{accepts, leaves_unaccepted, rejects, waits_has, waits_short, brought_or_waited, owes, clears_pairs, clears_quiet}
 use Rattle.is_theorems.proofs.PathSelection.NominationPoints.{takes_valid, points_top}
 use Rattle.is_rules.specs.Nominating.{numbers}
-use Rattle.is_rules.specs.Roles.{keeps_role}
-use Rattle.is_theorems.proofs.RuleEffects.NotedErrors.{coded, recoded, by_failure}
+use Rattle.is_theorems.proofs.RuleEffects.NotedErrors.{recoded, by_failure}
+use Rattle.is_rules.specs.Roles.{switched}
 
 module _ {H P : Type 0} (mac : H → List ℕ → List ℕ → List ℕ) (answers : P → CandidateRecord → ℕ → ℕ → Type 0) where
   -- ---- limits and bases

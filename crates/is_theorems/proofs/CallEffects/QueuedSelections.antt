@@ -1,5 +1,4 @@
 -- Each transition queues a `NominatedSend` only for a path that it selects. What mutants/specifications changes is read by tactics.
-use Rattle.is_proto.specs.Lists as role
 use Rattle.is_stun.specs.declared.header.Class.TheVariants as class
 use Rattle.is_theorems.proofs.CallEffects.AddedCandidates.{by_adding_local, by_adding_remote, by_waking}
 use Rattle.is_theorems.proofs.CallEffects.FailedCallsAndNewAgents.{controlling_kept, enrolment_kept, local_kept, mtu_kept, recreation_kept, remote_kept, restart_kept, storing_kept}
@@ -11,7 +10,7 @@ use Rattle.is_pair.specs.Pairs.{PairRecord}
 use Rattle.is_proto.specs.Lists.{Has}
 use Rattle.is_rules.specs.Accepting.{Takes, discovered_emitted, is_passed_over}
 use Rattle.is_rules.specs.Agent.{AgentRecord}
-use Rattle.is_rules.specs.Answers.{LeavesRole, TakesFailure, TakesSuccess, is_role_conflict}
+use Rattle.is_rules.specs.Answers.{TakesFailure, TakesSuccess}
 use Rattle.is_rules.specs.Checking.{ChecksTop, MayCheck, all_asked}
 use Rattle.is_rules.specs.Discarding.{InvalidatesAt, local_to_discard, remote_to_discard}
 use Rattle.is_rules.specs.Emitted.{selected_in, selected_only}
@@ -22,7 +21,7 @@ use Rattle.is_rules.specs.Polls.{IsPolled}
 use Rattle.is_rules.specs.Queue.{first_taken, request_at}
 use Rattle.is_rules.specs.Request.{RequestRecord, request_in}
 use Rattle.is_rules.specs.Restarting.{cleared, emptied, restarted}
-use Rattle.is_rules.specs.Roles.{conflict_of, keeps_role, switched}
+use Rattle.is_rules.specs.Roles.{conflict_of, switched}
 use Rattle.is_rules.specs.Serving.{AddsUnknownSender, CountsAndServes, Drops, FindsOrAddsPair, Queues, RecordsAndResponds, ResolvesRoleConflict, ResolvesRoleConflictBy, Serves, is_misled, names_another, pair_served, request_counted, selects_at_requests, trigger_time, with_sender, with_sender_at}
 use Rattle.is_rules.specs.Settings.{with_retransmits}
 use Rattle.is_rules.specs.Settling.{Reselects, loses_selected, settled, started, state_at_start, state_settled}
@@ -47,7 +46,7 @@ use Rattle.rand_core.specs.Stream.{Stream}
 use Rattle.std.proofs.Common.{Bool, Err, List, None, Ok, Option, Some, [], ap, false, if◌then◌else◌, inl, inr, is_some, length, not, refl, subst, sym, true, ℕ, ◌&&◌, ◌++◌, ◌==◌, ◌∙◌, ◌∷◌, ◌≡◌, ◌⊎◌}
 use Rattle.std.specs.List.{list_any}
 use Rattle.std.specs.Prelude.{MatchBool, MatchOption}
-use Rattle.is_theorems.proofs.RuleEffects.NotedErrors.{coded, recoded, by_failure}
+use Rattle.is_theorems.proofs.RuleEffects.NotedErrors.{recoded, by_failure}
 
 abbrev pub is_other : IceAgentEvent → Bool
 is_other (NominatedSend proto source destination) = false

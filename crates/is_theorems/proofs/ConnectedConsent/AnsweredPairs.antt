@@ -5,7 +5,6 @@ use Rattle.std.specs.List.{list_any}
 use Rattle.rand_core.specs.Stream.{Stream}
 use Rattle.is_proto.specs.declared.error.IceError.{IceError}
 use Rattle.is_proto.specs.Lists.{Has}
-use Rattle.is_proto.specs.Lists as role
 use Rattle.is_candidate.specs.Candidates.{CandidateRecord, candidate_at}
 use Rattle.is_pair.specs.declared.pair.states.CheckState.{CheckState}
 use Rattle.is_pair.specs.declared.pair.states.CheckState.TheVariants.{Waiting, InProgress, Succeeded}
@@ -28,7 +27,7 @@ use Rattle.is_rules.specs.declared.roles.Conflict.{Conflict}
 use Rattle.is_rules.specs.declared.roles.Conflict.TheVariants.{Absent, Send487, SwitchRole}
 use Rattle.is_rules.specs.Accepting.{Takes, HandlesPacket, discovered_emitted}
 use Rattle.is_rules.specs.Agent.{AgentRecord}
-use Rattle.is_rules.specs.Answers.{is_role_conflict, LeavesRole, TakesFailure, TakesSuccess}
+use Rattle.is_rules.specs.Answers.{TakesFailure, TakesSuccess}
 use Rattle.is_rules.specs.Checking.{all_asked, ChecksTop, MayCheck}
 use Rattle.is_rules.specs.Each.{Each}
 use Rattle.is_rules.specs.Forming.{Combination, combined_priority, formed, Formed, FormsAll, pair_of, SidesRecord, sides_of, Tries, with_pair}
@@ -36,7 +35,7 @@ use Rattle.is_rules.specs.Nominating.{followed, nominated_by_self, Nominates, No
 use Rattle.is_rules.specs.Places.{local_place}
 use Rattle.is_rules.specs.Queue.{first_taken, request_at}
 use Rattle.is_rules.specs.Request.{RequestRecord, request_in}
-use Rattle.is_rules.specs.Roles.{conflict_of, switched, switched_sides, with_priority_in, keeps_role}
+use Rattle.is_rules.specs.Roles.{conflict_of, switched, switched_sides, with_priority_in}
 use Rattle.is_rules.specs.Serving.{after_request, AddsUnknownSender, CountsAndServes, Drops, FindsOrAddsPair, is_misled, names_another, pair_served, Queues, RecordsAndResponds, request_counted, ResolvesRoleConflict, ResolvesRoleConflictBy, selects_at_requests, served, Serves, with_sender, with_sender_at, as_taken, nominated_by_peer}
 use Rattle.is_rules.specs.States.{evaluated}
 use Rattle.is_rules.specs.Steps.{Entry, Receives}

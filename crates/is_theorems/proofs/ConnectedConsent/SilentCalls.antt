@@ -3,7 +3,6 @@ use Rattle.std.proofs.Common.{◌≡◌, ℕ, ◌&&◌, Bool, true, false, not, 
 use Rattle.rand_core.specs.Stream.{Stream}
 use Rattle.is_proto.specs.declared.error.IceError.{IceError}
 use Rattle.is_proto.specs.Lists.{Has}
-use Rattle.is_proto.specs.Lists as role
 use Rattle.is_candidate.specs.Candidates.{CandidateRecord}
 use Rattle.is_pair.specs.Due.{asked}
 use Rattle.is_pair.specs.Pairs.{PairRecord}
@@ -12,7 +11,7 @@ use Rattle.is_stun.specs.declared.header.Class.TheVariants as class
 use Rattle.is_stun.specs.Message.{Message}
 use Rattle.is_rules.specs.Accepting.{discovered_emitted, Takes}
 use Rattle.is_rules.specs.Agent.{AgentRecord}
-use Rattle.is_rules.specs.Answers.{goes_back, is_role_conflict, keeps_check_on, LeavesRole, TakesFailure, TakesSuccess}
+use Rattle.is_rules.specs.Answers.{goes_back, keeps_check_on, TakesFailure, TakesSuccess}
 use Rattle.is_rules.specs.Brought.{Brings}
 use Rattle.is_rules.specs.declared.emitted.Emitted.{Emitted}
 use Rattle.is_rules.specs.declared.emitted.Path.{Path}
@@ -22,7 +21,7 @@ use Rattle.is_rules.specs.Local.{AddsLocal, appended, enabled_again}
 use Rattle.is_rules.specs.Discarding.{is_local_at, local_discarded}
 use Rattle.is_rules.specs.Remote.{AddsRemote, as_remote, with_remote}
 use Rattle.is_rules.specs.Request.{request_in}
-use Rattle.is_rules.specs.Roles.{keeps_role, switched_sides, with_priority_in}
+use Rattle.is_rules.specs.Roles.{switched_sides, with_priority_in}
 use Rattle.is_rules.specs.Sending.{path_of}
 use Rattle.is_rules.specs.Settling.{loses_selected}
 use Rattle.is_rules.specs.Sound.{IsSound}
@@ -45,7 +44,6 @@ use Rattle.is_theorems.proofs.ExecutionLogs.LogSegments.{no-case}
 use Rattle.is_theorems.proofs.PathSelection.NominationPoints.{All1, All3, AllNumbers, fit_of}
 use Rattle.is_theorems.proofs.RuleEffects.ChangedPairs.{Has-map}
 use Rattle.is_theorems.proofs.RuleEffects.EarlierAndNewPairs.{Fit, Has-filter}
-use Rattle.is_theorems.proofs.RuleEffects.UnchangedSettings.{either}
 use Rattle.is_theorems.proofs.RuleEffects.NotedErrors.{coded, recoded, by_failure}
 
 -- no response and no request arrives on the path in this call

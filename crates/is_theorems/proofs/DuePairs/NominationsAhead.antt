@@ -14,7 +14,7 @@ use Rattle.is_stun.specs.declared.header.Class.TheVariants as class
 use Rattle.is_stun.specs.Message.{Message}
 use Rattle.is_rules.specs.Accepting.{Takes}
 use Rattle.is_rules.specs.Agent.{AgentRecord}
-use Rattle.is_rules.specs.Answers.{is_role_conflict, LeavesRole, TakesFailure, TakesSuccess}
+use Rattle.is_rules.specs.Answers.{TakesFailure, TakesSuccess}
 use Rattle.is_rules.specs.Checking.{all_asked, is_selected_number, ChecksTop, IsNextInTurn, IsNextToCheck, MayCheck}
 use Rattle.is_rules.specs.declared.credentials.IceCreds.{IceCreds}
 use Rattle.is_rules.specs.declared.places.RemotePlace.{RemotePlace}
@@ -32,7 +32,7 @@ use Rattle.is_rules.specs.Owed.{one_if}
 use Rattle.is_rules.specs.Places.{local_place}
 use Rattle.is_rules.specs.Queue.{first_taken, request_at}
 use Rattle.is_rules.specs.Request.{RequestRecord, request_in}
-use Rattle.is_rules.specs.Roles.{conflict_of, switched, keeps_role}
+use Rattle.is_rules.specs.Roles.{conflict_of, switched}
 use Rattle.is_rules.specs.Sending.{path_between}
 use Rattle.is_rules.specs.Serving.{is_misled, names_another, pair_served, replied, request_counted, selects_at_requests, trigger_time, with_sender, with_sender_at, Drops, Queues, RecordsAndResponds, FindsOrAddsPair, AddsUnknownSender, CountsAndServes, ResolvesRoleConflictBy, ResolvesRoleConflict, Serves}
 use Rattle.is_rules.specs.Settling.{loses_selected, settled, Reselects}
@@ -49,7 +49,7 @@ use Rattle.is_theorems.proofs.DuePairs.FirstDuePair.{next-check}
 use Rattle.is_theorems.proofs.ExecutionLogs.LogSegments.{no-case}
 use Rattle.is_theorems.proofs.RuleEffects.NominatedPairs.{SelectsPath, selects_path}
 use Rattle.is_theorems.proofs.RuleEffects.UnchangedSettings.{either}
-use Rattle.is_theorems.proofs.RuleEffects.NotedErrors.{coded, recoded, by_failure}
+use Rattle.is_theorems.proofs.RuleEffects.NotedErrors.{recoded, by_failure}
 
 -- ---- which paths a call selects
 

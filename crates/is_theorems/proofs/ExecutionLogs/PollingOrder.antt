@@ -28,7 +28,7 @@ use Rattle.is_rules.specs.Places.{local_place}
 use Rattle.is_rules.specs.Agent.{AgentRecord}
 use Rattle.is_pair.specs.Multiset.{is_valid_at}
 use Rattle.is_rules.specs.Forming.{Combination, FormsAll, formed, with_pair}
-use Rattle.is_rules.specs.Roles.{conflict_of, switched, keeps_role}
+use Rattle.is_rules.specs.Roles.{conflict_of, switched}
 use Rattle.is_rules.specs.Settings.{with_retransmits, with_rtos, numbers_skipped}
 use Rattle.is_rules.specs.Discarding.{InvalidatesAt, local_to_discard, remote_to_discard, local_discarded}
 use Rattle.is_rules.specs.Local.{AddsLocal, appended, enabled_again}
@@ -38,7 +38,7 @@ use Rattle.is_rules.specs.States.{same_state, with_state, evaluated}
 use Rattle.is_rules.specs.Nominating.{with_selection, nominated_emitted, Nominates, NominatesWhere}
 use Rattle.is_rules.specs.Serving.{trigger_time, selects_at_requests, pair_served, request_counted, with_sender, with_sender_at, is_misled, names_another, RecordsAndResponds, FindsOrAddsPair, AddsUnknownSender, CountsAndServes, ResolvesRoleConflictBy, ResolvesRoleConflict, Drops, Serves}
 use Rattle.is_rules.specs.Queue.{first_taken, request_at, queued}
-use Rattle.is_rules.specs.Answers.{TakesSuccess, TakesFailure, LeavesRole, is_role_conflict}
+use Rattle.is_rules.specs.Answers.{TakesSuccess, TakesFailure}
 use Rattle.is_rules.specs.Accepting.{Takes, discovered_emitted, is_passed_over, HandlesPacket}
 use Rattle.is_rules.specs.Checking.{all_asked, MayCheck, ChecksTop}
 use Rattle.is_rules.specs.Settling.{settled, loses_selected, Reselects}
@@ -50,7 +50,7 @@ use Rattle.is_theorems.proofs.RuleEffects.UnchangedSettings.{either}
 use Rattle.is_theorems.proofs.CallEffects.FailedCallsAndNewAgents.{mtu_kept, controlling_kept, local_kept, remote_kept, restart_kept, recreation_kept, enrolment_kept, storing_kept}
 use Rattle.is_theorems.proofs.CallEffects.SettingsRoleAndQueues.{FrameEffect, framed}
 use Rattle.is_theorems.proofs.CallEffects.AddedCandidates.{by_adding_local, by_adding_remote, by_waking}
-use Rattle.is_theorems.proofs.RuleEffects.NotedErrors.{coded, recoded, by_failure}
+use Rattle.is_theorems.proofs.RuleEffects.NotedErrors.{recoded, by_failure}
 
 -- ---- lists
 

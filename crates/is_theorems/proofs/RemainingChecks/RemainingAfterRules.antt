@@ -22,7 +22,7 @@ use Rattle.is_stun.specs.Message.{Message}
 use Rattle.is_stun.specs.Timing.{consent_of}
 use Rattle.is_rules.specs.Accepting.{discovered_emitted, Takes}
 use Rattle.is_rules.specs.Agent.{AgentRecord}
-use Rattle.is_rules.specs.Answers.{is_left_out, is_role_conflict, local_with, mapped_candidate, success_counted, TakesSuccess, LeavesRole, TakesFailure}
+use Rattle.is_rules.specs.Answers.{is_left_out, local_with, mapped_candidate, success_counted, TakesSuccess, TakesFailure}
 use Rattle.is_rules.specs.Checking.{all_asked, ChecksTop, MayCheck}
 use Rattle.is_rules.specs.declared.credentials.IceCreds.{IceCreds}
 use Rattle.is_rules.specs.declared.places.RemotePlace.{RemotePlace}
@@ -37,7 +37,7 @@ use Rattle.is_rules.specs.Nominating.{nominated_by_self, Nominates, followed, re
 use Rattle.is_rules.specs.Places.{local_place}
 use Rattle.is_rules.specs.Queue.{first_taken, request_at}
 use Rattle.is_rules.specs.Request.{RequestRecord, request_in}
-use Rattle.is_rules.specs.Roles.{conflict_of, switched, switched_sides, with_priority_in, keeps_role}
+use Rattle.is_rules.specs.Roles.{conflict_of, switched, switched_sides, with_priority_in}
 use Rattle.is_rules.specs.Serving.{selects_at_requests, after_request, validated_by_peer, is_misled, names_another, pair_served, request_counted, with_sender, with_sender_at, Drops, Queues, RecordsAndResponds, FindsOrAddsPair, AddsUnknownSender, CountsAndServes, ResolvesRoleConflictBy, ResolvesRoleConflict, Serves, as_taken, nominated_by_peer}
 use Rattle.is_rules.specs.States.{evaluated}
 use Rattle.is_rules.specs.Steps.{Entry, Receives}

@@ -24,7 +24,7 @@ use Rattle.is_rules.specs.declared.roles.Conflict.{Conflict}
 use Rattle.is_rules.specs.declared.roles.Conflict.TheVariants.{Absent, Send487, SwitchRole}
 use Rattle.is_rules.specs.Accepting.{Takes}
 use Rattle.is_rules.specs.Agent.{AgentRecord}
-use Rattle.is_rules.specs.Answers.{is_role_conflict, LeavesRole, TakesFailure}
+use Rattle.is_rules.specs.Answers.{TakesFailure}
 use Rattle.is_rules.specs.Effects.{last_of}
 use Rattle.is_rules.specs.Discarding.{local_to_discard, remote_to_discard, InvalidatesAt, Invalidates}
 use Rattle.is_rules.specs.Emitted.{nothing_emitted, selected_in, selected_only}
@@ -37,7 +37,7 @@ use Rattle.is_rules.specs.Points.{IsTopSelected}
 use Rattle.is_rules.specs.Queue.{request_at, first_taken, queued}
 use Rattle.is_rules.specs.Remote.{AddsRemote}
 use Rattle.is_rules.specs.Request.{RequestRecord, request_in}
-use Rattle.is_rules.specs.Roles.{conflict_of, keeps_role, switched}
+use Rattle.is_rules.specs.Roles.{conflict_of, switched}
 use Rattle.is_rules.specs.Serving.{after_request, pair_served, selects_at_requests, with_sender, with_sender_at, sender_candidate, request_counted, is_misled, names_another}
 use Rattle.is_rules.specs.Serving.{Drops, RecordsAndResponds, FindsOrAddsPair, AddsUnknownSender, CountsAndServes, ResolvesRoleConflictBy, ResolvesRoleConflict, Serves}
 use Rattle.is_rules.specs.Sound.{IsSound}
@@ -72,7 +72,7 @@ use Rattle.is_theorems.proofs.RenominatedPaths.OnePathAtBothAgents.{followed-sel
 use Rattle.is_theorems.proofs.RuleEffects.ChangedPairs.{eligible_valid, one_changed, parts_of}
 use Rattle.is_theorems.proofs.RuleEffects.EarlierAndNewPairs.{numbered_before, path_in, pushed}
 use Rattle.is_theorems.proofs.RuleEffects.UnchangedSettings.{either}
-use Rattle.is_theorems.proofs.RuleEffects.NotedErrors.{coded, recoded, by_failure}
+use Rattle.is_theorems.proofs.RuleEffects.NotedErrors.{recoded, by_failure}
 
 -- a number equals itself
 differ : (x y : ℕ) → (x == y) ≡ false → x ≡ y → ⊥

@@ -24,7 +24,7 @@ use Rattle.is_rules.specs.declared.emitted.Issued.{Issued}
 use Rattle.is_rules.specs.Emitted.{issued_as, nothing_emitted, reversed}
 use Rattle.is_rules.specs.Accepting.{Takes, discovered_emitted}
 use Rattle.is_rules.specs.Agent.{AgentRecord}
-use Rattle.is_rules.specs.Answers.{is_role_conflict, TakesSuccess, LeavesRole, TakesFailure}
+use Rattle.is_rules.specs.Answers.{TakesSuccess, TakesFailure}
 use Rattle.is_theorems.specs.Asked.{IsAskedOn}
 use Rattle.is_rules.specs.Brought.{IsServing}
 use Rattle.is_rules.specs.Checking.{all_asked, ChecksTop, MayCheck}
@@ -35,7 +35,7 @@ use Rattle.is_rules.specs.Nominating.{with_selection, nominated_emitted, Nominat
 use Rattle.is_rules.specs.Places.{local_place}
 use Rattle.is_rules.specs.Queue.{first_taken, queued, request_at}
 use Rattle.is_rules.specs.Request.{RequestRecord, request_in}
-use Rattle.is_rules.specs.Roles.{conflict_of, switched, keeps_role}
+use Rattle.is_rules.specs.Roles.{conflict_of, switched}
 use Rattle.is_rules.specs.Sending.{path_between, path_of}
 use Rattle.is_rules.specs.Serving.{nominates, trigger_time, selects_at_requests, after_request, Drops, is_misled, names_another, nominated_last, pair_served, replied, request_counted, sender_candidate, served, validated_by_peer, with_sender, with_sender_at, RecordsAndResponds, FindsOrAddsPair, AddsUnknownSender, CountsAndServes, ResolvesRoleConflictBy, ResolvesRoleConflict, Serves, as_taken, nominated_by_peer}
 use Rattle.is_rules.specs.Settling.{settled}
@@ -53,7 +53,7 @@ use Rattle.is_theorems.proofs.BasicLemmas.VacantIndices.{known-in, vacant-at, pu
 use Rattle.is_theorems.proofs.BasicLemmas.CandidatesByIndex.{at-end}
 use Rattle.is_theorems.proofs.RuleEffects.TriggeredPairs.{triggered_by, by_trigger}
 use Rattle.is_theorems.proofs.BasicLemmas.ServedPairs.{numbered-by}
-use Rattle.is_theorems.proofs.RuleEffects.NotedErrors.{coded, recoded, by_failure}
+use Rattle.is_theorems.proofs.RuleEffects.NotedErrors.{recoded, by_failure}
 
 -- a request leaves the number and the indices of its pair
 pub record SamePlace (p q : PairRecord) : Type 0 where

@@ -5,7 +5,6 @@ use Rattle.std.specs.List.{list_any}
 use Rattle.rand_core.specs.Stream.{Stream}
 use Rattle.is_proto.specs.declared.error.IceError.{IceError}
 use Rattle.is_proto.specs.Lists.{Has}
-use Rattle.is_proto.specs.Lists as role
 use Rattle.is_candidate.specs.Candidates.{CandidateRecord}
 use Rattle.is_pair.specs.Due.{asked}
 use Rattle.is_pair.specs.Multiset.{change_at, is_numbered}
@@ -16,7 +15,7 @@ use Rattle.is_stun.specs.Message.{Message}
 use Rattle.is_stun.specs.Timing.{is_modern}
 use Rattle.is_rules.specs.Accepting.{discovered_emitted, HandlesPacket, Takes}
 use Rattle.is_rules.specs.Agent.{AgentRecord}
-use Rattle.is_rules.specs.Answers.{is_role_conflict, LeavesRole, TakesFailure, TakesSuccess}
+use Rattle.is_rules.specs.Answers.{TakesFailure, TakesSuccess}
 use Rattle.is_rules.specs.Checking.{all_asked, check_sent, ChecksTop, MayCheck}
 use Rattle.is_rules.specs.Connecting.{is_connected}
 use Rattle.is_rules.specs.declared.credentials.IceCreds.{IceCreds}
@@ -28,7 +27,7 @@ use Rattle.is_rules.specs.declared.event.IceConnectionState.TheVariants.{New, Ch
 use Rattle.is_rules.specs.Nominating.{Nominates, nominates_at_once}
 use Rattle.is_rules.specs.Queue.{first_taken, request_at}
 use Rattle.is_rules.specs.Request.{RequestRecord, request_in}
-use Rattle.is_rules.specs.Roles.{keeps_role, switched}
+use Rattle.is_rules.specs.Roles.{switched}
 use Rattle.is_rules.specs.Serving.{Serves}
 use Rattle.is_rules.specs.Settling.{settles, state_at}
 use Rattle.is_rules.specs.States.{has_possible, has_nominated, next_state, same_state}
@@ -40,9 +39,10 @@ use Rattle.is_theorems.proofs.PathSelection.NominationPoints.{Alike, alike_if, h
 use Rattle.is_theorems.proofs.RuleEffects.UnchangedSettings.{either}
 use Rattle.is_theorems.proofs.SettledStates.AfterRequests.{requested, serves, switches}
 use Rattle.is_theorems.proofs.SettledStates.LivePairs.{map-back, no-live}
-use Rattle.is_theorems.proofs.SettledStates.Outcomes.{after-preparing, at-rest, HasRules, MayGoOn, new-ruled, new-unsettled, nothing-done, Outcome, Settles, settles-begun}
+use Rattle.is_theorems.proofs.SettledStates.Outcomes.{after-preparing, at-rest, HasRules, MayGoOn, new-ruled, new-unsettled, nothing-done, Outcome, Prepares, Settles, settles-begun}
 use Rattle.is_theorems.proofs.SettledStates.SelectedPairs.{begun-evaluated, begun-next, evaluated-connects, map-selected, nominates-selects, nominates-state, Selects}
 use Rattle.is_theorems.proofs.RuleEffects.NotedErrors.{coded, recoded, by_failure}
+use Rattle.is_rules.specs.Emitted.{nothing_emitted}
 
 module _ {H P : Type 0} where
   -- ---- responses

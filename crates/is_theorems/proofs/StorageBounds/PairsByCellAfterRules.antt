@@ -8,7 +8,6 @@ use Rattle.std.specs.declared.net.socket_addr.SocketAddr.{SocketAddr}
 use Rattle.rand_core.specs.Stream.{Stream}
 use Rattle.is_proto.specs.declared.error.IceError.{IceError}
 use Rattle.is_proto.specs.Lists.{Has}
-use Rattle.is_proto.specs.Lists as role
 use Rattle.is_candidate.specs.declared.candidate.kind.CandidateKind.{CandidateKind}
 use Rattle.is_candidate.specs.declared.candidate.kind.CandidateKind.TheVariants.{Host, PeerReflexive, ServerReflexive, Relayed}
 use Rattle.is_candidate.specs.Candidates.{CandidateRecord, candidate_at}
@@ -29,14 +28,14 @@ use Rattle.is_rules.specs.declared.roles.Conflict.{Conflict}
 use Rattle.is_rules.specs.declared.roles.Conflict.TheVariants.{Absent, Send487, SwitchRole}
 use Rattle.is_rules.specs.Accepting.{Takes, HandlesPacket, discovered_emitted}
 use Rattle.is_rules.specs.Agent.{AgentRecord}
-use Rattle.is_rules.specs.Answers.{is_left_out, is_role_conflict, local_with, mapped_candidate, success_counted, TakesSuccess, TakesFailure, LeavesRole}
+use Rattle.is_rules.specs.Answers.{is_left_out, local_with, mapped_candidate, success_counted, TakesSuccess, TakesFailure}
 use Rattle.is_rules.specs.Checking.{MayCheck, ChecksTop, all_asked}
 use Rattle.is_rules.specs.Forming.{Combination, SidesRecord, FormsAll, formed, sides_of, with_pair}
 use Rattle.is_rules.specs.Nominating.{Selection, Nominates, NominatesWhere, NamesTop, nominated_by_self, nominated_emitted, with_selection, followed, remains, selection_of, nominates_at_once, numbers}
 use Rattle.is_rules.specs.Places.{is_at, is_live, is_reached, local_place}
 use Rattle.is_rules.specs.Queue.{first_taken, request_at}
 use Rattle.is_rules.specs.Request.{RequestRecord, request_in}
-use Rattle.is_rules.specs.Roles.{conflict_of, switched, switched_sides, with_priority_in, keeps_role}
+use Rattle.is_rules.specs.Roles.{conflict_of, switched, switched_sides, with_priority_in}
 use Rattle.is_rules.specs.Serving.{selects_at_requests, after_request, is_misled, names_another, pair_served, request_counted, served, validated_by_peer, with_sender, with_sender_at, Drops, Queues, RecordsAndResponds, FindsOrAddsPair, AddsUnknownSender, CountsAndServes, ResolvesRoleConflictBy, ResolvesRoleConflict, Serves, as_taken, nominated_by_peer}
 use Rattle.is_rules.specs.States.{evaluated}
 use Rattle.is_rules.specs.Steps.{Entry, Receives}

@@ -24,7 +24,7 @@ use Rattle.is_rules.specs.declared.emitted.Path.{Path}
 use Rattle.is_rules.specs.declared.emitted.Emitted.{Emitted}
 use Rattle.is_rules.specs.Accepting.{Takes, HandlesPacket, discovered_emitted}
 use Rattle.is_rules.specs.Agent.{AgentRecord}
-use Rattle.is_rules.specs.Answers.{is_left_out, is_role_conflict, goes_back, keeps_check_on, mapped_candidate, local_with, mapped_added, success_counted, Records, TakesSuccess, LeavesRole, TakesFailure}
+use Rattle.is_rules.specs.Answers.{is_left_out, goes_back, keeps_check_on, mapped_candidate, local_with, mapped_added, success_counted, Records, TakesSuccess, TakesFailure}
 use Rattle.is_theorems.specs.Exchange.{AreBetween, Course, ChecksStay}
 use Rattle.is_rules.specs.Forming.{formed, with_pair}
 use Rattle.is_rules.specs.Limit.{IsSenderPlace}
@@ -32,7 +32,7 @@ use Rattle.is_rules.specs.Nominating.{nominated_by_self, Nominates, NominatesWhe
 use Rattle.is_rules.specs.Places.{local_place}
 use Rattle.is_rules.specs.Polls.{NextTimeoutFrom}
 use Rattle.is_rules.specs.Request.{RequestRecord, request_in}
-use Rattle.is_rules.specs.Roles.{conflict_of, switched, switched_sides, with_priority_in, keeps_role}
+use Rattle.is_rules.specs.Roles.{conflict_of, switched, switched_sides, with_priority_in}
 use Rattle.is_theorems.specs.Rounds.{is_between}
 use Rattle.is_rules.specs.Sending.{path_of, path_between}
 use Rattle.is_rules.specs.Settling.{settled}
