@@ -2,3 +2,4 @@
 mod Answers
 mod ChannelNumbers
 mod Receiving
+mod OneChanges

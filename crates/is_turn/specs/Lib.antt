@@ -21,3 +21,5 @@ pub mod Relaying
 pub mod Numbers
 pub mod LeaseResponses
 pub mod Receiving
+pub mod OneRelay
+pub mod Relays
