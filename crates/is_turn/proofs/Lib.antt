@@ -3,3 +3,6 @@ mod Answers
 mod ChannelNumbers
 mod Receiving
 mod OneChanges
+mod Bounded
+mod NamedPeers
+mod AskedFor
