@@ -11,11 +11,11 @@ use Rattle.is_turn.specs.declared.outcome.Reason.TheVariants as reasons
 use Rattle.is_turn.specs.declared.session.Session.{Session}
 use Rattle.is_turn.specs.Credentials.{Credentials}
 use Rattle.is_turn.specs.LeaseResponses.{LeaseApplies, heard_if, heard_peer, heard_data}
-use Rattle.is_turn.specs.Leases.{ip_of, is_permission_of, is_open, is_answered_by}
+use Rattle.is_turn.specs.Leases.{ip_of, is_permission_of, is_open}
 use Rattle.is_turn.specs.Outcome.{outcome_with, outcome_for}
-use Rattle.is_turn.specs.Peers.{IsAskedFor, DataIsAskedFor}
-use Rattle.is_turn.specs.Places.{at_place, used_in, heard, heard_by, heard_at}
-use Rattle.is_turn.specs.Receipts.{Receipt, own, dropped, peer_data}
+use Rattle.is_turn.specs.Peers.{DataIsAskedFor}
+use Rattle.is_turn.specs.Places.{at_place, heard_at}
+use Rattle.is_turn.specs.Receipts.{Receipt, own, dropped}
 use Rattle.is_turn.specs.Receiving.{IsRespondedBy}
 use Rattle.is_turn.specs.Session.{is_ready}
 use Rattle.is_turn.specs.Turn.{OutcomeApplies, challenge_taken}

@@ -6,3 +6,8 @@ mod OneChanges
 mod Bounded
 mod NamedPeers
 mod AskedFor
+mod Beliefs
+mod BeliefLeases
+mod BeliefSessions
+mod BeliefAnswers
+mod BeliefRuns

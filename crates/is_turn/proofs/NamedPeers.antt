@@ -1,5 +1,5 @@
 -- No call but permit and send names a peer, and none changes the number of places.
-use Rattle.std.proofs.Common.{◌≡◌, ℕ, ◌+◌, ◌<◌, ◌≤◌, Bool, true, false, cond, ◌&&◌, List, [], Option, Some, None, IsSome, length, set, map, position, nat_lt, refl, sym, ap, subst, ◌∙◌, inl, inr, ◌⊎◌}
+use Rattle.std.proofs.Common.{◌≡◌, ℕ, ◌+◌, ◌<◌, ◌≤◌, Bool, true, false, cond, List, [], Option, Some, None, length, set, map, position, nat_lt, refl, sym, ap, subst, ◌∙◌, inl, inr, ◌⊎◌}
 use Rattle.std.proofs.lemmas.Bool.{cases_eq, cases_lt}
 use Rattle.std.proofs.lemmas.List.{get_or-set_same, get_or-set_other, get_or_past, get_or-map, set_past, length-set, length-map}
 use Rattle.std.specs.declared.net.socket_addr.SocketAddr.{SocketAddr}
@@ -34,7 +34,7 @@ use Rattle.is_turn.proofs.ChannelNumbers.{same_named, same_advanced, same_failed
 same_by : (g x y : Lease) → y ≡ x → SameChannel g x → SameChannel g y
 same_by g x y e h = subst (λ (z : Lease). SameChannel g z) (sym e) h
 
-abbrev AtSet : List Lease → ℕ → Lease → ℕ → Type 0
+abbrev pub AtSet : List Lease → ℕ → Lease → ℕ → Type 0
 AtSet l i g k = (k ≡ i) × (at_place k (set l i g) ≡ g) ⊎ (at_place k (set l i g) ≡ at_place k l)
 
 at_set_past : (l : List Lease) (i k : ℕ) (g : Lease) → length l ≤ i → AtSet l i g k
@@ -49,7 +49,7 @@ at_set_in l i k g (inl h) = at_set_by l i k g h (cases_eq k i)
 at_set_in l i k g (inr h) = at_set_past l i k g h
 
 -- what is at a place after a lease was put in one
-at_set : (l : List Lease) (i k : ℕ) (g : Lease) → AtSet l i g k
+pub at_set : (l : List Lease) (i k : ℕ) (g : Lease) → AtSet l i g k
 at_set l i k g = at_set_in l i k g (cases_lt i (length l))
 
 same_set : (l : List Lease) (i k : ℕ) (g : Lease) → SameChannel (at_place i l) g → AtSet l i g k → SameChannel (at_place k l) (at_place k (set l i g))

@@ -1,6 +1,5 @@
 -- How much a client keeps: its leases have a fixed number of places, and all else is so much for the allocation and for each place.
 use Rattle.std.specs.Prelude.{ℕ, ◌+◌, Bool, true, false, List, [], ◌∷◌, Option, Some, None}
-use Rattle.is_turn.specs.declared.attempts.Attempt.{Attempt}
 use Rattle.is_turn.specs.declared.attempts.Attempts.{Attempts}
 use Rattle.is_turn.specs.declared.lease.Lease.{Lease}
 use Rattle.is_turn.specs.declared.operation.Operation.{Operation}

@@ -23,5 +23,6 @@ pub mod Bounds
 pub mod LeaseResponses
 pub mod Receiving
 pub mod Peers
+pub mod Worlds
 pub mod OneRelay
 pub mod Relays

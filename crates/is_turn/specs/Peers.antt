@@ -1,5 +1,5 @@
 -- Of which peers a client has leases, and of which it takes data: of those that its user named.
-use Rattle.std.specs.Prelude.{◌≡◌, ◌⊎◌, ℕ, true, List, length, position, Option, Some}
+use Rattle.std.specs.Prelude.{◌≡◌, ◌⊎◌, ℕ, true, List, length, position, Some}
 use Rattle.std.specs.declared.net.socket_addr.SocketAddr.{SocketAddr}
 use Rattle.is_turn.specs.declared.lease.Lease.{Lease}
 use Rattle.is_turn.specs.declared.session.Session.{Session}
