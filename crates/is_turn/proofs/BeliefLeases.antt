@@ -1,4 +1,4 @@
--- What the calls of a client do to its leases keeps what it believes of them within what was granted.
+-- What the calls of a client do to its leases keeps what it believes of them within what the server has.
 use Rattle.std.proofs.Common.{◌≡◌, ℕ, ◌+◌, ◌≤◌, ◌<◌, Bool, true, false, cond, ◌||◌, List, [], Option, Some, None, is_some, is_none, length, set, map, max, position, nat_lt, arith, refl, sym, subst, inl, inr, ◌⊎◌}
 use Rattle.std.proofs.lemmas.Bool.{cases_lt}
 use Rattle.std.proofs.lemmas.List.{get_or_past, get_or-map, length-map}
@@ -23,7 +23,7 @@ use Rattle.is_turn.specs.Operations.{attempted, is_exhausted, sent_once_more, po
 use Rattle.is_turn.specs.Places.{at_place, named_in, added_at, permitted_by, permitted, channel_added_at, channel_named_by, with_channel, used_in, heard_by, heard_at, heard}
 use Rattle.is_turn.specs.Relaying.{kept_in, advanced_in, driven_by, permits_peer, routed_if, routed, reported_at, reported}
 use Rattle.is_turn.specs.Session.{is_ready, may_permit}
-use Rattle.is_turn.specs.Worlds.{Grant, IsNew, Stands, IsForLease, EndStands}
+use Rattle.is_turn.specs.Worlds.{Acceptance, IsNew, IsHeld, IsForLease, EndIsHeld}
 use Rattle.is_turn.proofs.Beliefs.{Log, AttemptsGood, OperationGood, RequestGood, LeaseGood, LeasesGood, attempts_with}
 use Rattle.is_turn.proofs.NamedPeers.{AtSet, at_set}
 
@@ -130,22 +130,22 @@ good_repeated log now t g h =
     good_changed log (repeated_if now t) g (λ x k. attempts_if log (is_exhausted t x) x (sent_once_more now t x) k k)
     (λ x. request_if (is_exhausted t x) x (sent_once_more now t x) refl) h
 
-stands_max_by : (IsFor : Request → Type 0) (now a b : ℕ) (granted : List Grant) → (a < b) ⊎ (b ≤ a) → Stands IsFor now a granted → Stands IsFor now b granted
-    → Stands IsFor now (max a b) granted
-stands_max_by IsFor now a b granted (inl h) p q = let e : b ≡ max a b = omega arith in subst (λ (n : ℕ). Stands IsFor now n granted) e q
-stands_max_by IsFor now a b granted (inr h) p q = let e : a ≡ max a b = omega arith in subst (λ (n : ℕ). Stands IsFor now n granted) e p
+held_max_by : (IsFor : Request → Type 0) (now a b : ℕ) (accepted : List Acceptance) → (a < b) ⊎ (b ≤ a) → IsHeld IsFor now a accepted → IsHeld IsFor now b accepted
+    → IsHeld IsFor now (max a b) accepted
+held_max_by IsFor now a b accepted (inl h) p q = let e : b ≡ max a b = omega arith in subst (λ (n : ℕ). IsHeld IsFor now n accepted) e q
+held_max_by IsFor now a b accepted (inr h) p q = let e : a ≡ max a b = omega arith in subst (λ (n : ℕ). IsHeld IsFor now n accepted) e p
 
-end_max : (peer : Option SocketAddr) (number : Option ℕ) (last : Option Instant) (until : Instant) (now : ℕ) (granted : List Grant)
-    → EndStands peer number last now granted → EndStands peer number (Some until) now granted
-    → EndStands peer number (Some (later_end last until)) now granted
-end_max peer number None until now granted p q = q
-end_max peer number (Some last) until now granted p q =
-    stands_max_by (IsForLease peer number) now last.0 until.0 granted (cases_lt last.0 until.0) p q
+end_max : (peer : Option SocketAddr) (number : Option ℕ) (last : Option Instant) (until : Instant) (now : ℕ) (accepted : List Acceptance)
+    → EndIsHeld peer number last now accepted → EndIsHeld peer number (Some until) now accepted
+    → EndIsHeld peer number (Some (later_end last until)) now accepted
+end_max peer number None until now accepted p q = q
+end_max peer number (Some last) until now accepted p q =
+    held_max_by (IsForLease peer number) now last.0 until.0 accepted (cases_lt last.0 until.0) p q
 
 pub good_lasts : (log : Log) (since : Instant) (g : Lease) → LeaseGood log g
-    → Stands (IsForLease g.peer g.number) log.clock (time_after since (lifetime_for g.number)).0 log.granted → LeaseGood log (lasts_since since g)
-good_lasts log since g h stands =
-    (tt, tt, end_max g.peer g.number g.until (time_after since (lifetime_for g.number)) log.clock log.granted h.2 stands)
+    → IsHeld (IsForLease g.peer g.number) log.clock (time_after since (lifetime_for g.number)).0 log.accepted → LeaseGood log (lasts_since since g)
+good_lasts log since g h held =
+    (tt, tt, end_max g.peer g.number g.until (time_after since (lifetime_for g.number)) log.clock log.accepted h.2 held)
 
 -- ---- the user
 

@@ -1,5 +1,5 @@
--- Each call keeps what a client believes within what was granted, so in each run it stands.
-use Rattle.std.proofs.Common.{◌≡◌, ℕ, ◌≤◌, ◌<◌, Bool, true, false, cond, List, [], ◌∷◌, Option, Some, None, is_some, position, Result, Ok, Err, refl, sym, ap, subst, inl, inr, ◌⊎◌, replicate}
+-- Each call keeps what a client believes within what the server has, so in each run it is true.
+use Rattle.std.proofs.Common.{◌≡◌, ℕ, ◌≤◌, ◌<◌, Bool, true, false, cond, List, [], ◌∷◌, Option, Some, None, is_some, position, Result, Ok, Err, refl, sym, ap, subst, inl, inr, ◌⊎◌, replicate, arith}
 use Rattle.std.proofs.lemmas.Bool.{cases_lt}
 use Rattle.std.proofs.lemmas.List.{get_or-replicate, get_or_past, length-replicate}
 use Rattle.std.specs.declared.net.socket_addr.SocketAddr.{SocketAddr}
@@ -30,10 +30,10 @@ use Rattle.is_turn.specs.Places.{at_place, channel_peer}
 use Rattle.is_turn.specs.Receipts.{Receipt, dropped}
 use Rattle.is_turn.specs.Receiving.{IsRespondedBy, IsReceivedAs}
 use Rattle.is_turn.specs.Relaying.{kept_leases, routed, step_at, lease_due, advanced_in, TimesOutBy, client_packet, after_poll, leases_after_poll, lease_polled_in, session_after_event, leases_after_event, reported}
-use Rattle.is_turn.specs.Session.{new_session, is_ready, is_allocated, is_refreshed, is_redirected, has_failed, lease_failed, step_of, with_renewal, lifetime_of}
+use Rattle.is_turn.specs.Session.{new_session, is_ready, is_redirected, has_failed, lease_failed, step_of, with_renewal, lifetime_of}
 use Rattle.is_turn.specs.Turn.{OutcomeApplies, Follows, challenge_taken, with_doubt, with_hint, with_another, after_step, after_event, key_now}
 use Rattle.is_turn.specs.Verdict.{code_of}
-use Rattle.is_turn.specs.Worlds.{Sent, Grant, World, Call, start, close, permit, send, probe, handle_timeout, poll_transmit, poll_event, receive, IsHonest, IsNew, id_of, and_sent, sent_after, Becomes, Does, Happens, IsFresh, IsRun, Stands, IsForAllocation, IsForLease, BeliefStands, BeliefAlwaysStands}
+use Rattle.is_turn.specs.Worlds.{Sent, Acceptance, World, Call, start, close, permit, send, probe, handle_timeout, poll_transmit, poll_event, receive, IsHonest, IsNew, id_of, and_sent, sent_after, Becomes, Does, Happens, IsFresh, IsRun, IsHeld, IsForAllocation, IsForLease, BeliefIsTrue, BeliefIsAlwaysTrue}
 use Rattle.is_turn.proofs.Beliefs.{Log, RequestGood, LeaseGood, LeasesGood, SessionGood, session_later, leases_later, session_sent, leases_sent}
 use Rattle.is_turn.proofs.BeliefAnswers.{IsBacked, IsBackedFor, backed_with}
 use Rattle.is_turn.proofs.BeliefLeases.{good_set, good_list_cond, good_failed, good_doubted, good_hinted, good_another, good_polled, good_lasts, good_permits, good_routed, good_heard, good_advanced_in, good_kept, good_driven, good_reported}
@@ -55,8 +55,8 @@ follows log now server s new h (inl step) = session_is log (is_redirected now se
 follows log now server s new h (inr step) = session_is log (has_failed now (Some 300) s) new step.1 (session_failed log s.phase now (Some 300) s h)
 
 abbrev SessionBacked : Log → Outcome → Type 0
-SessionBacked log (Allocated since seconds allocation) = Stands IsForAllocation log.clock (time_after since (lifetime_of seconds)).0 log.granted
-SessionBacked log (Refreshed since seconds) = Stands IsForAllocation log.clock (time_after since (lifetime_of seconds)).0 log.granted
+SessionBacked log (Allocated since seconds allocation) = IsHeld IsForAllocation log.clock (time_after since (lifetime_of seconds)).0 log.accepted
+SessionBacked log (Refreshed since seconds) = IsHeld IsForAllocation log.clock (time_after since (lifetime_of seconds)).0 log.accepted
 SessionBacked log (Dropped reason) = Unit {0}
 SessionBacked log (Doubted code) = Unit {0}
 SessionBacked log (Hinted code) = Unit {0}
@@ -92,10 +92,9 @@ session_applied log (Challenged b code) realm nonce s c result new c_new h backe
     (session_cond log (challenge_taken realm nonce c).1 (with_another (at_time log.clock) b code s) (with_doubt code s)
     (session_another log (at_time log.clock) b code s h) (session_doubt log code s h))
 session_applied log (Allocated since seconds allocation) realm _ s c result new c_new h backed step =
-    session_is log (is_allocated (at_time log.clock) since seconds allocation s) new step.1
-    (session_allocated log s.phase (at_time log.clock) since seconds allocation s backed)
+    session_is log _ new step.1 (search (session_allocated log s.phase (at_time log.clock) since seconds allocation s backed))
 session_applied log (Refreshed since seconds) realm _ s c result new c_new h backed step =
-    session_is log (is_refreshed since seconds s) new step.1 (session_refreshed log s.phase since seconds s backed)
+    session_is log _ new step.1 (search (session_refreshed log s.phase since seconds s backed))
 session_applied log (Lasting since) realm _ s c result new c_new h backed step = session_is log s new step.1 h
 session_applied log (Redirected server) realm _ s c result new c_new h backed step = follows log (at_time log.clock) server s new h step.1
 session_applied log (Failed code) realm _ s c result new c_new h backed step =
@@ -104,7 +103,7 @@ session_applied log (Failed code) realm _ s c result new c_new h backed step =
 -- ---- a response to the request for a lease
 
 abbrev LeaseBacked : Log → Lease → Outcome → Type 0
-LeaseBacked log g (Lasting since) = Stands (IsForLease g.peer g.number) log.clock (time_after since (lifetime_for g.number)).0 log.granted
+LeaseBacked log g (Lasting since) = IsHeld (IsForLease g.peer g.number) log.clock (time_after since (lifetime_for g.number)).0 log.accepted
 LeaseBacked log g (Allocated since seconds allocation) = Unit {0}
 LeaseBacked log g (Refreshed since seconds) = Unit {0}
 LeaseBacked log g (Dropped reason) = Unit {0}
@@ -115,7 +114,7 @@ LeaseBacked log g (Redirected server) = Unit {0}
 LeaseBacked log g (Failed code) = Unit {0}
 
 lasting_backed : (log : Log) (r : Request) (since : Instant) (peer : Option SocketAddr) (number : Option ℕ) → IsForLease peer number r
-    → IsBacked log r (Lasting since) → Stands (IsForLease peer number) log.clock (time_after since (lifetime_for number)).0 log.granted
+    → IsBacked log r (Lasting since) → IsHeld (IsForLease peer number) log.clock (time_after since (lifetime_for number)).0 log.accepted
 lasting_backed log r since None number is h = absurd is
 lasting_backed log r since (Some peer) number is h = h number peer is
 
@@ -166,8 +165,8 @@ lease_applied log place (Challenged b code) realm nonce s l c result new l_new c
 )
 lease_applied log place (Lasting since) realm _ s l c result new l_new c_new h backed step = (
   session_is log s new step.1 h.0,
-  leases_is log (with_changed place (lasts_since since) l) l_new step.2
-      (good_change log place (lasts_since since) l h.1 (good_lasts log since (at_place place l) (h.1 place) backed)),
+  leases_is log _ l_new step.2
+      (search (good_change log place (lasts_since since) l h.1 (good_lasts log since (at_place place l) (h.1 place) backed))),
 )
 lease_applied log place (Failed code) realm _ s l c result new l_new c_new h backed step = (
   session_is log (lease_failed (at_time log.clock) code s) new step.1 (session_lease_failed log (at_time log.clock) code s h.0),
@@ -186,8 +185,8 @@ lease_applied log place (Redirected server) realm _ s l c result new l_new c_new
 -- ---- any datagram of the server
 
 abbrev AllHonest : (List ℕ → List ℕ → List ℕ) → Log → Message → Session → List Lease → Option Credentials → Type 0
-AllHonest mac log m s l c = code_of m ≡ None → IsHonest mac m log.clock log.sent log.granted c s.operation
-    × ((place : ℕ) → IsHonest mac m log.clock log.sent log.granted c (at_place place l).operation)
+AllHonest mac log m s l c = code_of m ≡ None → IsHonest mac m log.clock log.sent log.accepted c s.operation
+    × ((place : ℕ) → IsHonest mac m log.clock log.sent log.accepted c (at_place place l).operation)
 
 responded : (p : Option ℕ) (mac : List ℕ → List ℕ → List ℕ) (log : Log) (m : Message) (alternate : Option SocketAddr) (s : Session) (l : List Lease)
     (c : Option Credentials) (result : Receipt) (new : Session) (l_new : List Lease) (c_new : Option Credentials) → Good log s l
@@ -283,24 +282,24 @@ good_poll log (Err e) packet s l h = h
 
 -- ---- one call
 
-abbrev log_of : List Grant → World → Log
-log_of granted w = record { sent = w.sent; clock = w.clock; granted = granted }
+abbrev log_of : List Acceptance → World → Log
+log_of accepted w = record { sent = w.sent; clock = w.clock; accepted = accepted }
 
-abbrev WorldGood : List Grant → World → Type 0
-WorldGood granted w = Good (log_of granted w) w.session w.leases
+abbrev WorldGood : List Acceptance → World → Type 0
+WorldGood accepted w = Good (log_of accepted w) w.session w.leases
 
-abbrev log_at : List Grant → List Sent → ℕ → Log
-log_at granted sent now = record { sent = sent; clock = now; granted = granted }
+abbrev log_at : List Acceptance → List Sent → ℕ → Log
+log_at accepted sent now = record { sent = sent; clock = now; accepted = accepted }
 
-sent_is : (granted : List Grant) (sent : List Sent) (new : World) → new.sent ≡ sent → Good (log_at granted sent new.clock) new.session new.leases → WorldGood granted new
-sent_is granted sent new e h =
-    subst (λ (x : List Sent). Good (log_at granted x new.clock) new.session new.leases) (sym e) h
+sent_is : (accepted : List Acceptance) (sent : List Sent) (new : World) → new.sent ≡ sent → Good (log_at accepted sent new.clock) new.session new.leases → WorldGood accepted new
+sent_is accepted sent new e h =
+    subst (λ (x : List Sent). Good (log_at accepted x new.clock) new.session new.leases) (sym e) h
 
-becomes : (granted : List Grant) (s : Session) (l : List Lease) (sent : List Sent) (new : World) → Good (log_at granted sent new.clock) s l
-    → Becomes s l sent new → WorldGood granted new
-becomes granted s l sent new h does =
-    sent_is granted sent new does.2
-    (session_is (log_at granted sent new.clock) s new.session does.0 h.0, leases_is (log_at granted sent new.clock) l new.leases does.1 h.1)
+becomes : (accepted : List Acceptance) (s : Session) (l : List Lease) (sent : List Sent) (new : World) → Good (log_at accepted sent new.clock) s l
+    → Becomes s l sent new → WorldGood accepted new
+becomes accepted s l sent new h does =
+    sent_is accepted sent new does.2
+    (session_is (log_at accepted sent new.clock) s new.session does.0 h.0, leases_is (log_at accepted sent new.clock) l new.leases does.1 h.1)
 
 good_event : (log : Log) (s : Session) (l : List Lease) → Good log s l → Good log (session_after_event s l) (leases_after_event s l)
 good_event log s l h =
@@ -310,63 +309,64 @@ good_event log s l h =
       good_list_cond log (is_some s.made) l (reported l).0 h.1 (good_reported log l h.1),
     )
 
-does_good : (call : Call) (mac : List ℕ → List ℕ → List ℕ) (granted : List Grant) (w new : World)
-    → Good (log_at granted w.sent new.clock) w.session w.leases → Does call mac granted new.clock w new → WorldGood granted new
-does_good start mac granted w new h does =
-    let log = log_at granted w.sent new.clock in
-    becomes granted _ w.leases w.sent new (session_started log (at_time new.clock) w.session h.0, h.1) does
-does_good (close has) mac granted w new h does =
-    let log = log_at granted w.sent new.clock in
-    becomes granted _ _ w.sent new
+does_good : (call : Call) (mac : List ℕ → List ℕ → List ℕ) (accepted : List Acceptance) (w new : World)
+    → Good (log_at accepted w.sent new.clock) w.session w.leases → Does call mac accepted new.clock w new → WorldGood accepted new
+does_good start mac accepted w new h does =
+    let log = log_at accepted w.sent new.clock in
+    becomes accepted _ w.leases w.sent new (session_started log (at_time new.clock) w.session h.0, h.1) does
+does_good (close has) mac accepted w new h does =
+    let log = log_at accepted w.sent new.clock in
+    becomes accepted _ _ w.sent new
     (session_closed log w.session.phase (at_time new.clock) has w.session h.0, good_kept log new.session.phase w.leases h.1) does
-does_good (permit peer) mac granted w new h does =
-    let log = log_at granted w.sent new.clock in
-    becomes granted w.session _ w.sent new (h.0, good_permits log (at_time new.clock) peer w.session w.leases h.1) does
-does_good (send peer media) mac granted w new h does =
-    let log = log_at granted w.sent new.clock in
-    becomes granted _ _ w.sent new (
+does_good (permit peer) mac accepted w new h does =
+    let log = log_at accepted w.sent new.clock in
+    becomes accepted w.session _ w.sent new (h.0, good_permits log (at_time new.clock) peer w.session w.leases h.1) does
+does_good (send peer media) mac accepted w new h does =
+    let log = log_at accepted w.sent new.clock in
+    becomes accepted _ _ w.sent new (
       session_routed log (routed (at_time new.clock) peer media w.session w.leases).1 (at_time new.clock) w.session h.0,
       good_routed log (at_time new.clock) peer media w.session w.leases h.1,
     ) does
-does_good probe mac granted w new h does =
-    let log = log_at granted w.sent new.clock in
-    becomes granted _ w.leases w.sent new (session_probed log (at_time new.clock) w.session h.0, h.1) does
-does_good (handle_timeout stream stream_new) mac granted w new h does =
-    let log = log_at granted w.sent new.clock in
+does_good probe mac accepted w new h does =
+    let log = log_at accepted w.sent new.clock in
+    becomes accepted _ w.leases w.sent new (session_probed log (at_time new.clock) w.session h.0, h.1) does
+does_good (handle_timeout stream stream_new) mac accepted w new h does =
+    let log = log_at accepted w.sent new.clock in
     let now = at_time new.clock in
     let s = with_renewal now w.session in
     let l = advanced_in w.session.phase now w.leases in
-    sent_is granted w.sent new does.1
+    sent_is accepted w.sent new does.1
     (timed_out_by (lease_due now (step_of now s) s l) log (step_of now s) (key_now w.credentials) stream s l new.session new.leases stream_new does.0
     (session_renewal log now w.session h.0, good_advanced_in log w.session.phase now w.leases h.1) does.2)
-does_good (poll_transmit result) mac granted w new h does =
-    let log = log_at granted w.sent new.clock in
-    becomes granted _ _ _ new (good_poll log result (client_packet w.session w.leases) w.session w.leases h) does
-does_good poll_event mac granted w new h does =
-    let log = log_at granted w.sent new.clock in
-    becomes granted _ _ w.sent new (good_event log w.session w.leases h) does
-does_good (receive bytes result) mac granted w new h does =
-    let log = log_at granted w.sent new.clock in
-    sent_is granted w.sent new does.1
+does_good (poll_transmit result) mac accepted w new h does =
+    let log = log_at accepted w.sent new.clock in
+    becomes accepted _ _ _ new (good_poll log result (client_packet w.session w.leases) w.session w.leases h) does
+does_good poll_event mac accepted w new h does =
+    let log = log_at accepted w.sent new.clock in
+    becomes accepted _ _ w.sent new (good_event log w.session w.leases h) does
+does_good (receive bytes result) mac accepted w new h does =
+    let log = log_at accepted w.sent new.clock in
+    sent_is accepted w.sent new does.1
     (received (datagram_of bytes) mac log (alternate_in bytes) w.session w.leases w.credentials result new.session new.leases new.credentials h
     does.0 does.2)
 
-happens_good : (mac : List ℕ → List ℕ → List ℕ) (granted : List Grant) (w new : World) → WorldGood granted w → Happens mac granted w new → WorldGood granted new
-happens_good mac granted w new h step =
-    does_good step.call mac granted w new
-    (session_later (log_of granted w) new.clock w.session step.forward h.0, leases_later (log_of granted w) new.clock w.leases step.forward h.1) step.does
+happens_good : (mac : List ℕ → List ℕ → List ℕ) (accepted : List Acceptance) (w new : World) → WorldGood accepted w → Happens mac accepted w new → WorldGood accepted new
+happens_good mac accepted w new h step =
+    let forward : w.clock ≤ new.clock = omega (arith, step.forward) in
+    does_good step.call mac accepted w new
+    (session_later (log_of accepted w) new.clock w.session forward h.0, leases_later (log_of accepted w) new.clock w.leases forward h.1) step.does
 
 -- ---- runs
 
-good_stands : (granted : List Grant) (w : World) → WorldGood granted w → BeliefStands granted w
-good_stands granted w h = record { allocation = h.0.1; leases = λ place. (h.1 place).2 }
+good_held : (accepted : List Acceptance) (w : World) → WorldGood accepted w → BeliefIsTrue accepted w
+good_held accepted w h = record { allocation = h.0.1; leases = λ place. (h.1 place).2 }
 
-run_stands : (mac : List ℕ → List ℕ → List ℕ) (granted : List Grant) (w : World) (run : List World) → WorldGood granted w → IsRun mac granted w run
-    → BeliefAlwaysStands granted run
-run_stands mac granted w [] h steps = tt
-run_stands mac granted w (next ∷ rest) h steps =
-    let after = happens_good mac granted w next h steps.0 in
-    (good_stands granted next after, run_stands mac granted next rest after steps.1)
+run_held : (mac : List ℕ → List ℕ → List ℕ) (accepted : List Acceptance) (w : World) (run : List World) → WorldGood accepted w → IsRun mac accepted w run
+    → BeliefIsAlwaysTrue accepted run
+run_held mac accepted w [] h steps = tt
+run_held mac accepted w (next ∷ rest) h steps =
+    let after = happens_good mac accepted w next h steps.0 in
+    (good_held accepted next after, run_held mac accepted next rest after steps.1)
 
 at_fresh : (n k : ℕ) → (k < n) ⊎ (n ≤ k) → at_place k (replicate n unused) ≡ unused
 at_fresh n k (inl h) = get_or-replicate n k unused unused h
@@ -375,11 +375,11 @@ at_fresh n k (inr h) = get_or_past (replicate n unused) k unused (subst (λ (m :
 good_fresh : (log : Log) (n k : ℕ) → LeaseGood log (at_place k (replicate n unused))
 good_fresh log n k = subst (λ (g : Lease). LeaseGood log g) (sym (at_fresh n k (cases_lt k n))) (tt, tt, tt)
 
-pub fresh_stands : (mac : List ℕ → List ℕ → List ℕ) (granted : List Grant) (w : World) (run : List World) → IsFresh w → IsRun mac granted w run
-    → BeliefAlwaysStands granted run
-fresh_stands mac granted w run fresh steps =
-    let log = log_of granted w in
-    run_stands mac granted w run (
+pub fresh_held : (mac : List ℕ → List ℕ → List ℕ) (accepted : List Acceptance) (w : World) (run : List World) → IsFresh w → IsRun mac accepted w run
+    → BeliefIsAlwaysTrue accepted run
+fresh_held mac accepted w run fresh steps =
+    let log = log_of accepted w in
+    run_held mac accepted w run (
       session_is log (new_session fresh.server fresh.family fresh.timing fresh.lifetime) w.session fresh.session (tt, tt),
       leases_is log (replicate fresh.places unused) w.leases fresh.leases (good_fresh log fresh.places),
     ) steps

@@ -1,4 +1,4 @@
--- What the calls of a client do to its session keeps what it believes of its allocation within what was granted.
+-- What the calls of a client do to its session keeps what it believes of its allocation within what the server has.
 use Rattle.std.proofs.Common.{◌≡◌, ℕ, ◌==◌, ◌&&◌, ◌||◌, Bool, true, false, cond, List, Option, Some, None, is_none, refl}
 use Rattle.std.specs.declared.net.socket_addr.SocketAddr.{SocketAddr}
 use Rattle.rand_core.specs.Stream.{Stream, fill_bytes}
@@ -22,20 +22,20 @@ use Rattle.is_turn.specs.Operations.{is_exhausted, sent_once_more, polled, doubt
 use Rattle.is_turn.specs.Relaying.{after_route, sending_for}
 use Rattle.is_turn.specs.Session.{lifetime_of, is_new, is_ready, with_request, changed_by, request_timing, asking, turn_started, closed, lost, freed, may_be_made, unsent, left, closed_early, closed_in, extended, allocated_in, refreshed_in, renewed, is_redirected, is_gone, retried, not_renewed, failed_in, probed, lease_failed, is_renewal_due, with_renewal, sending, tried_by, repeated_by}
 use Rattle.is_turn.specs.Turn.{after_step, packet_polled, reported_by, with_doubt, with_hint, with_another}
-use Rattle.is_turn.specs.Worlds.{Grant, IsNew, Stands, IsForAllocation, AllocationStands}
+use Rattle.is_turn.specs.Worlds.{Acceptance, IsNew, IsHeld, IsForAllocation, AllocationIsHeld}
 use Rattle.is_turn.proofs.Beliefs.{Log, AttemptsGood, OperationGood, SessionGood, attempts_with}
 
 pub session_cond : (log : Log) (b : Bool) (x y : Session) → SessionGood log x → SessionGood log y → SessionGood log (cond b x y)
 session_cond log true x y p q = p
 session_cond log false x y p q = q
 
-stands_in : (phase : Phase) (until : Instant) (now : ℕ) (granted : List Grant) → Stands IsForAllocation now until.0 granted → AllocationStands phase until now granted
-stands_in phases.Ready until now granted h = h
-stands_in phases.New until now granted h = tt
-stands_in phases.Asking until now granted h = tt
-stands_in phases.Leaving until now granted h = tt
-stands_in phases.Closing until now granted h = tt
-stands_in phases.Ended until now granted h = tt
+held_in : (phase : Phase) (until : Instant) (now : ℕ) (accepted : List Acceptance) → IsHeld IsForAllocation now until.0 accepted → AllocationIsHeld phase until now accepted
+held_in phases.Ready until now accepted h = h
+held_in phases.New until now accepted h = tt
+held_in phases.Asking until now accepted h = tt
+held_in phases.Leaving until now accepted h = tt
+held_in phases.Closing until now accepted h = tt
+held_in phases.Ended until now accepted h = tt
 
 -- ---- requests and ends
 
@@ -94,7 +94,7 @@ session_lease_failed log now code s h =
 -- ---- genuine responses
 
 pub session_allocated : (log : Log) (phase : Phase) (now since : Instant) (seconds : ℕ) (allocation : Allocation) (s : Session)
-    → Stands IsForAllocation log.clock (time_after since (lifetime_of seconds)).0 log.granted
+    → IsHeld IsForAllocation log.clock (time_after since (lifetime_of seconds)).0 log.accepted
     → SessionGood log (allocated_in phase now allocation (extended since seconds s))
 session_allocated log phases.Leaving now since seconds allocation s h = session_freed log now (extended since seconds s)
 session_allocated log phases.Ready now since seconds allocation s h = (tt, h)
@@ -104,14 +104,14 @@ session_allocated log phases.Closing now since seconds allocation s h = (tt, h)
 session_allocated log phases.Ended now since seconds allocation s h = (tt, h)
 
 session_renewed : (log : Log) (since : Instant) (seconds : ℕ) (s : Session)
-    → Stands IsForAllocation log.clock (time_after since (lifetime_of seconds)).0 log.granted
+    → IsHeld IsForAllocation log.clock (time_after since (lifetime_of seconds)).0 log.accepted
     → SessionGood log (cond (seconds == 0) (lost None None s) (renewed since seconds s))
 session_renewed log since seconds s h =
     session_cond log (seconds == 0) (lost None None s) (renewed since seconds s) (tt, tt)
-    (tt, stands_in s.phase (time_after since (lifetime_of seconds)) log.clock log.granted h)
+    (tt, held_in s.phase (time_after since (lifetime_of seconds)) log.clock log.accepted h)
 
 pub session_refreshed : (log : Log) (phase : Phase) (since : Instant) (seconds : ℕ) (s : Session)
-    → Stands IsForAllocation log.clock (time_after since (lifetime_of seconds)).0 log.granted → SessionGood log (refreshed_in phase since seconds s)
+    → IsHeld IsForAllocation log.clock (time_after since (lifetime_of seconds)).0 log.accepted → SessionGood log (refreshed_in phase since seconds s)
 session_refreshed log phases.Closing since seconds s h = (tt, tt)
 session_refreshed log phases.Ready since seconds s h = session_renewed log since seconds s h
 session_refreshed log phases.New since seconds s h = session_renewed log since seconds s h

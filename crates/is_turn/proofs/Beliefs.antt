@@ -1,4 +1,4 @@
--- What a client believes to stand, stands at the server: each end is counted from a time at which no packet of its request had left.
+-- What a client believes is true: each end is counted from a time at which no packet of its request had left.
 use Rattle.std.proofs.Common.{◌≡◌, ℕ, ◌+◌, ◌≤◌, Bool, true, false, cond, List, [], ◌∷◌, Option, Some, None, bytes_eq, arith, refl, sym, subst, inl, inr}
 use Rattle.std.specs.declared.net.socket_addr.SocketAddr.{SocketAddr}
 use Rattle.is_proto.specs.Times.{later}
@@ -16,14 +16,14 @@ use Rattle.is_turn.specs.declared.session.Session.{Session}
 use Rattle.is_turn.specs.Attempts.{if_id, or, attempt_with, is_of_id, with_attempt}
 use Rattle.is_turn.specs.Outcome.{answered_in, id_in, answers_request}
 use Rattle.is_turn.specs.Places.{at_place}
-use Rattle.is_turn.specs.Worlds.{Sent, Grant, WasSent, promised, WasGranted, IsNew, Stands, IsForAllocation, IsForLease, AllocationStands, EndStands}
+use Rattle.is_turn.specs.Worlds.{Sent, Acceptance, WasSent, stated_lifetime, WasAccepted, IsNew, IsHeld, IsForAllocation, IsForLease, AllocationIsHeld, EndIsHeld}
 
--- ---- a log: what left, the time, and what was granted
+-- ---- a log: what left, the time, and what the server accepted
 
 pub record Log : Type 0 where
   pub sent : List Sent
   pub clock : ℕ
-  pub granted : List Grant
+  pub accepted : List Acceptance
 
 -- each packet with this ID left at this time or later
 abbrev pub SentSince : List ℕ → ℕ → List Sent → Type 0
@@ -47,7 +47,7 @@ RequestGood peer number None = Unit {0}
 RequestGood peer number (Some o) = IsForLease peer number o.request
 
 abbrev pub FieldsGood : Log → Option SocketAddr → Option ℕ → Option Instant → Option Operation → Type 0
-FieldsGood log peer number until o = OperationGood log o × RequestGood peer number o × EndStands peer number until log.clock log.granted
+FieldsGood log peer number until o = OperationGood log o × RequestGood peer number o × EndIsHeld peer number until log.clock log.accepted
 
 abbrev pub LeaseGood : Log → Lease → Type 0
 LeaseGood log g = FieldsGood log g.peer g.number g.until g.operation
@@ -56,7 +56,7 @@ abbrev pub LeasesGood : Log → List Lease → Type 0
 LeasesGood log l = (place : ℕ) → LeaseGood log (at_place place l)
 
 abbrev pub SessionGood : Log → Session → Type 0
-SessionGood log s = OperationGood log s.operation × AllocationStands s.phase s.until log.clock log.granted
+SessionGood log s = OperationGood log s.operation × AllocationIsHeld s.phase s.until log.clock log.accepted
 
 -- ---- an attempt that a response answers was counted from before its packets
 
@@ -69,22 +69,22 @@ sent_since id other since time (x ∷ sent) same all (inr h) = sent_since id oth
 later_le : (since by : ℕ) → later since by ≤ since + by
 later_le since by = omega arith
 
--- a grant reaches as far as what is counted from the attempt
-stands_by : (IsFor : Request → Type 0) (r : Request) (m : Message) (now until : ℕ) (a : Attempt) (sent : List Sent) (granted : List Grant)
-    → IsFor r → bytes_eq a.id.0 m.id ≡ true → SentSince a.id.0 a.since.0 sent → until ≤ a.since.0 + promised r m → WasGranted r m now sent granted
-    → Stands IsFor now until granted
-stands_by IsFor r m now until a sent [] is same all reach was = absurd was
-stands_by IsFor r m now until a sent (g ∷ granted) is same all reach (inl h) =
-    let first : a.since.0 ≤ g.time = sent_since a.id.0 m.id a.since.0 g.time sent same all h.after in
-    inl (subst IsFor (sym h.request) is, h.before, omega (arith, reach, first, h.lasts))
-stands_by IsFor r m now until a sent (g ∷ granted) is same all reach (inr h) = inr (stands_by IsFor r m now until a sent granted is same all reach h)
+-- what was accepted lasts as long as what is counted from the attempt
+held_by : (IsFor : Request → Type 0) (r : Request) (m : Message) (now until : ℕ) (a : Attempt) (sent : List Sent) (accepted : List Acceptance)
+    → IsFor r → bytes_eq a.id.0 m.id ≡ true → SentSince a.id.0 a.since.0 sent → until ≤ a.since.0 + stated_lifetime r m → WasAccepted r m now sent accepted
+    → IsHeld IsFor now until accepted
+held_by IsFor r m now until a sent [] is same all reach was = absurd was
+held_by IsFor r m now until a sent (g ∷ accepted) is same all reach (inl h) =
+    let first = sent_since a.id.0 m.id a.since.0 _ sent same all h.after in
+    inl (subst IsFor (sym h.request) is, omega (arith, h.before), omega (arith, reach, first, h.lasts))
+held_by IsFor r m now until a sent (g ∷ accepted) is same all reach (inr h) = inr (held_by IsFor r m now until a sent accepted is same all reach h)
 
 -- ---- the clock goes forward
 
-pub stands_later : (IsFor : Request → Type 0) (now after until : ℕ) (granted : List Grant) → now ≤ after → Stands IsFor now until granted → Stands IsFor after until granted
-stands_later IsFor now after until [] le h = absurd h
-stands_later IsFor now after until (g ∷ granted) le (inl h) = inl (h.0, omega (arith, le, h.1), h.2)
-stands_later IsFor now after until (g ∷ granted) le (inr h) = inr (stands_later IsFor now after until granted le h)
+pub held_later : (IsFor : Request → Type 0) (now after until : ℕ) (accepted : List Acceptance) → now ≤ after → IsHeld IsFor now until accepted → IsHeld IsFor after until accepted
+held_later IsFor now after until [] le h = absurd h
+held_later IsFor now after until (g ∷ accepted) le (inl h) = inl (h.0, omega (arith, le, h.1), h.2)
+held_later IsFor now after until (g ∷ accepted) le (inr h) = inr (held_later IsFor now after until accepted le h)
 
 abbrev at_clock : ℕ → Log → Log
 at_clock now log = record log { clock = now }
@@ -104,28 +104,28 @@ operation_later log now (Some o) le h = (
   attempt_later log now o.attempts.sixth le h.5,
 )
 
-allocation_later : (phase : Phase) (until : Instant) (now after : ℕ) (granted : List Grant) → now ≤ after
-    → AllocationStands phase until now granted → AllocationStands phase until after granted
-allocation_later phases.Ready until now after granted le h = stands_later IsForAllocation now after until.0 granted le h
-allocation_later phases.New until now after granted le h = tt
-allocation_later phases.Asking until now after granted le h = tt
-allocation_later phases.Leaving until now after granted le h = tt
-allocation_later phases.Closing until now after granted le h = tt
-allocation_later phases.Ended until now after granted le h = tt
+allocation_later : (phase : Phase) (until : Instant) (now after : ℕ) (accepted : List Acceptance) → now ≤ after
+    → AllocationIsHeld phase until now accepted → AllocationIsHeld phase until after accepted
+allocation_later phases.Ready until now after accepted le h = held_later IsForAllocation now after until.0 accepted le h
+allocation_later phases.New until now after accepted le h = tt
+allocation_later phases.Asking until now after accepted le h = tt
+allocation_later phases.Leaving until now after accepted le h = tt
+allocation_later phases.Closing until now after accepted le h = tt
+allocation_later phases.Ended until now after accepted le h = tt
 
-end_later : (peer : Option SocketAddr) (number : Option ℕ) (until : Option Instant) (now after : ℕ) (granted : List Grant) → now ≤ after
-    → EndStands peer number until now granted → EndStands peer number until after granted
-end_later peer number None now after granted le h = tt
-end_later peer number (Some until) now after granted le h = stands_later (IsForLease peer number) now after until.0 granted le h
+end_later : (peer : Option SocketAddr) (number : Option ℕ) (until : Option Instant) (now after : ℕ) (accepted : List Acceptance) → now ≤ after
+    → EndIsHeld peer number until now accepted → EndIsHeld peer number until after accepted
+end_later peer number None now after accepted le h = tt
+end_later peer number (Some until) now after accepted le h = held_later (IsForLease peer number) now after until.0 accepted le h
 
 pub session_later : (log : Log) (now : ℕ) (s : Session) → log.clock ≤ now → SessionGood log s → SessionGood (at_clock now log) s
 session_later log now s le h =
-    (operation_later log now s.operation le h.0, allocation_later s.phase s.until log.clock now log.granted le h.1)
+    (operation_later log now s.operation le h.0, allocation_later s.phase s.until log.clock now log.accepted le h.1)
 
 pub leases_later : (log : Log) (now : ℕ) (l : List Lease) → log.clock ≤ now → LeasesGood log l → LeasesGood (at_clock now log) l
 leases_later log now l le h = λ place.
     let g = at_place place l in
-    (operation_later log now g.operation le (h place).0, (h place).1, end_later g.peer g.number g.until log.clock now log.granted le (h place).2)
+    (operation_later log now g.operation le (h place).0, (h place).1, end_later g.peer g.number g.until log.clock now log.accepted le (h place).2)
 
 -- ---- a packet leaves
 
@@ -198,10 +198,10 @@ found_answer : (b : Bool) (log : Log) (m : Message) (o : Operation) (x : Attempt
 found_answer true log m o x good e = found_with log (id_in m) o.attempts x good e
 found_answer false log m o x good e = absurd (cc e)
 
--- what was granted to a request that the message answers stands as long as its attempt says
-pub answered_stands : (log : Log) (IsFor : Request → Type 0) (m : Message) (o : Operation) (a : Attempt) (until : ℕ) → AttemptsGood log o.attempts
-    → answered_in m o ≡ Some a → IsFor o.request → until ≤ a.since.0 + promised o.request m → WasGranted o.request m log.clock log.sent log.granted
-    → Stands IsFor log.clock until log.granted
-answered_stands log IsFor m o a until good e is reach was =
+-- what was accepted of a request that the message answers lasts as long as its attempt says
+pub answered_held : (log : Log) (IsFor : Request → Type 0) (m : Message) (o : Operation) (a : Attempt) (until : ℕ) → AttemptsGood log o.attempts
+    → answered_in m o ≡ Some a → IsFor o.request → until ≤ a.since.0 + stated_lifetime o.request m → WasAccepted o.request m log.clock log.sent log.accepted
+    → IsHeld IsFor log.clock until log.accepted
+answered_held log IsFor m o a until good e is reach was =
     let found = found_answer (answers_request o.request m.method) log m o a good e in
-    stands_by IsFor o.request m log.clock until a log.sent log.granted is found.0 found.1.1 reach was
+    held_by IsFor o.request m log.clock until a log.sent log.accepted is found.0 found.1.1 reach was

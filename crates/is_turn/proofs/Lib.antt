@@ -5,7 +5,7 @@ mod Receiving
 mod OneChanges
 mod Bounded
 mod NamedPeers
-mod AskedFor
+mod RequestedData
 mod Beliefs
 mod BeliefLeases
 mod BeliefSessions

@@ -98,7 +98,7 @@ keeps_either : (b : Bool) (l : List Lease) (x y : List Lease × Bool) → KeepsP
 keeps_either true l x y p q = p
 keeps_either false l x y p q = q
 
--- ---- the user names a peer
+-- ---- a peer is named
 
 keeps_named : (now : Instant) (place : ℕ) (l : List Lease) → KeepsPlaces l (named_in now place l).0
 keeps_named now place l =

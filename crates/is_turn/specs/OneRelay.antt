@@ -181,7 +181,7 @@ pub record ReportsEvent {H : Type 0} (result : Option TurnEvent) (before after :
   pub local : after.local ≡ before.local
   pub relayed : after.relayed ≡ relayed_after result before.relayed
 
--- one client is asked for the permission of a peer
+-- the permission of a peer is requested of one client
 pub record PermitsPeer {H : Type 0} (now : Instant) (peer : SocketAddr) (result : Bool) (before after : Relay H) : Type 0 where
   pub leases : (after.client.leases.items, result) ≡ permits_peer now peer before.client.session before.client.leases.items
   pub session : after.client.session ≡ before.client.session

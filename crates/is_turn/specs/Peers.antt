@@ -1,4 +1,4 @@
--- Of which peers a client has leases, and of which it takes data: of those that its user named.
+-- Of which peers a client has leases, and of which it takes data: of those that were requested.
 use Rattle.std.specs.Prelude.{◌≡◌, ◌⊎◌, ℕ, true, List, length, position, Some}
 use Rattle.std.specs.declared.net.socket_addr.SocketAddr.{SocketAddr}
 use Rattle.is_turn.specs.declared.lease.Lease.{Lease}
@@ -10,18 +10,18 @@ use Rattle.is_turn.specs.Receipts.{Receipt, other, own, dropped, peer_data}
 use Rattle.is_turn.specs.Session.{is_ready}
 
 -- there is an allocation, and a permission of the peer's IP address, which was requested and did not lapse since
-pub record IsAskedFor (peer : SocketAddr) (s : Session) (l : List Lease) : Type 0 where
+pub record IsRequested (peer : SocketAddr) (s : Session) (l : List Lease) : Type 0 where
   pub ready : is_ready s.phase ≡ true
   pub place : ℕ
   pub permission : position (is_permission_of (ip_of peer)) l ≡ Some place
   pub opened : is_open (at_place place l) ≡ true
 
--- data is taken only of a peer that was asked for
-abbrev pub DataIsAskedFor : Receipt → Session → List Lease → Type 0
-DataIsAskedFor other s l = Unit {0}
-DataIsAskedFor own s l = Unit {0}
-DataIsAskedFor (dropped reason) s l = Unit {0}
-DataIsAskedFor (peer_data peer contents) s l = IsAskedFor peer s l
+-- data is taken only of a peer that was requested
+abbrev pub DataIsRequested : Receipt → Session → List Lease → Type 0
+DataIsRequested other s l = Unit {0}
+DataIsRequested own s l = Unit {0}
+DataIsRequested (dropped reason) s l = Unit {0}
+DataIsRequested (peer_data peer contents) s l = IsRequested peer s l
 
 -- each place keeps its peer, and whether it is a channel's
 pub record KeepsPlaces (l new : List Lease) : Type 0 where

@@ -1,5 +1,5 @@
--- A TURN client, its server and the network between them. What the server grants is any list; packets may be lost, delayed and repeated. Two
--- rules bind them: the server grants a request only after a packet with its transaction ID left, and a response that says so arrives only
+-- A TURN client, its server and the network between them. What the server accepts is any list; packets may be lost, delayed and repeated. Two
+-- rules bind them: the server accepts a request only after a packet with its transaction ID left, and a response that says so arrives only
 -- after that.
 use Rattle.std.specs.Prelude.{◌≡◌, ◌⊎◌, ℕ, ◌+◌, ◌*◌, ◌≤◌, Bool, true, List, [], ◌∷◌, bytes_eq, replicate, Option, Some, None, Result, Ok, Err}
 use Rattle.std.specs.declared.net.socket_addr.SocketAddr.{SocketAddr}
@@ -41,8 +41,8 @@ pub record Sent : Type 0 where
   pub id : TransId
   pub time : ℕ
 
--- The server's word: from this time on it has what the request asks for, for so long, whatever comes later.
-pub record Grant : Type 0 where
+-- The server's word: from this time on it has what the request is for, for so long, whatever comes later.
+pub record Acceptance : Type 0 where
   pub request : Request
   pub time : ℕ
   pub lasts : ℕ
@@ -53,32 +53,32 @@ WasSent id time [] = ⊥
 WasSent id time (x ∷ sent) = ((x.id.0 ≡ id) × (x.time ≤ time)) ⊎ WasSent id time sent
 
 -- how long a success response says that it lasts: by its LIFETIME; a permission five minutes, a channel ten (RFC 8656, 9 and 12)
-abbrev pub promised : Request → Message → ℕ
-promised (Allocate seconds family) m = seconds_or_none m.attributes.lifetime * SECOND
-promised (Refresh seconds) m = seconds_or_none m.attributes.lifetime * SECOND
-promised (CreatePermission peer) m = 300 * SECOND
-promised (ChannelBind number peer) m = 600 * SECOND
+abbrev pub stated_lifetime : Request → Message → ℕ
+stated_lifetime (Allocate seconds family) m = seconds_or_none m.attributes.lifetime * SECOND
+stated_lifetime (Refresh seconds) m = seconds_or_none m.attributes.lifetime * SECOND
+stated_lifetime (CreatePermission peer) m = 300 * SECOND
+stated_lifetime (ChannelBind number peer) m = 600 * SECOND
 
--- what a response to the request said: granted after a packet with the response's ID left, and before the response arrived
-pub record IsGranted (r : Request) (m : Message) (now : ℕ) (sent : List Sent) (g : Grant) : Type 0 where
+-- what a response to the request said: accepted after a packet with the response's ID left, and before the response arrived
+pub record IsAccepted (r : Request) (m : Message) (now : ℕ) (sent : List Sent) (g : Acceptance) : Type 0 where
   pub request : g.request ≡ r
   pub after : WasSent m.id g.time sent
   pub before : g.time ≤ now
-  pub lasts : promised r m ≤ g.lasts
+  pub lasts : stated_lifetime r m ≤ g.lasts
 
-abbrev pub WasGranted : Request → Message → ℕ → List Sent → List Grant → Type 0
-WasGranted r m now sent [] = ⊥
-WasGranted r m now sent (g ∷ granted) = IsGranted r m now sent g ⊎ WasGranted r m now sent granted
+abbrev pub WasAccepted : Request → Message → ℕ → List Sent → List Acceptance → Type 0
+WasAccepted r m now sent [] = ⊥
+WasAccepted r m now sent (g ∷ accepted) = IsAccepted r m now sent g ⊎ WasAccepted r m now sent accepted
 
 -- nobody can sign, or the response is signed with the key of the attempt that it answers
 abbrev pub IsBelievable : (List ℕ → List ℕ → List ℕ) → Message → Attempt → Option Credentials → Type 0
 IsBelievable mac m a c = (c ≡ None) ⊎ IsSignedFor mac m a.key
 
 -- a success response to an attempt of the request was made by the server
-abbrev pub IsHonest : (List ℕ → List ℕ → List ℕ) → Message → ℕ → List Sent → List Grant → Option Credentials → Option Operation → Type 0
-IsHonest mac m now sent granted c None = Unit {0}
-IsHonest mac m now sent granted c (Some o) =
-    (a : Attempt) → answered_in m o ≡ Some a → IsBelievable mac m a c → WasGranted o.request m now sent granted
+abbrev pub IsHonest : (List ℕ → List ℕ → List ℕ) → Message → ℕ → List Sent → List Acceptance → Option Credentials → Option Operation → Type 0
+IsHonest mac m now sent accepted c None = Unit {0}
+IsHonest mac m now sent accepted c (Some o) =
+    (a : Attempt) → answered_in m o ≡ Some a → IsBelievable mac m a c → WasAccepted o.request m now sent accepted
 
 -- ---- what happens to a client
 
@@ -101,10 +101,10 @@ pub record IsFresh (w : World) : Type 0 where
   pub sent : w.sent ≡ []
 
 -- no forgery: each success response to a pending request was made by the server
-abbrev pub NoForgery : (List ℕ → List ℕ → List ℕ) → List ℕ → ℕ → List Grant → World → Type 0
-NoForgery mac bytes now granted w = (m : Message) → datagram_of bytes ≡ response m → code_of m ≡ None
-    → IsHonest mac m now w.sent granted w.credentials w.session.operation
-    × ((place : ℕ) → IsHonest mac m now w.sent granted w.credentials (at_place place w.leases).operation)
+abbrev pub NoForgery : (List ℕ → List ℕ → List ℕ) → List ℕ → ℕ → List Acceptance → World → Type 0
+NoForgery mac bytes now accepted w = (m : Message) → datagram_of bytes ≡ response m → code_of m ≡ None
+    → IsHonest mac m now w.sent accepted w.credentials w.session.operation
+    × ((place : ℕ) → IsHonest mac m now w.sent accepted w.credentials (at_place place w.leases).operation)
 
 -- the transaction ID is another one than those before: 96 random bits
 abbrev pub IsNew : List ℕ → List Sent → Type 0
@@ -142,44 +142,44 @@ abbrev pub Becomes : Session → List Lease → List Sent → World → Type 0
 Becomes s l sent new = (new.session ≡ s) × (new.leases ≡ l) × (new.sent ≡ sent)
 
 -- What a call at this time does, in the words of its contract. The server's datagrams are received; any other changes nothing.
-abbrev pub Does : Call → (List ℕ → List ℕ → List ℕ) → List Grant → ℕ → World → World → Type 0
-Does start mac granted now w new = Becomes (turn_started (at_time now) w.session) w.leases w.sent new
-Does (close has_credentials) mac granted now w new =
+abbrev pub Does : Call → (List ℕ → List ℕ → List ℕ) → List Acceptance → ℕ → World → World → Type 0
+Does start mac accepted now w new = Becomes (turn_started (at_time now) w.session) w.leases w.sent new
+Does (close has_credentials) mac accepted now w new =
     Becomes (turn_closed (at_time now) has_credentials w.session) (kept_leases new.session w.leases) w.sent new
-Does (permit peer) mac granted now w new = Becomes w.session (permits_peer (at_time now) peer w.session w.leases).0 w.sent new
-Does (send peer media) mac granted now w new =
+Does (permit peer) mac accepted now w new = Becomes w.session (permits_peer (at_time now) peer w.session w.leases).0 w.sent new
+Does (send peer media) mac accepted now w new =
     Becomes (after_route (routed (at_time now) peer media w.session w.leases).1 (at_time now) w.session)
     (routed (at_time now) peer media w.session w.leases).0 w.sent new
-Does probe mac granted now w new = Becomes (probed (at_time now) w.session) w.leases w.sent new
-Does (handle_timeout stream stream_new) mac granted now w new =
+Does probe mac accepted now w new = Becomes (probed (at_time now) w.session) w.leases w.sent new
+Does (handle_timeout stream stream_new) mac accepted now w new =
     IsNew (fill_bytes 12 stream).0 w.sent × (new.sent ≡ w.sent)
     × TimesOut (at_time now) (key_now w.credentials) stream w.session w.leases new.session new.leases stream_new
-Does (poll_transmit result) mac granted now w new =
+Does (poll_transmit result) mac accepted now w new =
     Becomes (after_poll result (client_packet w.session w.leases) w.session) (leases_after_poll result (client_packet w.session w.leases) w.leases)
     (sent_after result (client_packet w.session w.leases) now w.sent) new
-Does poll_event mac granted now w new =
+Does poll_event mac accepted now w new =
     Becomes (session_after_event w.session w.leases) (leases_after_event w.session w.leases) w.sent new
-Does (receive bytes result) mac granted now w new =
-    NoForgery mac bytes now granted w × (new.sent ≡ w.sent)
+Does (receive bytes result) mac accepted now w new =
+    NoForgery mac bytes now accepted w × (new.sent ≡ w.sent)
     × IsReceived mac (at_time now) bytes w.session w.leases w.credentials result new.session new.leases new.credentials
 
 -- one call, and the clock, which goes forward
-pub record Happens (mac : List ℕ → List ℕ → List ℕ) (granted : List Grant) (w new : World) : Type 0 where
+pub record Happens (mac : List ℕ → List ℕ → List ℕ) (accepted : List Acceptance) (w new : World) : Type 0 where
   pub call : Call
   pub forward : w.clock ≤ new.clock
-  pub does : Does call mac granted new.clock w new
+  pub does : Does call mac accepted new.clock w new
 
 -- the worlds after each of the calls
-abbrev pub IsRun : (List ℕ → List ℕ → List ℕ) → List Grant → World → List World → Type 0
-IsRun mac granted w [] = Unit {0}
-IsRun mac granted w (next ∷ rest) = Happens mac granted w next × IsRun mac granted next rest
+abbrev pub IsRun : (List ℕ → List ℕ → List ℕ) → List Acceptance → World → List World → Type 0
+IsRun mac accepted w [] = Unit {0}
+IsRun mac accepted w (next ∷ rest) = Happens mac accepted w next × IsRun mac accepted next rest
 
 -- ---- belief and truth
 
--- of these requests one was granted by now, and lasts until then
-abbrev pub Stands : (Request → Type 0) → ℕ → ℕ → List Grant → Type 0
-Stands IsFor now until [] = ⊥
-Stands IsFor now until (g ∷ granted) = (IsFor g.request × (g.time ≤ now) × (until ≤ g.time + g.lasts)) ⊎ Stands IsFor now until granted
+-- of these requests one was accepted by now, and lasts until then
+abbrev pub IsHeld : (Request → Type 0) → ℕ → ℕ → List Acceptance → Type 0
+IsHeld IsFor now until [] = ⊥
+IsHeld IsFor now until (g ∷ accepted) = (IsFor g.request × (g.time ≤ now) × (until ≤ g.time + g.lasts)) ⊎ IsHeld IsFor now until accepted
 
 abbrev pub IsForAllocation : Request → Type 0
 IsForAllocation (Allocate seconds family) = Unit {0}
@@ -193,27 +193,27 @@ IsForLease None number r = ⊥
 IsForLease (Some peer) number r = r ≡ request_for peer number
 
 -- while the client has an allocation, the server has it until the end that the client believes
-abbrev pub AllocationStands : Phase → Instant → ℕ → List Grant → Type 0
-AllocationStands phases.Ready until now granted = Stands IsForAllocation now until.0 granted
-AllocationStands phases.New until now granted = Unit {0}
-AllocationStands phases.Asking until now granted = Unit {0}
-AllocationStands phases.Leaving until now granted = Unit {0}
-AllocationStands phases.Closing until now granted = Unit {0}
-AllocationStands phases.Ended until now granted = Unit {0}
+abbrev pub AllocationIsHeld : Phase → Instant → ℕ → List Acceptance → Type 0
+AllocationIsHeld phases.Ready until now accepted = IsHeld IsForAllocation now until.0 accepted
+AllocationIsHeld phases.New until now accepted = Unit {0}
+AllocationIsHeld phases.Asking until now accepted = Unit {0}
+AllocationIsHeld phases.Leaving until now accepted = Unit {0}
+AllocationIsHeld phases.Closing until now accepted = Unit {0}
+AllocationIsHeld phases.Ended until now accepted = Unit {0}
 
-abbrev pub EndStands : Option SocketAddr → Option ℕ → Option Instant → ℕ → List Grant → Type 0
-EndStands peer number None now granted = Unit {0}
-EndStands peer number (Some until) now granted = Stands (IsForLease peer number) now until.0 granted
+abbrev pub EndIsHeld : Option SocketAddr → Option ℕ → Option Instant → ℕ → List Acceptance → Type 0
+EndIsHeld peer number None now accepted = Unit {0}
+EndIsHeld peer number (Some until) now accepted = IsHeld (IsForLease peer number) now until.0 accepted
 
 -- the same of the permission or the channel in a place
-abbrev pub LeaseStands : Lease → ℕ → List Grant → Type 0
-LeaseStands g now granted = EndStands g.peer g.number g.until now granted
+abbrev pub LeaseIsHeld : Lease → ℕ → List Acceptance → Type 0
+LeaseIsHeld g now accepted = EndIsHeld g.peer g.number g.until now accepted
 
--- what the client believes to stand, stands
-pub record BeliefStands (granted : List Grant) (w : World) : Type 0 where
-  pub allocation : AllocationStands w.session.phase w.session.until w.clock granted
-  pub leases : (place : ℕ) → LeaseStands (at_place place w.leases) w.clock granted
+-- what the client believes is true
+pub record BeliefIsTrue (accepted : List Acceptance) (w : World) : Type 0 where
+  pub allocation : AllocationIsHeld w.session.phase w.session.until w.clock accepted
+  pub leases : (place : ℕ) → LeaseIsHeld (at_place place w.leases) w.clock accepted
 
-abbrev pub BeliefAlwaysStands : List Grant → List World → Type 0
-BeliefAlwaysStands granted [] = Unit {0}
-BeliefAlwaysStands granted (w ∷ rest) = BeliefStands granted w × BeliefAlwaysStands granted rest
+abbrev pub BeliefIsAlwaysTrue : List Acceptance → List World → Type 0
+BeliefIsAlwaysTrue accepted [] = Unit {0}
+BeliefIsAlwaysTrue accepted (w ∷ rest) = BeliefIsTrue accepted w × BeliefIsAlwaysTrue accepted rest

@@ -2,6 +2,7 @@
 //! a socket, and keeps the mapping of the NATs between them alive; and a TURN client, with permissions and channels.
 #![tactic(auto)]
 
+mod allocating;
 mod alternate;
 mod answer;
 mod attempts;
@@ -10,7 +11,6 @@ mod client;
 mod clock;
 mod credentials;
 mod datagrams;
-mod granting;
 mod incoming;
 mod lease;
 mod lease_requests;

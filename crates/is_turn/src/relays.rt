@@ -13,7 +13,7 @@ use rand_core::Rng;
 use std::alloc::{AllocError, Global};
 use std::net::SocketAddr;
 
-/// All TURN clients of a program: one for each socket and server at which it wants a relayed address.
+/// All TURN clients of a program: one for each socket and server at which it needs a relayed address.
 ///
 /// Pass each datagram of a socket to `receive` first, and what that returns to the agent. Pass each packet of the agent to `outgoing`
 /// first, and send what that says. A client has an index, which stays its own until its `Ended` was polled.

@@ -15,7 +15,7 @@ ghost use Rattle.is_turn.specs.Places.{at_place, permitted, with_channel, heard}
 ghost use Rattle.is_turn.specs.Relaying.{driven, reported};
 ghost use Rattle.is_turn.specs.Numbers.{KeepsChannels};
 ghost use Rattle.is_turn.specs.Peers.{KeepsPlaces, NamesOnly};
-ghost use Rattle.is_turn.specs.Worlds.{Grant, World, IsFresh, IsRun, BeliefAlwaysStands};
+ghost use Rattle.is_turn.specs.Worlds.{Acceptance, World, IsFresh, IsRun, BeliefIsAlwaysTrue};
 ghost use Rattle.is_turn.specs.Bounds.{requests_of, ids_of, packets_of, events_of};
 
 /// The number of a channel belongs to one peer: whatever the user requests, the clock does, is sent, received or reported, each channel
@@ -59,10 +59,10 @@ pub fn a_client_is_bounded()
     ensures events { (s : Session) (l : List Lease) → events_of s l ≤ 2 + length l }
 {}
 
-/// What a client believes to stand, stands at a server that keeps its word: its allocation, each permission and each channel, until the
+/// What a client believes is true, at a server that keeps its word: it has the allocation, each permission and each channel until the
 /// end that the client believes. Whatever was lost, delayed or repeated, and however late the client was called: each end is counted from
 /// when the request was first sent, and the server had the request later.
 pub fn belief_is_below_truth()
-    ensures { (mac : List ℕ → List ℕ → List ℕ) (granted : List Grant) (w : World) (run : List World)
-        → IsFresh w → IsRun mac granted w run → BeliefAlwaysStands granted run }
+    ensures { (mac : List ℕ → List ℕ → List ℕ) (accepted : List Acceptance) (w : World) (run : List World)
+        → IsFresh w → IsRun mac accepted w run → BeliefIsAlwaysTrue accepted run }
 {}

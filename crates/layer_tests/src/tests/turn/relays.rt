@@ -92,7 +92,7 @@ impl Program {
         TransId(id)
     }
 
-    /// The first server makes an allocation; whether the program hears of it.
+    /// The first server makes an allocation; whether the program gets the event.
     fn allocates(&mut self) -> bool {
         let _sent = self.sends_at(0);
         let message = Builder::new()
@@ -106,7 +106,7 @@ impl Program {
             && self.relays.poll_event() == Some((0, TurnEvent::Allocated(allocation())))
     }
 
-    /// Where a packet goes at 20 ms, and how many bytes the buffer has to send.
+    /// What is to be done with a packet at 20 ms.
     fn goes(&mut self, source: SocketAddr, to: SocketAddr) -> Option<Outgoing> {
         let id = TransId([5; 12]);
         self.relays

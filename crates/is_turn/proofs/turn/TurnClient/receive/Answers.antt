@@ -4,7 +4,7 @@ use Rattle.is_turn.specs.Incoming.{datagram_of, response, incoming_view}
 use Rattle.is_turn.specs.Leases.{is_answered_by}
 use Rattle.is_turn.specs.Receipts.{received_view}
 use Rattle.is_turn.specs.Turn.{known}
-use Rattle.is_turn.proofs.AskedFor.{asked_responded}
+use Rattle.is_turn.proofs.RequestedData.{asked_responded}
 use Rattle.is_turn.proofs.Receiving.{responded_answers, responded_genuine, responded_pin}
 use Rattle.is_turn.proofs.turn.TurnClient.receive.Goals as goal
 
