@@ -78,7 +78,7 @@ same_cond : (b : Bool) (g x y : Lease) → SameChannel g x → SameChannel g y �
 same_cond true g x y p q = p
 same_cond false g x y p q = q
 
-same_named : (now : Instant) (g : Lease) → SameChannel g (named_at now g)
+pub same_named : (now : Instant) (g : Lease) → SameChannel g (named_at now g)
 same_named now g = same_cond (is_some g.barred) g (asked_again now g) (used_at now g) (refl, refl) (refl, refl)
 
 same_requested : (peer : Option SocketAddr) (now : Instant) (g : Lease) → SameChannel g (requested_for peer now g)
@@ -91,20 +91,20 @@ same_renewed now g = same_cond (is_renewal_due now g) g (requested_for g.peer no
 same_lapsed : (now : Instant) (g : Lease) → SameChannel g (lapsed now g)
 same_lapsed now g = same_cond (is_past g.until now) g (record g { until = None }) g (refl, refl) (refl, refl)
 
-same_advanced : (now : Instant) (g : Lease) → SameChannel g (advanced now g)
+pub same_advanced : (now : Instant) (g : Lease) → SameChannel g (advanced now g)
 same_advanced now g =
     let a = same_lapsed now g in
     let b = same_renewed now (lapsed now g) in
     (b.0 ∙ a.0, b.1 ∙ a.1)
 
-same_failed : (now : Instant) (code : Option ℕ) (g : Lease) → SameChannel g (failed_at now code g)
+pub same_failed : (now : Instant) (code : Option ℕ) (g : Lease) → SameChannel g (failed_at now code g)
 same_failed now code g = same_cond (is_none g.until || is_barring code) g (barred_at now code g) (retried_at now g) (refl, refl) (refl, refl)
 
 same_with : (change : Operation → Operation) (o : Option Operation) (g : Lease) → SameChannel g (with_operation change o g)
 same_with change None g = (refl, refl)
 same_with change (Some o) g = (refl, refl)
 
-same_changed : (change : Operation → Operation) (g : Lease) → SameChannel g (changed change g)
+pub same_changed : (change : Operation → Operation) (g : Lease) → SameChannel g (changed change g)
 same_changed change g = same_with change g.operation g
 
 -- ---- the user

@@ -2,3 +2,12 @@
 mod Answers
 mod ChannelNumbers
 mod Receiving
+mod OneChanges
+mod Bounded
+mod NamedPeers
+mod RequestedData
+mod Beliefs
+mod BeliefLeases
+mod BeliefSessions
+mod BeliefAnswers
+mod BeliefRuns

@@ -102,10 +102,10 @@ harmless now (Failed code) realm _ s c result new c_new h step = absurd h
 
 -- ---- which verdicts need a signature
 
-abbrev IsUnsigned300 : Option (List ℕ) → Message → Type 0
+abbrev pub IsUnsigned300 : Option (List ℕ) → Message → Type 0
 IsUnsigned300 key m = (code_of m ≡ Some 300) × (is_some m.integrity ≡ false) × (key ≡ None)
 
-abbrev Means : Bool → Option (List ℕ) → Message → Verdict → Type 0
+abbrev pub Means : Bool → Option (List ℕ) → Message → Verdict → Type 0
 Means b key m verdicts.Genuine = b ≡ true
 Means b key m verdicts.Redirect = IsUnsigned300 key m
 Means b key m _ = Unit {0}
@@ -143,7 +143,7 @@ means_or : (malformed b : Bool) (key : Option (List ℕ)) (m : Message) (verdict
 means_or true b key m verdict h = tt
 means_or false b key m verdict h = h
 
-means : (b is_last : Bool) (key : Option (List ℕ)) (c : Credentials) (m : Message) → Means b key m (verdict_of b is_last key (Some c) m)
+pub means : (b is_last : Bool) (key : Option (List ℕ)) (c : Credentials) (m : Message) → Means b key m (verdict_of b is_last key (Some c) m)
 means b is_last key c m =
     means_or (is_malformed m) b key m (verdict_with b is_last key c m) (means_by b (is_challenge (code_of m) && (b || is_none m.integrity))
     (is_some m.integrity) (is_code 300 (code_of m) && is_none key) (is_last && is_some c.password) key m refl refl)

@@ -19,5 +19,10 @@ pub mod Leases
 pub mod Places
 pub mod Relaying
 pub mod Numbers
+pub mod Bounds
 pub mod LeaseResponses
 pub mod Receiving
+pub mod Peers
+pub mod Worlds
+pub mod OneRelay
+pub mod Relays

@@ -7,6 +7,7 @@ ghost use Rattle.is_turn.specs.Credentials.{forgotten, without_challenge};
 ghost use Rattle.is_turn.specs.Turn.{known, challenge_taken, IsChallenged, OutcomeApplies};
 ghost use Rattle.is_turn.specs.Relaying.{kept_leases};
 ghost use Rattle.is_turn.specs.LeaseResponses.{LeaseIsChallenged, LeaseApplies, IsLeaseAnswered, heard_data};
+ghost use Rattle.is_turn.specs.Peers.{DataIsRequested};
 ghost use Rattle.is_turn.specs.Places.{channel_peer};
 ghost use Rattle.is_turn.specs.Receipts.{received_view, other};
 ghost use Rattle.is_turn.specs.Receiving.{IsAnswered, IsResponded, IsUnchanged, IsReceived, IsWhole, Answers, AnswersLease, OnlyByGenuine, KeepsPin};
@@ -347,6 +348,7 @@ impl<H: Sha1HmacProvider> TurnClient<H> {
             (received_view result) self.new.session self.new.leases.items (known self.new.credentials) }
         ensures only { IsWhole self.old.session (known self.old.credentials) self.new.session (known self.new.credentials)
             ⊎ (Answers source bytes.now self.old.session ⊎ AnswersLease source bytes.now self.old.session self.old.leases.items) }
+        ensures asked { DataIsRequested (received_view result) self.old.session self.old.leases.items }
         ensures pinned { KeepsPin (known self.old.credentials) (known self.new.credentials) }
         ensures unauthentic { OnlyByGenuine (H.mac self.old.provider) bytes.now self.old.session self.old.leases.items
             (known self.old.credentials) self.new.session }

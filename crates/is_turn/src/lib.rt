@@ -2,6 +2,7 @@
 //! a socket, and keeps the mapping of the NATs between them alive; and a TURN client, with permissions and channels.
 #![tactic(auto)]
 
+mod allocating;
 mod alternate;
 mod answer;
 mod attempts;
@@ -17,7 +18,10 @@ mod octets;
 mod operation;
 mod outcome;
 mod places;
+mod polling;
+mod relay;
 mod relaying;
+mod relays;
 mod requests;
 mod session;
 mod steps;
@@ -31,6 +35,8 @@ pub use crate::client::{Received, StunClient, StunEvent};
 pub use crate::credentials::{Credentials, long_term_key};
 pub use crate::incoming::{Incoming, read_incoming};
 pub use crate::outcome::Reason;
+pub use crate::relay::{Datagram, Outbound, Outgoing};
+pub use crate::relays::Relays;
 pub use crate::requests::{Request, write_request, write_send};
 pub use crate::session::{Allocation, Ending, Why};
 pub use crate::timing::ClientTiming;

@@ -75,6 +75,17 @@ impl Session {
         }
     }
 
+    /// Returns what is to be reported next.
+    pub(crate) fn event(&self) -> Option<TurnEvent>
+        ensures { result ≡ event_of self.now }
+    {
+        match (self.made, self.ending) {
+            (Some(made), _) => Some(TurnEvent::Allocated(made)),
+            (None, Some(ending)) => Some(TurnEvent::Ended(ending)),
+            (None, None) => None,
+        }
+    }
+
     pub(crate) fn take_event(&mut self) -> Option<TurnEvent>
         ensures event { result ≡ event_of self.old }
         ensures state { self.new ≡ after_event self.old }

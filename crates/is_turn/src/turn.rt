@@ -1,24 +1,22 @@
 //! A TURN client: one allocation, of one socket at one server, with permissions and channels of peers.
 
-ghost use Rattle.std.specs.Prelude.{◌≡◌, ◌<◌, IfSome, IfOk, is_some, replicate, slice_set, vec_len};
+ghost use Rattle.std.specs.Prelude.{◌≡◌, ◌<◌, IfSome, IfOk, is_some, replicate, vec_len};
 ghost use Rattle.std.specs.Option.{option_map};
-ghost use Rattle.is_stun.specs.MessageView.{message_view};
 ghost use Rattle.is_turn.specs.Credentials.{credentials_of};
-ghost use Rattle.is_turn.specs.Leases.{unused, lease_polled};
-ghost use Rattle.is_turn.specs.Places.{at_place};
+ghost use Rattle.is_turn.specs.Leases.{unused};
 ghost use Rattle.is_turn.specs.Session.{new_session, turn_started, turn_closed, next_turn_time};
-ghost use Rattle.is_turn.specs.Turn.{known, key_now, kept_credentials, alive_message, packet_due};
-ghost use Rattle.is_turn.specs.Relaying.{kept_leases, advanced_in, lease_due, sending_for, step_at, driven, TimesOut, lease_time, next_client_time, lease_packet, client_packet, PollsTurn, after_poll, leases_after_poll, reported, client_event, session_after_event, leases_after_event};
+ghost use Rattle.is_turn.specs.Turn.{known, key_now, kept_credentials};
+ghost use Rattle.is_turn.specs.Relaying.{kept_leases, advanced_in, lease_due, sending_for, step_at, driven, TimesOut, lease_time, next_client_time};
 
 use crate::credentials::Credentials;
 use crate::lease::Lease;
 use crate::outcome::Reason;
 use crate::places;
-use crate::requests::{Request, write_request};
+use crate::requests::Request;
 use crate::session::{Allocation, Ending, Phase, Session, Step};
 use crate::timing::ClientTiming;
-use is_proto::{Instant, Sha1HmacProvider, StunError};
-use is_stun::stun::{AddressFamily, Builder, StunMessage, TransId};
+use is_proto::{Instant, Sha1HmacProvider};
+use is_stun::stun::{AddressFamily, TransId};
 use rand_core::Rng;
 use std::alloc::{AllocError, Global};
 use std::net::{IpAddr, SocketAddr};
@@ -84,13 +82,6 @@ fn key_now(credentials: &Option<Credentials>) -> Option<[u8; 16]>
         },
         None => None,
     }
-}
-
-/// Returns the keep-alive: a Binding indication without attributes (RFC 8656, section 5).
-fn alive_message(id: TransId) -> StunMessage<'static>
-    ensures { message_view result ≡ alive_message id }
-{
-    Builder::new().binding().indication().build(id)
 }
 
 impl<H: Sha1HmacProvider> TurnClient<H> {
@@ -285,134 +276,5 @@ impl<H: Sha1HmacProvider> TurnClient<H> {
         }
         self.forget_if_ended();
         self.clear_if_ended();
-    }
-
-    // ---- packets and events
-
-    /// Returns the packet of a lease, or this one if there is none.
-    fn lease_packet(&self, other: Packet) -> Packet
-        ensures packet { result ≡ lease_packet self.now.leases.items other }
-    {
-        let Some(place) = places::sending_place(&self.leases) else {
-            return other;
-        };
-        let lease = places::at_place(&self.leases, place);
-        match lease.operation {
-            Some(operation) => match operation.attempts.last {
-                Some(attempt) => Packet::Lease(place, operation.request, attempt.id),
-                None => other,
-            },
-            None => other,
-        }
-    }
-
-    /// Returns what has to be sent.
-    fn packet(&self) -> Packet
-        ensures { result ≡ client_packet self.now.session self.now.leases.items }
-    {
-        match self.session.packet() {
-            Packet::Request(request, id) => Packet::Request(request, id),
-            Packet::Lease(place, request, id) => Packet::Lease(place, request, id),
-            other => self.lease_packet(other),
-        }
-    }
-
-    /// The packet of the lease in a place was polled.
-    fn lease_polled(&mut self, place: usize)
-        ensures session { self.new.session ≡ self.old.session }
-        ensures credentials { self.new.credentials ≡ self.old.credentials }
-        ensures leases { self.new.leases.items ≡ slice_set self.old.leases.items place (lease_polled (at_place place self.old.leases.items)) }
-        ensures provider { self.new.provider ≡ self.old.provider }
-    {
-        if place < self.leases.len() {
-            let lease = places::at_place(&self.leases, place);
-            places::put(&mut self.leases, place, lease.polled());
-        }
-    }
-
-    /// Writes the packet that is to be sent to the server to the front of the buffer, and returns its length. `None`: there is none.
-    /// `BufferTooShort`: it does not fit; nothing is changed, and it can be polled again.
-    pub fn poll_transmit(&mut self, buf: &mut [u8]) -> Result<Option<usize>, StunError>
-        ensures packet { PollsTurn (H.mac self.old.provider) (known self.old.credentials) self.old.session self.old.leases.items
-            buf.old result buf.new }
-        ensures session { self.new.session ≡ after_poll result (client_packet self.old.session self.old.leases.items) self.old.session }
-        ensures leases { self.new.leases.items
-            ≡ leases_after_poll result (client_packet self.old.session self.old.leases.items) self.old.leases.items }
-        ensures credentials { self.new.credentials ≡ self.old.credentials }
-        ensures provider { self.new.provider ≡ self.old.provider }
-    {
-        match self.packet() {
-            Packet::Nothing => Ok(None),
-            Packet::Request(request, id) => {
-                match write_request(
-                    &request,
-                    &id,
-                    self.credentials.as_ref(),
-                    buf,
-                    &self.provider,
-                ) {
-                    Ok(len) => {
-                        self.session.request_polled();
-                        Ok(Some(len))
-                    }
-                    Err(error) => Err(error),
-                }
-            }
-            Packet::Lease(place, request, id) => {
-                match write_request(
-                    &request,
-                    &id,
-                    self.credentials.as_ref(),
-                    buf,
-                    &self.provider,
-                ) {
-                    Ok(len) => {
-                        self.lease_polled(place);
-                        Ok(Some(len))
-                    }
-                    Err(error) => Err(error),
-                }
-            }
-            Packet::KeepAlive(id) => match alive_message(id).to_bytes(None, buf, &self.provider) {
-                Ok(len) => {
-                    self.session.alive = None;
-                    Ok(Some(len))
-                }
-                Err(error) => Err(error),
-            },
-        }
-    }
-
-    /// Returns the first permission that the server barred, and that was not reported.
-    fn take_report(&mut self) -> Option<TurnEvent>
-        ensures leases { (self.new.leases.items, result) ≡ reported self.old.leases.items }
-        ensures session { self.new.session ≡ self.old.session }
-        ensures credentials { self.new.credentials ≡ self.old.credentials }
-        ensures provider { self.new.provider ≡ self.old.provider }
-    {
-        let place = places::reported_place(&self.leases)?;
-        let lease = places::at_place(&self.leases, place);
-        places::put(&mut self.leases, place, lease.without_report());
-        match (lease.peer, lease.report) {
-            (Some(peer), Some(report)) => Some(TurnEvent::NotPermitted(peer.ip(), report.code)),
-            _ => None,
-        }
-    }
-
-    /// Returns what happened, if anything did: first `Allocated`, then each `NotPermitted`, then `Ended`.
-    pub fn poll_event(&mut self) -> Option<TurnEvent>
-        ensures event { result ≡ client_event self.old.session self.old.leases.items }
-        ensures session { self.new.session ≡ session_after_event self.old.session self.old.leases.items }
-        ensures leases { self.new.leases.items ≡ leases_after_event self.old.session self.old.leases.items }
-        ensures credentials { self.new.credentials ≡ self.old.credentials }
-        ensures provider { self.new.provider ≡ self.old.provider }
-    {
-        if self.session.made.is_some() {
-            return self.session.take_event();
-        }
-        match self.take_report() {
-            Some(event) => Some(event),
-            None => self.session.take_event(),
-        }
     }
 }

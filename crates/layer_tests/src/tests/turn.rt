@@ -4,4 +4,5 @@ mod allocating;
 mod binding;
 mod messages;
 mod relaying;
+mod relays;
 mod side;

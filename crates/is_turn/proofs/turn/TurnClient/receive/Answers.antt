@@ -4,6 +4,7 @@ use Rattle.is_turn.specs.Incoming.{datagram_of, response, incoming_view}
 use Rattle.is_turn.specs.Leases.{is_answered_by}
 use Rattle.is_turn.specs.Receipts.{received_view}
 use Rattle.is_turn.specs.Turn.{known}
+use Rattle.is_turn.proofs.RequestedData.{asked_responded}
 use Rattle.is_turn.proofs.Receiving.{responded_answers, responded_genuine, responded_pin}
 use Rattle.is_turn.proofs.turn.TurnClient.receive.Goals as goal
 
@@ -36,3 +37,12 @@ returns-in-Response-clause-only g c =
     responded_answers (position (is_answered_by m) self.leases.items) (g.H.Sha1HmacProvider.mac self.provider) c.args.now m c.alternate_in-alternate.result
     self.session self.leases.items (known self.credentials) (received_view c.respond.result) after.session after.leases.items (known after.credentials)
     c.args.source c.args.bytes.now server read refl c.respond.ensures.step
+
+pub returns-in-Response-clause-asked : goal.returns-in-Response-clause-asked
+returns-in-Response-clause-asked g c =
+    let self = c.args.self.now in
+    let after = c.respond.new.self in
+    let m = message_view c.in-Response.message in
+    asked_responded (position (is_answered_by m) self.leases.items) (g.H.Sha1HmacProvider.mac self.provider) c.args.now m c.alternate_in-alternate.result
+    self.session self.leases.items (known self.credentials) (received_view c.respond.result) after.session after.leases.items (known after.credentials)
+    c.respond.ensures.step
