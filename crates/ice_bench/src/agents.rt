@@ -6,7 +6,8 @@ use crate::messages::BROWSER_REQUEST;
 use is_agent::{IceAgent, IceCreds};
 use is_candidate::Candidate;
 use is_proto::{DefaultSha1HmacProvider, Duration, IceError, Instant, Protocol, Text, Transmit};
-use is_stun::stun::{StunMessage, StunPacket};
+use is_rules::settings::Settings;
+use is_stun::stun::{Profile, StunMessage, StunPacket};
 use rand_core::SeedableRng;
 use rand_pcg::Pcg32;
 use std::alloc::Global;
@@ -25,6 +26,9 @@ pub const START: Instant = Instant(60_000_000_000);
 /// The port of the first of several addresses. The others have the ports after it.
 const FIRST_PORT: u16 = 2000;
 
+/// How long after the first checks no pair is checked early any more: 5 s.
+const AFTER_EARLY: u64 = 5_000_000_000;
+
 /// What happens in each round.
 #[derive(Clone, Copy, Debug, PartialEq, Eq)]
 pub enum Turn {
@@ -38,8 +42,29 @@ pub enum Turn {
     Idle,
 }
 
-/// What the case of this name does, and with how many pairs.
-pub fn case_of(name: &str) -> Option<(Turn, u16)> {
+/// What an agent does in each round, by which profile, and with how many pairs.
+#[derive(Clone, Copy, Debug, PartialEq, Eq)]
+pub struct Case {
+    pub turn: Turn,
+    pub profile: Profile,
+    pub pairs: u16,
+}
+
+/// The case of this name. `modern_` before a name is the same with the profile `Modern`.
+pub fn case_of(name: &str) -> Option<Case> {
+    let (profile, name) = match name.strip_prefix("modern_") {
+        Some(rest) => (Profile::Modern, rest),
+        None => (Profile::Original, name),
+    };
+    let (turn, pairs) = turn_of(name)?;
+    Some(Case {
+        turn,
+        profile,
+        pairs,
+    })
+}
+
+fn turn_of(name: &str) -> Option<(Turn, u16)> {
     let (word, pairs) = name.rsplit_once('_')?;
     let turn = match word {
         "request" => Turn::Request,
@@ -93,14 +118,23 @@ fn add_hosts(
 /// an agent; the others borrow it.
 pub fn turns(
     alloc: Global,
-    turn: Turn,
-    pairs: u16,
+    case: Case,
     rounds: u64,
     sum: &mut Checksum,
 ) -> Result<(), IceError> {
     let mut agent = make(alloc)?;
-    set_up(&mut agent, alloc, pairs)?;
-    take_turns(&mut agent, turn, pairs, rounds, sum)
+    set_profile(&mut agent, case.profile);
+    set_up(&mut agent, alloc, case.pairs)?;
+    take_turns(&mut agent, case, rounds, sum)
+}
+
+/// The settings of the profile, without a limit on remote candidates: each pair has one of its own.
+fn set_profile(agent: &mut Agent, profile: Profile) {
+    if profile == Profile::Modern {
+        let mut settings = Settings::modern();
+        settings.max_discovered = None;
+        agent.set_settings(settings);
+    }
 }
 
 /// A new agent, for which the request is.
@@ -135,17 +169,29 @@ fn meet(agent: &mut Agent, pairs: u16) -> Result<(), IceError> {
 
 fn take_turns(
     agent: &mut Agent,
-    turn: Turn,
-    pairs: u16,
+    case: Case,
     rounds: u64,
     sum: &mut Checksum,
 ) -> Result<(), IceError> {
-    match turn {
-        Turn::Request => requests(agent, pairs, rounds, sum),
-        Turn::Answer => answers(agent, pairs, rounds, sum),
-        Turn::Check => checks(agent, rounds, sum),
-        Turn::Idle => idle_timeouts(agent, pairs, rounds, sum),
+    match case.turn {
+        Turn::Request => requests(agent, case.pairs, rounds, sum),
+        Turn::Answer => answers(agent, case.pairs, rounds, sum),
+        Turn::Check => {
+            let first = first_round(agent, case)?;
+            checks(agent, first, rounds, sum)
+        }
+        Turn::Idle => idle_timeouts(agent, case.pairs, rounds, sum),
     }
+}
+
+/// When the rounds with a check begin. With `Modern` that is after the early retransmissions, which wait 100 ms and more, so each pair
+/// has its first check before.
+fn first_round(agent: &mut Agent, case: Case) -> Result<Instant, IceError> {
+    if case.profile == Profile::Original {
+        return Ok(START);
+    }
+    let _ = check_each(agent, case.pairs)?;
+    Ok(Instant(START.0.saturating_add(AFTER_EARLY)))
 }
 
 fn requests(
@@ -171,12 +217,17 @@ fn answers(agent: &mut Agent, pairs: u16, rounds: u64, sum: &mut Checksum) -> Re
     Ok(())
 }
 
-fn checks(agent: &mut Agent, rounds: u64, sum: &mut Checksum) -> Result<(), IceError> {
+fn checks(
+    agent: &mut Agent,
+    first: Instant,
+    rounds: u64,
+    sum: &mut Checksum,
+) -> Result<(), IceError> {
     // a checked pair is due again at once, and the peer's last packet is too recent for the pair to be removed
     agent.set_initial_stun_rto(Duration(0));
     let mut rng = Pcg32::seed_from_u64(1);
     for round in 0..rounds {
-        report_on(agent, Instant(START.0.saturating_add(round)), &mut rng)?;
+        report_on(agent, Instant(first.0.saturating_add(round)), &mut rng)?;
         poll(agent, sum);
     }
     Ok(())

@@ -77,9 +77,9 @@ fn sum_of_agent(alloc: Global, name: &str, rounds: u64) -> Result<Option<u64>, I
         floods::flood(alloc, before, rounds, &mut sum)?;
         return Ok(Some(sum.0));
     }
-    let Some((turn, pairs)) = agents::case_of(name) else {
+    let Some(case) = agents::case_of(name) else {
         return Ok(None);
     };
-    agents::turns(alloc, turn, pairs, rounds, &mut sum)?;
+    agents::turns(alloc, case, rounds, &mut sum)?;
     Ok(Some(sum.0))
 }
