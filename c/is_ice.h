@@ -609,6 +609,16 @@ IS_ICE_CALL int32_t is_ice_is_host_address(const is_ice_address *address);
  * IS_ICE_PRIORITY_TOO_HIGH. IS_ICE_PAIR_IDS_EXHAUSTED. IS_ICE_OUT_OF_MEMORY. */
 IS_ICE_CALL int32_t is_ice_add_local(is_ice_agent *agent, const is_ice_candidate *candidate, size_t *index);
 
+/* is_ice_add_local_line - adds a local candidate of any kind in the same way, by its text, with the priority and the
+ * foundation that the text has. For a program that knows a candidate only by its candidate attribute, as one of another
+ * agent on the same sockets. A text has no base: packets go from the candidate's address.
+ *
+ * The text is that of is_ice_add_remote. Its address may be any: see is_ice_is_host_address.
+ *
+ * IS_ICE_OK, IS_ICE_NOTHING, IS_ICE_TOO_MANY_CANDIDATES, IS_ICE_PRIORITY_TOO_HIGH, IS_ICE_PAIR_IDS_EXHAUSTED,
+ * IS_ICE_OUT_OF_MEMORY: see is_ice_add_local. IS_ICE_NOT_UTF8, IS_ICE_BAD_CANDIDATE: see is_ice_add_remote. */
+IS_ICE_CALL int32_t is_ice_add_local_line(is_ice_agent *agent, const uint8_t *line, size_t length, size_t *index);
+
 /* is_ice_add_remote - adds a candidate of the other agent, by its text, and forms its pairs.
  *
  * The text is the candidate attribute of RFC 8839 without "a=" and without a line end, as in "candidate:1 1 udp

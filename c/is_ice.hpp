@@ -489,6 +489,13 @@ public:
         if (detail::explained(code, detail::refusal_of(gathered)) != IS_ICE_OK) return std::nullopt;
         return local_candidate(index);
     }
+    std::optional<std::string> add_local_line(std::string_view line)
+    {
+        size_t index = 0;
+        int32_t code = is_ice_add_local_line(at(), detail::at(line), line.size(), &index);
+        if (detail::explained(code, detail::refusal_of(line)) != IS_ICE_OK) return std::nullopt;
+        return local_candidate(index);
+    }
     added add_remote(std::string_view line)
     {
         size_t index = 0;

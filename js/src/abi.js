@@ -268,6 +268,7 @@ export const CALLS = {
   is_ice_set_remote_credentials: ["out:Agent", "in:u8", "u64", "in:u8", "u64"],
   is_ice_is_host_address: ["in:Address"],
   is_ice_add_local: ["out:Agent", "in:Candidate", "out:u64"],
+  is_ice_add_local_line: ["out:Agent", "in:u8", "u64", "out:u64"],
   is_ice_add_remote: ["out:Agent", "in:u8", "u64", "out:u64"],
   is_ice_invalidate_local: ["out:Agent", "in:Candidate"],
   is_ice_invalidate: ["out:Agent", "in:u8", "u64"],

@@ -29,8 +29,11 @@ export class IceAgent extends Settings {
 
   // ---- candidates
 
-  /** Adds a candidate that was gathered, and returns its text for signaling, or null if it is redundant. */
-  addLocalCandidate(candidate: Candidate): string | null;
+  /**
+   * Adds a candidate that was gathered, and returns its text for signaling, or null if it is redundant. A text ("candidate:..") is added
+   * with its own priority and foundation, and its address as its base.
+   */
+  addLocalCandidate(candidate: Candidate | string): string | null;
   /**
    * Adds a candidate of the peer, by its text ("candidate:.."), and returns what became of it. `BadCandidate` says what is wrong with
    * it. One with an mDNS name is a `BadCandidate` too: see `lineName`.

@@ -26,9 +26,11 @@ export class IceAgent extends Settings {
 
   /** Returns the candidate's text for signaling, or null if it is redundant. */
   addLocalCandidate(candidate) {
-    const memory = this[MEMORY], { length } = memory;
-    const add = () => this[CALL]("is_ice_add_local", putCandidate(memory, candidate), length.arg);
-    if (!explained(add, () => candidateRefusal(candidate))) return null;
+    const memory = this[MEMORY], { length } = memory, isText = typeof candidate === "string";
+    const add = () => isText
+      ? this[CALL]("is_ice_add_local_line", ...memory.putText(candidate), length.arg)
+      : this[CALL]("is_ice_add_local", putCandidate(memory, candidate), length.arg);
+    if (!explained(add, () => isText ? lineRefusal(candidate) : candidateRefusal(candidate))) return null;
     return memory.textFrom("is_ice_local_candidate", [this[SLOT], memory.word(length.at)]);
   }
 

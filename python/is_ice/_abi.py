@@ -436,6 +436,7 @@ PROTOTYPES: dict[str, list[object]] = {
     "is_ice_set_remote_credentials": [POINTER(Agent), c_char_p, c_size_t, c_char_p, c_size_t],
     "is_ice_is_host_address": [POINTER(Address)],
     "is_ice_add_local": [POINTER(Agent), POINTER(Candidate), POINTER(c_size_t)],
+    "is_ice_add_local_line": [POINTER(Agent), c_char_p, c_size_t, POINTER(c_size_t)],
     "is_ice_add_remote": [POINTER(Agent), c_char_p, c_size_t, POINTER(c_size_t)],
     "is_ice_invalidate_local": [POINTER(Agent), POINTER(Candidate)],
     "is_ice_invalidate": [POINTER(Agent), c_char_p, c_size_t],

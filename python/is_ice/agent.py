@@ -123,17 +123,26 @@ class IceAgent(Setters):
 
     # ---- candidates
 
-    def add_local_candidate(self, candidate: Candidate) -> str | None:
+    def add_local_candidate(self, candidate: Candidate | str) -> str | None:
         """Adds a candidate that was gathered, and returns its text for signaling, or None if it is redundant.
 
-        TooManyCandidates if there are as many as `set_max_candidates` allows.
+        A text ("candidate:..") is added with its own priority and foundation, and its address as its base. TooManyCandidates if there are
+        as many as `set_max_candidates` allows.
         """
-        struct, index = struct_of(candidate), c_size_t()
+        index = c_size_t()
+        if isinstance(candidate, str):
+            text = utf8(candidate)
+            code = self._c.is_ice_add_local_line(self._at, text, len(text), byref(index))
+            if code == BadCandidate.code:
+                raise error_of(code, line_refusal(candidate) or "")
+            return self._local_text(index) if done(code) else None
+        struct = struct_of(candidate)
         code = self._c.is_ice_add_local(self._at, byref(struct), byref(index))
         if code == BadCandidate.code:
             raise error_of(code, text_from(lambda *into: self._c.is_ice_candidate_refusal(byref(struct), *into)) or "")
-        if not done(code):
-            return None
+        return self._local_text(index) if done(code) else None
+
+    def _local_text(self, index: c_size_t) -> str | None:
         return text_from(lambda *into: self._c.is_ice_local_candidate(self._at, index, *into))
 
     def add_remote_candidate(self, line: str) -> AddResult:

@@ -180,11 +180,11 @@ impl IceAgent {
             .map(Candidate::listed_local)
     }
 
-    /// Adds a local candidate, and returns it with the priority and the foundation that the agent gives it. Returns `None` if it is
-    /// redundant or peer-reflexive, if no local candidate may have its address, or if there are as many as
+    /// Adds a local candidate, and returns it as the agent lists it. Returns `None` if it is redundant, or if there are as many as
     /// [`IceAgent::set_max_candidates`] allows.
     ///
-    /// One that was read from a text is added with its address as its base, since a text has none, and as component 1.
+    /// The agent gives one that was gathered its priority and its foundation. One that was read from a text, or made by
+    /// [`Candidate::from_parts`], keeps its own, and has its address as its base, since a text has none.
     ///
     /// # Panics
     ///
@@ -202,8 +202,11 @@ impl IceAgent {
     /// [`CallError::PriorityTooHigh`], [`CallError::TooManyCandidates`].
     pub fn try_add_local_candidate(&mut self, c: Candidate) -> Result<Option<&Candidate>, CallError> {
         self.prefer(&c)?;
-        let (given, mut index, before) = (c.as_gathered(), 0, Seen::heard(self));
-        let is_added = self.tell(|agent| known(ffi::is_ice_add_local(agent, &given, &mut index)))?;
+        let (mut index, before) = (0, Seen::heard(self));
+        let is_added = match c.given() {
+            Some(given) => self.tell(|agent| known(ffi::is_ice_add_local(agent, &given, &mut index))),
+            None => self.tell(|agent| ffi::is_ice_add_local_line(agent, c.text().as_bytes(), &mut index)),
+        }?;
         if !is_added {
             if let Some(before) = before {
                 before.log_rejected_local(&c);
@@ -266,7 +269,7 @@ impl IceAgent {
     /// Removes a candidate and its pairs: a local one, else a remote one. Returns whether there was one.
     ///
     /// A local candidate is removed by what [`IceAgent::local_candidates`] lists, or what was gathered. One that was read from a text has
-    /// no base, so only a host or a relayed one equals it. A local peer-reflexive candidate is not removed.
+    /// no base, so only one without another base equals it. A local peer-reflexive candidate that the agent learned is not removed.
     ///
     /// # Panics
     ///

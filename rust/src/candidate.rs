@@ -270,9 +270,9 @@ impl Candidate {
 // ---- for the library
 
 impl Candidate {
-    /// As the library takes a candidate that was gathered; none if it was read, or is listed as a remote one.
+    /// As the library takes a candidate that was gathered; none if it was read, or is listed as a remote or a peer-reflexive one.
     pub(crate) fn given(&self) -> Option<ffi::Candidate> {
-        self.is_local.then(|| self.as_gathered())
+        (self.is_local && self.fields.kind != ffi::PEER_REFLEXIVE).then(|| self.as_gathered())
     }
 
     /// As the library takes a candidate to add it as a local one. A text has no base, so one that was read has its address as base.

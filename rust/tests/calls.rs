@@ -524,9 +524,22 @@ fn a_local_candidate_that_was_read_is_added_with_its_address_as_base() {
         assert_eq!(agent.add_local_candidate(read), None);
         assert!(agent.invalidate_candidate(&added));
     }
-    for line in ["candidate:1 1 udp 7 224.0.0.1 9 typ host", "candidate:1 1 udp 7 10.0.0.1 9 typ prflx"] {
-        assert_eq!(agent.try_add_local_candidate(Candidate::from_sdp_string(line).unwrap()), Ok(None));
-    }
+    let related = Some("10.0.0.1:9".parse().unwrap());
+    let proto = Protocol::Udp;
+    let learned = Candidate::from_parts(
+        "7".to_owned(),
+        1,
+        proto,
+        7,
+        "192.0.2.1:9".parse().unwrap(),
+        CandidateKind::PeerReflexive,
+        related,
+        None,
+        None,
+    );
+    let added = agent.add_local_candidate(learned.clone()).expect("a new one").clone();
+    assert_eq!((added.kind(), added.prio(), added.foundation()), (CandidateKind::PeerReflexive, 7, learned.foundation()));
+    assert!(agent.invalidate_candidate(&learned));
     agent.add_local_candidate(host("10.0.0.1:1000")).expect("a new one");
     assert!(agent.invalidate_candidate(&Candidate::from_sdp_string(&host("10.0.0.1:1000").to_sdp_string()).unwrap()));
     assert_eq!(agent.local_candidates().count(), 0);

@@ -7,7 +7,7 @@ ghost use Rattle.is_c_calls.specs.Codes.{flag_code};
 ghost use Rattle.is_c.specs.Slots.{home_of, held_by};
 ghost use Rattle.is_c_calls.specs.Held.{At};
 ghost use Rattle.is_c_calls.specs.Given.{CallsMade, Discards, CountsMade, CountsGiven};
-ghost use Rattle.is_c_calls.specs.Uses.{Does, AddLocal, AddRemote, InvalidateLocal, Invalidate};
+ghost use Rattle.is_c_calls.specs.Uses.{Does, AddLocal, AddLocalLine, AddRemote, InvalidateLocal, Invalidate};
 
 use crate::candidate::{line_candidate, local_candidate};
 use crate::codes;
@@ -115,6 +115,31 @@ pub extern "C" fn is_ice_add_local(
         Some(Ok(candidate)) => put_addition(add_local_listed(&mut home.agent, candidate), index),
         Some(Err(error)) => codes::code_of(&error),
         None => codes::BAD_ADDRESS,
+    }
+}
+
+/// Adds a local candidate, by its candidate attribute, and writes the index at which it is listed, in the same way. A candidate
+/// attribute has no base, so packets go from its address.
+#[unsafe(no_mangle)]
+pub extern "C" fn is_ice_add_local_line(
+    alloc: Global,
+    slot: &mut Slot,
+    line: &[u8],
+    index: &mut usize,
+) -> i32
+    ensures added { At (Does (AddLocalLine line.now index.old index.new)) (held_by slot.old) result (held_by slot.new) }
+    ensures without { held_by slot.old ≡ None → index.new ≡ index.old }
+{
+    let Some(home) = slot.home() else {
+        return codes::NO_AGENT;
+    };
+    if !has_local_room(home) {
+        return codes::TOO_MANY_CANDIDATES;
+    }
+    match line_candidate(alloc, line) {
+        Some(Ok(candidate)) => put_addition(add_local_listed(&mut home.agent, candidate), index),
+        Some(Err(error)) => codes::code_of(&error),
+        None => codes::NOT_UTF8,
     }
 }
 

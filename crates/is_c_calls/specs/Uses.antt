@@ -11,7 +11,7 @@ use Rattle.is_c_calls.specs.declared.candidate.LocalCandidate.{LocalCandidate}
 use Rattle.is_c_calls.specs.declared.events.Event.{Event}
 use Rattle.is_c_calls.specs.declared.packets.Packet.{Packet}
 use Rattle.is_c_calls.specs.declared.preference.Preference.{Preference}
-use Rattle.is_c_calls.specs.Adding.{SetsMaxCandidates, AddsGiven, AddsRead}
+use Rattle.is_c_calls.specs.Adding.{SetsMaxCandidates, AddsGiven, AddsLocalRead, AddsRead}
 use Rattle.is_c_calls.specs.AgentSettings.{SetsSettings}
 use Rattle.is_c_calls.specs.Codes.{BAD_LIMIT, done_code, flag_code}
 use Rattle.is_c_calls.specs.Credentials.{CallsWith}
@@ -45,6 +45,7 @@ pub data Use : Type 0 where
   SetRemoteCredentials : (ufrag pass : List ℕ) → Use
   -- candidates; the index before and after
   AddLocal : LocalCandidate → ℕ → ℕ → Use
+  AddLocalLine : List ℕ → ℕ → ℕ → Use
   AddRemote : List ℕ → ℕ → ℕ → Use
   InvalidateLocal : LocalCandidate → Use
   Invalidate : List ℕ → Use
@@ -85,6 +86,7 @@ Does (SkipPairIds number) old code new = AgentBecomes (numbers_skipped number) o
 Does (SetLocalCredentials ufrag pass) old code new = CallsWith SetsLocal ufrag pass old code new
 Does (SetRemoteCredentials ufrag pass) old code new = CallsWith SetsRemote ufrag pass old code new
 Does (AddLocal c before after) old code new = AddsGiven c before after old code new
+Does (AddLocalLine line before after) old code new = AddsLocalRead line before after old code new
 Does (AddRemote line before after) old code new = AddsRead line before after old code new
 Does (InvalidateLocal c) old code new = CallsGiven Discards flag_code c old code new
 Does (Invalidate line) old code new = CallsRead Discards flag_code line old code new

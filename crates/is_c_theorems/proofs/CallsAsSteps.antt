@@ -43,8 +43,9 @@ use Rattle.is_c_calls.specs.Packets.{packet_path, HandlesDatagram, TakesNext}
 use Rattle.is_c_calls.specs.Preferences.{answers}
 use Rattle.is_c_calls.specs.Random.{given_steps}
 use Rattle.is_c_calls.specs.Sessions.{Used, is_ok}
-use Rattle.is_c_calls.specs.Uses.{Use, Ask, SetControlling, SetLite, SetRenomination, SetTieBreaker, SetMaxPairs, SetMaxDiscovered, SetMaxCandidates, SetTimingAdvance, SetInitialRto, SetMaxRto, SetLiteTimeout, SetMaxRetransmits, SetMtu, SetPreference, SetSettings, SkipPairIds, SetLocalCredentials, SetRemoteCredentials, AddLocal, AddRemote, InvalidateLocal, Invalidate, Restart, RecreatePairs, HandlePacket, HandleTimeout, PollTransmit, PollTimeout, PollTimeoutSoon, PollEvent, mac_of, Does}
+use Rattle.is_c_calls.specs.Uses.{Use, Ask, SetControlling, SetLite, SetRenomination, SetTieBreaker, SetMaxPairs, SetMaxDiscovered, SetMaxCandidates, SetTimingAdvance, SetInitialRto, SetMaxRto, SetLiteTimeout, SetMaxRetransmits, SetMtu, SetPreference, SetSettings, SkipPairIds, SetLocalCredentials, SetRemoteCredentials, AddLocal, AddLocalLine, AddRemote, InvalidateLocal, Invalidate, Restart, RecreatePairs, HandlePacket, HandleTimeout, PollTransmit, PollTimeout, PollTimeoutSoon, PollEvent, mac_of, Does}
 use Rattle.is_c_theorems.specs.CallLogs.{Makes, code_by, Answers, IsOf, counts, IsNone}
+use Rattle.is_c_theorems.proofs.LinesWithoutBase.{based_line}
 
 -- ---- choices
 
@@ -208,6 +209,14 @@ module _ (n : ℕ) where
       by_step (AddLocal c before after) code (agent.AddLocalCandidate made) (record { answer = answer_by added place; emitted = emitted }) old new
       (made, makes, refl) tt (based c made makes) any any (place, emitted, refl, does, refl)
 
+  adds_local_line : (line : List ℕ) (before after : ℕ) (code : ℤ) (old new : HomeRecord) (made : Made) → ReadsBytes line made
+      → AddsMade (AddsLocalListed answers) NOT_UTF8 made before after old code new → IsAtMostOne (used (AddLocalLine line before after) code) old new
+  adds_local_line line before after code old new None reads h = idle (AddLocalLine line before after) code old new h.0.1 never
+  adds_local_line line before after code old new (Some (Err e)) reads h = idle (AddLocalLine line before after) code old new h.0.1 never
+  adds_local_line line before after code old new (Some (Ok made)) reads (r, (place, emitted, does, is), puts, kept) =
+      by_step (AddLocalLine line before after) code (agent.AddLocalCandidate made) (record { answer = answer_by added place; emitted = emitted }) old new
+      (made, reads, refl) tt (based_line line made reads) any any (place, emitted, refl, does, refl)
+
   adds_remote : (line : List ℕ) (before after : ℕ) (code : ℤ) (old new : HomeRecord) (made : Made) → ReadsBytes line made
       → AddsMade AddsRemoteListed NOT_UTF8 made before after old code new → IsAtMostOne (used (AddRemote line before after) code) old new
   adds_remote line before after code old new None reads h = idle (AddRemote line before after) code old new h.0.1 never
@@ -312,6 +321,9 @@ module _ (n : ℕ) where
   one (AddLocal c before after) code old new h =
       either (has_room old.max_candidates old.agent.local) (λ k. adds_local c before after code old new k.0 k.1 k.2)
       (λ k. idle (AddLocal c before after) code old new k.0.1 never) h
+  one (AddLocalLine line before after) code old new h =
+      either (has_room old.max_candidates old.agent.local) (λ k. adds_local_line line before after code old new k.0 k.1 k.2)
+      (λ k. idle (AddLocalLine line before after) code old new k.0.1 never) h
   one (AddRemote line before after) code old new h =
       either (has_room old.max_candidates old.agent.remote) (λ k. adds_remote line before after code old new k.0 k.1 k.2)
       (λ k. idle (AddRemote line before after) code old new k.0.1 never) h

@@ -1,4 +1,5 @@
 -- C's calls as steps and as executions, their settings, what C saw of them, and what the theorems on executions say of them.
+mod LinesWithoutBase
 mod CallsAsSteps
 mod LogsOfCalls
 mod SettingsOfCalls

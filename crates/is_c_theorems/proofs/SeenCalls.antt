@@ -15,7 +15,7 @@ use Rattle.is_c_calls.specs.declared.preference.Preference.{Preference}
 use Rattle.is_c_calls.specs.AgentSettings.{settings_of}
 use Rattle.is_c_calls.specs.Clock.{agent_time}
 use Rattle.is_c_calls.specs.Sessions.{Used, is_ok}
-use Rattle.is_c_calls.specs.Uses.{Use, Ask, SetControlling, SetLite, SetRenomination, SetTieBreaker, SetMaxPairs, SetMaxDiscovered, SetMaxCandidates, SetTimingAdvance, SetInitialRto, SetMaxRto, SetLiteTimeout, SetMaxRetransmits, SetMtu, SetPreference, SetSettings, SkipPairIds, SetLocalCredentials, SetRemoteCredentials, AddLocal, AddRemote, InvalidateLocal, Invalidate, Restart, RecreatePairs, HandlePacket, HandleTimeout, PollTransmit, PollTimeout, PollTimeoutSoon, PollEvent}
+use Rattle.is_c_calls.specs.Uses.{Use, Ask, SetControlling, SetLite, SetRenomination, SetTieBreaker, SetMaxPairs, SetMaxDiscovered, SetMaxCandidates, SetTimingAdvance, SetInitialRto, SetMaxRto, SetLiteTimeout, SetMaxRetransmits, SetMtu, SetPreference, SetSettings, SkipPairIds, SetLocalCredentials, SetRemoteCredentials, AddLocal, AddLocalLine, AddRemote, InvalidateLocal, Invalidate, Restart, RecreatePairs, HandlePacket, HandleTimeout, PollTransmit, PollTimeout, PollTimeoutSoon, PollEvent}
 use Rattle.is_c_theorems.specs.CallLogs.{Makes, Answers, code_by, counts, settings_onto, IsLogOf}
 use Rattle.is_c_theorems.specs.Seen.{Accepts, restarts, is_restart, peer_by, peer_of}
 use Rattle.is_c_theorems.proofs.SettingsOfCalls.{Log}
@@ -56,6 +56,7 @@ peer_step (SkipPairIds n) call answer code old m a = other_call call _ answer ol
 peer_step (SetLocalCredentials u p) call answer code old m a = other_call call _ answer old code m refl
 peer_step (SetRemoteCredentials u p) call answer code old m a = ap (λ (c : Call Preference). remote_after c answer old) m ∙ ap (λ (b : Bool). if b then Some (record { ufrag = u; pass = p }) else old) a.1
 peer_step (AddLocal c b a2) call answer code old m a = other_call call _ answer old code m.2 refl
+peer_step (AddLocalLine l b a2) call answer code old m a = other_call call _ answer old code m.2 refl
 peer_step (AddRemote l b a2) call answer code old m a = other_call call _ answer old code m.2 refl
 peer_step (InvalidateLocal c) call answer code old m a = other_call call _ answer old code m.2 refl
 peer_step (Invalidate l) call answer code old m a = other_call call _ answer old code m.2 refl
@@ -138,6 +139,7 @@ accepts (SkipPairIds n) call e code at by msg m a brings = not_brought call _ e 
 accepts (SetLocalCredentials u p) call e code at by msg m a brings = not_brought call _ e at by msg m (λ h. h) brings
 accepts (SetRemoteCredentials u p) call e code at by msg m a brings = not_brought call _ e at by msg m (λ h. h) brings
 accepts (AddLocal c b a2) call e code at by msg m a brings = not_brought call _ e at by msg m.2 (λ h. h) brings
+accepts (AddLocalLine l b a2) call e code at by msg m a brings = not_brought call _ e at by msg m.2 (λ h. h) brings
 accepts (AddRemote l b a2) call e code at by msg m a brings = not_brought call _ e at by msg m.2 (λ h. h) brings
 accepts (InvalidateLocal c) call e code at by msg m a brings = not_brought call _ e at by msg m.2 (λ h. h) brings
 accepts (Invalidate l) call e code at by msg m a brings = not_brought call _ e at by msg m.2 (λ h. h) brings

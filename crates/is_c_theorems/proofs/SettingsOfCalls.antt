@@ -17,7 +17,7 @@ use Rattle.is_c_calls.specs.AgentSettings.{settings_of, profile_of}
 use Rattle.is_c_calls.specs.Held.{Held}
 use Rattle.is_c_calls.specs.Preferences.{answers}
 use Rattle.is_c_calls.specs.Sessions.{Used, is_ok}
-use Rattle.is_c_calls.specs.Uses.{Use, Ask, SetControlling, SetLite, SetRenomination, SetTieBreaker, SetMaxPairs, SetMaxDiscovered, SetMaxCandidates, SetTimingAdvance, SetInitialRto, SetMaxRto, SetLiteTimeout, SetMaxRetransmits, SetMtu, SetPreference, SetSettings, SkipPairIds, SetLocalCredentials, SetRemoteCredentials, AddLocal, AddRemote, InvalidateLocal, Invalidate, Restart, RecreatePairs, HandlePacket, HandleTimeout, PollTransmit, PollTimeout, PollTimeoutSoon, PollEvent, mac_of}
+use Rattle.is_c_calls.specs.Uses.{Use, Ask, SetControlling, SetLite, SetRenomination, SetTieBreaker, SetMaxPairs, SetMaxDiscovered, SetMaxCandidates, SetTimingAdvance, SetInitialRto, SetMaxRto, SetLiteTimeout, SetMaxRetransmits, SetMtu, SetPreference, SetSettings, SkipPairIds, SetLocalCredentials, SetRemoteCredentials, AddLocal, AddLocalLine, AddRemote, InvalidateLocal, Invalidate, Restart, RecreatePairs, HandlePacket, HandleTimeout, PollTransmit, PollTimeout, PollTimeoutSoon, PollEvent, mac_of}
 use Rattle.is_c_theorems.specs.CallLogs.{Makes, Answers, IsOf, counts, settings_onto, AddsTo, IsLogOf, newborn}
 use Rattle.is_c_theorems.specs.Chosen.{sets, settings_by, SettingsAreThoseSet, EachKeeps, keeps_modern, keeps_consent, keeps_limit}
 use Rattle.is_c_theorems.specs.Executions.{modern_consent, DISCOVERED_LIMIT}
@@ -80,6 +80,7 @@ sets_as (SkipPairIds n) call answer code k m a = other (SkipPairIds n) call _ an
 sets_as (SetLocalCredentials u p) call answer code k m a = other (SetLocalCredentials u p) call _ answer code k m refl refl
 sets_as (SetRemoteCredentials u p) call answer code k m a = other (SetRemoteCredentials u p) call _ answer code k m refl refl
 sets_as (AddLocal c b d) call answer code k m a = other (AddLocal c b d) call _ answer code k m.2 refl refl
+sets_as (AddLocalLine l b d) call answer code k m a = other (AddLocalLine l b d) call _ answer code k m.2 refl refl
 sets_as (AddRemote l b d) call answer code k m a = other (AddRemote l b d) call _ answer code k m.2 refl refl
 sets_as (InvalidateLocal c) call answer code k m a = other (InvalidateLocal c) call _ answer code k m.2 refl refl
 sets_as (Invalidate l) call answer code k m a = other (Invalidate l) call _ answer code k m.2 refl refl

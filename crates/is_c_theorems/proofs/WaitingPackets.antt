@@ -22,7 +22,7 @@ use Rattle.is_c_calls.specs.Held.{Held, HomeRecord}
 use Rattle.is_c_calls.specs.Packets.{packet_path, IsReported, HandlesDatagram, TakesNext, GivesOf}
 use Rattle.is_c_calls.specs.Preferences.{answers}
 use Rattle.is_c_calls.specs.Sessions.{is_ok}
-use Rattle.is_c_calls.specs.Uses.{Use, Ask, SetControlling, SetLite, SetRenomination, SetTieBreaker, SetMaxPairs, SetMaxDiscovered, SetMaxCandidates, SetTimingAdvance, SetInitialRto, SetMaxRto, SetLiteTimeout, SetMaxRetransmits, SetMtu, SetPreference, SetSettings, SkipPairIds, SetLocalCredentials, SetRemoteCredentials, AddLocal, AddRemote, InvalidateLocal, Invalidate, Restart, RecreatePairs, HandlePacket, HandleTimeout, PollTransmit, PollTimeout, PollTimeoutSoon, PollEvent, mac_of, Does}
+use Rattle.is_c_calls.specs.Uses.{Use, Ask, SetControlling, SetLite, SetRenomination, SetTieBreaker, SetMaxPairs, SetMaxDiscovered, SetMaxCandidates, SetTimingAdvance, SetInitialRto, SetMaxRto, SetLiteTimeout, SetMaxRetransmits, SetMtu, SetPreference, SetSettings, SkipPairIds, SetLocalCredentials, SetRemoteCredentials, AddLocal, AddLocalLine, AddRemote, InvalidateLocal, Invalidate, Restart, RecreatePairs, HandlePacket, HandleTimeout, PollTransmit, PollTimeout, PollTimeoutSoon, PollEvent, mac_of, Does}
 use Rattle.is_c_theorems.specs.CallLogs.{Makes}
 use Rattle.is_c_theorems.specs.Seen.{Gets, IsToPoll, restarts}
 use Rattle.is_c_theorems.proofs.CallsAsSteps.{never, either}
@@ -99,6 +99,11 @@ waits (AddLocal c before after) code old new h np nr = either (has_room old.max_
   by None k = by_home old new old k.0.1 refl
   by (Some (Err e)) k = by_home old new old k.0.1 refl
   by (Some (Ok made)) (x, does, puts, kept) = kept.0
+waits (AddLocalLine line before after) code old new h np nr = either (has_room old.max_candidates old.agent.local) (λ k. by k.0 k.2) (λ k. by_home old new old k.0.1 refl) h where
+  by : (made : Made) → AddsMade (AddsLocalListed answers) NOT_UTF8 made before after old code new → new.waiting ≡ old.waiting
+  by None k = by_home old new old k.0.1 refl
+  by (Some (Err e)) k = by_home old new old k.0.1 refl
+  by (Some (Ok made)) (x, does, puts, kept) = kept.0
 waits (AddRemote line before after) code old new h np nr = either (has_room old.max_candidates old.agent.remote) (λ k. by k.0 k.2) (λ k. by_home old new old k.0.1 refl) h where
   by : (made : Made) → AddsMade AddsRemoteListed NOT_UTF8 made before after old code new → new.waiting ≡ old.waiting
   by None k = by_home old new old k.0.1 refl
@@ -164,6 +169,7 @@ not_poll (SkipPairIds n) call m none = ap is_poll m
 not_poll (SetLocalCredentials u p) call m none = ap is_poll m
 not_poll (SetRemoteCredentials u p) call m none = ap is_poll m
 not_poll (AddLocal c b a2) call m none = ap is_poll m.2
+not_poll (AddLocalLine l b a2) call m none = ap is_poll m.2
 not_poll (AddRemote l b a2) call m none = ap is_poll m.2
 not_poll (InvalidateLocal c) call m none = ap is_poll m.2
 not_poll (Invalidate l) call m none = ap is_poll m.2

@@ -26,7 +26,7 @@ use Rattle.is_c_calls.specs.Making.{fresh_home}
 use Rattle.is_c_calls.specs.Packets.{packet_path}
 use Rattle.is_c_calls.specs.Preferences.{answers}
 use Rattle.is_c_calls.specs.Sessions.{Used, Session, is_ok}
-use Rattle.is_c_calls.specs.Uses.{Use, Ask, SetControlling, SetLite, SetRenomination, SetTieBreaker, SetMaxPairs, SetMaxDiscovered, SetMaxCandidates, SetTimingAdvance, SetInitialRto, SetMaxRto, SetLiteTimeout, SetMaxRetransmits, SetMtu, SetPreference, SetSettings, SkipPairIds, SetLocalCredentials, SetRemoteCredentials, AddLocal, AddRemote, InvalidateLocal, Invalidate, Restart, RecreatePairs, HandlePacket, HandleTimeout, PollTransmit, PollTimeout, PollTimeoutSoon, PollEvent, mac_of}
+use Rattle.is_c_calls.specs.Uses.{Use, Ask, SetControlling, SetLite, SetRenomination, SetTieBreaker, SetMaxPairs, SetMaxDiscovered, SetMaxCandidates, SetTimingAdvance, SetInitialRto, SetMaxRto, SetLiteTimeout, SetMaxRetransmits, SetMtu, SetPreference, SetSettings, SkipPairIds, SetLocalCredentials, SetRemoteCredentials, AddLocal, AddLocalLine, AddRemote, InvalidateLocal, Invalidate, Restart, RecreatePairs, HandlePacket, HandleTimeout, PollTransmit, PollTimeout, PollTimeoutSoon, PollEvent, mac_of}
 
 -- ---- one call
 
@@ -52,6 +52,7 @@ Makes (SkipPairIds number) call = call ≡ agent.SkipPairIds number
 Makes (SetLocalCredentials ufrag pass) call = call ≡ agent.SetLocalCredentials (record { ufrag = ufrag; pass = pass })
 Makes (SetRemoteCredentials ufrag pass) call = call ≡ agent.SetRemoteCredentials (record { ufrag = ufrag; pass = pass })
 Makes (AddLocal c before after) call = (made : CandidateRecord) × MakesCandidate c (Some (Ok made)) × (call ≡ agent.AddLocalCandidate made)
+Makes (AddLocalLine line before after) call = (made : CandidateRecord) × ReadsBytes line (Some (Ok made)) × (call ≡ agent.AddLocalCandidate made)
 Makes (AddRemote line before after) call = (made : CandidateRecord) × ReadsBytes line (Some (Ok made)) × (call ≡ agent.AddRemoteCandidate made)
 Makes (InvalidateLocal c) call = (made : CandidateRecord) × MakesCandidate c (Some (Ok made)) × (call ≡ agent.InvalidateCandidate made)
 Makes (Invalidate line) call = (made : CandidateRecord) × ReadsBytes line (Some (Ok made)) × (call ≡ agent.InvalidateCandidate made)
@@ -84,6 +85,7 @@ Answers (PollTransmit before after known reported) answer code = (given : Option
 Answers (PollTimeout before after) answer code = (deadline : Option ℕ) × (answer ≡ NextTimeout deadline)
 Answers (PollTimeoutSoon before after) answer code = (deadline : Option ℕ) × (answer ≡ NextTimeout deadline)
 Answers (AddLocal c before after) answer code = Unit {0}
+Answers (AddLocalLine line before after) answer code = Unit {0}
 Answers (AddRemote line before after) answer code = Unit {0}
 Answers (InvalidateLocal c) answer code = code ≡ code_by answer
 Answers (Invalidate line) answer code = code ≡ code_by answer
@@ -112,6 +114,7 @@ abbrev pub counts : Use → Bool
 counts Ask = false
 counts (SetMaxCandidates limit) = false
 counts (AddLocal c before after) = false
+counts (AddLocalLine line before after) = false
 counts (AddRemote line before after) = false
 counts (InvalidateLocal c) = false
 counts (Invalidate line) = false

@@ -632,6 +632,7 @@ pub(super) mod raw {
             pass: *const u8,
             pass_length: usize,
         ) -> i32;
+        pub(crate) fn is_ice_add_local_line(agent: &mut Agent, line: *const u8, length: usize, index: &mut usize) -> i32;
         pub(crate) fn is_ice_add_remote(agent: &mut Agent, line: *const u8, length: usize, index: &mut usize) -> i32;
         pub(crate) fn is_ice_invalidate(agent: &mut Agent, line: *const u8, length: usize) -> i32;
         pub(crate) fn is_ice_local_candidate(agent: &mut Agent, index: usize, buffer: *mut u8, size: usize, length: &mut usize) -> i32;
@@ -838,6 +839,11 @@ pub(crate) fn is_ice_set_local_credentials(agent: &mut Agent, ufrag: &[u8], pass
 pub(crate) fn is_ice_set_remote_credentials(agent: &mut Agent, ufrag: &[u8], pass: &[u8]) -> i32 {
     // SAFETY: as the module says.
     unsafe { raw::is_ice_set_remote_credentials(agent, ufrag.as_ptr(), ufrag.len(), pass.as_ptr(), pass.len()) }
+}
+
+pub(crate) fn is_ice_add_local_line(agent: &mut Agent, line: &[u8], index: &mut usize) -> i32 {
+    // SAFETY: as the module says.
+    unsafe { raw::is_ice_add_local_line(agent, line.as_ptr(), line.len(), index) }
 }
 
 pub(crate) fn is_ice_add_remote(agent: &mut Agent, line: &[u8], index: &mut usize) -> i32 {
