@@ -36,6 +36,7 @@ mod step;
 mod story;
 mod times;
 mod turns;
+mod unserved;
 mod words;
 mod zeros;
 

@@ -116,12 +116,7 @@ fn add_hosts(
 
 /// Makes an agent with so many pairs, and then runs so many rounds. Only this function, `host_candidates` and `flood` own
 /// an agent; the others borrow it.
-pub fn turns(
-    alloc: Global,
-    case: Case,
-    rounds: u64,
-    sum: &mut Checksum,
-) -> Result<(), IceError> {
+pub fn turns(alloc: Global, case: Case, rounds: u64, sum: &mut Checksum) -> Result<(), IceError> {
     let mut agent = make(alloc)?;
     set_profile(&mut agent, case.profile);
     set_up(&mut agent, alloc, case.pairs)?;

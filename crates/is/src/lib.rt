@@ -20,7 +20,7 @@ mod world_theorems;
 pub use calls::{AgentCall, Answer, Call, Entry};
 pub use is_agent::{
     IceAgent, IceAgentEvent, IceAgentStats, IceConnectionState, IceCreds, LocalCandidates,
-    Rejection, RemoteCandidates,
+    Rejection, RemoteCandidates, Unserved,
 };
 pub use is_candidate::{
     Candidate, CandidateBuilder, CandidateKind, FnPreference, JsonScratch, LocalPreference,

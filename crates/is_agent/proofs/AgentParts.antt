@@ -7,3 +7,4 @@ pub mod ReceivedResponses
 pub mod UsernameLength
 pub mod PairsInLists
 pub mod SelectedAgain
+pub mod RequestsWithoutResponse

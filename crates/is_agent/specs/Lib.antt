@@ -9,3 +9,5 @@ pub mod Keys
 pub mod Removed
 pub mod Polls
 pub mod Rejecting
+pub mod Unserved
+pub mod Media

@@ -202,8 +202,8 @@ impl<H: Sha1HmacProvider + Drop, P: LocalPreference> Agent<H, P> {
         }
     }
 
-    /// The pair that was selected last, if it still exists.
-    fn nominated_pair(&self) -> Option<&CandidatePair>
+    /// The pair that was selected last, if it still exists. Does not allocate.
+    pub fn nominated_pair(&self) -> Option<&CandidatePair>
         ensures { option_copied result ≡ nominated_pair (record_of self.now) }
     {
         pair_selected(self.selected_pair, &self.pairs)

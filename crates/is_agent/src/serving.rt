@@ -47,7 +47,7 @@ use std::alloc::AllocError;
 
 impl<H: Sha1HmacProvider + Drop, P: LocalPreference> Agent<H, P> {
     /// The candidates and the pair at which the request can be served, if a local candidate received it.
-    fn places_of(&self, request: &Request<'_>) -> Option<Places>
+    pub(crate) fn places_of(&self, request: &Request<'_>) -> Option<Places>
         requires { names_another (record_of self.now) (request_view request.now) ≡ false }
         ensures chosen { Chooses (record_of self.now) (request_view request.now) result }
         ensures within { IfSome result (λ at. at.local < length self.now.local.items) }

@@ -16,6 +16,7 @@ pub mod StunFill
 pub mod Pairs
 pub mod Selected
 pub mod Paths
+pub mod Monitoring
 pub mod Removed
 pub mod Lines
 pub mod Fields
@@ -25,3 +26,5 @@ pub mod Grammar
 pub mod Retransmits
 pub mod FromFields
 pub mod Roles
+pub mod LogLines
+pub mod Unserved

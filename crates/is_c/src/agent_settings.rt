@@ -3,12 +3,14 @@
 ghost use Rattle.std.specs.Prelude.{◌≡◌, None};
 ghost use Rattle.is_rules.specs.Settings.{original_settings, modern_settings};
 ghost use Rattle.is_c.specs.Slots.{held_by};
+ghost use Rattle.is_c_calls.specs.Following.{Followed, in_turn};
 ghost use Rattle.is_c_calls.specs.Held.{At};
 ghost use Rattle.is_c_calls.specs.Limits.{CANDIDATE_LIMIT, NO_LIMIT};
 ghost use Rattle.is_c_calls.specs.AgentSettings.{profile_of, timeout_of, settings_of, reported_settings, GivesSettings, ReturnsSettings};
-ghost use Rattle.is_c_calls.specs.Uses.{Does, SetSettings};
+ghost use Rattle.is_c_calls.specs.Uses.{SetSettings};
 
 use crate::codes;
+use crate::deadlines::followed;
 use crate::making::candidate_limit;
 use crate::settings::limit_of;
 use crate::slot::Slot;
@@ -108,7 +110,7 @@ pub extern "C" fn is_ice_set_settings(
     slot: &mut Slot,
     settings: &AgentSettings,
 ) -> i32
-    ensures { At (Does (SetSettings settings.now)) (held_by slot.old) result (held_by slot.new) }
+    ensures { At (Followed in_turn (SetSettings settings.now)) (held_by slot.old) result (held_by slot.new) }
 {
     let Some(home) = slot.home() else {
         return codes::NO_AGENT;
@@ -118,7 +120,7 @@ pub extern "C" fn is_ice_set_settings(
     }
     home.agent.set_settings(settings_of(settings));
     home.max_candidates = settings.max_candidates;
-    codes::OK
+    followed(home, false, codes::OK)
 }
 
 /// Writes what is set.

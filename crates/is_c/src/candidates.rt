@@ -2,15 +2,17 @@
 
 ghost use Rattle.std.specs.Prelude.{◌≡◌, None};
 ghost use Rattle.is_agent.specs.View.{record_of};
-ghost use Rattle.is_c_calls.specs.Adding.{addition_index, addition_code, has_room, PutsAddition};
+ghost use Rattle.is_c_calls.specs.Adding.{addition_index, addition_code, has_room, PutsAddition, AddsGiven, AddsLocalRead, AddsRead};
 ghost use Rattle.is_c_calls.specs.Codes.{flag_code};
 ghost use Rattle.is_c.specs.Slots.{home_of, held_by};
+ghost use Rattle.is_c_calls.specs.Following.{Followed, at_once};
 ghost use Rattle.is_c_calls.specs.Held.{At};
-ghost use Rattle.is_c_calls.specs.Given.{CallsMade, Discards, CountsMade, CountsGiven};
-ghost use Rattle.is_c_calls.specs.Uses.{Does, AddLocal, AddLocalLine, AddRemote, InvalidateLocal, Invalidate};
+ghost use Rattle.is_c_calls.specs.Given.{CallsGiven, CallsMade, CallsRead, Discards, CountsMade, CountsGiven};
+ghost use Rattle.is_c_calls.specs.Uses.{AddLocal, AddLocalLine, AddRemote, InvalidateLocal, Invalidate};
 
 use crate::candidate::{line_candidate, local_candidate};
 use crate::codes;
+use crate::deadlines::followed;
 use crate::home::Home;
 use crate::questions::{local_at, remote_at};
 use crate::slot::Slot;
@@ -93,6 +95,19 @@ fn put_addition(outcome: Result<Addition, IceError>, index: &mut usize) -> i32
     }
 }
 
+fn add_local(alloc: Global, home: &mut Home, candidate: &LocalCandidate, index: &mut usize) -> i32
+    ensures { AddsGiven candidate.now index.old index.new (home_of home.old) result (home_of home.new) }
+{
+    if !has_local_room(home) {
+        return codes::TOO_MANY_CANDIDATES;
+    }
+    match local_candidate(alloc, candidate) {
+        Some(Ok(candidate)) => put_addition(add_local_listed(&mut home.agent, candidate), index),
+        Some(Err(error)) => codes::code_of(&error),
+        None => codes::BAD_ADDRESS,
+    }
+}
+
 /// Adds a local candidate, and writes the index at which it is listed: of one that is not added, that of the candidate that
 /// equals it, or `NO_INDEX`. Fails with `TOO_MANY_CANDIDATES` if as many local candidates are listed as the limit allows.
 #[unsafe(no_mangle)]
@@ -102,19 +117,26 @@ pub extern "C" fn is_ice_add_local(
     candidate: &LocalCandidate,
     index: &mut usize,
 ) -> i32
-    ensures added { At (Does (AddLocal candidate.now index.old index.new)) (held_by slot.old) result (held_by slot.new) }
+    ensures added { At (Followed at_once (AddLocal candidate.now index.old index.new)) (held_by slot.old) result (held_by slot.new) }
     ensures without { held_by slot.old ≡ None → index.new ≡ index.old }
 {
     let Some(home) = slot.home() else {
         return codes::NO_AGENT;
     };
+    let code = add_local(alloc, home, candidate, index);
+    followed(home, true, code)
+}
+
+fn add_local_line(alloc: Global, home: &mut Home, line: &[u8], index: &mut usize) -> i32
+    ensures { AddsLocalRead line.now index.old index.new (home_of home.old) result (home_of home.new) }
+{
     if !has_local_room(home) {
         return codes::TOO_MANY_CANDIDATES;
     }
-    match local_candidate(alloc, candidate) {
+    match line_candidate(alloc, line) {
         Some(Ok(candidate)) => put_addition(add_local_listed(&mut home.agent, candidate), index),
         Some(Err(error)) => codes::code_of(&error),
-        None => codes::BAD_ADDRESS,
+        None => codes::NOT_UTF8,
     }
 }
 
@@ -127,17 +149,24 @@ pub extern "C" fn is_ice_add_local_line(
     line: &[u8],
     index: &mut usize,
 ) -> i32
-    ensures added { At (Does (AddLocalLine line.now index.old index.new)) (held_by slot.old) result (held_by slot.new) }
+    ensures added { At (Followed at_once (AddLocalLine line.now index.old index.new)) (held_by slot.old) result (held_by slot.new) }
     ensures without { held_by slot.old ≡ None → index.new ≡ index.old }
 {
     let Some(home) = slot.home() else {
         return codes::NO_AGENT;
     };
-    if !has_local_room(home) {
+    let code = add_local_line(alloc, home, line, index);
+    followed(home, true, code)
+}
+
+fn add_remote(alloc: Global, home: &mut Home, line: &[u8], index: &mut usize) -> i32
+    ensures { AddsRead line.now index.old index.new (home_of home.old) result (home_of home.new) }
+{
+    if !has_remote_room(home) {
         return codes::TOO_MANY_CANDIDATES;
     }
     match line_candidate(alloc, line) {
-        Some(Ok(candidate)) => put_addition(add_local_listed(&mut home.agent, candidate), index),
+        Some(Ok(candidate)) => put_addition(add_remote_listed(&mut home.agent, candidate), index),
         Some(Err(error)) => codes::code_of(&error),
         None => codes::NOT_UTF8,
     }
@@ -152,20 +181,14 @@ pub extern "C" fn is_ice_add_remote(
     line: &[u8],
     index: &mut usize,
 ) -> i32
-    ensures added { At (Does (AddRemote line.now index.old index.new)) (held_by slot.old) result (held_by slot.new) }
+    ensures added { At (Followed at_once (AddRemote line.now index.old index.new)) (held_by slot.old) result (held_by slot.new) }
     ensures without { held_by slot.old ≡ None → index.new ≡ index.old }
 {
     let Some(home) = slot.home() else {
         return codes::NO_AGENT;
     };
-    if !has_remote_room(home) {
-        return codes::TOO_MANY_CANDIDATES;
-    }
-    match line_candidate(alloc, line) {
-        Some(Ok(candidate)) => put_addition(add_remote_listed(&mut home.agent, candidate), index),
-        Some(Err(error)) => codes::code_of(&error),
-        None => codes::NOT_UTF8,
-    }
+    let code = add_remote(alloc, home, line, index);
+    followed(home, true, code)
 }
 
 /// Discards a candidate that equals the one that was made, or returns the code of why there is none.
@@ -179,6 +202,12 @@ fn invalidate_made(home: &mut Home, made: Option<Result<Candidate, IceError>>, w
     }
 }
 
+fn invalidate_local(alloc: Global, home: &mut Home, candidate: &LocalCandidate) -> i32
+    ensures { CallsGiven Discards flag_code candidate.now (home_of home.old) result (home_of home.new) }
+{
+    invalidate_made(home, local_candidate(alloc, candidate), codes::BAD_ADDRESS)
+}
+
 /// Discards a candidate that equals this one.
 #[unsafe(no_mangle)]
 pub extern "C" fn is_ice_invalidate_local(
@@ -186,23 +215,31 @@ pub extern "C" fn is_ice_invalidate_local(
     slot: &mut Slot,
     candidate: &LocalCandidate,
 ) -> i32
-    ensures { At (Does (InvalidateLocal candidate.now)) (held_by slot.old) result (held_by slot.new) }
+    ensures { At (Followed at_once (InvalidateLocal candidate.now)) (held_by slot.old) result (held_by slot.new) }
 {
     let Some(home) = slot.home() else {
         return codes::NO_AGENT;
     };
-    invalidate_made(home, local_candidate(alloc, candidate), codes::BAD_ADDRESS)
+    let code = invalidate_local(alloc, home, candidate);
+    followed(home, true, code)
+}
+
+fn invalidate(alloc: Global, home: &mut Home, line: &[u8]) -> i32
+    ensures { CallsRead Discards flag_code line.now (home_of home.old) result (home_of home.new) }
+{
+    invalidate_made(home, line_candidate(alloc, line), codes::NOT_UTF8)
 }
 
 /// Discards a candidate that equals the one of the candidate attribute.
 #[unsafe(no_mangle)]
 pub extern "C" fn is_ice_invalidate(alloc: Global, slot: &mut Slot, line: &[u8]) -> i32
-    ensures { At (Does (Invalidate line.now)) (held_by slot.old) result (held_by slot.new) }
+    ensures { At (Followed at_once (Invalidate line.now)) (held_by slot.old) result (held_by slot.new) }
 {
     let Some(home) = slot.home() else {
         return codes::NO_AGENT;
     };
-    invalidate_made(home, line_candidate(alloc, line), codes::NOT_UTF8)
+    let code = invalidate(alloc, home, line);
+    followed(home, true, code)
 }
 
 /// Counts the local candidates that are alike, or returns the code of why there is no candidate.

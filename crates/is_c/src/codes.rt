@@ -30,6 +30,18 @@ pub const REJECTED_NO_CHECK: i32 = 9;
 pub const REJECTED_PATH: i32 = 10;
 
 pub const REJECTED_REMOTE_PASSWORD: i32 = 11;
+/// An accepted request gets no response: see `Unserved`, for this and the codes below.
+pub const UNSERVED_EARLY: i32 = 12;
+
+pub const UNSERVED_DESTINATION: i32 = 13;
+
+pub const UNSERVED_USE_CANDIDATE: i32 = 14;
+
+pub const UNSERVED_SENDER: i32 = 15;
+
+pub const UNSERVED_LIMIT: i32 = 16;
+
+pub const UNSERVED_LOCAL: i32 = 17;
 /// The slot holds no agent.
 pub const NO_AGENT: i32 = -1;
 /// The slot holds an agent already.

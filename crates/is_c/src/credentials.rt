@@ -1,12 +1,16 @@
 //! Credentials: set, made and read.
 
 ghost use Rattle.std.specs.Prelude.{◌≡◌, None, IfOk};
-ghost use Rattle.is_c_calls.specs.Credentials.{MakesCreds, drawn, PutsBoth, Draws, Returns};
-ghost use Rattle.is_c.specs.Slots.{held_by};
+ghost use Rattle.is_c_calls.specs.Credentials.{MakesCreds, CallsWith, drawn, PutsBoth, Draws, Returns};
+ghost use Rattle.is_rules.specs.Credentials.{SetsRemote};
+ghost use Rattle.is_c.specs.Slots.{home_of, held_by};
+ghost use Rattle.is_c_calls.specs.Following.{Followed, at_once};
 ghost use Rattle.is_c_calls.specs.Held.{At};
 ghost use Rattle.is_c_calls.specs.Uses.{Does, SetLocalCredentials, SetRemoteCredentials};
 
 use crate::codes;
+use crate::deadlines::followed;
+use crate::home::Home;
 use crate::random::Given;
 use crate::slot::Slot;
 use crate::text::put;
@@ -46,6 +50,15 @@ pub extern "C" fn is_ice_set_local_credentials(
     }
 }
 
+fn set_remote(alloc: Global, home: &mut Home, ufrag: &[u8], pass: &[u8]) -> i32
+    ensures { CallsWith SetsRemote ufrag.now pass.now (home_of home.old) result (home_of home.new) }
+{
+    match creds_of(alloc, ufrag, pass) {
+        Ok(creds) => codes::done_code(home.agent.set_remote_credentials(creds)),
+        Err(code) => code,
+    }
+}
+
 /// Sets the peer's credentials.
 #[unsafe(no_mangle)]
 pub extern "C" fn is_ice_set_remote_credentials(
@@ -54,15 +67,13 @@ pub extern "C" fn is_ice_set_remote_credentials(
     ufrag: &[u8],
     pass: &[u8],
 ) -> i32
-    ensures { At (Does (SetRemoteCredentials ufrag.now pass.now)) (held_by slot.old) result (held_by slot.new) }
+    ensures { At (Followed at_once (SetRemoteCredentials ufrag.now pass.now)) (held_by slot.old) result (held_by slot.new) }
 {
     let Some(home) = slot.home() else {
         return codes::NO_AGENT;
     };
-    match creds_of(alloc, ufrag, pass) {
-        Ok(creds) => codes::done_code(home.agent.set_remote_credentials(creds)),
-        Err(code) => code,
-    }
+    let code = set_remote(alloc, home, ufrag, pass);
+    followed(home, true, code)
 }
 
 // ---- random credentials

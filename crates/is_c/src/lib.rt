@@ -11,6 +11,7 @@ mod candidates;
 mod clock;
 pub mod codes;
 mod credentials;
+mod deadlines;
 mod events;
 mod fields;
 mod from_fields;
@@ -19,8 +20,10 @@ mod handle;
 mod home;
 mod infos;
 mod lines;
+mod log_lines;
 mod making;
 mod mdns;
+mod monitoring;
 mod packets;
 mod pairs;
 mod parts;
@@ -41,6 +44,7 @@ mod stun_read;
 mod stun_texts;
 mod stun_write;
 mod text;
+mod unserved;
 
 pub use fields::Fields;
 pub use handle::{Handle, Opaque};
@@ -49,6 +53,7 @@ pub use is_c_calls::{
     Address, AgentSettings, Event, KindPreferences, LocalCandidate, Packet, Preference,
     PreferenceTable,
 };
+pub use monitoring::FailedSend;
 pub use pairs::Pair;
 pub use paths::MediaPath;
 pub use questions::{Nominated, Stats, Status};

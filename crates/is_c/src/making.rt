@@ -17,6 +17,8 @@ use crate::credentials::creds_of;
 use crate::home::Home;
 use crate::slot::Slot;
 use is_agent::{Agent, IceCreds};
+use is_monitor::{FailedSends, Monitor};
+use is_proto::Duration;
 use is_rules::settings::Settings;
 use std::alloc::Global;
 
@@ -26,6 +28,9 @@ pub(crate) fn candidate_limit() -> usize
 {
     100
 }
+
+/// After what time the selected path counts as silent, until another one is set.
+const SILENCE: Duration = Duration(5_000_000_000);
 
 fn boxed_agent(alloc: Global, creds: IceCreds, tie_breaker: u64) -> Result<Box<Home>, i32>
     ensures made { IfOk result (λ home. (are_too_long creds None ≡ false) × (home_of home.value ≡ fresh_home creds tie_breaker)) }
@@ -40,6 +45,9 @@ fn boxed_agent(alloc: Global, creds: IceCreds, tie_breaker: u64) -> Result<Box<H
         agent,
         waiting: None,
         max_candidates: candidate_limit(),
+        deadline: None,
+        monitor: Monitor::new(Some(SILENCE)),
+        failures: FailedSends::new(alloc),
     };
     match Box::new(alloc, home) {
         Ok(home) => Ok(home),
@@ -98,7 +106,7 @@ pub unsafe extern "C" fn is_ice_agent_free(alloc: Global, slot: *mut Slot)
 /// The version of this interface. The header has the same number.
 #[unsafe(no_mangle)]
 pub extern "C" fn is_ice_version() -> u32
-    ensures { result ≡ 7 }
+    ensures { result ≡ 8 }
 {
-    7
+    8
 }

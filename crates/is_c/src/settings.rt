@@ -5,11 +5,13 @@ ghost use Rattle.is_c_calls.specs.Codes.{BAD_LIMIT, done_code, found_code};
 ghost use Rattle.is_c_calls.specs.Limits.{limit_of};
 ghost use Rattle.is_c.specs.Roles.{is_controlling};
 ghost use Rattle.is_c.specs.Slots.{held_by};
+ghost use Rattle.is_c_calls.specs.Following.{Followed, at_once, in_turn};
 ghost use Rattle.is_c_calls.specs.Held.{At};
 ghost use Rattle.is_c_calls.specs.declared.preference.Preference.TheVariants.{ByDefault, Fixed, ByTable};
 ghost use Rattle.is_c_calls.specs.Uses.{Does, SetControlling, SetLite, SetRenomination, SetTieBreaker, SetMaxPairs, SetMaxDiscovered, SetMaxCandidates, SetTimingAdvance, SetInitialRto, SetMaxRto, SetLiteTimeout, SetMaxRetransmits, SetMtu, SetPreference, SkipPairIds};
 
 use crate::codes;
+use crate::deadlines::followed;
 use crate::slot::Slot;
 use is_c_calls::{Preference, PreferenceTable};
 use is_proto::Duration;
@@ -18,12 +20,13 @@ use std::alloc::Global;
 /// Gives the agent the controlling or the controlled role. Fails for a lite agent that keeps its role.
 #[unsafe(no_mangle)]
 pub extern "C" fn is_ice_set_controlling(alloc: Global, slot: &mut Slot, controlling: bool) -> i32
-    ensures { At (Does (SetControlling controlling)) (held_by slot.old) result (held_by slot.new) }
+    ensures { At (Followed at_once (SetControlling controlling)) (held_by slot.old) result (held_by slot.new) }
 {
     let Some(home) = slot.home() else {
         return codes::NO_AGENT;
     };
-    codes::done_code(home.agent.set_controlling(controlling))
+    let code = codes::done_code(home.agent.set_controlling(controlling));
+    followed(home, true, code)
 }
 
 fn is_controlling(made_offer: bool, lite: bool, other_is_lite: bool) -> bool
@@ -47,25 +50,25 @@ pub extern "C" fn is_ice_role(made_offer: bool, lite: bool, other_is_lite: bool)
 /// Makes the agent a lite agent, or a full one.
 #[unsafe(no_mangle)]
 pub extern "C" fn is_ice_set_lite(alloc: Global, slot: &mut Slot, lite: bool) -> i32
-    ensures { At (Does (SetLite lite)) (held_by slot.old) result (held_by slot.new) }
+    ensures { At (Followed in_turn (SetLite lite)) (held_by slot.old) result (held_by slot.new) }
 {
     let Some(home) = slot.home() else {
         return codes::NO_AGENT;
     };
     home.agent.set_ice_lite(lite);
-    codes::OK
+    followed(home, false, codes::OK)
 }
 
 /// Lets each nomination replace the ones before, so that both agents select the same path.
 #[unsafe(no_mangle)]
 pub extern "C" fn is_ice_set_renomination(alloc: Global, slot: &mut Slot, enabled: bool) -> i32
-    ensures { At (Does (SetRenomination enabled)) (held_by slot.old) result (held_by slot.new) }
+    ensures { At (Followed in_turn (SetRenomination enabled)) (held_by slot.old) result (held_by slot.new) }
 {
     let Some(home) = slot.home() else {
         return codes::NO_AGENT;
     };
     home.agent.set_renomination(enabled);
-    codes::OK
+    followed(home, false, codes::OK)
 }
 
 /// Sets the number that resolves role conflicts.
@@ -130,49 +133,49 @@ pub extern "C" fn is_ice_set_max_candidates(alloc: Global, slot: &mut Slot, limi
 /// Sets the pacing interval of what the agent sends, in nanoseconds.
 #[unsafe(no_mangle)]
 pub extern "C" fn is_ice_set_timing_advance(alloc: Global, slot: &mut Slot, nanoseconds: u64) -> i32
-    ensures { At (Does (SetTimingAdvance nanoseconds)) (held_by slot.old) result (held_by slot.new) }
+    ensures { At (Followed in_turn (SetTimingAdvance nanoseconds)) (held_by slot.old) result (held_by slot.new) }
 {
     let Some(home) = slot.home() else {
         return codes::NO_AGENT;
     };
     home.agent.set_timing_advance(Duration(nanoseconds));
-    codes::OK
+    followed(home, false, codes::OK)
 }
 
 /// Sets the RTO after a pair's first check, in nanoseconds.
 #[unsafe(no_mangle)]
 pub extern "C" fn is_ice_set_initial_rto(alloc: Global, slot: &mut Slot, nanoseconds: u64) -> i32
-    ensures { At (Does (SetInitialRto nanoseconds)) (held_by slot.old) result (held_by slot.new) }
+    ensures { At (Followed in_turn (SetInitialRto nanoseconds)) (held_by slot.old) result (held_by slot.new) }
 {
     let Some(home) = slot.home() else {
         return codes::NO_AGENT;
     };
     home.agent.set_initial_stun_rto(Duration(nanoseconds));
-    codes::OK
+    followed(home, false, codes::OK)
 }
 
 /// Sets the greatest RTO after a check, in nanoseconds.
 #[unsafe(no_mangle)]
 pub extern "C" fn is_ice_set_max_rto(alloc: Global, slot: &mut Slot, nanoseconds: u64) -> i32
-    ensures { At (Does (SetMaxRto nanoseconds)) (held_by slot.old) result (held_by slot.new) }
+    ensures { At (Followed in_turn (SetMaxRto nanoseconds)) (held_by slot.old) result (held_by slot.new) }
 {
     let Some(home) = slot.home() else {
         return codes::NO_AGENT;
     };
     home.agent.set_max_stun_rto(Duration(nanoseconds));
-    codes::OK
+    followed(home, false, codes::OK)
 }
 
 /// Sets how long an ICE-lite agent keeps a pair after the peer's last check on it, in nanoseconds.
 #[unsafe(no_mangle)]
 pub extern "C" fn is_ice_set_lite_timeout(alloc: Global, slot: &mut Slot, nanoseconds: u64) -> i32
-    ensures { At (Does (SetLiteTimeout nanoseconds)) (held_by slot.old) result (held_by slot.new) }
+    ensures { At (Followed in_turn (SetLiteTimeout nanoseconds)) (held_by slot.old) result (held_by slot.new) }
 {
     let Some(home) = slot.home() else {
         return codes::NO_AGENT;
     };
     home.agent.set_lite_timeout(Duration(nanoseconds));
-    codes::OK
+    followed(home, false, codes::OK)
 }
 
 /// Makes the number of the next pair at least this one.
@@ -246,7 +249,7 @@ pub extern "C" fn is_ice_reset_local_preference(alloc: Global, slot: &mut Slot) 
 /// Sets how many checks a pair sends without a response before it is removed. Fails with `BAD_LIMIT` if the limit is 0.
 #[unsafe(no_mangle)]
 pub extern "C" fn is_ice_set_max_retransmits(alloc: Global, slot: &mut Slot, limit: usize) -> i32
-    ensures { At (Does (SetMaxRetransmits limit)) (held_by slot.old) result (held_by slot.new) }
+    ensures { At (Followed in_turn (SetMaxRetransmits limit)) (held_by slot.old) result (held_by slot.new) }
 {
     let Some(home) = slot.home() else {
         return codes::NO_AGENT;
@@ -255,5 +258,5 @@ pub extern "C" fn is_ice_set_max_retransmits(alloc: Global, slot: &mut Slot, lim
         return codes::BAD_LIMIT;
     }
     home.agent.set_max_stun_retransmits(limit);
-    codes::OK
+    followed(home, false, codes::OK)
 }

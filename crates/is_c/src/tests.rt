@@ -6,6 +6,8 @@ mod early;
 mod fields;
 mod front_ends;
 mod limits;
+mod log_lines;
+mod media;
 mod removed;
 mod selected;
 mod stun;

@@ -1,19 +1,25 @@
 -- What a slot of C holds, and what the relations of the calls have in common.
-use Rattle.std.specs.Prelude.{◌≡◌, ℕ, Option, Some, None, ℤ}
+use Rattle.std.specs.Prelude.{◌≡◌, ℕ, List, Option, Some, None, ℤ}
 use Rattle.is_proto.specs.declared.hmac_provider.DefaultSha1HmacProvider.{DefaultSha1HmacProvider}
 use Rattle.is_proto.specs.Packets.{Packet}
 use Rattle.is_rules.specs.Agent.{AgentRecord}
+use Rattle.is_monitor.specs.declared.failures.FailedSend.{FailedSend}
+use Rattle.is_monitor.specs.declared.monitor.Monitor.{Monitor}
 use Rattle.is_c_calls.specs.Codes.{OK, NO_AGENT}
 use Rattle.is_c_calls.specs.declared.preference.Preference.{Preference}
 
 abbrev pub Held : Type 0
 Held = AgentRecord DefaultSha1HmacProvider Preference
 
--- the agent, a packet that waits for a longer buffer, and the limit on candidates of each side
+-- the agent, a packet that waits for a longer buffer, the limit on candidates of each side, the time of the agent at which
+-- `is_ice_handle_timeout` is to be called, the monitor of the agent's paths, and packets that C could not send
 pub record HomeRecord : Type 0 where
   pub agent : Held
   pub waiting : Option Packet
   pub max_candidates : ℕ
+  pub deadline : Option ℕ
+  pub monitor : Monitor
+  pub failures : List FailedSend
 
 -- what an export returns and does: without an agent nothing, and it returns `NO_AGENT`
 abbrev pub At : (HomeRecord → ℤ → HomeRecord → Type 0) → Option HomeRecord → ℤ → Option HomeRecord → Type 0
@@ -25,9 +31,17 @@ At Does (Some old) code (Some new) = Does old code new
 abbrev pub AgentBecomes : (Held → Held) → HomeRecord → ℤ → HomeRecord → Type 0
 AgentBecomes change old code new = (code ≡ OK) × (new ≡ record old { agent = change old.agent })
 
+-- what no call of the agent changes
+abbrev pub KeepsOwn : HomeRecord → HomeRecord → Type 0
+KeepsOwn old new = (new.max_candidates ≡ old.max_candidates) × (new.failures ≡ old.failures)
+
+-- only the agent may change, and the monitor becomes this one
+abbrev pub KeepsRestWith : Monitor → HomeRecord → HomeRecord → Type 0
+KeepsRestWith monitor old new = (new.waiting ≡ old.waiting) × (new.monitor ≡ monitor) × (new.deadline ≡ old.deadline) × KeepsOwn old new
+
 -- only the agent may change
 abbrev pub KeepsRest : HomeRecord → HomeRecord → Type 0
-KeepsRest old new = (new.waiting ≡ old.waiting) × (new.max_candidates ≡ old.max_candidates)
+KeepsRest old new = KeepsRestWith old.monitor old new
 
 -- a call of the library, whose result the code contains
 abbrev pub Calls : {R : Type 0} → (Held → R → Held → Type 0) → (R → ℤ) → HomeRecord → ℤ → HomeRecord → Type 0

@@ -13,7 +13,10 @@ pub mod Credentials
 pub mod Making
 pub mod Given
 pub mod Adding
+pub mod Deadlines
+pub mod Monitoring
 pub mod Packets
 pub mod Events
 pub mod Uses
 pub mod Sessions
+pub mod Following

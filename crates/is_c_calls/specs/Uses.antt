@@ -1,5 +1,5 @@
 -- What C calls on a slot that holds an agent: one case for each call that may change it, with what C passes and what is written for C. The
--- contract of each export of `is_c` is its case of `Does`.
+-- contract of each export of `is_c` is its case of `Does`, or that case `Followed` by `FixTimes`: so a call of C is one use or two.
 use Rattle.std.specs.Prelude.{◌≡◌, ℕ, ◌==◌, Bool, List, Some, MatchBool, ℤ}
 use Rattle.is_proto.specs.Hmac.{hmac_sha1}
 use Rattle.is_rules.specs.Restarting.{Recreates}
@@ -15,11 +15,13 @@ use Rattle.is_c_calls.specs.Adding.{SetsMaxCandidates, AddsGiven, AddsLocalRead,
 use Rattle.is_c_calls.specs.AgentSettings.{SetsSettings}
 use Rattle.is_c_calls.specs.Codes.{BAD_LIMIT, done_code, flag_code}
 use Rattle.is_c_calls.specs.Credentials.{CallsWith}
+use Rattle.is_c_calls.specs.Deadlines.{FixesTimes}
 use Rattle.is_c_calls.specs.Events.{ReturnsEvent}
 use Rattle.is_c_calls.specs.Given.{CallsGiven, CallsRead, Discards}
 use Rattle.is_c_calls.specs.Held.{HomeRecord, AgentBecomes, Calls, Rejects}
 use Rattle.is_c_calls.specs.Limits.{limit_of}
-use Rattle.is_c_calls.specs.Packets.{Mac, packet_path, HandlesDatagram, TimesOutBy, ReturnsTimeout, ReturnsTimeoutSoon, RestartsWith, Gives}
+use Rattle.is_c_calls.specs.Monitoring.{SetsSilence, NotesFailure}
+use Rattle.is_c_calls.specs.Packets.{Mac, packet_path, HandlesDatagram, TimesOutBy, ReturnsTimeout, RestartsWith, Gives}
 
 pub data Use : Type 0 where
   -- any of the calls that only read the agent
@@ -41,6 +43,7 @@ pub data Use : Type 0 where
   SetPreference : Preference → Use
   SetSettings : AgentSettings → Use
   SkipPairIds : ℕ → Use
+  SetSilence : ℕ → Use
   SetLocalCredentials : (ufrag pass : List ℕ) → Use
   SetRemoteCredentials : (ufrag pass : List ℕ) → Use
   -- candidates; the index before and after
@@ -56,8 +59,11 @@ pub data Use : Type 0 where
   HandleTimeout : ℕ → List ℕ → Use
   PollTransmit : (before after : List ℕ) → (known reported : Packet) → Use
   PollTimeout : ℕ → ℕ → Use
-  PollTimeoutSoon : ℕ → ℕ → Use
   PollEvent : Event → Event → Use
+  -- a packet that C could not send, and the reason
+  SendFailed : (protocol : ℕ) → (source destination : Address) → (reason : ℕ) → Use
+  -- what follows another call, and is no call of its own: soon, or not
+  FixTimes : Bool → Use
 
 -- an agent of C signs with HMAC-SHA1
 abbrev pub mac_of : Mac
@@ -83,6 +89,7 @@ Does (SetMtu mtu warn) old code new = Calls (λ a r b. SetsMtu a mtu warn r b) d
 Does (SetPreference preference) old code new = AgentBecomes (λ a. record a { preference = Some preference }) old code new
 Does (SetSettings settings) old code new = SetsSettings settings old code new
 Does (SkipPairIds number) old code new = AgentBecomes (numbers_skipped number) old code new
+Does (SetSilence n) old code new = SetsSilence n old code new
 Does (SetLocalCredentials ufrag pass) old code new = CallsWith SetsLocal ufrag pass old code new
 Does (SetRemoteCredentials ufrag pass) old code new = CallsWith SetsRemote ufrag pass old code new
 Does (AddLocal c before after) old code new = AddsGiven c before after old code new
@@ -97,5 +104,7 @@ Does (HandlePacket now protocol source destination bytes) old code new =
 Does (HandleTimeout now random) old code new = TimesOutBy mac_of now random old code new
 Does (PollTransmit before after known reported) old code new = Gives before after known reported old code new
 Does (PollTimeout before after) old code new = ReturnsTimeout before after old code new
-Does (PollTimeoutSoon before after) old code new = ReturnsTimeoutSoon before after old code new
 Does (PollEvent before after) old code new = ReturnsEvent before after old code new
+Does (SendFailed protocol source destination reason) old code new =
+    NotesFailure (packet_path protocol source destination) reason old code new
+Does (FixTimes soon) old code new = FixesTimes soon old code new

@@ -3,17 +3,17 @@
 use crate::address::Address;
 
 /// Something that happened: 1 a session starts or restarts, 2 the state changed, 3 a source was discovered, 4 media is sent
-/// on another path.
+/// on another path, 5 the selected path is silent, 6 it is heard again.
 #[repr(C)]
 #[derive(Clone, Copy)]
 pub struct Event {
-    /// Of kinds 3 and 4.
+    /// Of kinds 3 to 6.
     pub source: Address,
-    /// Of kind 4.
+    /// Of kinds 4 to 6.
     pub destination: Address,
     pub kind: i32,
     /// Of kind 2: 0 New, 1 Checking, 2 Connected, 3 Completed, 4 Disconnected.
     pub state: i32,
-    /// Of kinds 3 and 4.
+    /// Of kinds 3 to 6.
     pub protocol: u8,
 }

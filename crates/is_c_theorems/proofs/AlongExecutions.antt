@@ -1,5 +1,5 @@
 -- What the theorems on executions say of C's calls. What mutants/specifications changes is read by tactics.
-use Rattle.std.proofs.Common.{◌≡◌, ℕ, ◌≤◌, ◌+◌, ◌⊎◌, Bool, true, false, suc, List, [], ◌∷◌, ◌++◌, length, Option, Some, None, Ok, Err, ℤ, inl, inr, refl, ap, sym, ◌∙◌, subst, arith, if◌then◌else◌}
+use Rattle.std.proofs.Common.{◌≡◌, ℕ, ◌≤◌, ◌+◌, ◌⊎◌, ◌&&◌, Bool, true, false, suc, List, [], ◌∷◌, ◌++◌, length, Option, Some, None, Ok, Err, ℤ, inl, inr, refl, ap, sym, ◌∙◌, subst, arith, if◌then◌else◌}
 use Rattle.std.proofs.lemmas.List.{length-append}
 use Rattle.is_proto.specs.Lists.{Has}
 use Rattle.is_proto.specs.Packets.{Packet}
@@ -12,7 +12,7 @@ use Rattle.is_rules.specs.declared.event.IceConnectionState.TheVariants.{New}
 use Rattle.is_rules.specs.declared.settings.Settings.{Settings}
 use Rattle.is_rules.specs.Effects.{lite_set_by}
 use Rattle.is_rules.specs.Issuing.{QueuesPackets, IsQueued}
-use Rattle.is_rules.specs.Polls.{IsPolled}
+use Rattle.is_rules.specs.Polls.{IsPolled, NextTimeoutFrom, is_waiting, is_idle}
 use Rattle.is_rules.specs.Sending.{path_of}
 use Rattle.is_rules.specs.Settings.{modern_settings}
 use Rattle.is_rules.specs.Steps as agent
@@ -37,13 +37,14 @@ use Rattle.is_c_calls.specs.Held.{Held, HomeRecord, KeepsRest}
 use Rattle.is_c_calls.specs.Packets.{packet_path, HandlesDatagram, AcceptsOn}
 use Rattle.is_c_calls.specs.Codes.{OK}
 use Rattle.is_c_calls.specs.Preferences.{answers}
+use Rattle.is_c_calls.specs.Following.{Follows}
 use Rattle.is_c_calls.specs.Sessions.{Used, is_ok}
-use Rattle.is_c_calls.specs.Uses.{Use, mac_of}
+use Rattle.is_c_calls.specs.Uses.{Use, mac_of, Does}
 use Rattle.is_c_theorems.specs.CallLogs.{settings_onto, IsLogOf, newborn}
 use Rattle.is_c_theorems.specs.Chosen.{EachKeeps, keeps_modern, keeps_consent, keeps_limit}
 use Rattle.is_c_theorems.specs.Headline.{UnacceptedChangeNothing}
 use Rattle.is_c_theorems.specs.Executions.{PathsAreAnswered, PathsAreNominatedByPeer, PathsAreFirstChoice, EachQueuesOne, modern_consent, ConnectedAreAlive, ConnectedHavePath, DISCOVERED_LIMIT, StaysBounded}
-use Rattle.is_c_theorems.proofs.CallsAsSteps.{never, one, error_bad}
+use Rattle.is_c_theorems.proofs.CallsAsSteps.{never, either, one, error_bad}
 use Rattle.is_c_theorems.proofs.LogsOfCalls.{Ran}
 use Rattle.is_c_theorems.proofs.SettingsOfCalls.{Log, Chosen, IsModern, along, begins, settings_last, settings_now, modern_by, rest_of, new_settings, never_lite, modern_full, consent_full, consent_by, limit_by}
 
@@ -234,10 +235,13 @@ alive law answered_by uses before x home now used each k = by used.run k where
 -- ---- packets
 
 same_home : (old new : HomeRecord) → new.agent ≡ old.agent → KeepsRest old new → new ≡ old
-same_home old new a (w, m) =
-    ap (λ (x : Held). record { agent = x; waiting = new.waiting; max_candidates = new.max_candidates }) a
-    ∙ (ap (λ x. record { agent = old.agent; waiting = x; max_candidates = new.max_candidates }) w
-    ∙ ap (λ x. record { agent = old.agent; waiting = old.waiting; max_candidates = x }) m)
+same_home old new a (w, m, d, (c, f)) =
+    ap (λ (x : Held). record new { agent = x }) a
+    ∙ (ap (λ x. record new { agent = old.agent; waiting = x }) w
+    ∙ (ap (λ x. record old { max_candidates = x; deadline = new.deadline; monitor = new.monitor; failures = new.failures }) c
+    ∙ (ap (λ x. record old { deadline = x; monitor = new.monitor; failures = new.failures }) d
+    ∙ (ap (λ x. record old { monitor = x; failures = new.failures }) m
+    ∙ ap (λ x. record old { failures = x }) f))))
 
 bad : (code why : ℤ) → code ≡ why → is_ok why ≡ false → ¬ (code ≡ OK)
 bad code why is wrong_ ok = never (sym wrong_ ∙ (ap is_ok (sym is) ∙ ap is_ok ok))
@@ -254,8 +258,9 @@ unaccepted old new code now protocol source destination bytes does not_accepted 
   by (Some path) (inr (m, reads, (Ok false, (emitted, (no_one, nothing, made), coded, kept)))) wrong_ = (same_home old new made kept, bad code _ coded refl)
   by (Some path) (inr (m, reads, (Err error, (emitted, (may, nothing, made), coded, kept)))) wrong_ = (same_home old new made kept, bad code _ coded (error_bad error))
 
-pub queues_one : QueuesTheorem {H = _} {P = Preference} mac_of answers → EachQueuesOne
-queues_one queues export old new code does = search (elim (one 0 export code old new does) as (λ _. length new.agent.packets ≤ suc (length old.agent.packets)) [
+uses_one : QueuesTheorem {H = _} {P = Preference} mac_of answers → (export : Use) (old new : HomeRecord) (code : ℤ) → Does export old code new
+    → length new.agent.packets ≤ suc (length old.agent.packets)
+uses_one queues export old new code does = search (elim (one 0 export code old new does) as (λ _. length new.agent.packets ≤ suc (length old.agent.packets)) [
   | inl (same, none) ↦ stays (ap (λ (a : Held). length a.packets) same)
   | inr (inl (x, s, t, of, given, step)) ↦ by x.call x.entry (queues old.agent new.agent s t x.call x.entry step).0
   | inr (inr all) ↦ stays (ap (λ (a : Held). length a.packets) all.sets)
@@ -281,3 +286,23 @@ queues_one queues export old new code does = search (elim (one 0 export code old
   by agent.PollTransmit e (given, is, h) = polled given old.agent.packets new.agent.packets h
   by (agent.RestartIce creds keep) e (none, h) = emptied (is_done e.answer) old.agent.packets new.agent.packets h
   by _ e h = grows e.emitted.issued old.agent.packets new.agent.packets h
+
+-- what follows a call queues none
+none_queued : (last : Option ℕ) (old new : Held) (deadline : Option ℕ) → NextTimeoutFrom last old deadline new → new.packets ≡ old.packets
+none_queued None old new deadline (none, is) = ap (λ (a : Held). a.packets) is
+none_queued (Some last) old new None h = absurd h
+none_queued (Some last) old new (Some at) h = either (is_waiting old)
+    (λ (soon, k). either (is_modern old.timing) (λ is. ap (λ (a : Held). a.packets) is) (λ is. ap (λ (a : Held). a.packets) is) k)
+    (λ k. either (is_idle old) (λ l. ap (λ (a : Held). a.packets) l.1) (λ l. ap (λ (a : Held). a.packets) l.1) k) h
+
+follows_none : (soon : Bool) (code : ℤ) (mid new : HomeRecord) → Follows soon code mid new → new.agent.packets ≡ mid.agent.packets
+follows_none soon code mid new h = either (is_ok code && is_modern mid.agent.timing)
+    (λ (deadline, polls, coded, is). none_queued mid.agent.last_time mid.agent new.agent deadline polls)
+    (λ is. ap (λ (x : HomeRecord). x.agent.packets) is) h
+
+pub queues_one : QueuesTheorem {H = _} {P = Preference} mac_of answers → EachQueuesOne
+queues_one queues soon export old new code (inl does) = search (uses_one queues export old new code does)
+queues_one queues soon export old new code (inr (mid, does, follows)) =
+    let one_more : length mid.agent.packets ≤ suc (length old.agent.packets) = uses_one queues export old mid code does in
+    let same : length new.agent.packets ≡ length mid.agent.packets = ap (λ (ps : List Packet). length ps) (follows_none (soon old mid) code mid new follows) in
+    search (subst (λ (n : ℕ). n ≤ suc (length old.agent.packets)) (sym same) one_more)

@@ -15,8 +15,10 @@ use Rattle.is_candidate.specs.Building.{route_fault, built_candidate}
 use Rattle.is_candidate.specs.Candidates.{CandidateRecord, IsBased}
 use Rattle.is_candidate.specs.Making.{ip_fault, reflexive_fault, host_candidate, server_reflexive_candidate, relayed_candidate}
 use Rattle.is_candidate.specs.Rejections.{Makes as Builds_}
+use Rattle.is_stun.specs.Timing.{is_modern}
 use Rattle.is_rules.specs.declared.credentials.IceCreds.{IceCreds}
 use Rattle.is_rules.specs.declared.emitted.Path.{Path}
+use Rattle.is_rules.specs.declared.event.IceAgentEvent.{IceAgentEvent}
 use Rattle.is_rules.specs.Credentials.{SetsLocal, SetsRemote}
 use Rattle.is_rules.specs.Restarting.{Restarts}
 use Rattle.is_rules.specs.Settings.{with_settings, with_retransmits, with_rtos, with_lite_timeout, numbers_skipped}
@@ -24,10 +26,13 @@ use Rattle.is_rules.specs.Sound.{GivesBased}
 use Rattle.is_rules.specs.Steps as agent
 use Rattle.is_rules.specs.Steps.{is_done, Call, Answer, Entry, Done, Flag, Polled, Happened, NextTimeout, answer_by, done, added, quiet, Step, Becomes}
 use Rattle.is_theorems.specs.Logs.{Logged}
+use Rattle.is_monitor.specs.declared.monitor.Monitor.{Monitor}
+use Rattle.is_monitor.specs.Monitors.{next_silence}
 use Rattle.is_agent.specs.Added.{AddsLocalListed, AddsRemoteListed}
 use Rattle.is_c_calls.specs.declared.address.Address.{Address}
 use Rattle.is_c_calls.specs.declared.agent_settings.AgentSettings.{AgentSettings}
 use Rattle.is_c_calls.specs.declared.candidate.LocalCandidate.{LocalCandidate}
+use Rattle.is_c_calls.specs.declared.events.Event.{Event}
 use Rattle.is_c_calls.specs.declared.preference.Preference.{Preference}
 use Rattle.is_c_calls.specs.Adding.{AddsMade, has_room}
 use Rattle.is_c_calls.specs.Addresses.{socket_of, protocol_of}
@@ -36,15 +41,17 @@ use Rattle.is_c_calls.specs.Candidates.{Made, MakesCandidate, ReadsBytes, Constr
 use Rattle.is_c_calls.specs.Clock.{agent_time}
 use Rattle.is_c_calls.specs.Codes.{OK, BAD_LIMIT, TOO_FEW_RANDOM_BYTES, done_code, flag_code, BAD_ADDRESS, NOT_UTF8}
 use Rattle.is_c_calls.specs.Credentials.{MakesCreds, CallsWith}
+use Rattle.is_c_calls.specs.Events.{ReturnsFirst}
 use Rattle.is_c_calls.specs.Given.{CallsMade, Discards}
 use Rattle.is_c_calls.specs.Held.{Held, HomeRecord, AgentBecomes, Rejects}
 use Rattle.is_c_calls.specs.Limits.{limit_of}
+use Rattle.is_c_calls.specs.Monitoring.{NotesFailure}
 use Rattle.is_c_calls.specs.Packets.{packet_path, HandlesDatagram, TakesNext}
 use Rattle.is_c_calls.specs.Preferences.{answers}
 use Rattle.is_c_calls.specs.Random.{given_steps}
 use Rattle.is_c_calls.specs.Sessions.{Used, is_ok}
-use Rattle.is_c_calls.specs.Uses.{Use, Ask, SetControlling, SetLite, SetRenomination, SetTieBreaker, SetMaxPairs, SetMaxDiscovered, SetMaxCandidates, SetTimingAdvance, SetInitialRto, SetMaxRto, SetLiteTimeout, SetMaxRetransmits, SetMtu, SetPreference, SetSettings, SkipPairIds, SetLocalCredentials, SetRemoteCredentials, AddLocal, AddLocalLine, AddRemote, InvalidateLocal, Invalidate, Restart, RecreatePairs, HandlePacket, HandleTimeout, PollTransmit, PollTimeout, PollTimeoutSoon, PollEvent, mac_of, Does}
-use Rattle.is_c_theorems.specs.CallLogs.{Makes, code_by, Answers, IsOf, counts, IsNone}
+use Rattle.is_c_calls.specs.Uses.{Use, Ask, SetControlling, SetLite, SetRenomination, SetTieBreaker, SetMaxPairs, SetMaxDiscovered, SetMaxCandidates, SetTimingAdvance, SetInitialRto, SetMaxRto, SetLiteTimeout, SetMaxRetransmits, SetMtu, SetPreference, SetSettings, SkipPairIds, SetSilence, SetLocalCredentials, SetRemoteCredentials, AddLocal, AddLocalLine, AddRemote, InvalidateLocal, Invalidate, Restart, RecreatePairs, HandlePacket, HandleTimeout, PollTransmit, PollTimeout, PollEvent, SendFailed, FixTimes, mac_of, Does}
+use Rattle.is_c_theorems.specs.CallLogs.{Makes, code_by, Answers, GivesEvent, IsOf, counts, IsNone}
 use Rattle.is_c_theorems.proofs.LinesWithoutBase.{based_line}
 
 -- ---- choices
@@ -253,6 +260,20 @@ module _ (n : ℕ) where
       by_step export code agent.PollTransmit (quiet (Polled given)) old new m a tt any any (given, refl, polls, refl)
   gives export code (Some p) given old new m a quiet_ (is, same) = inl (same, λ was_true. never (sym quiet_ ∙ was_true))
 
+  agent_is_of : (old new needed : HomeRecord) → new ≡ needed → needed.agent ≡ old.agent → new.agent ≡ old.agent
+  agent_is_of old new needed is same = ap (λ (h : HomeRecord). h.agent) is ∙ same
+
+  -- what the monitor reports is no event of the agent
+  reports : (given : Option IceAgentEvent) (m : Monitor) (before after : Event) (code : ℤ) → ReturnsFirst given m before after code → GivesEvent given before after code
+  reports None m before after code h = (next_silence m, h)
+  reports (Some e) m before after code h = h
+
+  fails : (protocol : ℕ) (source destination : Address) (reason : ℕ) (path : Option Path) (code : ℤ) (old new : HomeRecord) → NotesFailure path reason old code new
+      → IsAtMostOne (used (SendFailed protocol source destination reason) code) old new
+  fails protocol source destination reason None code old new h = idle (SendFailed protocol source destination reason) code old new h.1 never
+  fails protocol source destination reason (Some path) code old new (inl h) = idle (SendFailed protocol source destination reason) code old new h.1 never
+  fails protocol source destination reason (Some path) code old new (inr (is, notes, same)) = inl (agent_is_of old new _ same refl, never)
+
   -- ---- each call
 
   limits : (limit : ℕ) (code : ℤ) (old new : HomeRecord) (b : Bool)
@@ -312,6 +333,7 @@ module _ (n : ℕ) where
   one (SetSettings settings) code old new h = all_set settings code old new (settings.max_retransmits == 0) h refl
   one (SkipPairIds number) code old new (is, same) =
       becomes (SkipPairIds number) code (agent.SkipPairIds number) (numbers_skipped number) old new refl (refl, is) tt (refl, refl, refl) same
+  one (SetSilence n) code old new (is, same) = inl (agent_is_of old new _ same refl, never)
   one (SetLocalCredentials ufrag pass) code old new h =
       with_creds (SetLocalCredentials ufrag pass) SetsLocal (λ c. agent.SetLocalCredentials c) ufrag pass (λ r code is. (is ∙ done_coded r, done_ok r code is)) refl (λ c. tt)
       (λ a b c r sets. (r, refl, sets, refl)) code old new h
@@ -331,8 +353,8 @@ module _ (n : ℕ) where
       discards (InvalidateLocal c) BAD_ADDRESS made (λ x is. (x, subst (λ (o : Made). MakesCandidate c o) is makes, refl)) (λ answer code is. is) refl code old new h
   one (Invalidate line) code old new (made, reads, h) =
       discards (Invalidate line) NOT_UTF8 made (λ x is. (x, subst (λ (o : Made). ReadsBytes line o) is reads, refl)) (λ answer code is. is) refl code old new h
-  one (Restart ufrag pass keep) code old new (Ok creds, made, (r, (restarts, waits, limit), is)) =
-      let here : Restarts old.agent (record { ufrag = ufrag; pass = pass }) keep r new.agent = subst (λ (c : IceCreds). Restarts old.agent c keep r new.agent) made restarts in
+  one (Restart ufrag pass keep) code old new (Ok creds, made, (r, restarted, is)) =
+      let here : Restarts old.agent (record { ufrag = ufrag; pass = pass }) keep r new.agent = subst (λ (c : IceCreds). Restarts old.agent c keep r new.agent) made restarted.0 in
       by_step (Restart ufrag pass keep) code (agent.RestartIce (record { ufrag = ufrag; pass = pass }) keep) (quiet (answer_by done r)) old new
       refl (is ∙ done_coded r, done_ok r code is) tt any any (r, refl, here, refl)
   one (Restart ufrag pass keep) code old new (Err why, made, h) = rejects (Restart ufrag pass keep) why code old new (why_bad ufrag pass why made) h
@@ -342,13 +364,18 @@ module _ (n : ℕ) where
       receives now protocol source destination bytes code old new (packet_path protocol source destination) refl h
   one (HandleTimeout now random) code old new h =
       either (nat_lt (length random) 12) (λ k. rejects (HandleTimeout now random) TOO_FEW_RANDOM_BYTES code old new refl k)
-      (λ (r, (emitted, (left, times, is, kept))). by_step (HandleTimeout now random) code (agent.HandleTimeout (agent_time now))
-      (record { answer = answer_by done r; emitted = emitted }) old new refl (is ∙ done_coded r, done_ok r code is) tt (stream_of given_steps random) left (r, emitted, refl, times)) h
-  one (PollTransmit before after known reported) code old new (first, takes, hands, limit) =
-      gives (PollTransmit before after known reported) code old.waiting first old new refl (first, refl) refl takes
-  one (PollTimeout before after) code old new (deadline, polls, kept, writes) =
-      by_step (PollTimeout before after) code agent.PollTimeout (quiet (NextTimeout deadline)) old new refl (deadline, refl) tt any any (deadline, refl, polls, refl)
-  one (PollTimeoutSoon before after) code old new (given, (deadline, polls, is), kept, writes) =
-      by_step (PollTimeoutSoon before after) code agent.PollTimeout (quiet (NextTimeout deadline)) old new refl (deadline, refl) tt any any (deadline, refl, polls, refl)
+      (λ (r, (emitted, k)). by_step (HandleTimeout now random) code (agent.HandleTimeout (agent_time now))
+      (record { answer = answer_by done r; emitted = emitted }) old new refl (k.2 ∙ done_coded r, done_ok r code k.2) tt (stream_of given_steps random) k.0 (r, emitted, refl, k.1)) h
+  one (PollTransmit before after known reported) code old new k =
+      gives (PollTransmit before after known reported) code old.waiting k.0 old new refl (k.0, refl) refl k.1
+  one (PollTimeout before after) code old new h =
+      either (is_modern old.agent.timing) (λ k. idle (PollTimeout before after) code old new k.1 never)
+      (λ (deadline, polls, kept, writes). by_step (PollTimeout before after) code agent.PollTimeout (quiet (NextTimeout deadline)) old new
+      refl (deadline, refl) tt any any (deadline, refl, polls, refl)) h
+  one (FixTimes soon) code old new (deadline, polls, coded, is) =
+      by_step (FixTimes soon) code agent.PollTimeout (quiet (NextTimeout deadline)) old new refl (deadline, refl) tt any any (deadline, refl, polls, refl)
   one (PollEvent before after) code old new (given, polls, returns, kept) =
-      by_step (PollEvent before after) code agent.PollEvent (quiet (Happened given)) old new refl (given, refl, returns) tt any any (given, refl, polls, refl)
+      by_step (PollEvent before after) code agent.PollEvent (quiet (Happened given)) old new refl (given, refl, reports given old.monitor before after code returns) tt any any
+      (given, refl, polls, refl)
+  one (SendFailed protocol source destination reason) code old new h =
+      fails protocol source destination reason (packet_path protocol source destination) code old new h

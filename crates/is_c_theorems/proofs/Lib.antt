@@ -5,8 +5,15 @@ mod LogsOfCalls
 mod SettingsOfCalls
 mod AlongExecutions
 mod NewAgents
+mod FollowedCalls
 mod SeenCalls
 mod WaitingPackets
 mod PolledPaths
 mod AnsweredPaths
 mod NominatedPaths
+mod IssuedRequests
+mod ClaimedRoles
+mod PacketsGiven
+mod RolesOfTwo
+mod SettledRoles
+mod TracedPaths

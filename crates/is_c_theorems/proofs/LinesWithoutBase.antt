@@ -1,5 +1,5 @@
 -- A candidate that is read from a candidate attribute has no base: so it is its own base.
-use Rattle.std.proofs.Common.{◌≡◌, ℕ, ◌∙◌, sym, subst, cc, absurd, inl, inr, refl, List, Some, Result, Ok, Err, codes}
+use Rattle.std.proofs.Common.{◌≡◌, ℕ, subst, inl, inr, refl, List, Some, Result, Ok, Err, codes}
 use Rattle.is_candidate.specs.Candidates.{CandidateRecord, IsBased}
 use Rattle.is_candidate.specs.Lines.{line_candidate, ReadsWords}
 use Rattle.is_c_calls.specs.Candidates.{ReadsBytes}

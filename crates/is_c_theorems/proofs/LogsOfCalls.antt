@@ -37,7 +37,7 @@ setters_ran (call ∷ more) first mid last log run (next, s, t, given, step, cou
 
 module _ (law : AllAreSetInTurn {H = _} {P = Preference} mac_of answers) where
   -- all settings at once
-  settings_ran : (settings : Settings) (first mid : Held) (log : List (Logged Preference)) → 0 < settings.max_retransmits → Ran first log mid
+  pub settings_ran : (settings : Settings) (first mid : Held) (log : List (Logged Preference)) → 0 < settings.max_retransmits → Ran first log mid
       → Ran first (settings_onto settings log) (with_settings settings mid)
   settings_ran settings first mid log some run =
       setters_ran (setters_of settings) first mid (with_settings settings mid) log run (law mid settings any some)

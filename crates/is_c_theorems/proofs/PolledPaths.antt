@@ -12,8 +12,13 @@ use Rattle.is_theorems.specs.Reporting.{selecting}
 use Rattle.is_c_calls.specs.declared.events.Event.{Event}
 use Rattle.is_c_calls.specs.Addresses.{socket_of, protocol_of}
 use Rattle.is_c_calls.specs.Codes.{OK}
-use Rattle.is_c_calls.specs.Events.{IsEvent, ReturnsOf}
+use Rattle.is_monitor.specs.declared.monitor.Monitor.{Monitor}
+use Rattle.is_monitor.specs.declared.monitor.Silence.{Silence}
+use Rattle.is_monitor.specs.declared.monitor.Silence.TheVariants.{Silent, Heard}
+use Rattle.is_monitor.specs.Monitors.{next_silence}
+use Rattle.is_c_calls.specs.Events.{IsEvent, ReturnsFirst}
 use Rattle.is_c_calls.specs.Held.{HomeRecord}
+use Rattle.is_c_calls.specs.Monitoring.{ReturnsSilence}
 use Rattle.is_c_calls.specs.Packets.{packet_path}
 use Rattle.is_c_calls.specs.Sessions.{Used}
 use Rattle.is_c_calls.specs.Uses.{Use, PollEvent, Does}
@@ -40,14 +45,23 @@ event_path (NominatedSend proto source destination) before after path (is, p, s,
       some_path : (x y : Path) → Some x ≡ Some y → x ≡ y
       some_path x y same = let k : x ≡ y = cc in k
 
+-- what the monitor reports is no such event
+not_reported : {Z : Type 0} (silence : Option Silence) (before after : Event) → ReturnsSilence silence before after OK → after.kind ≡ pos 4 → Z
+not_reported None before after (coded, same) kind = let wrong_ : pos 0 ≡ pos 1 = coded in absurd (cc)
+not_reported (Some (Silent path)) before after (coded, (is, p, s, d)) kind =
+    let wrong_ : pos 5 ≡ pos 4 = sym (ap (λ (x : Event). x.kind) is) ∙ kind in absurd (cc)
+not_reported (Some (Heard path)) before after (coded, (is, p, s, d)) kind =
+    let wrong_ : pos 6 ≡ pos 4 = sym (ap (λ (x : Event). x.kind) is) ∙ kind in absurd (cc)
+
 -- the path that C gets waited before
-poll : (given : Option IceAgentEvent) (before after : Event) (path : Path) (old new : List IceAgentEvent) → ReturnsOf given before after OK → IsPolled old given new
+poll : (given : Option IceAgentEvent) (m : Monitor) (before after : Event) (path : Path) (old new : List IceAgentEvent) → ReturnsFirst given m before after OK
+    → IsPolled old given new
     → after.kind ≡ pos 4 → packet_path after.protocol after.source after.destination ≡ Some path → Has old (selecting path)
-poll None before after path old new (coded, same) polls kind to = let wrong_ : pos 0 ≡ pos 1 = coded in absurd (cc)
-poll (Some e) before after path old new (coded, is) polls kind to =
+poll None m before after path old new returns polls kind to = not_reported (next_silence m) before after returns kind
+poll (Some e) m before after path old new (coded, is) polls kind to =
     subst (λ (es : List IceAgentEvent). Has es (selecting path)) (sym polls) (inl (event_path e before after path is kind to))
 
 pub waited : (u : Used) (home after : HomeRecord) (path : Path) → Does u.export home u.code after → Selects u path → Has home.agent.events (selecting path)
 waited u home after path does (b, a, is, kind, to, ok) =
     let d : Does (PollEvent b a) home OK after = subst (λ (e : Use). Does e home OK after) is (subst (λ (c : ℤ). Does u.export home c after) ok does) in
-    poll d.0 b a path home.agent.events after.agent.events d.2 d.1.0 kind to
+    poll d.0 home.monitor b a path home.agent.events after.agent.events d.2 d.1.0 kind to

@@ -15,7 +15,7 @@ use Rattle.is_c_calls.specs.declared.preference.Preference.{Preference}
 use Rattle.is_c_calls.specs.AgentSettings.{settings_of}
 use Rattle.is_c_calls.specs.Clock.{agent_time}
 use Rattle.is_c_calls.specs.Sessions.{Used, is_ok}
-use Rattle.is_c_calls.specs.Uses.{Use, Ask, SetControlling, SetLite, SetRenomination, SetTieBreaker, SetMaxPairs, SetMaxDiscovered, SetMaxCandidates, SetTimingAdvance, SetInitialRto, SetMaxRto, SetLiteTimeout, SetMaxRetransmits, SetMtu, SetPreference, SetSettings, SkipPairIds, SetLocalCredentials, SetRemoteCredentials, AddLocal, AddLocalLine, AddRemote, InvalidateLocal, Invalidate, Restart, RecreatePairs, HandlePacket, HandleTimeout, PollTransmit, PollTimeout, PollTimeoutSoon, PollEvent}
+use Rattle.is_c_calls.specs.Uses.{Use, Ask, SetControlling, SetLite, SetRenomination, SetTieBreaker, SetMaxPairs, SetMaxDiscovered, SetMaxCandidates, SetTimingAdvance, SetInitialRto, SetMaxRto, SetLiteTimeout, SetMaxRetransmits, SetMtu, SetPreference, SetSettings, SkipPairIds, SetSilence, SetLocalCredentials, SetRemoteCredentials, AddLocal, AddLocalLine, AddRemote, InvalidateLocal, Invalidate, Restart, RecreatePairs, HandlePacket, HandleTimeout, PollTransmit, PollTimeout, PollEvent, SendFailed, FixTimes}
 use Rattle.is_c_theorems.specs.CallLogs.{Makes, Answers, code_by, counts, settings_onto, IsLogOf}
 use Rattle.is_c_theorems.specs.Seen.{Accepts, restarts, is_restart, peer_by, peer_of}
 use Rattle.is_c_theorems.proofs.SettingsOfCalls.{Log}
@@ -38,6 +38,8 @@ peer_step : (export : Use) (call : Call Preference) (answer : Answer) (code : �
     → remote_after call answer old ≡ (if is_ok code then peer_by export old else old)
 peer_step Ask call answer code old m a = absurd m
 peer_step (SetMaxCandidates n) call answer code old m a = absurd m
+peer_step (SetSilence n) call answer code old m a = absurd m
+peer_step (SendFailed p s d r) call answer code old m a = absurd m
 peer_step (SetControlling role) call answer code old m a = other_call call _ answer old code m refl
 peer_step (SetLite lite) call answer code old m a = other_call call _ answer old code m refl
 peer_step (SetRenomination enabled) call answer code old m a = other_call call _ answer old code m refl
@@ -66,7 +68,7 @@ peer_step (HandlePacket n p s d bs) call answer code old m a = other_call call _
 peer_step (HandleTimeout n r) call answer code old m a = other_call call _ answer old code m refl
 peer_step (PollTransmit b a2 known r) call answer code old m a = other_call call _ answer old code m refl
 peer_step (PollTimeout b a2) call answer code old m a = other_call call _ answer old code m refl
-peer_step (PollTimeoutSoon b a2) call answer code old m a = other_call call _ answer old code m refl
+peer_step (FixTimes soon) call answer code old m a = other_call call _ answer old code m refl
 peer_step (PollEvent b a2) call answer code old m a = other_call call _ answer old code m refl
 
 idle_peer : (export : Use) (code : ℤ) (old : Option IceCreds) → (counts export ≡ true → is_ok code ≡ false) → (if is_ok code then peer_by export old else old) ≡ old
@@ -118,6 +120,8 @@ pub accepts : (export : Use) (call : Call Preference) (e : Entry) (code : ℤ) (
     → Brings call e at by m → Accepts (used export code) by m
 accepts Ask call e code at by msg m a brings = absurd m
 accepts (SetMaxCandidates n) call e code at by msg m a brings = absurd m
+accepts (SetSilence n) call e code at by msg m a brings = absurd m
+accepts (SendFailed p s d r) call e code at by msg m a brings = absurd m
 accepts (HandlePacket now protocol source destination bytes) call e code at by msg (path, to, is) a brings = go (subst (λ (c : Call Preference). Brings c e at by msg) is brings) where
   go : Brings {P = Preference} (agent.ReceivePacket (agent_time now) path bytes) e at by msg → Accepts (used (HandlePacket now protocol source destination bytes) code) by msg
   go (t, on, reads, flag) = (now, protocol, source, destination, bytes, refl, to ∙ ap (λ (p : Path). Some p) on, reads, a ∙ ap (λ (x : Answer). code_by x) flag)
@@ -148,5 +152,5 @@ accepts RecreatePairs call e code at by msg m a brings = not_brought call _ e at
 accepts (HandleTimeout n r) call e code at by msg m a brings = not_brought call _ e at by msg m (λ h. h) brings
 accepts (PollTransmit b a2 known r) call e code at by msg m a brings = not_brought call _ e at by msg m (λ h. h) brings
 accepts (PollTimeout b a2) call e code at by msg m a brings = not_brought call _ e at by msg m (λ h. h) brings
-accepts (PollTimeoutSoon b a2) call e code at by msg m a brings = not_brought call _ e at by msg m (λ h. h) brings
+accepts (FixTimes soon) call e code at by msg m a brings = not_brought call _ e at by msg m (λ h. h) brings
 accepts (PollEvent b a2) call e code at by msg m a brings = not_brought call _ e at by msg m (λ h. h) brings

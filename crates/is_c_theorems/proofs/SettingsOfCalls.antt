@@ -17,7 +17,7 @@ use Rattle.is_c_calls.specs.AgentSettings.{settings_of, profile_of}
 use Rattle.is_c_calls.specs.Held.{Held}
 use Rattle.is_c_calls.specs.Preferences.{answers}
 use Rattle.is_c_calls.specs.Sessions.{Used, is_ok}
-use Rattle.is_c_calls.specs.Uses.{Use, Ask, SetControlling, SetLite, SetRenomination, SetTieBreaker, SetMaxPairs, SetMaxDiscovered, SetMaxCandidates, SetTimingAdvance, SetInitialRto, SetMaxRto, SetLiteTimeout, SetMaxRetransmits, SetMtu, SetPreference, SetSettings, SkipPairIds, SetLocalCredentials, SetRemoteCredentials, AddLocal, AddLocalLine, AddRemote, InvalidateLocal, Invalidate, Restart, RecreatePairs, HandlePacket, HandleTimeout, PollTransmit, PollTimeout, PollTimeoutSoon, PollEvent, mac_of}
+use Rattle.is_c_calls.specs.Uses.{Use, Ask, SetControlling, SetLite, SetRenomination, SetTieBreaker, SetMaxPairs, SetMaxDiscovered, SetMaxCandidates, SetTimingAdvance, SetInitialRto, SetMaxRto, SetLiteTimeout, SetMaxRetransmits, SetMtu, SetPreference, SetSettings, SkipPairIds, SetSilence, SetLocalCredentials, SetRemoteCredentials, AddLocal, AddLocalLine, AddRemote, InvalidateLocal, Invalidate, Restart, RecreatePairs, HandlePacket, HandleTimeout, PollTransmit, PollTimeout, PollEvent, SendFailed, FixTimes, mac_of}
 use Rattle.is_c_theorems.specs.CallLogs.{Makes, Answers, IsOf, counts, settings_onto, AddsTo, IsLogOf, newborn}
 use Rattle.is_c_theorems.specs.Chosen.{sets, settings_by, SettingsAreThoseSet, EachKeeps, keeps_modern, keeps_consent, keeps_limit}
 use Rattle.is_c_theorems.specs.Executions.{modern_consent, DISCOVERED_LIMIT}
@@ -62,6 +62,8 @@ other export call made answer code k is same none =
 sets_as : (export : Use) (call : Call Preference) (answer : Answer) (code : ℤ) (k : Chosen) → Makes export call → Answers export answer code → SetsAs export call answer code k
 sets_as Ask call answer code k m a = absurd m
 sets_as (SetMaxCandidates n) call answer code k m a = absurd m
+sets_as (SetSilence n) call answer code k m a = absurd m
+sets_as (SendFailed p s d r) call answer code k m a = absurd m
 sets_as (SetSettings s) call answer code k m a = absurd m
 sets_as (SetControlling role) call answer code k m a = other (SetControlling role) call _ answer code k m refl refl
 sets_as (SetLite lite) call answer code k m a = sure (SetLite lite) call _ answer code k m (ap is_ok a.1) refl
@@ -90,7 +92,7 @@ sets_as (HandlePacket n p s d b) call answer code k m a = other (HandlePacket n 
 sets_as (HandleTimeout n r) call answer code k m a = other (HandleTimeout n r) call _ answer code k m refl refl
 sets_as (PollTransmit b d known r) call answer code k m a = other (PollTransmit b d known r) call _ answer code k m refl refl
 sets_as (PollTimeout b d) call answer code k m a = other (PollTimeout b d) call _ answer code k m refl refl
-sets_as (PollTimeoutSoon b d) call answer code k m a = other (PollTimeoutSoon b d) call _ answer code k m refl refl
+sets_as (FixTimes soon) call answer code k m a = other (FixTimes soon) call _ answer code k m refl refl
 sets_as (PollEvent b d) call answer code k m a = other (PollEvent b d) call _ answer code k m refl refl
 
 -- what is none of the agent's calls sets nothing

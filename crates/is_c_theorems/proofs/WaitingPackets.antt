@@ -4,6 +4,7 @@ use Rattle.std.proofs.Math.Seq.{take-append_seam}
 use Rattle.std.specs.Option.{option_and_then}
 use Rattle.is_proto.specs.Lists.{Has}
 use Rattle.is_proto.specs.Packets as packets
+use Rattle.is_stun.specs.Timing.{is_modern}
 use Rattle.is_rules.specs.declared.emitted.Issued.{Issued}
 use Rattle.is_rules.specs.declared.emitted.Path.{Path}
 use Rattle.is_rules.specs.Issuing.{via_out, IsQueued, QueuesPackets}
@@ -19,10 +20,11 @@ use Rattle.is_c_calls.specs.Candidates.{Made}
 use Rattle.is_c_calls.specs.Codes.{BAD_ADDRESS, NOT_UTF8, flag_code}
 use Rattle.is_c_calls.specs.Given.{CallsMade, Discards}
 use Rattle.is_c_calls.specs.Held.{Held, HomeRecord}
+use Rattle.is_c_calls.specs.Monitoring.{NotesFailure}
 use Rattle.is_c_calls.specs.Packets.{packet_path, IsReported, HandlesDatagram, TakesNext, GivesOf}
 use Rattle.is_c_calls.specs.Preferences.{answers}
 use Rattle.is_c_calls.specs.Sessions.{is_ok}
-use Rattle.is_c_calls.specs.Uses.{Use, Ask, SetControlling, SetLite, SetRenomination, SetTieBreaker, SetMaxPairs, SetMaxDiscovered, SetMaxCandidates, SetTimingAdvance, SetInitialRto, SetMaxRto, SetLiteTimeout, SetMaxRetransmits, SetMtu, SetPreference, SetSettings, SkipPairIds, SetLocalCredentials, SetRemoteCredentials, AddLocal, AddLocalLine, AddRemote, InvalidateLocal, Invalidate, Restart, RecreatePairs, HandlePacket, HandleTimeout, PollTransmit, PollTimeout, PollTimeoutSoon, PollEvent, mac_of, Does}
+use Rattle.is_c_calls.specs.Uses.{Use, Ask, SetControlling, SetLite, SetRenomination, SetTieBreaker, SetMaxPairs, SetMaxDiscovered, SetMaxCandidates, SetTimingAdvance, SetInitialRto, SetMaxRto, SetLiteTimeout, SetMaxRetransmits, SetMtu, SetPreference, SetSettings, SkipPairIds, SetSilence, SetLocalCredentials, SetRemoteCredentials, AddLocal, AddLocalLine, AddRemote, InvalidateLocal, Invalidate, Restart, RecreatePairs, HandlePacket, HandleTimeout, PollTransmit, PollTimeout, PollEvent, SendFailed, FixTimes, mac_of, Does}
 use Rattle.is_c_theorems.specs.CallLogs.{Makes}
 use Rattle.is_c_theorems.specs.Seen.{Gets, IsToPoll, restarts}
 use Rattle.is_c_theorems.proofs.CallsAsSteps.{never, either}
@@ -34,7 +36,7 @@ appended (y ∷ xs) ys x (inr has) = inr (appended xs ys x has)
 
 -- ---- what C gets
 
-reported_path : (r : Packet) (p : packets.Packet) → IsReported p r → packet_path r.protocol r.source r.destination ≡ Some (via_out p)
+pub reported_path : (r : Packet) (p : packets.Packet) → IsReported p r → packet_path r.protocol r.source r.destination ≡ Some (via_out p)
 reported_path r p (long, proto, from, to) =
     ap (λ o. option_and_then (λ proto. option_and_then (λ source. option_map (λ to. record { proto = proto; source = source; destination = to }) (socket_of r.destination)) (socket_of r.source)) o) proto
     ∙ (ap (λ o. option_and_then (λ source. option_map (λ to. record { proto = p.proto; source = source; destination = to }) (socket_of r.destination)) o) from
@@ -83,7 +85,7 @@ received now bytes None code old new h = by_home old new old h.1 refl
 received now bytes (Some path) code old new (inl (e, fails, h)) = by_home old new old h.1 refl
 received now bytes (Some path) code old new (inr (m, reads, (r, (emitted, handles, coded, kept)))) = kept.0
 
-waits : (export : Use) (code : ℤ) (old new : HomeRecord) → Does export old code new → is_polling export ≡ false → (if restarts export then is_ok code else false) ≡ false
+pub waits : (export : Use) (code : ℤ) (old new : HomeRecord) → Does export old code new → is_polling export ≡ false → (if restarts export then is_ok code else false) ≡ false
     → new.waiting ≡ old.waiting
 waits Ask code old new h np nr = by_home old new old h refl
 waits (SetControlling role) code old new (x, does, is, kept) np nr = kept.0
@@ -119,14 +121,15 @@ waits (Invalidate line) code old new (made, makes, h) np nr = by made h where
   by None k = by_home old new old k.1 refl
   by (Some (Err e)) k = by_home old new old k.1 refl
   by (Some (Ok made)) (x, does, is, kept) = kept.0
-waits (Restart u p keep) code old new (Ok creds, made, (Ok _, (does, waiting, limit), is)) np nr = never (sym nr ∙ ap is_ok is)
-waits (Restart u p keep) code old new (Ok creds, made, (Err e, (does, waiting, limit), is)) np nr = waiting
+waits (Restart u p keep) code old new (Ok creds, made, (Ok _, restarted, is)) np nr = never (sym nr ∙ ap is_ok is)
+waits (Restart u p keep) code old new (Ok creds, made, (Err e, restarted, is)) np nr = restarted.1
 waits (Restart u p keep) code old new (Err why, made, h) np nr = by_home old new old h.1 refl
 waits (HandlePacket now protocol source destination bytes) code old new h np nr = received now bytes (packet_path protocol source destination) code old new h
-waits (HandleTimeout now random) code old new h np nr = either (nat_lt (length random) 12) (λ k. by_home old new old k.1 refl) (λ (x, (emitted, (left, times, is, kept))). kept.0) h
+waits (HandleTimeout now random) code old new h np nr = either (nat_lt (length random) 12) (λ k. by_home old new old k.1 refl) (λ (x, (emitted, k)). k.3) h
 waits (PollTransmit before after known reported) code old new h np nr = never (sym np)
-waits (PollTimeout before after) code old new (deadline, polls, kept, writes) np nr = kept.0
-waits (PollTimeoutSoon before after) code old new (given, polls, kept, writes) np nr = kept.0
+waits (PollTimeout before after) code old new h np nr =
+    either (is_modern old.agent.timing) (λ k. by_home old new old k.1 refl) (λ (deadline, polls, kept, writes). kept.0) h
+waits (FixTimes soon) code old new (deadline, polls, coded, is) np nr = by_home old new _ is refl
 waits (PollEvent before after) code old new (given, polls, returns, kept) np nr = kept.0
 waits (SetLite lite) code old new (coded, same) np nr = by_home old new _ same refl
 waits (SetRenomination enabled) code old new (coded, same) np nr = by_home old new _ same refl
@@ -141,6 +144,12 @@ waits (SetLiteTimeout n) code old new (coded, same) np nr = by_home old new _ sa
 waits (SetPreference p) code old new (coded, same) np nr = by_home old new _ same refl
 waits (SetSettings s) code old new h np nr = either (s.max_retransmits == 0) (λ k. by_home old new old k.1 refl) (λ k. by_home old new _ k.1 refl) h
 waits (SkipPairIds n) code old new (coded, same) np nr = by_home old new _ same refl
+waits (SetSilence n) code old new (coded, same) np nr = by_home old new _ same refl
+waits (SendFailed p s d r) code old new h np nr = by (packet_path p s d) h where
+  by : (path : Option Path) → NotesFailure path r old code new → new.waiting ≡ old.waiting
+  by None k = by_home old new old k.1 refl
+  by (Some path) (inl k) = by_home old new old k.1 refl
+  by (Some path) (inr (is, notes, same)) = by_home old new _ same refl
 
 -- ---- the packets of the agent
 
@@ -151,6 +160,8 @@ is_poll _ = false
 pub not_poll : (export : Use) (call : Call Preference) → Makes export call → is_polling export ≡ false → is_poll call ≡ false
 not_poll Ask call m none = absurd m
 not_poll (SetMaxCandidates n) call m none = absurd m
+not_poll (SetSilence n) call m none = absurd m
+not_poll (SendFailed p s d r) call m none = absurd m
 not_poll (SetControlling role) call m none = ap is_poll m
 not_poll (SetLite lite) call m none = ap is_poll m
 not_poll (SetRenomination enabled) call m none = ap is_poll m
@@ -179,7 +190,7 @@ not_poll (HandlePacket n p s d bs) call m none = ap is_poll m.2
 not_poll (HandleTimeout n r) call m none = ap is_poll m
 not_poll (PollTransmit b a2 known r) call m none = never (sym none)
 not_poll (PollTimeout b a2) call m none = ap is_poll m
-not_poll (PollTimeoutSoon b a2) call m none = ap is_poll m
+not_poll (FixTimes soon) call m none = ap is_poll m
 not_poll (PollEvent b a2) call m none = ap is_poll m
 
 pub kept_packets : (call : Call Preference) (e : Entry) (a b : List packets.Packet) → QueuesPackets call e a b → polled.restarts call e.answer ≡ false → is_poll call ≡ false
@@ -195,7 +206,7 @@ kept_packets _ e a b h none other p has = by e.emitted.issued h where
 pub carry_queue : (export : Use) (code : ℤ) (mid home : HomeRecord) → Does export mid code home → (if restarts export then is_ok code else false) ≡ false
     → (is_polling export ≡ false → (p : packets.Packet) → Has mid.agent.packets p → Has home.agent.packets p)
     → (p : packets.Packet) → IsToPoll mid p → IsToPoll home p ⊎ Gets (record { export = export; code = code }) (via_out p) p.contents
-carry_queue (PollTransmit before after known r) code mid home (first, takes, gives, limit) none on p has =
-    next_polled before after known r code mid home p mid.waiting first takes gives has
+carry_queue (PollTransmit before after known r) code mid home k none on p has =
+    next_polled before after known r code mid home p mid.waiting k.0 k.1 k.2 has
 carry_queue export code mid home does none on p (inl waiting) = inl (inl (waits export code mid home does refl none ∙ waiting))
 carry_queue export code mid home does none on p (inr has) = inl (inr (on refl p has))

@@ -1,5 +1,5 @@
 -- The log of an agent's transitions that C's calls are.
-use Rattle.std.specs.Prelude.{◌≡◌, ℕ, ◌⊎◌, Bool, true, false, List, [], ◌∷◌, length, Option, Some, Ok, ℤ}
+use Rattle.std.specs.Prelude.{◌≡◌, ℕ, ◌⊎◌, Bool, true, false, List, [], ◌∷◌, length, Option, Some, None, Ok, ℤ}
 use Rattle.is_proto.specs.Packets as packets
 use Rattle.is_candidate.specs.Candidates.{CandidateRecord}
 use Rattle.is_rules.specs.declared.credentials.IceCreds.{IceCreds}
@@ -13,7 +13,9 @@ use Rattle.is_rules.specs.Steps.{Call, Answer, Done, Flag, Polled, Happened, Nex
 use Rattle.is_theorems.specs.Logs.{Logged}
 use Rattle.is_theorems.specs.Settings.{setters_of}
 use Rattle.is_theorems.specs.Shared.{SharedRun}
+use Rattle.is_monitor.specs.declared.monitor.Silence.{Silence}
 use Rattle.is_c_calls.specs.declared.agent_settings.AgentSettings.{AgentSettings}
+use Rattle.is_c_calls.specs.declared.events.Event.{Event}
 use Rattle.is_c_calls.specs.declared.preference.Preference.{Preference}
 use Rattle.is_c_calls.specs.AgentSettings.{settings_of}
 use Rattle.is_c_calls.specs.Candidates.{MakesCandidate, ReadsBytes}
@@ -23,10 +25,11 @@ use Rattle.is_c_calls.specs.Events.{ReturnsOf}
 use Rattle.is_c_calls.specs.Held.{Held, HomeRecord}
 use Rattle.is_c_calls.specs.Limits.{limit_of}
 use Rattle.is_c_calls.specs.Making.{fresh_home}
+use Rattle.is_c_calls.specs.Monitoring.{ReturnsSilence}
 use Rattle.is_c_calls.specs.Packets.{packet_path}
 use Rattle.is_c_calls.specs.Preferences.{answers}
 use Rattle.is_c_calls.specs.Sessions.{Used, Session, is_ok}
-use Rattle.is_c_calls.specs.Uses.{Use, Ask, SetControlling, SetLite, SetRenomination, SetTieBreaker, SetMaxPairs, SetMaxDiscovered, SetMaxCandidates, SetTimingAdvance, SetInitialRto, SetMaxRto, SetLiteTimeout, SetMaxRetransmits, SetMtu, SetPreference, SetSettings, SkipPairIds, SetLocalCredentials, SetRemoteCredentials, AddLocal, AddLocalLine, AddRemote, InvalidateLocal, Invalidate, Restart, RecreatePairs, HandlePacket, HandleTimeout, PollTransmit, PollTimeout, PollTimeoutSoon, PollEvent, mac_of}
+use Rattle.is_c_calls.specs.Uses.{Use, Ask, SetControlling, SetLite, SetRenomination, SetTieBreaker, SetMaxPairs, SetMaxDiscovered, SetMaxCandidates, SetTimingAdvance, SetInitialRto, SetMaxRto, SetLiteTimeout, SetMaxRetransmits, SetMtu, SetPreference, SetSettings, SkipPairIds, SetSilence, SetLocalCredentials, SetRemoteCredentials, AddLocal, AddLocalLine, AddRemote, InvalidateLocal, Invalidate, Restart, RecreatePairs, HandlePacket, HandleTimeout, PollTransmit, PollTimeout, PollEvent, SendFailed, FixTimes, mac_of}
 
 -- ---- one call
 
@@ -49,6 +52,7 @@ Makes (SetMtu mtu warn) call = call ≡ agent.SetMtu mtu warn
 Makes (SetPreference preference) call = call ≡ agent.SetLocalPreference preference
 Makes (SetSettings settings) call = ⊥
 Makes (SkipPairIds number) call = call ≡ agent.SkipPairIds number
+Makes (SetSilence n) call = ⊥
 Makes (SetLocalCredentials ufrag pass) call = call ≡ agent.SetLocalCredentials (record { ufrag = ufrag; pass = pass })
 Makes (SetRemoteCredentials ufrag pass) call = call ≡ agent.SetRemoteCredentials (record { ufrag = ufrag; pass = pass })
 Makes (AddLocal c before after) call = (made : CandidateRecord) × MakesCandidate c (Some (Ok made)) × (call ≡ agent.AddLocalCandidate made)
@@ -63,8 +67,9 @@ Makes (HandlePacket now protocol source destination bytes) call =
 Makes (HandleTimeout now random) call = call ≡ agent.HandleTimeout (agent_time now)
 Makes (PollTransmit before after known reported) call = call ≡ agent.PollTransmit
 Makes (PollTimeout before after) call = call ≡ agent.PollTimeout
-Makes (PollTimeoutSoon before after) call = call ≡ agent.PollTimeout
+Makes (FixTimes soon) call = call ≡ agent.PollTimeout
 Makes (PollEvent before after) call = call ≡ agent.PollEvent
+Makes (SendFailed protocol source destination reason) call = ⊥
 
 -- the code of what the agent returned
 abbrev pub code_by : Answer → ℤ
@@ -78,12 +83,17 @@ code_by _ = NOTHING
 abbrev pub Succeeds : Answer → ℤ → Type 0
 Succeeds answer code = (answer ≡ Done) × (code ≡ OK)
 
+-- What C gets of an event that the agent returned. If there was none, C may get what the monitor reports.
+abbrev pub GivesEvent : Option IceAgentEvent → Event → Event → ℤ → Type 0
+GivesEvent None before after code = (silence : Option Silence) × ReturnsSilence silence before after code
+GivesEvent (Some e) before after code = ReturnsOf (Some e) before after code
+
 -- What C gets of what the agent returned. A call that succeeds or fails returns OK exactly if it succeeds.
 abbrev pub Answers : Use → Answer → ℤ → Type 0
-Answers (PollEvent before after) answer code = (given : Option IceAgentEvent) × (answer ≡ Happened given) × ReturnsOf given before after code
+Answers (PollEvent before after) answer code = (given : Option IceAgentEvent) × (answer ≡ Happened given) × GivesEvent given before after code
 Answers (PollTransmit before after known reported) answer code = (given : Option packets.Packet) × (answer ≡ Polled given)
 Answers (PollTimeout before after) answer code = (deadline : Option ℕ) × (answer ≡ NextTimeout deadline)
-Answers (PollTimeoutSoon before after) answer code = (deadline : Option ℕ) × (answer ≡ NextTimeout deadline)
+Answers (FixTimes soon) answer code = (deadline : Option ℕ) × (answer ≡ NextTimeout deadline)
 Answers (AddLocal c before after) answer code = Unit {0}
 Answers (AddLocalLine line before after) answer code = Unit {0}
 Answers (AddRemote line before after) answer code = Unit {0}
@@ -113,6 +123,7 @@ pub record IsOf (u : Used) (x : Logged Preference) : Type 0 where
 abbrev pub counts : Use → Bool
 counts Ask = false
 counts (SetMaxCandidates limit) = false
+counts (SetSilence n) = false
 counts (AddLocal c before after) = false
 counts (AddLocalLine line before after) = false
 counts (AddRemote line before after) = false
@@ -120,6 +131,8 @@ counts (InvalidateLocal c) = false
 counts (Invalidate line) = false
 counts (HandlePacket now protocol source destination bytes) = false
 counts (PollTransmit before after known reported) = false
+counts (PollTimeout before after) = false
+counts (SendFailed protocol source destination reason) = false
 counts _ = true
 
 -- C's call was none of the agent: it only reads, or it was rejected before the agent was called, or the packet waited.

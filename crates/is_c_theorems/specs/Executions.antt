@@ -1,5 +1,5 @@
 -- What holds along the log of C's calls, whatever C passes.
-use Rattle.std.specs.Prelude.{◌≡◌, ℕ, ◌≤◌, ◌*◌, true, false, List, ◌∷◌, suc, length, Some, ℤ}
+use Rattle.std.specs.Prelude.{◌≡◌, ℕ, ◌≤◌, ◌*◌, ◌⊎◌, Bool, true, false, List, ◌∷◌, suc, length, Some, ℤ}
 use Rattle.is_proto.specs.Lists.{Has}
 use Rattle.is_proto.specs.Times.{MILLISECOND}
 use Rattle.is_pair.specs.Pairs.{PairRecord}
@@ -18,6 +18,7 @@ use Rattle.is_theorems.specs.Waiting.{IsShort, discovery_count}
 use Rattle.is_c_calls.specs.declared.preference.Preference.{Preference}
 use Rattle.is_c_calls.specs.Held.{HomeRecord}
 use Rattle.is_c_calls.specs.Preferences.{answers}
+use Rattle.is_c_calls.specs.Following.{Followed}
 use Rattle.is_c_calls.specs.Sessions.{Used}
 use Rattle.is_c_calls.specs.Uses.{Use, Does, mac_of}
 use Rattle.is_c_theorems.specs.CallLogs.{IsUsed, newborn}
@@ -45,10 +46,11 @@ PathsAreFirstChoice =
     → IsNominationPoint used.run.0 x.call x.entry → (p : PairRecord) → Has home.agent.pairs p → is_eligible home.agent.controlling p ≡ true
     → HasSelected (last_selected (x ∷ before)) home.agent
 
--- Each call of C queues at most one packet.
+-- Each call of C queues at most one packet, with what follows it.
 abbrev pub EachQueuesOne : Type 0
 EachQueuesOne =
-    (export : Use) (old new : HomeRecord) (code : ℤ) → Does export old code new → length new.agent.packets ≤ suc (length old.agent.packets)
+    (soon : HomeRecord → HomeRecord → Bool) (export : Use) (old new : HomeRecord) (code : ℤ)
+    → Does export old code new ⊎ Followed soon export old code new → length new.agent.packets ≤ suc (length old.agent.packets)
 
 -- by the settings that an agent of C begins with: 29.6 s, and the peer's checks keep consent, too
 abbrev pub modern_consent : Consent

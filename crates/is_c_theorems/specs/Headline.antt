@@ -1,6 +1,6 @@
 -- What C may rely on, in C's own words: calls, codes, bytes, packets and events. C made an agent by `is_ice_agent_new`, and then made any calls
 -- on it, with any bytes, times and random bytes, whether or not memory could be allocated.
-use Rattle.std.specs.Prelude.{◌≡◌, ℕ, Bool, true, false, List, [], ◌∷◌, Option, Some, None, ℤ}
+use Rattle.std.specs.Prelude.{◌≡◌, ◌⊎◌, ℕ, Bool, true, false, List, [], ◌∷◌, Option, Some, None, ℤ}
 use Rattle.is_stun.specs.declared.header.Class.TheVariants as class
 use Rattle.is_stun.specs.declared.header.Method.TheVariants.{Binding}
 use Rattle.is_stun.specs.Integrity.{IsSignedBy}
@@ -15,15 +15,27 @@ use Rattle.is_c_calls.specs.Held.{HomeRecord}
 use Rattle.is_c_calls.specs.Making.{MakesAt, fresh_home}
 use Rattle.is_c_calls.specs.Packets.{packet_path, AcceptsOn}
 use Rattle.is_c_calls.specs.Sessions.{Used, Session}
-use Rattle.is_c_calls.specs.Uses.{HandlePacket, Does, mac_of}
+use Rattle.is_c_calls.specs.Following.{Followed}
+use Rattle.is_c_calls.specs.Uses.{Use, HandlePacket, FixTimes, Does, mac_of}
 use Rattle.is_c_theorems.specs.Chosen.{EachKeeps, keeps_modern}
 use Rattle.is_c_theorems.specs.Seen.{Accepts, Selects, nominates, peer_of, Since, Ever, IsChecked}
+
+abbrev pub used : Use → ℤ → Used
+used export code = record { export = export; code = code }
 
 -- If `is_ice_agent_new` returns OK, the slot holds the agent in which the sessions below begin.
 abbrev pub NewAgentsAreFresh : Type 0
 NewAgentsAreFresh =
     (ufrag pass : List ℕ) (tie_breaker : ℕ) (new : Option HomeRecord) → MakesAt ufrag pass tie_breaker None OK new
     → new ≡ Some (fresh_home (record { ufrag = ufrag; pass = pass }) tie_breaker)
+
+-- A call of C is one use more, or two: itself, and what follows it (`FixTimes`). So what is proved of lists of uses is proved of C's calls.
+abbrev pub FollowedAreUses : Type 0
+FollowedAreUses =
+    (soon : HomeRecord → HomeRecord → Bool) (first old new : HomeRecord) (uses : List Used) (export : Use) (code : ℤ)
+    → Session first uses old → Followed soon export old code new
+    → (more : List Used) × Session first more new
+    × ((more ≡ used export code ∷ uses) ⊎ ((fixes : Bool) × (more ≡ used (FixTimes fixes) OK ∷ used export code ∷ uses)))
 
 -- A packet that the agent does not accept on its path changes nothing, and `is_ice_handle_packet` does not return OK (RFC 8445, section 7.3).
 abbrev pub UnacceptedChangeNothing : Type 0

@@ -4,3 +4,4 @@ pub mod Chosen
 pub mod Seen
 pub mod Headline
 pub mod Executions
+pub mod TwoAgents

@@ -1,6 +1,6 @@
 //! What C may rely on, in C's own words.
 
-ghost use Rattle.is_c_theorems.specs.Headline.{NewAgentsAreFresh, UnacceptedChangeNothing, SelectedAreAnswered, SelectedAreNominatedByPeer};
+ghost use Rattle.is_c_theorems.specs.Headline.{NewAgentsAreFresh, FollowedAreUses, UnacceptedChangeNothing, SelectedAreAnswered, SelectedAreNominatedByPeer};
 
 use is_c_calls::Preference;
 use is_proto::DefaultSha1HmacProvider;
@@ -13,6 +13,11 @@ use is_theorems::transitions::{
 /// A new agent is the one in which the sessions below begin.
 pub fn new_agents_are_fresh()
     ensures { NewAgentsAreFresh }
+{}
+
+/// A call of C is one use, or two.
+pub fn followed_are_uses()
+    ensures { FollowedAreUses }
 {}
 
 /// A packet that the agent does not accept changes nothing.

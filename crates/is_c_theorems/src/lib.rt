@@ -6,3 +6,4 @@
 
 pub mod executions;
 pub mod headline;
+pub mod two_agents;

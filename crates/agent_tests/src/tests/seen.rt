@@ -6,7 +6,7 @@ use super::step::{At, Count, Held, Shown};
 use super::story::same;
 use super::*;
 use is::pair::CheckState;
-use is::{CandidateKind, Duration, IceAgentStats, Path, Rejection};
+use is::{CandidateKind, Duration, IceAgentStats, Path, Rejection, Unserved};
 use is_agent::removed::Removal;
 
 /// What can be seen of a pair.
@@ -224,6 +224,10 @@ impl Player {
                 let actual = rejection(&self.agent, &self.coming, from, to);
                 self.compares(actual, Some(expected))
             }
+            Shown::LeavesUnserved(from, to, expected) => {
+                let actual = unserved(&self.agent, &self.coming, from, to);
+                self.compares(actual, Some(expected))
+            }
             Shown::State(state) => {
                 let actual = self.agent.state();
                 self.compares(actual, state)
@@ -316,6 +320,12 @@ fn accepts(agent: &Agent, bytes: &[u8]) -> bool {
 fn rejection(agent: &Agent, bytes: &[u8], from: At, to: At) -> Option<Option<Rejection>> {
     let packet = packet(bytes, Protocol::Udp, from, to)?;
     Some(agent.rejection(&packet))
+}
+
+/// Why it would send no response to the bytes between these addresses; none if they are no message.
+fn unserved(agent: &Agent, bytes: &[u8], from: At, to: At) -> Option<Option<Unserved>> {
+    let packet = packet(bytes, Protocol::Udp, from, to)?;
+    Some(agent.unserved(&packet))
 }
 
 /// Whether it would accept the packet.

@@ -3,7 +3,7 @@
 
 use super::*;
 use is::pair::CheckState;
-use is::{Profile, Rejection, Settings};
+use is::{Profile, Rejection, Settings, Unserved};
 use is_agent::removed::Removal;
 
 /// The address 10.0.0.HOST:PORT.
@@ -347,6 +347,9 @@ pub(super) enum Shown {
     AcceptsFrom(At, At, bool),
     /// The agent would reject the written message between these addresses for this reason, or it would accept it.
     Rejects(At, At, Option<Rejection>),
+    /// The agent would accept the written message between these addresses and send no response, for this reason; or it would send one, or not
+    /// accept it.
+    LeavesUnserved(At, At, Option<Unserved>),
     /// The agent would not accept an error response of no attribute with the id of twelve zeros.
     NoBareFailure,
     /// The statistics are those of a new agent, or not.

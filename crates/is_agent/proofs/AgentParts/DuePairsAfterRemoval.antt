@@ -81,7 +81,7 @@ turn-is-due a now p is =
     ] is
 
 -- the pair with the selected number is in the list
-selected-has : (number : Option ℕ) (ps : List PairRecord) (p : PairRecord) → Some p ≡ pair_selected number ps → Has ps p
+pub selected-has : (number : Option ℕ) (ps : List PairRecord) (p : PairRecord) → Some p ≡ pair_selected number ps → Has ps p
 selected-has None ps p is = absurd (cc)
 selected-has (Some n) ps p is = (find-Some (is_numbered n) ps p (sym is)).0
 

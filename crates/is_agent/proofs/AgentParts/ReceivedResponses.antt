@@ -92,7 +92,7 @@ error-found number m (q ∷ qs) p found =
       | false ↦ λ is h. rw is (error-found number m qs p h)
     ] refl found
 
--- the pair keeps its check
+-- the pair still has its pending transaction
 pub error-awaited : {H P : Type 0} (old noted : AgentRecord H P) (via : Path) (m : Message) (number : ℕ) → KeepsCheckOn old via m.id number → noted ≡ error_noted number m old
     → IfSome (pair_numbered number noted.pairs) (λ (p : PairRecord). IsTrue (is_kept m.id p.checks))
 error-awaited {H = H} {P = P} old noted via m number (p, found, on) is =

@@ -37,7 +37,7 @@ fn no_media() -> MediaPath {
 
 /// A controlling agent at 10.0.0.1:1000, which knows the candidate of a controlled one at 10.0.0.2:2000. Its session began at 0.
 /// Whether all was done.
-fn begin(alloc: Global, near: &mut Slot, far: &mut Slot) -> bool {
+pub(super) fn begin(alloc: Global, near: &mut Slot, far: &mut Slot) -> bool {
     is_leading(alloc, near) && is_led(alloc, far) && starts(alloc, near)
 }
 
@@ -65,7 +65,7 @@ fn starts(alloc: Global, near: &mut Slot) -> bool {
     added == codes::OK && times_out(alloc, near, 0)
 }
 
-fn times_out(alloc: Global, slot: &mut Slot, now: u64) -> bool {
+pub(super) fn times_out(alloc: Global, slot: &mut Slot, now: u64) -> bool {
     is_ice_handle_timeout(alloc, slot, now, b"twelve bytes") == codes::OK
 }
 

@@ -56,13 +56,13 @@ module _ {H P : Type 0} where
   by_failure Holds old new via m emitted stays switches (p, has, on, h) =
       either (is_role_conflict m) h
       (λ _ k. either (same k.0.controlling old.controlling && not (keeps_role old)) k.3
-      (λ _ z. dropped (switched (error_noted p.number m old)) turned z) (λ _ z. dropped (error_noted p.number m old) still z))
+      (λ _ z. dropped (switched (error_noted p.number m old)) swapped z) (λ _ z. dropped (error_noted p.number m old) still z))
       (λ _ z. dropped (error_noted p.number m old) still z) where
         still : Holds nothing_emitted (error_noted p.number m old)
         still = subst (λ (a : AgentRecord H P). Holds nothing_emitted a) (sym (noted-is p.number m old)) (stays (code_of p.number m))
 
-        turned : Holds nothing_emitted (switched (error_noted p.number m old))
-        turned = subst (λ (a : AgentRecord H P). Holds nothing_emitted (switched a)) (sym (noted-is p.number m old)) (switches (code_of p.number m))
+        swapped : Holds nothing_emitted (switched (error_noted p.number m old))
+        swapped = subst (λ (a : AgentRecord H P). Holds nothing_emitted (switched a)) (sym (noted-is p.number m old)) (switches (code_of p.number m))
 
         dropped : (a : AgentRecord H P) → Holds nothing_emitted a → Drops a emitted new → Holds emitted new
         dropped a holds (nothing, made) = subst (λ (x : Emitted). Holds x new) (sym nothing) (subst (λ (x : AgentRecord H P). Holds nothing_emitted x) (sym made) holds)

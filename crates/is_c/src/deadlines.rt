@@ -1,0 +1,57 @@
+//! The deadline that a slot keeps with the profile `Modern`: the time at which `is_ice_handle_timeout` is to be called.
+//!
+//! Each call that may make something due is followed by a transition of the agent that fixes the due times of its pairs. So
+//! `is_ice_poll_timeout` is a query, and no order of calls matters.
+
+ghost use Rattle.std.specs.Prelude.{◌≡◌, ◌≢◌, option_map};
+ghost use Rattle.is_agent.specs.View.{record_of};
+ghost use Rattle.is_c_calls.specs.Codes.{OK};
+ghost use Rattle.is_c_calls.specs.Deadlines.{time_to_call, earlier, FixesTimes};
+ghost use Rattle.is_c_calls.specs.Following.{Follows};
+ghost use Rattle.is_c.specs.Slots.{home_of};
+
+use crate::codes;
+use crate::home::Home;
+use is_proto::Instant;
+
+/// When the agent has something to do next; soon: 5 ms after its last call at the latest.
+fn time_to_call(home: &Home, soon: bool) -> Option<Instant>
+    ensures { option_map (λ at. at.0) result ≡ time_to_call soon (record_of home.now.agent) }
+{
+    if soon {
+        home.agent.next_call_soon()
+    } else {
+        home.agent.next_call()
+    }
+}
+
+/// The earlier one of the deadline and a new time; without one there is nothing to do.
+fn earlier(kept: Option<Instant>, next: Option<Instant>) -> Option<Instant>
+    ensures { option_map (λ at. at.0) result ≡ earlier (option_map (λ at. at.0) kept) (option_map (λ at. at.0) next) }
+{
+    match (kept, next) {
+        (Some(kept), Some(next)) => Some(kept.min(next)),
+        (_, next) => next,
+    }
+}
+
+/// Fixes the due times, and moves the deadline up.
+fn fix_times(home: &mut Home, soon: bool)
+    ensures { FixesTimes soon (home_of home.old) OK (home_of home.new) }
+{
+    let next = time_to_call(home, soon);
+    home.agent.poll_timeout();
+    home.deadline = earlier(home.deadline, next);
+}
+
+/// With the profile `Modern`, fixes the due times after a call that returned OK. Returns the code of that call.
+pub(crate) fn followed(home: &mut Home, soon: bool, code: i32) -> i32
+    ensures code { result ≡ code }
+    ensures fixed { Follows soon code (home_of home.old) (home_of home.new) }
+    ensures others { result ≢ OK → home_of home.new ≡ home_of home.old }
+{
+    if code == codes::OK && home.agent.profile().is_modern() {
+        fix_times(home, soon);
+    }
+    code
+}

@@ -1,0 +1,615 @@
+//! The lines of a session's log: of an event, of a removed pair, and of a datagram that nobody took.
+
+ghost use Rattle.std.specs.Prelude.{◌≡◌, ◌++◌, None, Some, IfOk, codes, option_map, string_bytes};
+ghost use Rattle.std.specs.Option.{option_copied};
+ghost use Rattle.is_stun.specs.MessageView.{message_view};
+ghost use Rattle.is_agent.specs.View.{record_of};
+ghost use Rattle.is_c.specs.LogLines.{state_word, check_word, removal_word, method_word, class_word};
+ghost use Rattle.is_c.specs.LogLines.{way_text, path_text, error_text, sent_text, answered_text, counts_text, pair_text, code_text, kind_text, reason_text, fate_text, said_text, line_text};
+ghost use Rattle.is_c.specs.LogLines.{PutsSaid, state_of, event_said, PutsEvent, LogsEvent, PutsRemoved, LogsRemoved};
+ghost use Rattle.is_c.specs.LogLines.{kind_of, IsKind, reason_of, IsReason, PutsKind, PutsPacket, LogsPacket, NamesPacket};
+ghost use Rattle.is_c.specs.Removed.{removed_by};
+ghost use Rattle.is_c.specs.Slots.{held_by};
+ghost use Rattle.is_c_calls.specs.Held.{At};
+ghost use Rattle.is_c_calls.specs.Packets.{packet_path};
+
+use crate::address::socket_of;
+use crate::codes;
+use crate::home::Home;
+use crate::packets::packet_path;
+use crate::slot::Slot;
+use crate::text::put;
+use is_agent::removed::{Removal, RemovedPair};
+use is_agent::{IceConnectionState, Rejection, Unserved};
+use is_c_calls::{Address, Event};
+use is_pair::pair::CheckState;
+use is_proto::{DefaultSha1HmacProvider, Sha1HmacProvider};
+use is_rules::emitted::Path;
+use is_stun::stun::{Class, Method, StunMessage, StunPacket};
+use std::alloc::{AllocError, Global};
+use std::fmt;
+use std::net::SocketAddr;
+
+// ---- what a line says
+
+/// What kind of message a datagram is.
+#[derive(Clone, Copy)]
+pub struct Kind {
+    pub method: Method,
+    pub class: Class,
+    /// The error code of ERROR-CODE.
+    pub error: Option<u16>,
+}
+
+/// Why a datagram is not accepted, or gets no response.
+#[derive(Clone, Copy)]
+pub enum Reason {
+    Rejected(Rejection),
+    Unanswered(Unserved),
+}
+
+/// What a line says.
+#[derive(Clone, Copy)]
+pub enum Said {
+    /// A session starts, or restarts.
+    Begins,
+    /// The connection state changed to this one.
+    Enters(IceConnectionState),
+    /// A source was discovered.
+    Discovers(SocketAddr),
+    /// Media is sent from the first address to the second.
+    Selects(SocketAddr, SocketAddr),
+    /// Checks on the selected path have no responses now.
+    Silent(SocketAddr, SocketAddr),
+    /// One has a response again.
+    Heard(SocketAddr, SocketAddr),
+    /// A pair was removed. Its path is known while its candidates are listed.
+    Loses(RemovedPair, Option<Path>),
+    /// A datagram was not taken. Without a kind it is no message.
+    Leaves(Option<Kind>, Option<Reason>, Path),
+}
+
+// ---- the words
+
+fn state_word(state: IceConnectionState) -> &'static str
+    ensures { result.now ≡ state_word state }
+{
+    match state {
+        IceConnectionState::New => "New",
+        IceConnectionState::Checking => "Checking",
+        IceConnectionState::Connected => "Connected",
+        IceConnectionState::Completed => "Completed",
+        IceConnectionState::Disconnected => "Disconnected",
+    }
+}
+
+fn check_word(state: CheckState) -> &'static str
+    ensures { result.now ≡ check_word state }
+{
+    match state {
+        CheckState::Waiting => "waiting",
+        CheckState::InProgress => "in progress",
+        CheckState::Succeeded => "succeeded",
+    }
+}
+
+fn removal_word(why: Removal) -> &'static str
+    ensures { result.now ≡ removal_word why }
+{
+    match why {
+        Removal::NoResponse => "no response",
+        Removal::ConsentLost => "consent lost",
+        Removal::PeerSilent => "peer silent",
+        Removal::Evicted => "evicted",
+        Removal::Replaced => "replaced",
+        Removal::Invalidated => "invalidated",
+    }
+}
+
+fn method_word(method: Method) -> &'static str
+    ensures { result.now ≡ method_word method }
+{
+    match method {
+        Method::Binding => "Binding",
+        Method::Allocate => "Allocate",
+        Method::Refresh => "Refresh",
+        Method::Send => "Send",
+        Method::Data => "Data",
+        Method::CreatePermission => "Create permission",
+        Method::ChannelBind => "Channel bind",
+        Method::Unknown => "Other",
+    }
+}
+
+fn class_word(class: Class) -> &'static str
+    ensures { result.now ≡ class_word class }
+{
+    match class {
+        Class::Request => "request",
+        Class::Indication => "indication",
+        Class::Success => "success response",
+        Class::Failure => "error response",
+        Class::Unknown => "message",
+    }
+}
+
+// ---- the texts
+
+#[derive(Clone, Copy)]
+struct Way(SocketAddr, SocketAddr);
+
+impl fmt::Display for Way {
+    ghost output = { λ t. Some (way_text t.0 t.1) };
+
+    #[tactic(auto, unfolding(crate::specs::LogLines::way_text))]
+    fn fmt<W: fmt::Write>(&self, f: &mut fmt::Formatter<W>) -> fmt::Result {
+        let source = self.0;
+        let destination = self.1;
+        write!(f, "{source} -> {destination}")
+    }
+}
+
+#[derive(Clone, Copy)]
+struct KnownPath(Option<Path>);
+
+impl fmt::Display for KnownPath {
+    ghost output = { λ t. Some (path_text t.0) };
+
+    #[tactic(auto, unfolding(crate::specs::LogLines::path_text))]
+    fn fmt<W: fmt::Write>(&self, f: &mut fmt::Formatter<W>) -> fmt::Result {
+        match self.0 {
+            Some(path) => {
+                let way = Way(path.source, path.destination);
+                write!(f, "{way}")
+            }
+            None => f.write_str("unknown path"),
+        }
+    }
+}
+
+#[derive(Clone, Copy)]
+struct LastError(Option<u16>);
+
+impl fmt::Display for LastError {
+    ghost output = { λ t. Some (error_text t.0) };
+
+    #[tactic(auto, unfolding(crate::specs::LogLines::error_text))]
+    fn fmt<W: fmt::Write>(&self, f: &mut fmt::Formatter<W>) -> fmt::Result {
+        match self.0 {
+            Some(code) => write!(f, ", error response {code}"),
+            None => Ok(()),
+        }
+    }
+}
+
+#[derive(Clone, Copy)]
+struct Sent(u64);
+
+impl fmt::Display for Sent {
+    ghost output = { λ t. Some (sent_text t.0) };
+
+    #[tactic(auto, unfolding(crate::specs::LogLines::sent_text))]
+    fn fmt<W: fmt::Write>(&self, f: &mut fmt::Formatter<W>) -> fmt::Result {
+        let count = self.0;
+        write!(f, ", {count} checks sent")
+    }
+}
+
+#[derive(Clone, Copy)]
+struct Answered(u64);
+
+impl fmt::Display for Answered {
+    ghost output = { λ t. Some (answered_text t.0) };
+
+    #[tactic(auto, unfolding(crate::specs::LogLines::answered_text))]
+    fn fmt<W: fmt::Write>(&self, f: &mut fmt::Formatter<W>) -> fmt::Result {
+        let count = self.0;
+        write!(f, ", {count} answered")
+    }
+}
+
+/// How many checks were sent, and how many success responses arrived.
+#[derive(Clone, Copy)]
+struct Counts(u64, u64);
+
+impl fmt::Display for Counts {
+    ghost output = { λ t. Some (counts_text t.0 t.1) };
+
+    #[tactic(auto, unfolding(crate::specs::LogLines::counts_text))]
+    fn fmt<W: fmt::Write>(&self, f: &mut fmt::Formatter<W>) -> fmt::Result {
+        let sent = Sent(self.0);
+        let answered = Answered(self.1);
+        write!(f, "{sent}{answered}")
+    }
+}
+
+#[derive(Clone, Copy)]
+struct Pair(RemovedPair, Option<Path>);
+
+impl fmt::Display for Pair {
+    ghost output = { λ t. Some (pair_text t.0 t.1) };
+
+    #[tactic(auto, unfolding(crate::specs::LogLines::pair_text))]
+    fn fmt<W: fmt::Write>(&self, f: &mut fmt::Formatter<W>) -> fmt::Result {
+        let path = KnownPath(self.1);
+        let state = check_word(self.0.state);
+        let counts = Counts(self.0.checks_sent, self.0.responses_received);
+        let error = LastError(self.0.error);
+        let why = removal_word(self.0.why);
+        write!(f, "{path} {state}{counts}{error}: {why}")
+    }
+}
+
+#[derive(Clone, Copy)]
+struct Code(Option<u16>);
+
+impl fmt::Display for Code {
+    ghost output = { λ t. Some (code_text t.0) };
+
+    #[tactic(auto, unfolding(crate::specs::LogLines::code_text))]
+    fn fmt<W: fmt::Write>(&self, f: &mut fmt::Formatter<W>) -> fmt::Result {
+        match self.0 {
+            Some(code) => write!(f, " {code}"),
+            None => Ok(()),
+        }
+    }
+}
+
+#[derive(Clone, Copy)]
+struct KindOf(Option<Kind>);
+
+impl fmt::Display for KindOf {
+    ghost output = { λ t. Some (kind_text t.0) };
+
+    #[tactic(auto, unfolding(crate::specs::LogLines::kind_text))]
+    fn fmt<W: fmt::Write>(&self, f: &mut fmt::Formatter<W>) -> fmt::Result {
+        match self.0 {
+            Some(kind) => {
+                let method = method_word(kind.method);
+                let class = class_word(kind.class);
+                let code = Code(kind.error);
+                write!(f, "{method} {class}{code}")
+            }
+            None => f.write_str("malformed STUN message"),
+        }
+    }
+}
+
+#[derive(Clone, Copy)]
+struct Because(Option<Reason>);
+
+impl fmt::Display for Because {
+    ghost output = { λ t. Some (reason_text t.0) };
+
+    #[tactic(auto, unfolding(crate::specs::LogLines::reason_text))]
+    fn fmt<W: fmt::Write>(&self, f: &mut fmt::Formatter<W>) -> fmt::Result {
+        match self.0 {
+            Some(Reason::Rejected(why)) => write!(f, " ({why})"),
+            Some(Reason::Unanswered(why)) => write!(f, " ({why})"),
+            None => Ok(()),
+        }
+    }
+}
+
+/// A request that is accepted is not discarded.
+#[tactic(auto, unfolding(crate::specs::LogLines::fate_text))]
+fn fate(why: Option<Reason>) -> &'static str
+    ensures { result.now ≡ fate_text why }
+{
+    match why {
+        Some(Reason::Unanswered(_)) => "no response to ",
+        Some(Reason::Rejected(_)) | None => "discarded ",
+    }
+}
+
+impl fmt::Display for Said {
+    ghost output = { λ t. Some (said_text t) };
+
+    #[tactic(auto, unfolding(crate::specs::LogLines::said_text))]
+    fn fmt<W: fmt::Write>(&self, f: &mut fmt::Formatter<W>) -> fmt::Result {
+        match *self {
+            Said::Begins => f.write_str("session begins"),
+            Said::Enters(state) => {
+                let state = state_word(state);
+                write!(f, "state {state}")
+            }
+            Said::Discovers(source) => write!(f, "discovered {source}"),
+            Said::Selects(source, destination) => {
+                let way = Way(source, destination);
+                write!(f, "selected {way}")
+            }
+            Said::Silent(source, destination) => {
+                let way = Way(source, destination);
+                write!(f, "silent {way}")
+            }
+            Said::Heard(source, destination) => {
+                let way = Way(source, destination);
+                write!(f, "heard again {way}")
+            }
+            Said::Loses(pair, path) => {
+                let pair = Pair(pair, path);
+                write!(f, "removed {pair}")
+            }
+            Said::Leaves(kind, why, path) => {
+                let fate = fate(why);
+                let kind = KindOf(kind);
+                let because = Because(why);
+                let source = path.source;
+                let destination = path.destination;
+                write!(f, "{fate}{kind}{because} from {source} at {destination}")
+            }
+        }
+    }
+}
+
+/// The line: the local username fragment, a colon, and what is said.
+fn line(alloc: Global, home: &Home, said: &Said) -> Result<String, AllocError>
+    ensures { IfOk result (λ text. string_bytes text ≡ line_text (record_of home.now.agent).local_creds.ufrag said.now) }
+{
+    let ufrag = home.agent.local_credentials().ufrag.as_str();
+    let mut text = String::from_str(alloc, ufrag)?;
+    write!(text, ": {said}")?;
+    Ok(text)
+}
+
+fn put_said(alloc: Global, home: &Home, said: &Said, buffer: &mut [u8], length: &mut usize) -> i32
+    ensures { PutsSaid (record_of home.now.agent).local_creds.ufrag said.now buffer.old length.old result buffer.new length.new }
+{
+    match line(alloc, home, said) {
+        Ok(text) => put(text.as_bytes(), buffer, length),
+        Err(_) => codes::OUT_OF_MEMORY,
+    }
+}
+
+// ---- events
+
+fn state_of(number: i32) -> Option<IceConnectionState>
+    ensures { result ≡ state_of number }
+{
+    match number {
+        0 => Some(IceConnectionState::New),
+        1 => Some(IceConnectionState::Checking),
+        2 => Some(IceConnectionState::Connected),
+        3 => Some(IceConnectionState::Completed),
+        4 => Some(IceConnectionState::Disconnected),
+        _ => None,
+    }
+}
+
+/// What the line of an event says. None: C passed no event.
+fn event_said(event: &Event) -> Option<Said>
+    ensures { result ≡ event_said event.now }
+{
+    match event.kind {
+        1 => Some(Said::Begins),
+        2 => Some(Said::Enters(state_of(event.state)?)),
+        3 => Some(Said::Discovers(socket_of(&event.source)?)),
+        4 => Some(Said::Selects(socket_of(&event.source)?, socket_of(&event.destination)?)),
+        5 => Some(Said::Silent(socket_of(&event.source)?, socket_of(&event.destination)?)),
+        6 => Some(Said::Heard(socket_of(&event.source)?, socket_of(&event.destination)?)),
+        _ => None,
+    }
+}
+
+/// Writes the line of an event.
+#[unsafe(no_mangle)]
+pub extern "C" fn is_ice_event_line(
+    alloc: Global,
+    slot: &mut Slot,
+    event: &Event,
+    buffer: &mut [u8],
+    length: &mut usize,
+) -> i32
+    ensures logged { At (LogsEvent event.now buffer.old length.old buffer.new length.new) (held_by slot.old) result (held_by slot.new) }
+    ensures stays { held_by slot.new ≡ held_by slot.old }
+    ensures without { held_by slot.old ≡ None → (buffer.new ≡ buffer.old) × (length.new ≡ length.old) }
+{
+    let Some(home) = slot.home() else {
+        return codes::NO_AGENT;
+    };
+    match event_said(event) {
+        Some(said) => put_said(alloc, home, &said, buffer, length),
+        None => codes::BAD_ADDRESS,
+    }
+}
+
+// ---- removed pairs
+
+fn put_removed(
+    alloc: Global,
+    home: &Home,
+    found: Option<&RemovedPair>,
+    buffer: &mut [u8],
+    length: &mut usize,
+) -> i32
+    ensures { PutsRemoved (record_of home.now.agent) (option_copied found.entry) buffer.old length.old result buffer.new length.new }
+{
+    match found {
+        Some(pair) => {
+            let said = Said::Loses(*pair, home.agent.removed_pair_path(pair));
+            put_said(alloc, home, &said, buffer, length)
+        }
+        None => codes::NOTHING,
+    }
+}
+
+/// Writes the line of the removed pair with this index, as `is_ice_removed_at` counts them.
+#[unsafe(no_mangle)]
+pub extern "C" fn is_ice_removed_line(
+    alloc: Global,
+    slot: &mut Slot,
+    index: usize,
+    buffer: &mut [u8],
+    length: &mut usize,
+) -> i32
+    ensures logged { At (LogsRemoved (removed_by slot.old) index buffer.old length.old buffer.new length.new) (held_by slot.old) result
+        (held_by slot.new) }
+    ensures stays { held_by slot.new ≡ held_by slot.old }
+    ensures kept { removed_by slot.new ≡ removed_by slot.old }
+    ensures without { held_by slot.old ≡ None → (buffer.new ≡ buffer.old) × (length.new ≡ length.old) }
+{
+    let Some(home) = slot.home() else {
+        return codes::NO_AGENT;
+    };
+    put_removed(alloc, home, home.agent.removed_pair(index), buffer, length)
+}
+
+// ---- datagrams
+
+fn error_of(message: &StunMessage<'_>) -> Option<u16>
+    ensures { result ≡ option_map (λ e. e.0) (message_view message.now).attributes.error_code }
+{
+    Some(message.error_code()?.0)
+}
+
+/// What kind of message the bytes are. None: they are none.
+fn kind_of(bytes: &[u8]) -> Option<Kind>
+    ensures { IsKind bytes.now result }
+{
+    match StunMessage::parse_any(bytes) {
+        Ok(message) => Some(Kind {
+            method: message.method(),
+            class: message.class(),
+            error: error_of(&message),
+        }),
+        Err(_) => None,
+    }
+}
+
+fn reason_of(rejected: Option<Rejection>, left: Option<Unserved>) -> Option<Reason>
+    ensures { result ≡ reason_of rejected left }
+{
+    match rejected {
+        Some(why) => Some(Reason::Rejected(why)),
+        None => Some(Reason::Unanswered(left?)),
+    }
+}
+
+/// Why the agent would not accept the datagram, or would send no response to it.
+fn reason_in(home: &Home, path: Path, bytes: &[u8]) -> Option<Reason>
+    ensures { IsReason ⟦<DefaultSha1HmacProvider as Sha1HmacProvider>⟧.mac (record_of home.now.agent) path bytes.now result }
+{
+    match StunMessage::parse(bytes) {
+        Ok(message) => {
+            let packet = StunPacket {
+                proto: path.proto,
+                source: path.source,
+                destination: path.destination,
+                message,
+            };
+            reason_of(home.agent.rejection(&packet), home.agent.unserved(&packet))
+        }
+        Err(_) => None,
+    }
+}
+
+fn put_packet(
+    alloc: Global,
+    home: &Home,
+    path: Option<Path>,
+    bytes: &[u8],
+    buffer: &mut [u8],
+    length: &mut usize,
+) -> i32
+    ensures { PutsPacket ⟦<DefaultSha1HmacProvider as Sha1HmacProvider>⟧.mac (record_of home.now.agent) path bytes.now buffer.old length.old result
+        buffer.new length.new }
+{
+    match path {
+        Some(path) => {
+            let said = Said::Leaves(kind_of(bytes), reason_in(home, path, bytes), path);
+            put_said(alloc, home, &said, buffer, length)
+        }
+        None => codes::BAD_ADDRESS,
+    }
+}
+
+/// Writes the line of a datagram that the agent does not accept, or to which it sends no response.
+#[unsafe(no_mangle)]
+pub extern "C" fn is_ice_packet_line(
+    alloc: Global,
+    slot: &mut Slot,
+    protocol: u8,
+    source: &Address,
+    destination: &Address,
+    bytes: &[u8],
+    buffer: &mut [u8],
+    length: &mut usize,
+) -> i32
+    ensures logged { At (LogsPacket ⟦<DefaultSha1HmacProvider as Sha1HmacProvider>⟧.mac (packet_path protocol source.now destination.now) bytes.now
+        buffer.old length.old buffer.new length.new) (held_by slot.old) result (held_by slot.new) }
+    ensures stays { held_by slot.new ≡ held_by slot.old }
+    ensures without { held_by slot.old ≡ None → (buffer.new ≡ buffer.old) × (length.new ≡ length.old) }
+{
+    let Some(home) = slot.home() else {
+        return codes::NO_AGENT;
+    };
+    put_packet(
+        alloc,
+        home,
+        packet_path(protocol, source, destination),
+        bytes,
+        buffer,
+        length,
+    )
+}
+
+/// The kind of message and the reason, without addresses: equal for datagrams that differ only in these.
+fn kind_line(alloc: Global, kind: Option<Kind>, why: Option<Reason>) -> Result<String, AllocError>
+    ensures { IfOk result (λ text. string_bytes text ≡ kind_text kind ++ reason_text why) }
+{
+    let kind = KindOf(kind);
+    let because = Because(why);
+    let mut text = String::new(alloc);
+    write!(text, "{kind}{because}")?;
+    Ok(text)
+}
+
+fn put_kind(
+    alloc: Global,
+    home: &Home,
+    path: Option<Path>,
+    bytes: &[u8],
+    buffer: &mut [u8],
+    length: &mut usize,
+) -> i32
+    ensures { PutsKind ⟦<DefaultSha1HmacProvider as Sha1HmacProvider>⟧.mac (record_of home.now.agent) path bytes.now buffer.old length.old result
+        buffer.new length.new }
+{
+    match path {
+        Some(path) => match kind_line(alloc, kind_of(bytes), reason_in(home, path, bytes)) {
+            Ok(text) => put(text.as_bytes(), buffer, length),
+            Err(_) => codes::OUT_OF_MEMORY,
+        },
+        None => codes::BAD_ADDRESS,
+    }
+}
+
+/// Writes the kind of message and the reason of that line: under this text a program counts datagrams.
+#[unsafe(no_mangle)]
+pub extern "C" fn is_ice_packet_kind(
+    alloc: Global,
+    slot: &mut Slot,
+    protocol: u8,
+    source: &Address,
+    destination: &Address,
+    bytes: &[u8],
+    buffer: &mut [u8],
+    length: &mut usize,
+) -> i32
+    ensures named { At (NamesPacket ⟦<DefaultSha1HmacProvider as Sha1HmacProvider>⟧.mac (packet_path protocol source.now destination.now) bytes.now
+        buffer.old length.old buffer.new length.new) (held_by slot.old) result (held_by slot.new) }
+    ensures stays { held_by slot.new ≡ held_by slot.old }
+    ensures without { held_by slot.old ≡ None → (buffer.new ≡ buffer.old) × (length.new ≡ length.old) }
+{
+    let Some(home) = slot.home() else {
+        return codes::NO_AGENT;
+    };
+    put_kind(
+        alloc,
+        home,
+        packet_path(protocol, source, destination),
+        bytes,
+        buffer,
+        length,
+    )
+}

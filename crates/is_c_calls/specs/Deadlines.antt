@@ -1,0 +1,25 @@
+-- The deadline that a slot keeps with the profile `Modern`: the time at which `is_ice_handle_timeout` is to be called.
+use Rattle.std.specs.Prelude.{◌≡◌, ℕ, Bool, min, Option, Some, None, ℤ, if◌then◌else◌}
+use Rattle.is_rules.specs.Polls.{PollsTimeout}
+use Rattle.is_agent.specs.Polls.{sooner, next_call}
+use Rattle.is_c_calls.specs.Codes.{OK}
+use Rattle.is_c_calls.specs.Held.{Held, HomeRecord}
+
+-- when the agent has something to do next; soon: 5 ms after its last call at the latest
+abbrev pub time_to_call : Bool → Held → Option ℕ
+time_to_call soon a = if soon then sooner a.last_time (next_call a) else next_call a
+
+-- the earlier one of the deadline and a new time; without one there is nothing to do
+abbrev pub earlier : Option ℕ → Option ℕ → Option ℕ
+earlier kept None = None
+earlier None (Some at) = Some at
+earlier (Some kept) (Some at) = Some (min kept at)
+
+-- the slot with the deadline moved up
+abbrev pub with_deadline : Bool → HomeRecord → HomeRecord
+with_deadline soon home = record home { deadline = earlier home.deadline (time_to_call soon home.agent) }
+
+-- The agent is polled for its next timeout, which fixes the due times of its pairs, and the deadline is moved up.
+abbrev pub FixesTimes : Bool → HomeRecord → ℤ → HomeRecord → Type 0
+FixesTimes soon old code new =
+    (polled : Option ℕ) × PollsTimeout old.agent polled new.agent × (code ≡ OK) × (new ≡ record (with_deadline soon old) { agent = new.agent })

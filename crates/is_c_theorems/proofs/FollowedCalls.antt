@@ -1,0 +1,25 @@
+-- A call of C is one use, or two.
+use Rattle.std.proofs.Common.{◌≡◌, ◌⊎◌, ◌&&◌, Bool, List, ◌∷◌, ℤ, inl, inr, refl, sym, subst}
+use Rattle.is_stun.specs.Timing.{is_modern}
+use Rattle.is_c_calls.specs.Codes.{OK}
+use Rattle.is_c_calls.specs.Held.{HomeRecord}
+use Rattle.is_c_calls.specs.Sessions.{Used, Session, is_ok}
+use Rattle.is_c_calls.specs.Uses.{Use, FixTimes, Does}
+use Rattle.is_c_theorems.specs.Headline.{used, FollowedAreUses}
+use Rattle.is_c_theorems.proofs.CallsAsSteps.{either}
+
+abbrev Goes : HomeRecord → HomeRecord → List Used → Use → ℤ → Type 0
+Goes first new uses export code =
+    (more : List Used) × Session first more new
+    × ((more ≡ used export code ∷ uses) ⊎ ((fixes : Bool) × (more ≡ used (FixTimes fixes) OK ∷ used export code ∷ uses)))
+
+pub are_uses : FollowedAreUses
+are_uses soon first old new uses export code session (mid, does, follows) = either (is_ok code && is_modern mid.agent.timing) fixed same follows where
+  before : Session first (used export code ∷ uses) mid
+  before = (old, session, does)
+
+  fixed : Does (FixTimes (soon old mid)) mid OK new → Goes first new uses export code
+  fixed fixes = (used (FixTimes (soon old mid)) OK ∷ used export code ∷ uses, (mid, before, fixes), inr (soon old mid, refl))
+
+  same : new ≡ mid → Goes first new uses export code
+  same is = (used export code ∷ uses, subst (λ (h : HomeRecord). Session first (used export code ∷ uses) h) (sym is) before, inl refl)

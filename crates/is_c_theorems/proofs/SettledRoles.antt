@@ -1,0 +1,215 @@
+-- The roles of two agents of C, from `is_ice_agent_new` on. What mutants/specifications changes is read by tactics.
+use Rattle.std.proofs.Common.{◌≡◌, ◌⊎◌, ◌++◌, ◌<◌, ℕ, Bool, true, false, not, List, [], ◌∷◌, append-nil, None, Some, Option, ℤ, Result, Ok, Err, inl, inr, refl, ap, sym, ◌∙◌, subst}
+use Rattle.std.specs.Prelude.{◌≢◌}
+use Rattle.is_proto.specs.declared.error.IceError.{IceError}
+use Rattle.is_proto.specs.declared.error.IceError.TheVariants as errors
+use Rattle.is_rules.specs.declared.credentials.IceCreds.{IceCreds}
+use Rattle.is_rules.specs.declared.emitted.Path.{Path}
+use Rattle.is_rules.specs.Polls.{NextTimeoutFrom}
+use Rattle.is_rules.specs.Settings.{modern_settings, SetsControlling}
+use Rattle.is_theorems.specs.Settings.{setters_of}
+use Rattle.is_c_calls.specs.Held.{Held, HomeRecord}
+use Rattle.is_c_calls.specs.Making.{fresh_home}
+use Rattle.is_c_calls.specs.Preferences.{answers}
+use Rattle.is_c_calls.specs.Sessions.{Used, Session}
+use Rattle.is_c_calls.specs.Uses.{Use, SetControlling, FixTimes, Does, mac_of}
+use Rattle.is_c_theorems.specs.CallLogs.{IsLogOf, newborn}
+use Rattle.is_c_theorems.specs.Chosen.{EachKeeps}
+use Rattle.is_c_theorems.specs.TwoAgents.{Side, A, B, other, Turn, Sessions, AreCarried, HaveFreshIds, sets_role, IsFair, role_at, GreaterKeepsRole, LesserSwitchesOnce, RolesStayOpposite}
+use Rattle.is_c_theorems.proofs.CallsAsSteps.{never}
+use Rattle.is_c_theorems.proofs.ClaimedRoles.{not_self, Setting, Mind}
+use Rattle.is_c_theorems.proofs.IssuedRequests.{checks_none, unless_timeout}
+use Rattle.is_c_theorems.proofs.LogsOfCalls.{Ran, walk, log_is, run_is}
+use Rattle.is_c_theorems.proofs.PacketsGiven.{use_marks, times_as_marked}
+use Rattle.is_c_theorems.proofs.RolesOfTwo.{Opening, AllKeep, Issued_in, setters_issue, Paths, Trades, Fresh, Turns, Half, Known, joined, known, lesser_stays}
+use Rattle.is_c_theorems.proofs.SettingsOfCalls.{Log, rest_of}
+
+-- ---- an agent whose role C may have set
+
+module _ (creds : IceCreds) (tie : ℕ) where
+  abbrev pub in_role : Bool → Held
+  in_role role = record (fresh_home creds tie).agent { controlling = role }
+
+  abbrev pub IsOpen : HomeRecord → Type 0
+  IsOpen home = (role : Bool) × (home.agent ≡ in_role role) × (home.waiting ≡ None)
+
+  role_set : (role : Bool) (mid home : HomeRecord) → IsOpen mid → (r : Result (Unit {0}) IceError) → SetsControlling mid.agent role r home.agent
+      → home.waiting ≡ mid.waiting → IsOpen home
+  role_set role mid home (was, agent_is, none) (Ok x) (may, made) kept = (role, made ∙ ap (λ (a : Held). record a { controlling = role }) agent_is, kept ∙ none)
+  role_set role mid home (was, agent_is, none) (Err errors.LiteStaysControlled) (stays, same) kept = (was, same ∙ agent_is, kept ∙ none)
+  role_set role mid home open_mid (Err _) h kept = absurd h
+
+  -- an agent without a time of a last call is not changed by a poll for its next timeout
+  fixed : (last : Option ℕ) (a b : Held) (deadline : Option ℕ) → last ≡ None → NextTimeoutFrom last a deadline b → b ≡ a
+  fixed None a b deadline is k = k.1
+  fixed (Some at) a b deadline is k = let wrong_ : Some at ≡ None = is in absurd (cc)
+
+  times_fixed : (soon : Bool) (code : ℤ) (mid home : HomeRecord) → IsOpen mid → Does (FixTimes soon) mid code home → IsOpen home
+  times_fixed soon code mid home (was, agent_is, none) (deadline, polls, coded, is) = (
+    was,
+    fixed mid.agent.last_time mid.agent home.agent deadline (ap (λ (a : Held). a.last_time) agent_is) polls ∙ agent_is,
+    ap (λ (h : HomeRecord). h.waiting) is ∙ none,
+  )
+
+  pub opened : (uses : List Used) (home : HomeRecord) → Session (fresh_home creds tie) uses home → EachKeeps sets_role uses → IsOpen home
+  opened [] home is each = ((fresh_home creds tie).agent.controlling, ap (λ (h : HomeRecord). h.agent) is, ap (λ (h : HomeRecord). h.waiting) is)
+  opened (u ∷ before) home (mid, session, does) each = by (opened before mid session (rest_of sets_role u before each)) u.export (each u (inl refl)) does where
+    by : IsOpen mid → (export : Use) → sets_role export ≡ true → Does export mid u.code home → IsOpen home
+    by was (SetControlling role) is (r, sets, coded, kept) = role_set role mid home was r sets kept.0
+    by was (FixTimes soon) is k = times_fixed soon u.code mid home was k
+    by was _ is k = never is
+
+  open_marks : (export : Use) → sets_role export ≡ true → (use_marks export).1 ≡ false
+  open_marks (SetControlling role) is = refl
+  open_marks (FixTimes soon) is = refl
+  open_marks _ is = never is
+
+  -- it sent no check
+  open_silent : (uses : List Used) (log : Log) (last : Held) → IsLogOf uses log → EachKeeps sets_role uses → Ran (newborn creds tie) log last
+      → (path : Path) (id : List ℕ) → Issued_in log path id → ⊥
+  open_silent [] log last is each run path id sent = setters_issue (setters_of modern_settings) [] path id (subst (λ (l : Log). Issued_in l path id) is sent)
+  open_silent (u ∷ before) log last (inl (none, logs)) each run path id sent = open_silent before log last logs (rest_of sets_role u before each) run path id sent
+  open_silent (u ∷ before) log last (inr (rest, inl (x, is, of), logs)) each run path id sent =
+      by (λ mid earlier was. open_silent before rest mid logs (rest_of sets_role u before each) earlier path id was)
+      (subst (λ (l : Log). Ran (newborn creds tie) l last) is run) (subst (λ (l : Log). Issued_in l path id) is sent) where
+        by : ((mid : Held) → Ran (newborn creds tie) rest mid → Issued_in rest path id → ⊥) → Ran (newborn creds tie) (x ∷ rest) last → Issued_in (x ∷ rest) path id → ⊥
+        by on (mid, s, t, earlier, given, step) (inl now) = checks_none x.entry.emitted.issued path id
+            (unless_timeout mac_of answers x.call mid last s t x.entry step (times_as_marked u.export x.call of.makes ∙ open_marks u.export (each u (inl refl)))) now
+        by on (mid, s, t, earlier, given, step) (inr was) = on mid earlier was
+  open_silent (u ∷ before) log last (inr (rest, inr (s, export, ok, is), logs)) each run path id sent =
+      never (subst (λ (e : Use). sets_role e ≡ true) export (each u (inl refl)))
+
+open_mind : (z : Setting) (side : Side) (creds : IceCreds) (role : Bool) → (side ≡ z.greater → role ≡ z.role) → Mind z [] side (in_role creds (z.tie side) role)
+open_mind z side creds role greater = record {
+  tie = refl;
+  greater = greater;
+  packets = λ p has. absurd has;
+  queue = λ q has. absurd has;
+  kept = λ path id role (p, c, has, keeps, id_is, role_is, path_is). absurd has;
+}
+
+one_of : (b r : Bool) → (b ≡ r) ⊎ (b ≡ not r)
+one_of true true = inl refl
+one_of true false = inr refl
+one_of false true = inr refl
+one_of false false = inl refl
+
+-- ---- parts of a list of calls
+
+carried_rest : (later before : List Turn) → AreCarried (later ++ before) → AreCarried before
+carried_rest [] before all = all
+carried_rest (x ∷ later) before all = carried_rest later before all.1
+
+fresh_rest : (later before : List Turn) → HaveFreshIds (later ++ before) → HaveFreshIds before
+fresh_rest [] before all = all
+fresh_rest (x ∷ later) before all = fresh_rest later before all.1
+
+keep_rest : (later before : List Turn) → AllKeep (later ++ before) → AllKeep before
+keep_rest [] before all = all
+keep_rest (x ∷ later) before all = keep_rest later before (λ y has. all y (inr has))
+
+-- ---- the theorems
+
+module _ (paths : Paths) (trades : Trades) (new : Fresh) (turn : Turns) where
+  module _ (first : Side → HomeRecord) (greater : Side) (turns : List Turn) (fair : IsFair first greater turns) where
+    pub greatest_is : fair.tie_breaker (other greater) < fair.tie_breaker greater
+    greatest_is = search fair.tie
+
+    pub all_keep : AllKeep turns
+    all_keep = search fair.keeps
+
+    pub all_carried : AreCarried turns
+    all_carried = search fair.carried
+
+    pub all_fresh : HaveFreshIds turns
+    all_fresh = search fair.fresh
+
+    abbrev pub setting : Setting
+    setting = record { tie = fair.tie_breaker; greater = greater; role = role_at greater first; greatest = greatest_is }
+
+    abbrev pub opening : Opening
+    opening = λ side. (fair.begins side).1
+
+    abbrev pub creds_of : Side → IceCreds
+    creds_of side = (fair.begins side).0
+
+    pub only : (side : Side) → EachKeeps sets_role (opening side)
+    only side = (fair.begins side).3
+
+    start_half : (side : Side) → Half setting [] [] side (opening side) (creds_of side) (first side)
+    start_half side =
+        let (creds, uses, session, each) = fair.begins side in
+        let k = walk turn creds (fair.tie_breaker side) uses (first side) session in
+        let logs = log_is turn creds (fair.tie_breaker side) uses k.0 (first side) k.1 in
+        let run = run_is turn creds (fair.tie_breaker side) uses k.0 (first side) k.1 in
+        let (role, agent_is, none) = opened creds (fair.tie_breaker side) uses (first side) session each in
+        let mine : side ≡ greater → role ≡ role_at greater first = λ is. sym (ap (λ (a : Held). a.controlling) agent_is) ∙ ap (λ (s : Side). role_at s first) is in
+        record {
+          log = k.0;
+          logs = logs;
+          run = run;
+          mind = subst (λ (a : Held). Mind setting [] side a) (sym agent_is) (open_mind setting side creds role mine);
+          waiting = λ p is. absurd (let wrong_ : None ≡ Some p = sym none ∙ is in cc);
+          got = λ x to bytes m has. absurd has;
+          issued = λ path id sent. absurd (open_silent creds (fair.tie_breaker side) uses k.0 (first side).agent logs each run path id sent);
+        }
+
+    pub start : Known paths trades new turn setting opening only creds_of [] first
+    start = record { ns = []; notes = refl; half = start_half }
+
+    stay : (before later : List Turn) (mid last : Side → HomeRecord) → Sessions first before mid → Sessions mid later last
+        → AllKeep (later ++ before) → AreCarried (later ++ before) → HaveFreshIds (later ++ before)
+        → role_at (other greater) mid ≡ not (role_at greater first) → role_at (other greater) last ≡ not (role_at greater first)
+    stay before later mid last session more keeps carried ids was =
+        lesser_stays paths trades new turn setting opening only creds_of first start before later mid last session more keeps carried ids was
+
+    keeps_at : (some : List Turn) (last : Side → HomeRecord) → Sessions first some last → AllKeep some → AreCarried some → HaveFreshIds some
+        → role_at greater last ≡ role_at greater first
+    keeps_at some last session keeps carried ids =
+        ((known paths trades new turn setting opening only creds_of first start some last session keeps carried ids).half greater).mind.greater refl
+
+  pub greater_keeps : GreaterKeepsRole
+  greater_keeps first last greater turns fair session =
+      search (keeps_at first greater turns fair turns last session (all_keep first greater turns fair) (all_carried first greater turns fair) (all_fresh first greater turns fair))
+
+  pub lesser_switches : LesserSwitchesOnce
+  lesser_switches first mid last greater before later fair session more different =
+      let keep = all_keep first greater (later ++ before) fair in
+      let carry = all_carried first greater (later ++ before) fair in
+      let fresh = all_fresh first greater (later ++ before) fair in
+      let changed : role_at (other greater) mid ≢ role_at (other greater) first = search different in
+      search (elim (one_of (role_at (other greater) mid) (role_at greater first)) as (λ _. role_at (other greater) last ≡ role_at (other greater) mid) [
+        | inr differs ↦ stay first greater (later ++ before) fair before later mid last session more keep carry fresh differs ∙ sym differs
+        | inl same ↦ elim (one_of (role_at (other greater) first) (role_at greater first)) [
+          | inl was ↦ absurd (changed (same ∙ sym was))
+          | inr was ↦ (
+              let keeps : AllKeep (before ++ []) = subst (λ (l : List Turn). AllKeep l) (sym (append-nil before)) (keep_rest later before keep) in
+              let carried = subst (λ (l : List Turn). AreCarried l) (sym (append-nil before)) (carried_rest later before carry) in
+              let ids = subst (λ (l : List Turn). HaveFreshIds l) (sym (append-nil before)) (fresh_rest later before fresh) in
+              let stays = stay first greater (later ++ before) fair [] before first mid (λ side. refl) session keeps carried ids was in
+              absurd (not_self (role_at greater first) (sym stays ∙ same)))
+        ]
+      ])
+
+  apart : (greater : Side) (role : Bool) (homes : Side → HomeRecord) → role_at greater homes ≡ role → role_at (other greater) homes ≡ not role
+      → role_at A homes ≢ role_at B homes
+  apart A role homes is differs both = not_self role (sym differs ∙ (sym both ∙ is))
+  apart B role homes is differs both = not_self role (sym differs ∙ (both ∙ is))
+
+  alike : (greater : Side) (role : Bool) (homes : Side → HomeRecord) → role_at greater homes ≡ role → role_at (other greater) homes ≡ role
+      → role_at A homes ≡ role_at B homes
+  alike A role homes is same = is ∙ sym same
+  alike B role homes is same = same ∙ sym is
+
+  pub stay_opposite : RolesStayOpposite
+  stay_opposite first mid last greater before later fair session more different =
+      let keep = all_keep first greater (later ++ before) fair in
+      let carry = all_carried first greater (later ++ before) fair in
+      let fresh = all_fresh first greater (later ++ before) fair in
+      let differ : role_at A mid ≢ role_at B mid = search different in
+      let was = keeps_at first greater (later ++ before) fair before mid session (keep_rest later before keep) (carried_rest later before carry) (fresh_rest later before fresh) in
+      let is = keeps_at first greater (later ++ before) fair (later ++ before) last (joined first before later mid last session more) keep carry fresh in
+      search (elim (one_of (role_at (other greater) mid) (role_at greater first)) as (λ _. role_at A last ≢ role_at B last) [
+        | inl same ↦ absurd (differ (alike greater (role_at greater first) mid was same))
+        | inr differs ↦ apart greater (role_at greater first) last is (stay first greater (later ++ before) fair before later mid last session more keep carry fresh differs)
+      ])
