@@ -5,12 +5,11 @@
  *
  *     is_ice_handle_timeout(&agent, now, random, sizeof random);            starts the session
  *     for (;;) {
- *         is_ice_poll_timeout(&agent, &at);
  *         while (is_ice_poll_transmit(&agent, buffer, sizeof buffer, &packet) == IS_ICE_OK)
  *             send buffer[0 .. packet.length] from packet.source to packet.destination;
  *         while (is_ice_poll_event(&agent, &event) == IS_ICE_OK)
  *             use the event;
- *         wait for a datagram, or until the earliest `at` since is_ice_handle_timeout;
+ *         wait for a datagram, or until the time that is_ice_poll_timeout(&agent, &at) returns, if it returns one;
  *         a datagram arrived:  is_ice_handle_packet(&agent, now, IS_ICE_UDP, &from, &to, bytes, length);
  *         that has passed:     is_ice_handle_timeout(&agent, now, random, sizeof random);
  *     }
@@ -90,6 +89,12 @@ enum {
     IS_ICE_REJECTED_NO_CHECK = 9,
     IS_ICE_REJECTED_PATH = 10,
     IS_ICE_REJECTED_REMOTE_PASSWORD = 11,
+    IS_ICE_UNSERVED_EARLY = 12,        /* see is_ice_unserved, for this and the codes up to 17 */
+    IS_ICE_UNSERVED_DESTINATION = 13,
+    IS_ICE_UNSERVED_USE_CANDIDATE = 14,
+    IS_ICE_UNSERVED_SENDER = 15,
+    IS_ICE_UNSERVED_LIMIT = 16,
+    IS_ICE_UNSERVED_LOCAL = 17,
     IS_ICE_NO_AGENT = -1,              /* the is_ice_agent holds no agent */
     IS_ICE_HAS_AGENT = -2,             /* the is_ice_agent holds one already */
     IS_ICE_NOT_UTF8 = -3,              /* a text is not UTF-8 */
@@ -126,6 +131,12 @@ static inline const char *is_ice_code_text(int32_t code)
     case IS_ICE_REJECTED_NO_CHECK: return "response to no pending check";
     case IS_ICE_REJECTED_PATH: return "response on another path than that of its check";
     case IS_ICE_REJECTED_REMOTE_PASSWORD: return "response signed with another password than the peer's";
+    case IS_ICE_UNSERVED_EARLY: return "request before the peer's credentials are set";
+    case IS_ICE_UNSERVED_DESTINATION: return "request to an address that no local candidate has";
+    case IS_ICE_UNSERVED_USE_CANDIDATE: return "request with USE-CANDIDATE to a controlling agent";
+    case IS_ICE_UNSERVED_SENDER: return "request from an invalidated remote candidate";
+    case IS_ICE_UNSERVED_LIMIT: return "request from an unknown address while the limit on discovered candidates is reached";
+    case IS_ICE_UNSERVED_LOCAL: return "request to an invalidated local candidate";
     case IS_ICE_NO_AGENT: return "no agent";
     case IS_ICE_HAS_AGENT: return "there is an agent already";
     case IS_ICE_NOT_UTF8: return "text is not UTF-8";
@@ -151,7 +162,7 @@ static inline const char *is_ice_code_text(int32_t code)
 /* is_ice_version - returns the version of the library's interface. It equals IS_ICE_VERSION if this header belongs to
  * the library. It increases when a name, an argument, a struct or a code changes or goes. A call that is added leaves it,
  * since programs that were built before still run. Does not allocate. */
-#define IS_ICE_VERSION 7
+#define IS_ICE_VERSION 8
 uint32_t is_ice_version(void);
 
 /* The version of the release that this header is of: 0.12 is that of the Rust crate `is` whose API it has. */
@@ -198,7 +209,7 @@ typedef struct is_ice_candidate {
 /* The fields of a candidate. Its foundation and its username fragment are parts of the text that the same call writes. */
 typedef struct is_ice_fields {
     is_ice_address address;   /* its transport address */
-    is_ice_address local;     /* of the local socket; 0.0.0.0 or [::], port 0, if it is the other agent's and no host */
+    is_ice_address local;     /* of the local socket; 0.0.0.0 or [::], port 0, if it was read from a text and is no host */
     is_ice_address related;   /* its related address, raddr and rport; all zero if it has none */
     size_t foundation_length; /* the foundation begins at byte IS_ICE_FOUNDATION_START of the text */
     size_t ufrag_length;      /* the username fragment is the end of the text; 0: it has none */
@@ -235,7 +246,10 @@ enum {
     IS_ICE_STATE_CHANGED = 2,   /* the state changed to `state` */
     IS_ICE_DISCOVERED_RECV = 3, /* the first authentic packet from `source` over `protocol` since the last restart, among
                                  * the sources that are remembered: see is_ice_set_max_discovered */
-    IS_ICE_NOMINATED_SEND = 4   /* send media from `source` to `destination` over `protocol` until the next of these */
+    IS_ICE_NOMINATED_SEND = 4,  /* send media from `source` to `destination` over `protocol` until the next of these */
+    IS_ICE_SILENT = 5,          /* on the selected path, from `source` to `destination` over `protocol`, nothing of the other
+                                 * agent arrived for the time of is_ice_set_silence: it may be lost soon */
+    IS_ICE_HEARD = 6            /* something arrived on that path again */
 };
 
 /* Something that happened. A field that the kind does not have is unchanged. */
@@ -284,6 +298,15 @@ typedef struct is_ice_media_path {
     is_ice_address destination; /* to here: the address of a remote candidate */
     uint8_t protocol;           /* and over this protocol */
 } is_ice_media_path;
+
+/* Packets on one path that could not be sent, for one reason: see is_ice_send_failed. */
+typedef struct is_ice_failed_send {
+    is_ice_address source;
+    is_ice_address destination;
+    uint64_t times;  /* how many packets */
+    uint32_t reason; /* the number of the caller's error */
+    uint8_t protocol;
+} is_ice_failed_send;
 
 /* States of a pair's checks (RFC 8445, section 6.1.2.6). No pair is frozen, and one that fails is removed. */
 enum {
@@ -568,6 +591,18 @@ IS_ICE_QUIET_CALL int32_t is_ice_set_preference_table(is_ice_agent *agent, const
 /* is_ice_reset_local_preference - returns to the default local preference of a new agent: host before reflexive before
  * relayed candidates, IPv6 just before IPv4, earlier before later ones. IS_ICE_OK. */
 IS_ICE_QUIET_CALL int32_t is_ice_reset_local_preference(is_ice_agent *agent);
+
+/* No time: see is_ice_set_silence. */
+#define IS_ICE_NEVER UINT64_MAX
+
+/* is_ice_set_silence - sets after how many nanoseconds without a response or a check of the other agent the selected path
+ * is silent: 5 s for a new agent. It is reported by IS_ICE_SILENT, once, and by IS_ICE_HEARD when something arrives again.
+ * IS_ICE_NEVER: neither is reported. After this call, silence that lasts is reported again.
+ *
+ * By default a full agent checks the selected path every 2.9 s once it is in use (is_ice_set_max_rto), and a lite agent waits
+ * for the checks of the other one. With a shorter time than that each path is reported to be silent between two checks. Nothing
+ * that the agent sends depends on the time. IS_ICE_OK. */
+IS_ICE_QUIET_CALL int32_t is_ice_set_silence(is_ice_agent *agent, uint64_t nanoseconds);
 
 /* is_ice_set_local_credentials - sets the local credentials without an ICE restart: for use before they are signaled.
  * Candidates that were added before keep the username fragment that they have.
@@ -874,6 +909,28 @@ IS_ICE_CALL int32_t is_ice_rejection(
     is_ice_agent *agent, uint8_t protocol, const is_ice_address *source, const is_ice_address *destination,
     const uint8_t *bytes, size_t length);
 
+/* is_ice_unserved - returns why is_ice_handle_packet would accept the datagram, a request, and send no response to it, and
+ * changes nothing: so a program finds out why the other agent's checks fail. Ask before is_ice_handle_packet, with the same
+ * arguments. Does not allocate. is_ice_code_text describes each code.
+ *
+ * IS_ICE_OK: it would send a response, which may be an error response 487. IS_ICE_OK too if it would not accept the datagram,
+ * as is_ice_rejection says, if the datagram is a response, and if is_ice_handle_packet would fail. Else the first of these
+ * that applies:
+ * - IS_ICE_BAD_ADDRESS, IS_ICE_UNPARSED: see is_ice_handle_packet.
+ * - IS_ICE_UNSERVED_EARLY: the other agent's credentials are not set yet. The request waits for them. At 100 such
+ *   requests the oldest one is dropped.
+ * - IS_ICE_UNSERVED_DESTINATION: `destination` is the address of no local candidate. Often the program passed the address
+ *   to which its socket is bound, as 0.0.0.0, in place of that of the candidate.
+ * - IS_ICE_UNSERVED_USE_CANDIDATE: the request has USE-CANDIDATE, and the agent is controlling, after a role conflict was
+ *   resolved.
+ * - IS_ICE_UNSERVED_SENDER: only remote candidates that were invalidated have the address `source`.
+ * - IS_ICE_UNSERVED_LIMIT: no remote candidate has the address `source`, and there is no place for another one: see
+ *   is_ice_set_max_discovered.
+ * - IS_ICE_UNSERVED_LOCAL: the local candidate was invalidated, and has no pair with the sender. */
+IS_ICE_CALL int32_t is_ice_unserved(
+    is_ice_agent *agent, uint8_t protocol, const is_ice_address *source, const is_ice_address *destination,
+    const uint8_t *bytes, size_t length);
+
 /* is_ice_accepts_message - returns whether the message is for this agent, from any source, and changes nothing. Does
  * not allocate.
  *
@@ -883,36 +940,35 @@ IS_ICE_CALL int32_t is_ice_accepts_message(is_ice_agent *agent, const uint8_t *b
 
 /* is_ice_poll_timeout - returns the time at which to call is_ice_handle_timeout next. A later call only adds its delay.
  *
- * Call it before packets are polled. While a packet or an early request is queued, the time is one Ta after the last
- * is_ice_handle_timeout call. At that call the state follows, and without `modern` of is_ice_set_settings a controlled
- * agent selects its pair. With `modern` and renomination so it is, too, while a selected path is still to be nominated, or
- * its pair is gone and another one may be selected. After packets were polled, it is the time of the next check, or of the
- * end of consent, if that is sooner. A request of the other agent moves up only a time that was computed: with `modern`
- * each call computes it, also while a packet is queued. A packet for which the buffer was too short does not count as
- * queued here. Does not allocate.
+ * With `modern` of is_ice_set_settings this is a query: it changes nothing. Ask it as often as you like, at any place. A
+ * call that may make something due moves the time up. is_ice_handle_timeout replaces it by the next time at which a check
+ * is due, consent ends, or silence is to be reported (is_ice_set_silence). It is at least one Ta after that call.
  *
- * IS_ICE_OK: *at is the time. IS_ICE_NOTHING: no is_ice_handle_timeout call has returned IS_ICE_OK yet; without `modern`
- * one that served an early request does not count; *at is unchanged. */
+ * In three cases the time is at most 5 ms after the last is_ice_handle_timeout call. A packet was accepted, and the agent
+ * has no path yet, or is controlling and has not nominated it. A candidate, credentials, another role or a restart came.
+ * An early request was served. So a check that is due at once does not wait for a whole Ta. No checks may be sent more
+ * often (RFC 8445, section 14.2). A call that fails leaves the time as it is, also if it has passed: repeat it later.
+ *
+ * Without `modern` it polls the agent as the original does, and the order counts: call it before packets are polled, and
+ * keep the earliest time since is_ice_handle_timeout. While a packet or an early request is queued, the time is one Ta
+ * after the last is_ice_handle_timeout call, and at that call a controlled agent selects its pair. Afterwards it is the
+ * time of the next check. Does not allocate.
+ *
+ * IS_ICE_OK: *at is the time. IS_ICE_NOTHING: there is none, and *at is unchanged. No is_ice_handle_timeout call has
+ * returned IS_ICE_OK yet; without `modern` one that served an early request does not count. With `modern` there is none
+ * while the other agent's credentials are unknown, since nothing is due then. */
 IS_ICE_CALL int32_t is_ice_poll_timeout(is_ice_agent *agent, uint64_t *at);
-
-/* is_ice_poll_timeout_soon - returns this time for an agent that changed since the last is_ice_handle_timeout call: it
- * took a packet, or the peer's credentials or a candidate came. So a check that is due at once does not wait for the whole
- * Ta. The time is that of is_ice_poll_timeout, or 5 ms after the last call, if that is sooner: no checks may be sent more
- * often (RFC 8445, section 14.2). Call it in place of is_ice_poll_timeout, also after a call that served an early request.
- * Such a call counts as the last one only if none came before. Does not allocate.
- *
- * IS_ICE_OK: *at is the time. IS_ICE_NOTHING: see is_ice_poll_timeout; *at is unchanged. */
-IS_ICE_CALL int32_t is_ice_poll_timeout_soon(is_ice_agent *agent, uint64_t *at);
 
 /* is_ice_poll_transmit - returns the next packet to send and removes it from the agent. Its bytes are at the start of
  * the buffer, whose rest is unchanged; *packet has their length, the addresses and the protocol. Does not allocate.
  *
  * IS_ICE_OK: a packet. IS_ICE_NOTHING: there is none; buffer and *packet are unchanged. IS_ICE_BUFFER_TOO_SHORT: the
- * packet stays the next one, the buffer is unchanged, and packet->length is the required length; is_ice_poll_timeout no
- * longer counts it as queued. No packet is longer than 588 bytes, or 596 with NOMINATION. */
+ * packet stays the next one, the buffer is unchanged, and packet->length is the required length. No packet is longer than
+ * 588 bytes, or 596 with NOMINATION. */
 IS_ICE_CALL int32_t is_ice_poll_transmit(is_ice_agent *agent, uint8_t *buffer, size_t size, is_ice_packet *packet);
 
-/* is_ice_poll_event - returns the next event and removes it from the agent. Does not allocate.
+/* is_ice_poll_event - returns the next event and removes it from the agent. IS_ICE_SILENT and IS_ICE_HEARD come after all
+ * others, as of the last datagram that was accepted or is_ice_handle_timeout. Does not allocate.
  *
  * IS_ICE_OK: an event. IS_ICE_NOTHING: there is none; *event is unchanged. */
 IS_ICE_CALL int32_t is_ice_poll_event(is_ice_agent *agent, is_ice_event *event);
@@ -921,12 +977,23 @@ IS_ICE_CALL int32_t is_ice_poll_event(is_ice_agent *agent, is_ice_event *event);
  *
  * The agent removes the remote credentials, remote candidates, pairs, packets, events and statistics. Local candidates
  * stay if `keep_local_candidates` is true. Set the other agent's new credentials and candidates again when they
- * arrive by signaling. Keep sending media on the old path until the next IS_ICE_NOMINATED_SEND.
+ * arrive by signaling. Media goes on meanwhile: is_ice_path_for_media returns the path. The list of is_ice_send_failed is
+ * emptied.
  *
  * IS_ICE_OK. IS_ICE_NOT_UTF8. IS_ICE_CREDENTIALS_TOO_LONG. IS_ICE_OUT_OF_MEMORY. */
 IS_ICE_CALL int32_t is_ice_restart(
     is_ice_agent *agent, const uint8_t *ufrag, size_t ufrag_length, const uint8_t *pass, size_t pass_length,
     bool keep_local_candidates);
+
+/* is_ice_send_failed - notes that the caller could not send a packet on this path, as with EINVAL or without a route, for
+ * is_ice_failed_send_at. `reason` is the number of the error, as errno or WSAGetLastError returns it. Nothing that the agent
+ * sends depends on it: a path on which no packet is sent has no response, and is removed for that.
+ *
+ * The last 16 are listed; one of the same path and reason counts once more in its place.
+ *
+ * IS_ICE_OK. IS_ICE_BAD_ADDRESS: an unknown family or protocol. IS_ICE_OUT_OF_MEMORY: it is not listed. */
+IS_ICE_CALL int32_t is_ice_send_failed(
+    is_ice_agent *agent, uint8_t protocol, const is_ice_address *source, const is_ice_address *destination, uint32_t reason);
 
 /* is_ice_recreate_pairs - removes all pairs with their pending transactions, and forms pairs of all candidates again.
  *
@@ -956,9 +1023,49 @@ IS_ICE_CALL int32_t is_ice_nominated(is_ice_agent *agent, is_ice_nominated_pair 
  * IS_ICE_OK. IS_ICE_NOTHING: no pair is valid; *path is unchanged. */
 IS_ICE_CALL int32_t is_ice_valid_path(is_ice_agent *agent, is_ice_media_path *path);
 
+/* is_ice_path_for_media - returns the path on which to send media at time `now`. Ask it before each packet of media, or after
+ * each event and datagram; then no path has to be stored.
+ *
+ * - If a path is selected, it is that path: that of the last IS_ICE_NOMINATED_SEND.
+ * - After is_ice_restart it is the path that was selected before, until a new one is selected (RFC 8445, section 12.1), or
+ *   consent to send on the old one ends. It ends the consent timeout of the settings after the last response (RFC 7675,
+ *   section 5.1), or 30 s after it without `modern`. Under lite it ends the lite timeout after the last check of the other
+ *   agent. If nothing arrived since the path was selected, the time counts from then.
+ * - Else it is the path of a valid pair, as is_ice_valid_path returns it.
+ *
+ * IS_ICE_OK. IS_ICE_NOTHING: no media may be sent now; *path is unchanged. */
+IS_ICE_CALL int32_t is_ice_path_for_media(is_ice_agent *agent, uint64_t now, is_ice_media_path *path);
+
+/* is_ice_takes_media_from - returns whether media that arrived at time `now` from this address is the other agent's: so that
+ * a program can drop what anybody sends. It is if the address is the destination of the selected path. It is, too, if it is
+ * that of the path before the last restart, until consent to that ends. Unless the agent is lite, it also is if a pair with
+ * it is valid: a check to it had a response, signed with the other agent's password. An address that only
+ * IS_ICE_DISCOVERED_RECV named is not: anybody on the way may have sent the datagram again. Under lite a pair is valid by a
+ * check of the other agent only, so no more counts.
+ *
+ * Media itself has no sign of ICE: whoever can send from that address can send media. Use SRTP or DTLS.
+ *
+ * IS_ICE_OK: it is. IS_ICE_NOTHING: it is not. IS_ICE_BAD_ADDRESS: an unknown family. */
+IS_ICE_CALL int32_t is_ice_takes_media_from(is_ice_agent *agent, uint64_t now, const is_ice_address *source);
+
+/* is_ice_silent_since - returns when the selected path was last heard: when a response or a check of the other agent arrived
+ * on it, or when it was selected, if that was later.
+ *
+ * IS_ICE_OK: *since is the time. IS_ICE_NOTHING: no path is selected; *since is unchanged. */
+IS_ICE_CALL int32_t is_ice_silent_since(is_ice_agent *agent, uint64_t *since);
+
+/* is_ice_failed_send_count - returns how many failures are listed: see is_ice_send_failed. IS_ICE_OK. */
+IS_ICE_CALL int32_t is_ice_failed_send_count(is_ice_agent *agent, size_t *count);
+
+/* is_ice_failed_send_at - returns packets that could not be sent, by path and reason. The index counts from 0, the one that
+ * was noted first.
+ *
+ * IS_ICE_OK. IS_ICE_NOTHING: the index is past the last one; *failed is unchanged. */
+IS_ICE_CALL int32_t is_ice_failed_send_at(is_ice_agent *agent, size_t index, is_ice_failed_send *failed);
+
 /* is_ice_early_count - returns how many early requests wait, at most 100: checks of the peer that arrived before its
  * credentials were set. Once these are set, each is_ice_handle_timeout call serves one, and sends no check as it does.
- * After a call that lowered the count, ask is_ice_poll_timeout_soon when to call next. IS_ICE_OK. */
+ * With `modern` is_ice_poll_timeout says that the next call is to come at once, until all are served. IS_ICE_OK. */
 IS_ICE_CALL int32_t is_ice_early_count(is_ice_agent *agent, size_t *count);
 
 /* is_ice_pair_count - returns the number of candidate pairs. IS_ICE_OK. */
@@ -978,6 +1085,41 @@ IS_ICE_CALL int32_t is_ice_removed_count(is_ice_agent *agent, size_t *count);
  *
  * IS_ICE_OK. IS_ICE_NOTHING: the index is past the last one; *pair is unchanged. */
 IS_ICE_CALL int32_t is_ice_removed_at(is_ice_agent *agent, size_t index, is_ice_removed_pair *pair);
+
+/* ---- the lines of a log
+ *
+ * Each call writes one line, without an end of line, to the start of the buffer and returns its length in *length: the local
+ * username fragment, a colon, a space, and what happened. What is logged, and where, is the program's choice. The agent is
+ * unchanged. These calls allocate.
+ *
+ * IS_ICE_OK. IS_ICE_BUFFER_TOO_SHORT: *length is the required length. After any other code *length is unchanged.
+ * IS_ICE_OUT_OF_MEMORY. */
+
+/* is_ice_event_line - returns the line of an event, as `evtj: state Connected`, `evtj: selected 10.0.0.1:1000 ->
+ * 10.0.0.2:2000`. IS_ICE_BAD_ADDRESS: no event of an agent has this kind, state or address family. */
+IS_ICE_CALL int32_t is_ice_event_line(
+    is_ice_agent *agent, const is_ice_event *event, uint8_t *buffer, size_t size, size_t *length);
+
+/* is_ice_removed_line - returns the line of the removed pair with this index, as is_ice_removed_at counts them: `evtj: removed
+ * 10.0.0.1:1000 -> 10.0.0.2:2000 in progress, 15 checks sent, 0 answered: no response`. IS_ICE_NOTHING: the index is past the
+ * last one. */
+IS_ICE_CALL int32_t is_ice_removed_line(
+    is_ice_agent *agent, size_t index, uint8_t *buffer, size_t size, size_t *length);
+
+/* is_ice_packet_line - returns the line of a datagram that the agent does not accept, or to which it sends no response. The
+ * line has the kind of message, both addresses, and the reason of is_ice_rejection or is_ice_unserved if there is one. As
+ * `evtj: discarded Binding error response 401 (response to no pending check) from 10.0.0.2:2000 at 10.0.0.1:1000`, or
+ * `evtj: no response to Binding request (request to an address that no local candidate has) from ..`.
+ * IS_ICE_BAD_ADDRESS: see is_ice_handle_packet. */
+IS_ICE_CALL int32_t is_ice_packet_line(
+    is_ice_agent *agent, uint8_t protocol, const is_ice_address *source, const is_ice_address *destination,
+    const uint8_t *bytes, size_t bytes_length, uint8_t *buffer, size_t size, size_t *length);
+
+/* is_ice_packet_kind - returns the kind of message and the reason of that line, as `Binding error response 401 (response to
+ * no pending check)`: under this text a program counts datagrams, and logs the first of each. */
+IS_ICE_CALL int32_t is_ice_packet_kind(
+    is_ice_agent *agent, uint8_t protocol, const is_ice_address *source, const is_ice_address *destination,
+    const uint8_t *bytes, size_t bytes_length, uint8_t *buffer, size_t size, size_t *length);
 
 /* is_ice_find_pair - returns a pair whose remote candidate equals the candidate of this text in address, base, protocol,
  * kind and related address: one of the greatest priority. This query allocates.
@@ -1224,6 +1366,7 @@ IS_ICE_SIZE(is_ice_agent_status, 40);
 IS_ICE_SIZE(is_ice_agent_stats, 40);
 IS_ICE_SIZE(is_ice_nominated_pair, 88);
 IS_ICE_SIZE(is_ice_media_path, 60);
+IS_ICE_SIZE(is_ice_failed_send, 72);
 IS_ICE_SIZE(is_ice_pair, 96);
 IS_ICE_SIZE(is_ice_removed_pair, 104);
 IS_ICE_SIZE(is_ice_kind_preferences, 8);

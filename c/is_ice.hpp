@@ -52,6 +52,7 @@ using status = is_ice_agent_status;
 using counters = is_ice_agent_stats;
 using nominated_pair = is_ice_nominated_pair;
 using media_path = is_ice_media_path;
+using failed_send = is_ice_failed_send;
 using preference_table = is_ice_preference_table;
 using stun_transaction = is_ice_stun_transaction;
 using stun_result = is_ice_stun_result;
@@ -120,7 +121,17 @@ struct nominated_send {
     address source;
     address destination;
 };
-using event = std::variant<restarted, state_changed, discovered_recv, nominated_send>;
+struct silent {
+    uint8_t protocol;
+    address source;
+    address destination;
+};
+struct heard {
+    uint8_t protocol;
+    address source;
+    address destination;
+};
+using event = std::variant<restarted, state_changed, discovered_recv, nominated_send, silent, heard>;
 
 /* Why a pair was removed. */
 enum class removal : int32_t {
@@ -150,6 +161,18 @@ enum class rejection : int32_t {
     remote_password = IS_ICE_REJECTED_REMOTE_PASSWORD
 };
 inline const char *text_of(rejection why) { return is_ice_code_text(static_cast<int32_t>(why)); }
+
+/* Why a request that is accepted gets no response: see is_ice_unserved. */
+enum class unserved : int32_t {
+    unparsed = IS_ICE_UNPARSED,
+    early = IS_ICE_UNSERVED_EARLY,
+    destination = IS_ICE_UNSERVED_DESTINATION,
+    use_candidate = IS_ICE_UNSERVED_USE_CANDIDATE,
+    sender = IS_ICE_UNSERVED_SENDER,
+    limit = IS_ICE_UNSERVED_LIMIT,
+    local = IS_ICE_UNSERVED_LOCAL
+};
+inline const char *text_of(unserved why) { return is_ice_code_text(static_cast<int32_t>(why)); }
 
 /* A packet to send. */
 struct packet {
@@ -192,6 +215,22 @@ inline uint64_t count(nanoseconds time)
 {
     if (time.count() < 0) throw std::invalid_argument("a negative time");
     return static_cast<uint64_t>(time.count());
+}
+
+/* The struct of C with the fields of an event. */
+inline is_ice_event event_of(const event &of)
+{
+    is_ice_event it{};
+    auto path = [&](int32_t kind, const auto &on) {
+        it.kind = kind, it.protocol = on.protocol, it.source = on.source, it.destination = on.destination;
+    };
+    if (std::get_if<restarted>(&of)) it.kind = IS_ICE_RESTARTED;
+    if (auto on = std::get_if<state_changed>(&of)) it.kind = IS_ICE_STATE_CHANGED, it.state = static_cast<int32_t>(on->state);
+    if (auto on = std::get_if<discovered_recv>(&of)) it.kind = IS_ICE_DISCOVERED_RECV, it.protocol = on->protocol, it.source = on->source;
+    if (auto on = std::get_if<nominated_send>(&of)) path(IS_ICE_NOMINATED_SEND, *on);
+    if (auto on = std::get_if<silent>(&of)) path(IS_ICE_SILENT, *on);
+    if (auto on = std::get_if<heard>(&of)) path(IS_ICE_HEARD, *on);
+    return it;
 }
 
 /* What a call writes to a buffer, which grows until it is long enough. */
@@ -470,6 +509,11 @@ public:
     void skip_pair_ids(uint64_t number) { done(is_ice_skip_pair_ids(at(), number)); }
     void set_local_preference(uint16_t preference) { done(is_ice_set_local_preference(at(), preference)); }
     void set_preference_table(const preference_table &table) { done(is_ice_set_preference_table(at(), &table)); }
+    /* nanoseconds::max(): never. */
+    void set_silence(nanoseconds time)
+    {
+        done(is_ice_set_silence(at(), time == nanoseconds::max() ? IS_ICE_NEVER : detail::count(time)));
+    }
     void reset_local_preference() { done(is_ice_reset_local_preference(at())); }
     void set_local_credentials(std::string_view ufrag, std::string_view pass)
     {
@@ -548,6 +592,13 @@ public:
         if (code != IS_ICE_UNPARSED && done(code)) return std::nullopt;
         return static_cast<is_ice::rejection>(code);
     }
+    std::optional<is_ice::unserved> unserved(
+        uint8_t protocol, const address &source, const address &destination, const void *data, size_t length) const
+    {
+        int32_t code = is_ice_unserved(at(), protocol, &source, &destination, detail::at(data), length);
+        if (code != IS_ICE_UNPARSED && done(code)) return std::nullopt;
+        return static_cast<is_ice::unserved>(code);
+    }
     handled accepts_message(const void *data, size_t length) const
     {
         return verdict(is_ice_accepts_message(at(), detail::at(data), length));
@@ -567,18 +618,17 @@ public:
     {
         return rejection(protocol, source, destination, data.data(), data.size());
     }
+    std::optional<is_ice::unserved> unserved(
+        uint8_t protocol, const address &source, const address &destination, bytes data) const
+    {
+        return unserved(protocol, source, destination, data.data(), data.size());
+    }
     handled accepts_message(bytes data) const { return accepts_message(data.data(), data.size()); }
 #endif
     std::optional<nanoseconds> poll_timeout()
     {
         uint64_t time = 0;
         if (!done(is_ice_poll_timeout(at(), &time))) return std::nullopt;
-        return duration(time);
-    }
-    std::optional<nanoseconds> poll_timeout_soon()
-    {
-        uint64_t time = 0;
-        if (!done(is_ice_poll_timeout_soon(at(), &time))) return std::nullopt;
         return duration(time);
     }
     std::optional<packet> poll_transmit()
@@ -601,6 +651,8 @@ public:
         case IS_ICE_STATE_CHANGED: return state_changed{static_cast<connection_state>(it.state)};
         case IS_ICE_DISCOVERED_RECV: return discovered_recv{it.protocol, it.source};
         case IS_ICE_NOMINATED_SEND: return nominated_send{it.protocol, it.source, it.destination};
+        case IS_ICE_SILENT: return silent{it.protocol, it.source, it.destination};
+        case IS_ICE_HEARD: return heard{it.protocol, it.source, it.destination};
         default: throw std::logic_error("an event of an unknown kind");
         }
     }
@@ -610,12 +662,38 @@ public:
             at(), detail::at(ufrag), ufrag.size(), detail::at(pass), pass.size(), keep_local_candidates));
     }
     void recreate_pairs() { done(is_ice_recreate_pairs(at())); }
+    void send_failed(uint8_t protocol, const address &source, const address &destination, uint32_t reason)
+    {
+        done(is_ice_send_failed(at(), protocol, &source, &destination, reason));
+    }
 
     is_ice::status status() const { return *filled<is_ice::status>(is_ice_status); }
     is_ice::settings settings() const { return *filled<is_ice::settings>(is_ice_settings); }
     counters stats() const { return *filled<counters>(is_ice_stats); }
     std::optional<nominated_pair> nominated() const { return filled<nominated_pair>(is_ice_nominated); }
     std::optional<media_path> valid_path() const { return filled<media_path>(is_ice_valid_path); }
+    std::optional<media_path> path_for_media(nanoseconds now) const
+    {
+        return detail::filled<media_path>(
+            [&](media_path *path) { return is_ice_path_for_media(at(), detail::count(now), path); });
+    }
+    bool takes_media_from(nanoseconds now, const address &source) const
+    {
+        return done(is_ice_takes_media_from(at(), detail::count(now), &source));
+    }
+    std::optional<nanoseconds> silent_since() const
+    {
+        auto time = filled<uint64_t>(is_ice_silent_since);
+        if (!time) return std::nullopt;
+        return duration(*time);
+    }
+    /* The one that was noted first before the others. */
+    std::vector<failed_send> failed_sends() const
+    {
+        std::vector<failed_send> all(*filled<size_t>(is_ice_failed_send_count));
+        for (size_t i = 0; i < all.size(); i++) done(is_ice_failed_send_at(at(), i, &all[i]));
+        return all;
+    }
     size_t early_count() const { return *filled<size_t>(is_ice_early_count); }
     size_t pair_count() const { return *filled<size_t>(is_ice_pair_count); }
     std::optional<pair> pair_at(size_t index) const
@@ -641,6 +719,18 @@ public:
         all.reserve(removed_count());
         while (auto next = removed_at(all.size())) all.push_back(*next);
         return all;
+    }
+    /* The lines of a log. No line: the index is past the last removed pair. */
+    std::string event_line(const is_ice_event &it) const { return *text(is_ice_event_line, &it); }
+    std::string event_line(const event &it) const { return event_line(detail::event_of(it)); }
+    std::optional<std::string> removed_line(size_t index) const { return text(is_ice_removed_line, index); }
+    std::string packet_line(uint8_t protocol, const address &source, const address &destination, const void *data, size_t length) const
+    {
+        return *text(is_ice_packet_line, protocol, &source, &destination, detail::at(data), length);
+    }
+    std::string packet_kind(uint8_t protocol, const address &source, const address &destination, const void *data, size_t length) const
+    {
+        return *text(is_ice_packet_kind, protocol, &source, &destination, detail::at(data), length);
     }
     bool has_viable_remote(const address &remote) const { return done(is_ice_has_viable_remote(at(), &remote)); }
     credentials local_credentials() const { return {*text(is_ice_local_ufrag), *text(is_ice_local_pass)}; }

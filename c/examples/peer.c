@@ -37,13 +37,19 @@ struct session {
     const char *message;
     uint64_t end, next_message, timeout, not_before;
     int32_t state;
-    bool has_path, has_heard, is_over, is_late;
-    bool has_changed; /* the agent, since handle_timeout was called: see is_ice_poll_timeout_soon */
-    is_ice_address path_from, path_to;
+    bool has_heard, is_over, is_late;
+    struct is_ice_log log;
+    is_ice_counts counts;
     char input[INPUT];
     size_t input_length;
     bool input_is_over, input_is_too_long;
 };
+
+static void print_line(void *user, const char *line)
+{
+    (void)user;
+    fprintf(stderr, "%s\n", line);
+}
 
 /* Reports an error on standard error. The agent is unchanged, and the program goes on. */
 static int32_t warn(const char *what, int32_t code)
@@ -71,33 +77,23 @@ static uint64_t least(uint64_t a, uint64_t b)
     return a < b ? a : b;
 }
 
-static size_t early_requests(struct session *s)
-{
-    size_t count = 0;
-    warn("early requests", is_ice_early_count(&s->agent, &count));
-    return count;
-}
-
-/* Passes the current time to the agent. If the call fails, it is repeated a little later. */
+/* Passes the current time to the agent, if it is due. If the call fails, it is repeated a little later. */
 static void handle_timeout(struct session *s, uint64_t now)
 {
     uint8_t random[IS_ICE_TIMEOUT_RANDOM];
-    size_t early = early_requests(s);
+    if (now < s->timeout) return;
     if (!net_random(random, sizeof random)) stop("no random bytes", NULL);
-    s->timeout = UINT64_MAX;
-    if (warn("timeout", is_ice_handle_timeout(&s->agent, now, random, sizeof random)) < 0) s->not_before = now + 50 * MILLISECOND;
-    s->has_changed = early_requests(s) < early; /* it served one, and sent no check */
+    int32_t code = warn("timeout", is_ice_handle_timeout(&s->agent, now, random, sizeof random));
+    s->not_before = code < 0 ? now + 50 * MILLISECOND : 0;
+    s->timeout = code < 0 ? s->not_before : UINT64_MAX;
 }
 
-/* When to call handle_timeout next: the earliest time that the agent returned since the last such call. Once packets were polled it
- * returns a later one, as when chat arrives in between. An agent that changed is called soon, since a check may be due at once. */
+/* When to call it next. */
 static uint64_t next_timeout(struct session *s)
 {
     uint64_t at;
-    int32_t code = s->has_changed ? is_ice_poll_timeout_soon(&s->agent, &at) : is_ice_poll_timeout(&s->agent, &at);
-    if (warn("next timeout", code) == IS_ICE_OK) s->timeout = least(s->timeout, at);
-    s->has_changed = false; /* the time is kept */
-    return s->timeout > s->not_before ? s->timeout : s->not_before;
+    if (warn("next timeout", is_ice_poll_timeout(&s->agent, &at)) == IS_ICE_OK) s->timeout = at > s->not_before ? at : s->not_before;
+    return s->timeout;
 }
 
 static void send_all(struct session *s)
@@ -105,57 +101,46 @@ static void send_all(struct session *s)
     uint8_t buffer[1500];
     is_ice_packet packet;
     while (warn("transmit", is_ice_poll_transmit(&s->agent, buffer, sizeof buffer, &packet)) == IS_ICE_OK)
-        net_send(&s->net, &packet.source, &packet.destination, buffer, packet.length);
-}
-
-static void note_path(struct session *s, const is_ice_event *event)
-{
-    char from[NET_TEXT], to[NET_TEXT];
-    s->path_from = event->source;
-    s->path_to = event->destination;
-    s->has_path = true;
-    fprintf(stderr, "path %s %s\n", net_text(&event->source, from), net_text(&event->destination, to));
-}
-
-static void note_state(struct session *s, int32_t state)
-{
-    static const char *const names[] = {"New", "Checking", "Connected", "Completed", "Disconnected"};
-    s->state = state;
-    if (state == IS_ICE_DISCONNECTED) s->has_path = false;
-    fprintf(stderr, "state %s\n", names[state]);
+        if (!net_send(&s->net, &packet.source, &packet.destination, buffer, packet.length)) {
+            uint32_t why = (uint32_t)s->net.lost_why;
+            warn("failed send", is_ice_send_failed(&s->agent, packet.protocol, &packet.source, &packet.destination, why));
+        }
 }
 
 static void note_all(struct session *s)
 {
-    char text[NET_TEXT];
+    static const char *const names[] = {"New", "Checking", "Connected", "Completed", "Disconnected"};
+    char from[IS_ICE_ADDRESS_TEXT], to[IS_ICE_ADDRESS_TEXT];
     is_ice_event event = {0};
     while (warn("event", is_ice_poll_event(&s->agent, &event)) == IS_ICE_OK) {
+        if (event.kind == IS_ICE_STATE_CHANGED) s->state = event.state;
         switch (event.kind) {
         case IS_ICE_RESTARTED: fprintf(stderr, "session begins\n"); break;
-        case IS_ICE_STATE_CHANGED: note_state(s, event.state); break;
-        case IS_ICE_DISCOVERED_RECV:
-            fprintf(stderr, "source %s\n", net_text(&event.source, text));
+        case IS_ICE_STATE_CHANGED: fprintf(stderr, "state %s\n", names[event.state]); break;
+        case IS_ICE_DISCOVERED_RECV: fprintf(stderr, "source %s\n", is_ice_address_text(&event.source, from)); break;
+        case IS_ICE_NOMINATED_SEND:
+            fprintf(stderr, "path %s %s\n", is_ice_address_text(&event.source, from), is_ice_address_text(&event.destination, to));
             break;
-        case IS_ICE_NOMINATED_SEND: note_path(s, &event); break;
+        case IS_ICE_SILENT: fprintf(stderr, "silent for 5 s\n"); break; /* the default of is_ice_set_silence */
+        case IS_ICE_HEARD: fprintf(stderr, "no longer silent\n"); break;
         default: break;
         }
     }
 }
 
-/* ---- datagrams from the sockets */
-
-/* Whether chat is taken from this address: the far end of the path, or the remote candidate of a valid pair. A discovered
- * source is not enough, since anybody can replay a request of the other peer from another address. */
-static bool is_trusted(struct session *s, const is_ice_address *from)
+/* Whether there is a path for chat: also after an ICE restart, until consent to send on the old path ends. */
+static bool has_path(struct session *s)
 {
-    if (s->has_path && net_equal(from, &s->path_to)) return true;
-    return warn("address", is_ice_has_viable_remote(&s->agent, from)) == IS_ICE_OK;
+    is_ice_media_path path;
+    return warn("path", is_ice_path_for_media(&s->agent, net_now(), &path)) == IS_ICE_OK;
 }
+
+/* ---- datagrams from the sockets */
 
 /* Prints what the other peer says. */
 static void hear(struct session *s, const is_ice_address *from, uint8_t *bytes, size_t length)
 {
-    if (!is_trusted(s, from)) return;
+    if (warn("address", is_ice_takes_media_from(&s->agent, net_now(), from)) != IS_ICE_OK) return;
     fprintf(stderr, "heard %.*s\n", (int)length, net_printable(bytes, length));
     s->has_heard = true;
 }
@@ -170,7 +155,6 @@ static void gathered(struct session *s, size_t index, const is_ice_address *mapp
     candidate.address = *mapped;
     candidate.base = s->net.addresses[index];
     if (warn("server-reflexive candidate", is_ice_add_local(&s->agent, &candidate, &added)) != IS_ICE_OK) return;
-    s->has_changed = true;
     warn("candidate", signal_print_candidate(&s->agent, added));
 }
 
@@ -185,8 +169,10 @@ static void receive(struct session *s, size_t index)
             gathered(s, index, &mapped);
             continue;
         }
-        int32_t code = is_ice_handle_packet(&s->agent, net_now(), IS_ICE_UDP, &from, &s->net.addresses[index], bytes, length);
-        if (code == IS_ICE_OK) s->has_changed = true, note_all(s);
+        const is_ice_address *to = &s->net.addresses[index];
+        is_ice_log_packet(&s->log, &s->counts, &s->agent, IS_ICE_UDP, &from, to, bytes, length);
+        int32_t code = is_ice_handle_packet(&s->agent, net_now(), IS_ICE_UDP, &from, to, bytes, length);
+        if (code == IS_ICE_OK) note_all(s);
         else if (code == IS_ICE_UNPARSED) hear(s, &from, bytes, length);
         else warn("packet", code);
     }
@@ -196,7 +182,9 @@ static void receive(struct session *s, size_t index)
 
 static void say(struct session *s, const char *text)
 {
-    if (s->has_path) net_send(&s->net, &s->path_from, &s->path_to, text, strlen(text));
+    is_ice_media_path path;
+    if (warn("path", is_ice_path_for_media(&s->agent, net_now(), &path)) == IS_ICE_OK)
+        net_send(&s->net, &path.source, &path.destination, text, strlen(text));
     else fprintf(stderr, "peer: there is no path yet: not sent\n");
 }
 
@@ -210,22 +198,23 @@ static void print_stats(struct session *s)
     if (is_ice_nominated(&s->agent, &path) == IS_ICE_OK && path.has_rtt)
         fprintf(stderr, " last round trip %llu us", (unsigned long long)(path.rtt / 1000));
     fprintf(stderr, "\n");
+    is_ice_log_counts(&s->log, &s->counts);
+    is_ice_log_failed_sends(&s->log, &s->agent);
 }
 
 /* Prints the transport address of a candidate. A peer may send a text of any length: of one that the buffer is too short for, only the
  * length is known. */
 static void print_address(const char *what, int32_t code, const is_ice_fields *fields, size_t length)
 {
-    char text[NET_TEXT];
+    char text[IS_ICE_ADDRESS_TEXT];
     if (code == IS_ICE_BUFFER_TOO_SHORT) fprintf(stderr, " %s a candidate of %llu bytes", what, (unsigned long long)length);
-    if (code == IS_ICE_OK) fprintf(stderr, " %s %s", what, net_text(&fields->address, text));
+    if (code == IS_ICE_OK) fprintf(stderr, " %s %s", what, is_ice_address_text(&fields->address, text));
 }
-
-static const char *const states[] = {"waiting", "in progress", "succeeded"}; /* of a pair */
 
 /* Prints each pair with its candidates. */
 static void print_pairs(struct session *s)
 {
+    static const char *const states[] = {"waiting", "in progress", "succeeded"};
     is_ice_pair pair;
     for (size_t i = 0; is_ice_pair_at(&s->agent, i, &pair) == IS_ICE_OK; i++) {
         uint8_t line[512];
@@ -243,28 +232,11 @@ static void print_pairs(struct session *s)
     }
 }
 
-/* Prints each pair that was removed, and why. */
-static void print_removed(struct session *s)
-{
-    static const char *const reasons[] = {"", "no response", "consent lost", "peer silent", "evicted", "replaced", "invalidated"};
-    char from[NET_TEXT], to[NET_TEXT];
-    is_ice_removed_pair pair;
-    for (size_t i = 0; is_ice_removed_at(&s->agent, i, &pair) == IS_ICE_OK; i++) {
-        fprintf(stderr, "removed");
-        if (pair.has_path)
-            fprintf(stderr, " from %s to %s", net_text(&pair.path.source, from), net_text(&pair.path.destination, to));
-        fprintf(stderr, " %s sent %llu answered %llu", states[pair.state], (unsigned long long)pair.checks_sent,
-                (unsigned long long)pair.responses);
-        if (pair.error != 0) fprintf(stderr, " error %d", (int)pair.error);
-        fprintf(stderr, ": %s\n", reasons[pair.reason]);
-    }
-}
-
 static void take_command(struct session *s, const char *line)
 {
     if (strcmp(line, "/quit") == 0) s->is_over = true;
     else if (strcmp(line, "/stats") == 0) print_stats(s);
-    else if (strcmp(line, "/pairs") == 0) print_pairs(s), print_removed(s);
+    else if (strcmp(line, "/pairs") == 0) print_pairs(s), is_ice_log_removed(&s->log, &s->agent, 0);
     else if (strcmp(line, "/restart") == 0) warn("restart", signal_restart(&s->agent, NULL));
     else fprintf(stderr, "peer: %s: unknown command; there are /restart, /stats, /pairs and /quit\n", line);
 }
@@ -280,9 +252,9 @@ static bool begins_with_word(const char *line, const char *word)
 static void take_line(struct session *s, char *line)
 {
     line[strcspn(line, "\r")] = '\0';
-    if (begins_with_word(line, "signal")) s->has_changed |= warn("signal", signal_take(&s->agent, line + 6)) == IS_ICE_OK;
+    if (begins_with_word(line, "signal")) warn("signal", signal_take(&s->agent, line + 6));
     else if (strncmp(line, "candidate:", 10) == 0 || begins_with_word(line, "candidate"))
-        s->has_changed |= warn("candidate", signal_take_candidate(&s->agent, line)) == IS_ICE_OK;
+        warn("candidate", signal_take_candidate(&s->agent, line));
     else if (strncmp(line, "a=", 2) == 0) fprintf(stderr, "peer: %s: not sent; candidates begin with candidate:, without a=\n", line);
     else if (*line == '/') take_command(s, line);
     else if (*line) say(s, line);
@@ -325,7 +297,7 @@ static void read_input(struct session *s)
 /* Sends the message until chat was received, and for one more second, so that the other peer receives it too. */
 static void say_message(struct session *s, uint64_t now)
 {
-    if (!s->message || !s->has_path || now < s->next_message) return;
+    if (!s->message || !has_path(s) || now < s->next_message) return;
     say(s, s->message);
     s->next_message = now + SECOND / 5;
     if (s->has_heard && s->state != IS_ICE_CHECKING && s->end > now + SECOND) s->end = now + SECOND;
@@ -343,21 +315,19 @@ static void wait_until(struct session *s, uint64_t until)
 
 static void run(struct session *s)
 {
-    handle_timeout(s, net_now());
     while (!s->is_over) {
-        uint64_t now = net_now(), timeout = next_timeout(s); /* before packets are polled: see is_ice_poll_timeout */
+        uint64_t now = net_now();
+        handle_timeout(s, now);
         unsigned closed = stun_send(&s->stun, &s->net, now);
         if (closed > 0) fprintf(stderr, "peer: the STUN server did not respond to %u socket%s\n", closed, closed == 1 ? "" : "s");
         send_all(s);
         note_all(s);
         say_message(s, now);
-        uint64_t until = least(least(timeout, s->end), stun_due(&s->stun));
-        wait_until(s, s->message && s->has_path ? least(until, s->next_message) : until);
-        now = net_now();
-        if (now >= timeout) handle_timeout(s, now);
-        if (now < s->end) continue;
+        uint64_t until = least(least(next_timeout(s), s->end), stun_due(&s->stun));
+        wait_until(s, s->message && has_path(s) ? least(until, s->next_message) : until);
+        if (net_now() < s->end) continue;
         s->is_over = true;
-        s->is_late = !(s->message && s->has_heard && s->has_path);
+        s->is_late = !(s->message && s->has_heard && has_path(s));
     }
 }
 
@@ -480,6 +450,7 @@ int main(int count, char **words)
     begin_sockets(&session, &options);
     begin_agent(&session, &options);
     session.message = options.message;
+    session.log.line = print_line;
     session.end = options.patience == UINT64_MAX ? UINT64_MAX : net_now() + options.patience;
     run(&session);
     if (session.net.lost > 0)

@@ -2,7 +2,7 @@
 #ifndef PEER_H
 #define PEER_H
 
-#include "is_ice.h"
+#include "is_ice_kit.h"
 #include <stdio.h>
 #include <sys/types.h>
 
@@ -27,7 +27,7 @@ bool pcap_close(struct pcap *pcap);
 
 /* ---- peer_net.c: clock, random bytes, sockets, addresses and standard input of the machine */
 
-enum { NET_SOCKETS = 16, NET_TEXT = 80 };
+enum { NET_SOCKETS = 16 };
 
 /* The sockets, one at each local address. */
 struct net {
@@ -77,19 +77,14 @@ bool net_line(char *line, size_t size);
  * version. Returns their number; if it is 0, *why is a text that says why. */
 size_t net_resolve(const char *server, const char *port, is_ice_address found[2], const char **why);
 
-/* Sends a datagram from the socket at this address. A datagram that cannot be sent counts as lost. */
-void net_send(struct net *net, const is_ice_address *from, const is_ice_address *to, const void *bytes, size_t length);
+/* Sends a datagram from the socket at this address. False: it could not be sent, and counts as lost. */
+bool net_send(struct net *net, const is_ice_address *from, const is_ice_address *to, const void *bytes, size_t length);
 
 /* Reads a datagram from a socket. Returns its length, or -1 if there is none. */
 ssize_t net_receive(struct net *net, size_t index, void *bytes, size_t size, is_ice_address *from);
 
-bool net_equal(const is_ice_address *a, const is_ice_address *b);
-
 /* Replaces control characters, for a terminal, and returns the bytes. */
 const char *net_printable(uint8_t *bytes, size_t length);
-
-/* Writes the address as "192.0.2.1:1000" or "[2001:db8::1]:1000", and returns the text. */
-const char *net_text(const is_ice_address *address, char text[NET_TEXT]);
 
 /* ---- peer_stun.c: a STUN client (RFC 8489) that finds the public addresses of the sockets */
 

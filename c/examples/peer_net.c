@@ -27,65 +27,7 @@ const char *net_error_text(int error)
     return system_error_text(error);
 }
 
-/* ---- conversion of addresses */
-
-static bool address_of(const struct sockaddr *from, is_ice_address *address)
-{
-    memset(address, 0, sizeof *address);
-    if (from->sa_family == AF_INET) {
-        struct sockaddr_in v4;
-        memcpy(&v4, from, sizeof v4);
-        address->family = 4;
-        memcpy(address->bytes, &v4.sin_addr, 4);
-        address->port = ntohs(v4.sin_port);
-        return true;
-    }
-    if (from->sa_family == AF_INET6) {
-        struct sockaddr_in6 v6;
-        memcpy(&v6, from, sizeof v6);
-        address->family = 6;
-        memcpy(address->bytes, &v6.sin6_addr, 16);
-        address->port = ntohs(v6.sin6_port);
-        address->flow = ntohl(v6.sin6_flowinfo);
-        address->scope = v6.sin6_scope_id;
-        return true;
-    }
-    return false;
-}
-
-static socklen_t socket_of(const is_ice_address *address, struct sockaddr_storage *to)
-{
-    memset(to, 0, sizeof *to);
-    if (address->family == 4) {
-        struct sockaddr_in v4 = {0};
-        v4.sin_family = AF_INET;
-        memcpy(&v4.sin_addr, address->bytes, 4);
-        v4.sin_port = htons(address->port);
-        memcpy(to, &v4, sizeof v4);
-        return sizeof v4;
-    }
-    struct sockaddr_in6 v6 = {0};
-    v6.sin6_family = AF_INET6;
-    memcpy(&v6.sin6_addr, address->bytes, 16);
-    v6.sin6_port = htons(address->port);
-    v6.sin6_flowinfo = htonl(address->flow);
-    v6.sin6_scope_id = address->scope;
-    memcpy(to, &v6, sizeof v6);
-    return sizeof v6;
-}
-
-bool net_equal(const is_ice_address *a, const is_ice_address *b)
-{
-    return a->family == b->family && a->port == b->port && memcmp(a->bytes, b->bytes, a->family == 4 ? 4 : 16) == 0;
-}
-
-const char *net_text(const is_ice_address *address, char text[NET_TEXT])
-{
-    char ip[INET6_ADDRSTRLEN] = "?";
-    inet_ntop(address->family == 4 ? AF_INET : AF_INET6, address->bytes, ip, sizeof ip);
-    snprintf(text, NET_TEXT, address->family == 4 ? "%s:%u" : "[%s]:%u", ip, (unsigned)address->port);
-    return text;
-}
+/* ---- texts */
 
 const char *net_printable(uint8_t *bytes, size_t length)
 {
@@ -135,7 +77,7 @@ size_t net_resolve(const char *server, const char *port, is_ice_address found[2]
     if (error != 0) return 0;
     size_t count = 0;
     for (const struct addrinfo *at = list; at && count < 2; at = at->ai_next)
-        if (address_of(at->ai_addr, &found[count]) && (count == 0 || found[0].family != found[1].family)) count++;
+        if (is_ice_from_sockaddr(at->ai_addr, &found[count]) && (count == 0 || found[0].family != found[1].family)) count++;
     freeaddrinfo(list);
     *why = "it has neither an IPv4 nor an IPv6 address";
     return count;
@@ -147,14 +89,14 @@ size_t net_resolve(const char *server, const char *port, is_ice_address found[2]
 static bool bind_at(struct net *net, const is_ice_address *address)
 {
     struct sockaddr_storage own;
-    socklen_t size = socket_of(address, &own);
+    socklen_t size = is_ice_to_sockaddr(address, &own);
     const int on = 1;
     if (net->count == NET_SOCKETS) return false;
     intptr_t s = socket_open(own.ss_family);
     if (s < 0) return false;
     bool ok = own.ss_family != AF_INET6 || setsockopt(s, IPPROTO_IPV6, IPV6_V6ONLY, (const char *)&on, sizeof on) == 0;
     ok = ok && bind(s, (struct sockaddr *)&own, size) == 0 && getsockname(s, (struct sockaddr *)&own, &size) == 0;
-    if (!ok || !address_of((struct sockaddr *)&own, &net->addresses[net->count])) {
+    if (!ok || !is_ice_from_sockaddr((struct sockaddr *)&own, &net->addresses[net->count])) {
         socket_close(s);
         return false;
     }
@@ -179,7 +121,7 @@ bool net_bind(struct net *net, const char *address, const char **why)
     if (!sockets_begin()) return false;
     *why = "not an IP address; names are not resolved";
     if (getaddrinfo(address, "0", &hints, &list) != 0) return false;
-    bool ok = address_of(list->ai_addr, &own);
+    bool ok = is_ice_from_sockaddr(list->ai_addr, &own);
     freeaddrinfo(list);
     if (!ok) return false;
     *why = "the unspecified address cannot be a candidate; without -a each interface's address is used";
@@ -191,12 +133,12 @@ bool net_bind(struct net *net, const char *address, const char **why)
 
 static void bind_loopback_too(struct net *net, const struct sockaddr *address, bool is_loopback)
 {
-    char text[NET_TEXT];
+    char text[IS_ICE_ADDRESS_TEXT];
     is_ice_address own;
-    if (!address_of(address, &own) || (!is_loopback && is_ice_is_host_address(&own) != IS_ICE_OK)) return;
+    if (!is_ice_from_sockaddr(address, &own) || (!is_loopback && is_ice_is_host_address(&own) != IS_ICE_OK)) return;
     if (bind_at(net, &own)) return;
     const char *why = net->count == NET_SOCKETS ? "too many addresses" : net_error_text(net_error());
-    fprintf(stderr, "peer: %s: %s\n", net_text(&own, text), why);
+    fprintf(stderr, "peer: %s: %s\n", is_ice_address_text(&own, text), why);
 }
 
 static void bind_others(struct net *net, const struct sockaddr *address, bool is_loopback)
@@ -256,20 +198,16 @@ bool net_line(char *line, size_t size)
     return got != 0 || length > 0;
 }
 
-void net_send(struct net *net, const is_ice_address *from, const is_ice_address *to, const void *bytes, size_t length)
+bool net_send(struct net *net, const is_ice_address *from, const is_ice_address *to, const void *bytes, size_t length)
 {
     struct sockaddr_storage name;
-    socklen_t size = socket_of(to, &name);
-    for (size_t i = 0; i < net->count; i++) {
-        if (!net_equal(&net->addresses[i], from)) continue;
-        if (sendto(net->sockets[i], (const char *)bytes, length, 0, (struct sockaddr *)&name, size) < 0) {
-            net->lost++;
-            net->lost_why = net_error();
-        } else {
-            pcap_write(&net->pcap, from, to, bytes, length);
-        }
-        return;
-    }
+    socklen_t size = is_ice_to_sockaddr(to, &name);
+    size_t i = 0;
+    while (i < net->count && !is_ice_same_address(&net->addresses[i], from)) i++;
+    bool is_sent = i < net->count && sendto(net->sockets[i], (const char *)bytes, length, 0, (struct sockaddr *)&name, size) >= 0;
+    if (is_sent) pcap_write(&net->pcap, from, to, bytes, length);
+    else net->lost++, net->lost_why = net_error();
+    return is_sent;
 }
 
 ssize_t net_receive(struct net *net, size_t index, void *bytes, size_t size, is_ice_address *from)
@@ -278,7 +216,7 @@ ssize_t net_receive(struct net *net, size_t index, void *bytes, size_t size, is_
     memset(&name, 0, sizeof name);
     socklen_t length = sizeof name;
     ssize_t got = recvfrom(net->sockets[index], (char *)bytes, size, 0, (struct sockaddr *)&name, &length);
-    if (got < 0 || !address_of((struct sockaddr *)&name, from)) return -1;
+    if (got < 0 || !is_ice_from_sockaddr((struct sockaddr *)&name, from)) return -1;
     pcap_write(&net->pcap, from, &net->addresses[index], bytes, (size_t)got);
     return got;
 }

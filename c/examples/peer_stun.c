@@ -58,7 +58,7 @@ bool stun_take(struct stun *stun, size_t index, const is_ice_address *from, cons
 {
     struct stun_transaction *t = &stun->transactions[index];
     is_ice_stun_result result;
-    if (!t->is_open || !net_equal(from, &t->server)) return false;
+    if (!t->is_open || !is_ice_same_address(from, &t->server)) return false;
     if (is_ice_stun_response(&t->id, bytes, length, &result) != IS_ICE_OK || result.error_code != 0) return false;
     *mapped = result.mapped;
     t->is_open = false;

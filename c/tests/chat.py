@@ -70,8 +70,8 @@ def case_loss():
     answered, sent = map(int, re.fullmatch(r": (\d+) of (\d+) checks answered", why).groups())
     if not 0 < answered < sent:
         raise Failed(why)
-    # Another pair may have been replaced before: of a check that came before the signal.
-    while not re.fullmatch(rf"{re.escape(path)}( .*)?: consent lost", a.says("removed ")):
+    # Another pair may have been replaced before: of a check that came before the signal. A line of the library begins with a fragment.
+    while not re.fullmatch(rf"(\S+: )?removed {re.escape(path)}( .*)?: consent lost", a.says("")):
         pass
     c, = chats("-l", roles=("controlled",))
     introduce(a, c)

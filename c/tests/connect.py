@@ -162,13 +162,14 @@ def removed():
     a, b = pair("-a", "127.0.0.1")
     ufrag, password, candidate = b.says("signal ").split(" ", 2)
     a.hears(f"signal {ufrag} {password}")
-    b.hears("signal " + a.says("signal "))
+    ours = a.says("signal ")
+    b.hears("signal " + ours)
     address = a.says("source ")
     a.hears(candidate)
     time.sleep(0.2)  # the pair is replaced when pairs are formed next
     a.hears("/pairs")
-    said = a.says("removed from 127.0.0.1:")
-    if not re.search(rf" to {re.escape(address)} [a-z ]+ sent \d+ answered \d+: replaced$", said):
+    said = a.says(f"{ours.split()[0]}: removed 127.0.0.1:")
+    if not re.search(rf" -> {re.escape(address)} [a-z ]+, \d+ checks sent, \d+ answered: replaced$", said):
         raise Failed(said)
     connected(a, b)
     talk(a, b)

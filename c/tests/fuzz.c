@@ -70,7 +70,7 @@ static void set_bool(void)
 static void set_number(void)
 {
     static int32_t (*const calls[])(is_ice_agent *, uint64_t) = {is_ice_set_lite_timeout, is_ice_set_tie_breaker, is_ice_set_timing_advance,
-        is_ice_set_initial_rto, is_ice_set_max_rto, is_ice_skip_pair_ids};
+        is_ice_set_initial_rto, is_ice_set_max_rto, is_ice_skip_pair_ids, is_ice_set_silence};
     which = below(COUNT(calls));
     uint64_t value = number();
     CALL(OK | QUIET, calls[which](agents[on], value));
@@ -174,6 +174,15 @@ static void add_remote(void)
     size_t *index = argument(sizeof *index);
     int32_t code = CALL(OK | NOTHING | OTHER | TOO_MANY | NOT_UTF8 | BAD_CANDIDATE | NO_IDS | LISTS,
         is_ice_add_remote(agents[on], text.bytes, text.length, index));
+    if (code < 0) filled(code, index, sizeof *index);
+}
+
+static void add_local_line(void)
+{
+    struct bytes text = line();
+    size_t *index = argument(sizeof *index);
+    int32_t code = CALL(OK | NOTHING | TOO_MANY | NOT_UTF8 | BAD_CANDIDATE | PRIORITY | NO_IDS | LISTS,
+        is_ice_add_local_line(agents[on], text.bytes, text.length, index));
     if (code < 0) filled(code, index, sizeof *index);
 }
 
@@ -488,6 +497,10 @@ static void receive(uint8_t protocol, const is_ice_address *source, const is_ice
         is_ice_rejection(agents[on], protocol, source, destination, bytes, length));
     saw(REASONS, (size_t)why);
     if (why != would && (would != IS_ICE_NOTHING || why < IS_ICE_REJECTED_METHOD)) stop("is_ice_rejection and is_ice_accepts_packet differ");
+    int32_t unserved = CALL(OK | UNSERVED | UNPARSED | BAD_ADDRESS | QUIET | QUERY,
+        is_ice_unserved(agents[on], protocol, source, destination, bytes, length));
+    saw(REASONS, (size_t)unserved);
+    if (unserved > 0 && would != IS_ICE_OK) stop("is_ice_unserved says why a datagram that is not accepted gets no response");
     size_t agent = on;
     is_ice_stun_message *read = argument(sizeof *read);
     on = AGENTS;
@@ -502,11 +515,24 @@ static void receive(uint8_t protocol, const is_ice_address *source, const is_ice
     packet_in(code, would);
 }
 
+/* The lines for a datagram. */
+static void packet_lines(
+    uint8_t protocol, const is_ice_address *source, const is_ice_address *destination, const uint8_t *bytes, size_t length)
+{
+    struct out o = out();
+    written(CALL(OK | BAD_ADDRESS | TOO_SHORT | QUERY,
+        is_ice_packet_line(agents[on], protocol, source, destination, bytes, length, o.bytes, o.size, o.length)), o, true);
+    o = out();
+    written(CALL(OK | BAD_ADDRESS | TOO_SHORT | QUERY,
+        is_ice_packet_kind(agents[on], protocol, source, destination, bytes, length, o.bytes, o.size, o.length)), o, true);
+}
+
 static void handle_packet(void)
 {
     struct bytes m = message();
     const is_ice_address *source = address_argument(), *destination = address_argument();
     uint8_t protocol = one_in(16) ? take() : 0;
+    packet_lines(protocol, source, destination, m.bytes, m.length);
     receive(protocol, source, destination, m.bytes, m.length);
 }
 
@@ -538,16 +564,27 @@ static void poll_event(void)
     is_ice_event *event = argument(sizeof *event);
     int32_t code = CALL(OK | NOTHING | QUIET, is_ice_poll_event(agents[on], event));
     if (code != IS_ICE_OK) filled(code, event, sizeof *event);
-    else if (event->kind < IS_ICE_RESTARTED || event->kind > IS_ICE_NOMINATED_SEND) stop("there is no such event");
+    else if (event->kind < IS_ICE_RESTARTED || event->kind > IS_ICE_HEARD) stop("there is no such event");
     else saw(EVENTS, (size_t)event->kind * 8 + (event->kind == IS_ICE_STATE_CHANGED ? (size_t)event->state : 0));
+}
+
+/* The lines of a log: of any event, of a removed pair. */
+static void log_lines(void)
+{
+    is_ice_event *event = argument(sizeof *event);
+    size_t index = one_in(8) ? (size_t)number() : below(8);
+    event->kind = (int32_t)below(8), event->state = (int32_t)below(6);
+    event->source = *address_argument(), event->destination = *address_argument();
+    struct out o = out();
+    written(CALL(OK | BAD_ADDRESS | TOO_SHORT | QUERY, is_ice_event_line(agents[on], event, o.bytes, o.size, o.length)), o, true);
+    o = out();
+    written(CALL(OK | NOTHING | TOO_SHORT | QUERY, is_ice_removed_line(agents[on], index, o.bytes, o.size, o.length)), o, true);
 }
 
 static void poll_timeout(void)
 {
     uint64_t *when = argument(sizeof *when);
     int32_t code = CALL(OK | NOTHING | QUIET | QUERY, is_ice_poll_timeout(agents[on], when));
-    filled(code, when, sizeof *when);
-    code = CALL(OK | NOTHING | QUIET | QUERY, is_ice_poll_timeout_soon(agents[on], when));
     filled(code, when, sizeof *when);
 }
 
@@ -580,7 +617,8 @@ static void queries(void)
     const unsigned quiet = QUIET | QUERY;
     static const size_t sizes[] = {sizeof(is_ice_agent_status), sizeof(is_ice_agent_stats), sizeof(is_ice_nominated_pair), sizeof(size_t),
         sizeof(is_ice_pair), sizeof(size_t), sizeof(is_ice_agent_settings), sizeof(is_ice_media_path), sizeof(size_t),
-        sizeof(is_ice_removed_pair), sizeof(size_t)};
+        sizeof(is_ice_removed_pair), sizeof(size_t), sizeof(is_ice_media_path), sizeof(size_t), sizeof(uint64_t), sizeof(size_t),
+        sizeof(is_ice_failed_send)};
     uint8_t kind = take() % COUNT(sizes);
     void *result = argument(sizes[kind]);
     size_t index = one_in(8) ? (size_t)number() : below(16);
@@ -597,7 +635,19 @@ static void queries(void)
     if (kind == 8) code = CALL(OK | quiet, is_ice_removed_count(agents[on], result));
     if (kind == 9) code = CALL(OK | NOTHING | quiet, is_ice_removed_at(agents[on], index, result));
     if (kind == 10) code = CALL(OK | quiet, is_ice_early_count(agents[on], result));
+    if (kind == 11) code = CALL(OK | NOTHING | quiet, is_ice_path_for_media(agents[on], now, result));
+    if (kind == 12) CALL(OK | NOTHING | BAD_ADDRESS | quiet, is_ice_takes_media_from(agents[on], now, remote));
+    if (kind == 13) code = CALL(OK | NOTHING | quiet, is_ice_silent_since(agents[on], result));
+    if (kind == 14) code = CALL(OK | quiet, is_ice_failed_send_count(agents[on], result));
+    if (kind == 15) code = CALL(OK | NOTHING | quiet, is_ice_failed_send_at(agents[on], index, result));
     filled(code, result, sizes[kind]);
+}
+
+static void send_failed(void)
+{
+    const is_ice_address *source = address_argument(), *destination = address_argument();
+    uint8_t protocol = (uint8_t)below(5);
+    CALL(OK | BAD_ADDRESS, is_ice_send_failed(agents[on], protocol, source, destination, (uint32_t)below(40)));
 }
 
 static void host_address(void)
@@ -787,7 +837,7 @@ static void (*const steps[])(void) = {
     line_fields, candidate_fields, line_parts, json_texts, line_texts, candidate_texts, preferences, find_pair, invalidate, queries,
     credentials, stun_read, stun_write, stun_text, stun_username, stun_response, stun_request, set_bool, set_number, set_limit, set_mtu,
     set_preference, set_settings, set_credentials, restart, recreate, create, destroy, make_credentials, fail_next, version,
-    fields_line, line_with_fields, json_fields, times, grammar, host_address, role, username_parts, hmac, alike};
+    fields_line, line_with_fields, json_fields, times, grammar, host_address, role, username_parts, hmac, alike, send_failed, log_lines, add_local_line};
 
 /* Two agents that know each other's credentials and candidates. */
 static void introduce(void)

@@ -310,7 +310,7 @@ static void removed(void)
     HOLD(is_ice_removed_count(&a, &count) == IS_ICE_NO_AGENT && is_ice_removed_at(&a, 0, &gone) == IS_ICE_NO_AGENT && count == 1);
 }
 
-/* is_ice_early_count and is_ice_poll_timeout_soon: a check arrives before the credentials, and is served after them. */
+/* is_ice_early_count and is_ice_poll_timeout: a check arrives before the credentials, and is served after them. */
 static void early(void)
 {
     const is_ice_address at_a = v6, at_b = seen6;
@@ -318,19 +318,19 @@ static void early(void)
     is_ice_agent a = side("aaaa", "bbbb", true, &at_a, &at_b), b = {false, NULL};
     uint64_t at = 7;
     size_t count = 7, index;
-    HOLD(is_ice_early_count(&b, &count) == IS_ICE_NO_AGENT && is_ice_poll_timeout_soon(&b, &at) == IS_ICE_NO_AGENT && count == 7);
+    HOLD(is_ice_early_count(&b, &count) == IS_ICE_NO_AGENT && is_ice_poll_timeout(&b, &at) == IS_ICE_NO_AGENT && count == 7);
     HOLD(is_ice_agent_new(&b, TEXT("bbbb"), TEXT("bbbb"), 0) == IS_ICE_OK && is_ice_add_local(&b, &host, &index) == IS_ICE_OK);
-    HOLD(is_ice_poll_timeout_soon(&b, &at) == IS_ICE_NOTHING && at == 7);
+    HOLD(is_ice_poll_timeout(&b, &at) == IS_ICE_NOTHING && at == 7);
     HOLD(is_ice_early_count(&b, &count) == IS_ICE_OK && count == 0);
     HOLD(is_ice_handle_timeout(&a, 0, TEXT("twelve bytes")) == IS_ICE_OK);
-    HOLD(is_ice_poll_timeout(&a, &at) == IS_ICE_OK && at == 10000000);
-    HOLD(is_ice_poll_timeout_soon(&a, &at) == IS_ICE_OK && at == 5000000);
+    HOLD(is_ice_poll_timeout(&a, &at) == IS_ICE_OK && at == 100000000);
+    HOLD(is_ice_poll_timeout(&a, &at) == IS_ICE_OK && at == 100000000);
     carry(&a, &b, &at_a, &at_b, 88, 10000000);
     HOLD(is_ice_early_count(&b, &count) == IS_ICE_OK && count == 1);
     HOLD(is_ice_set_remote_credentials(&b, TEXT("aaaa"), TEXT("aaaa")) == IS_ICE_OK);
     HOLD(is_ice_handle_timeout(&b, 20000000, TEXT("twelve bytes")) == IS_ICE_OK);
     HOLD(is_ice_early_count(&b, &count) == IS_ICE_OK && count == 0);
-    HOLD(is_ice_poll_timeout_soon(&b, &at) == IS_ICE_OK && at == 25000000);
+    HOLD(is_ice_poll_timeout(&b, &at) == IS_ICE_OK && at == 25000000);
     carry(&b, &a, &at_b, &at_a, 76, 30000000);
     is_ice_agent_free(&a);
     is_ice_agent_free(&b);

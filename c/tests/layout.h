@@ -72,6 +72,12 @@ static inline const char *other_layout(void)
     if (offsetof(is_ice_media_path, source) != 0) return "is_ice_media_path.source";
     if (offsetof(is_ice_media_path, destination) != 28) return "is_ice_media_path.destination";
     if (offsetof(is_ice_media_path, protocol) != 56) return "is_ice_media_path.protocol";
+    if (sizeof(is_ice_failed_send) != 72) return "is_ice_failed_send";
+    if (offsetof(is_ice_failed_send, source) != 0) return "is_ice_failed_send.source";
+    if (offsetof(is_ice_failed_send, destination) != 28) return "is_ice_failed_send.destination";
+    if (offsetof(is_ice_failed_send, times) != 56) return "is_ice_failed_send.times";
+    if (offsetof(is_ice_failed_send, reason) != 64) return "is_ice_failed_send.reason";
+    if (offsetof(is_ice_failed_send, protocol) != 68) return "is_ice_failed_send.protocol";
     if (sizeof(is_ice_pair) != 96) return "is_ice_pair";
     if (offsetof(is_ice_pair, local) != 0) return "is_ice_pair.local";
     if (offsetof(is_ice_pair, remote) != 8) return "is_ice_pair.remote";
@@ -247,6 +253,15 @@ static inline bool same_media_path(const is_ice_media_path *a, const is_ice_medi
 {
     return same_address(&a->source, &b->source)
         && same_address(&a->destination, &b->destination)
+        && a->protocol == b->protocol;
+}
+
+static inline bool same_failed_send(const is_ice_failed_send *a, const is_ice_failed_send *b)
+{
+    return same_address(&a->source, &b->source)
+        && same_address(&a->destination, &b->destination)
+        && a->times == b->times
+        && a->reason == b->reason
         && a->protocol == b->protocol;
 }
 

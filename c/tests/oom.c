@@ -137,6 +137,7 @@ static void introduce(struct story *s)
     add(s, line, length);
     CALL(s, IS_ICE_OK, is_ice_add_remote(&s->a, line, length, &index));
     CALL(s, IS_ICE_BAD_CANDIDATE, is_ice_add_remote(&s->a, TEXT("candidate:1 1 udp"), &index));
+    CALL(s, IS_ICE_BAD_CANDIDATE, is_ice_add_local_line(&s->a, TEXT("candidate:1 1 udp"), &index));
     CALL(s, IS_ICE_OK, is_ice_line_refusal(TEXT("candidate:1 1 udp"), line, sizeof line, &length));
     add(s, line, length);
     CALL(s, IS_ICE_NOTHING, is_ice_candidate_refusal(&host_a, line, sizeof line, &length));
@@ -305,8 +306,6 @@ static void connect(struct story *s)
         note(s, &s->b);
         QUIET(IS_ICE_OK, is_ice_poll_timeout(&s->a, &at));
         add(s, &at, sizeof at);
-        QUIET(IS_ICE_OK, is_ice_poll_timeout_soon(&s->a, &at));
-        add(s, &at, sizeof at);
     }
 }
 
@@ -327,7 +326,9 @@ static void end(struct story *s)
     is_ice_agent_status status;
     is_ice_agent_settings settings;
     is_ice_pair pair;
+    is_ice_failed_send failed = {0};
     uint8_t text[64];
+    uint64_t since = 0;
     size_t length, count;
     QUIET(IS_ICE_OK, is_ice_status(&s->a, &status));
     QUIET(IS_ICE_OK, is_ice_settings(&s->a, &settings));
@@ -345,6 +346,14 @@ static void end(struct story *s)
     QUIET(IS_ICE_OK, is_ice_nominated(&s->a, &nominated));
     QUIET(IS_ICE_OK, is_ice_valid_path(&s->a, &path));
     QUIET(IS_ICE_OK, is_ice_has_viable_remote(&s->a, &host_b.address));
+    QUIET(IS_ICE_OK, is_ice_set_silence(&s->a, IS_ICE_NEVER));
+    QUIET(IS_ICE_OK, is_ice_silent_since(&s->a, &since));
+    QUIET(IS_ICE_OK, is_ice_path_for_media(&s->a, since, &path));
+    QUIET(IS_ICE_OK, is_ice_takes_media_from(&s->a, since, &host_b.address));
+    CALL(s, IS_ICE_OK, is_ice_send_failed(&s->a, IS_ICE_UDP, &path.source, &path.destination, 1));
+    QUIET(IS_ICE_OK, is_ice_failed_send_count(&s->a, &count));
+    QUIET(IS_ICE_OK, is_ice_failed_send_at(&s->a, 0, &failed));
+    add(s, &failed.times, sizeof failed.times);
     add(s, &stats, sizeof stats);
     add(s, &nominated.responses, sizeof nominated.responses);
     CALL(s, IS_ICE_OK, is_ice_recreate_pairs(&s->a));
@@ -352,6 +361,15 @@ static void end(struct story *s)
     CALL(s, IS_ICE_NOTHING, is_ice_invalidate(&s->b, TEXT("candidate:1 1 udp 7 10.0.0.9 9 typ host")));
     CALL(s, IS_ICE_OK, is_ice_alike_local(&s->b, &host_b, &count));
     add(s, &count, sizeof count);
+    is_ice_event event = {0};
+    event.kind = IS_ICE_STATE_CHANGED;
+    uint8_t line[256];
+    CALL(s, IS_ICE_OK, is_ice_event_line(&s->a, &event, line, sizeof line, &length));
+    const is_ice_address *at = &host_b.address;
+    CALL(s, IS_ICE_OK, is_ice_packet_line(&s->a, IS_ICE_UDP, at, at, TEXT("no message"), line, sizeof line, &length));
+    CALL(s, IS_ICE_OK, is_ice_packet_kind(&s->a, IS_ICE_UDP, at, at, TEXT("no message"), line, sizeof line, &length));
+    QUIET(IS_ICE_UNPARSED, is_ice_unserved(&s->a, IS_ICE_UDP, at, at, TEXT("no message")));
+    if (removed_pairs(&s->b) > 0) CALL(s, IS_ICE_OK, is_ice_removed_line(&s->b, 0, line, sizeof line, &length));
     s->listed = removed_pairs(&s->a) + removed_pairs(&s->b);
     CALL(s, IS_ICE_OK, is_ice_restart(&s->a, TEXT("CCCC"), TEXT("RRRR"), true));
     note(s, &s->a);

@@ -128,6 +128,7 @@ static void introduce(struct story *s)
     size_t length, index;
     memset(line, 'x', sizeof line);
     CALL(IS_ICE_BAD_CANDIDATE, is_ice_add_remote(&s->b, line, sizeof line, &index));
+    CALL(IS_ICE_BAD_CANDIDATE, is_ice_add_local_line(&s->b, line, sizeof line, &index));
     for (uint8_t i = 0; i < 2 * HOSTS; i++) {
         is_ice_candidate of_a = host(1, i, i < HOSTS ? IS_ICE_UDP : IS_ICE_TCP), of_b = host(2, i, IS_ICE_UDP);
         if (i == 1) of_a.kind = IS_ICE_SERVER_REFLEXIVE, of_a.address.bytes[0] = 192;
@@ -150,8 +151,7 @@ static void timeout_at(struct story *s, is_ice_agent *agent)
     memset(random, s->count++, sizeof random);
     memcpy(random, &s->now, sizeof s->now);
     CALL(IS_ICE_OK, is_ice_handle_timeout(agent, s->now, random, sizeof random));
-    CALL(IS_ICE_OK, is_ice_poll_timeout(agent, &at));
-    CALL(IS_ICE_OK, is_ice_poll_timeout_soon(agent, &at));
+    CALL(ANY, is_ice_poll_timeout(agent, &at)); /* nothing is due while it has no remote credentials */
 }
 
 /* What the agent sends arrives, if it may. */
@@ -159,6 +159,8 @@ static void deliver(struct story *s, is_ice_agent *from, is_ice_agent *to, bool 
 {
     is_ice_packet p;
     struct message *m = &s->last;
+    uint8_t line[512];
+    size_t length;
     while (CALL(ANY, is_ice_poll_transmit(from, m->bytes, sizeof m->bytes, &p)) == IS_ICE_OK) {
         m->length = p.length;
         if (is_lost) continue;
@@ -166,6 +168,9 @@ static void deliver(struct story *s, is_ice_agent *from, is_ice_agent *to, bool 
         CALL(ANY, is_ice_accepts_packet(to, p.protocol, &p.source, &p.destination, m->bytes, p.length));
         CALL(ANY, is_ice_accepts_message(to, m->bytes, p.length));
         CALL(ANY, is_ice_rejection(to, p.protocol, &p.source, &p.destination, m->bytes, p.length));
+        CALL(ANY, is_ice_unserved(to, p.protocol, &p.source, &p.destination, m->bytes, p.length));
+        CALL(IS_ICE_OK, is_ice_packet_line(to, p.protocol, &p.source, &p.destination, m->bytes, p.length, line, sizeof line, &length));
+        CALL(IS_ICE_OK, is_ice_packet_kind(to, p.protocol, &p.source, &p.destination, m->bytes, p.length, line, sizeof line, &length));
         CALL(ANY, is_ice_handle_packet(to, s->now, p.protocol, &p.source, &p.destination, m->bytes, p.length));
         p.source.port++; /* the same message from another address, and to one that is not there */
         CALL(ANY, is_ice_handle_packet(to, s->now, p.protocol, &p.source, &p.destination, m->bytes, p.length));
@@ -200,8 +205,10 @@ static void ask(struct story *s)
     is_ice_media_path path;
     is_ice_pair pair;
     is_ice_removed_pair removed;
+    is_ice_failed_send failed;
     is_ice_fields fields;
     is_ice_candidate of_b = host(2, 1, IS_ICE_UDP);
+    uint64_t since = 0;
     uint8_t text[512];
     size_t count, length;
     CALL(IS_ICE_OK, is_ice_status(&s->a, &status));
@@ -209,6 +216,13 @@ static void ask(struct story *s)
     CALL(IS_ICE_OK, is_ice_stats(&s->a, &stats));
     CALL(IS_ICE_OK, is_ice_nominated(&s->a, &selected));
     CALL(IS_ICE_OK, is_ice_valid_path(&s->a, &path));
+    CALL(IS_ICE_OK, is_ice_set_silence(&s->a, SECOND));
+    CALL(IS_ICE_OK, is_ice_silent_since(&s->a, &since));
+    CALL(IS_ICE_OK, is_ice_path_for_media(&s->a, since, &path));
+    CALL(IS_ICE_OK, is_ice_takes_media_from(&s->a, since, &path.destination));
+    CALL(IS_ICE_OK, is_ice_send_failed(&s->a, IS_ICE_UDP, &path.source, &path.destination, 1));
+    CALL(IS_ICE_OK, is_ice_failed_send_count(&s->a, &count));
+    CALL(IS_ICE_OK, is_ice_failed_send_at(&s->a, 0, &failed));
     CALL(IS_ICE_OK, is_ice_early_count(&s->a, &count));
     CALL(IS_ICE_OK, is_ice_pair_count(&s->a, &count));
     for (size_t i = 0; i < count; i++) CALL(IS_ICE_OK, is_ice_pair_at(&s->a, i, &pair));
@@ -231,6 +245,10 @@ static void change(struct story *s)
 {
     is_ice_candidate of_b = host(2, 1, IS_ICE_UDP), of_a = host(1, 1, IS_ICE_UDP);
     is_ice_removed_pair removed;
+    is_ice_event event = {0};
+    uint8_t line[1024];
+    size_t length;
+    event.kind = IS_ICE_STATE_CHANGED;
     CALL(IS_ICE_OK, is_ice_recreate_pairs(&s->a));
     CALL(IS_ICE_OK, is_ice_set_max_pairs(&s->a, HOSTS));
     CALL(IS_ICE_OK, is_ice_recreate_pairs(&s->a));
@@ -241,6 +259,8 @@ static void change(struct story *s)
     CALL(ANY, is_ice_invalidate_local(&s->b, &of_a));
     CALL(ANY, is_ice_invalidate(&s->b, TEXT("candidate:1 1 udp 7 10.0.1.5 5000 typ host")));
     CALL(IS_ICE_OK, is_ice_removed_at(&s->a, 0, &removed));
+    CALL(IS_ICE_OK, is_ice_removed_line(&s->a, 0, line, sizeof line, &length));
+    CALL(IS_ICE_OK, is_ice_event_line(&s->a, &event, line, sizeof line, &length));
     CALL(IS_ICE_OK, is_ice_restart(&s->a, TEXT("CCCC"), TEXT("password"), true));
     CALL(IS_ICE_OK, is_ice_restart(&s->b, TEXT("DDDD"), TEXT("password"), false));
     paint();

@@ -127,7 +127,7 @@ static void settings_are_kept()
 static void has_a_session()
 {
     is_ice::agent agent("ufrag", "pass", 1);
-    HOLD(!agent.poll_timeout() && !agent.poll_timeout_soon() && !agent.poll_transmit() && !agent.poll_event());
+    HOLD(!agent.poll_timeout() && !agent.poll_transmit() && !agent.poll_event());
     agent.set_remote_credentials("peer", "password");
     HOLD(agent.remote_credentials()->ufrag == "peer");
     auto line = agent.add_local(host(1));
@@ -137,7 +137,7 @@ static void has_a_session()
     HOLD(agent.add_remote(remote) == is_ice::added::yes && agent.add_remote(remote) == is_ice::added::known);
     HOLD(agent.add_remote("candidate:1 2 udp 1 10.0.0.3 1 typ host") == is_ice::added::other_component);
     agent.handle_timeout(60s, NONE);
-    HOLD(agent.poll_timeout() == 60010ms && agent.poll_timeout_soon() == 60005ms && agent.early_count() == 0);
+    HOLD(agent.poll_timeout() == 60100ms && agent.poll_timeout() == 60100ms && agent.early_count() == 0);
     HOLD(std::holds_alternative<is_ice::restarted>(*agent.poll_event()));
     auto changed = agent.poll_event();
     HOLD(std::get<is_ice::state_changed>(*changed).state == is_ice::connection_state::checking);
@@ -152,6 +152,15 @@ static void has_a_session()
     HOLD(agent.accepts_packet(IS_ICE_UDP, host(2).address, host(1).address, nullptr, 0) == is_ice::handled::unparsed);
     HOLD(agent.pair_count() == 1 && agent.pair_at(0)->checks_sent == 1 && !agent.pair_at(1) && agent.find_pair(remote));
     HOLD(!agent.nominated() && !agent.valid_path() && !agent.has_viable_remote(host(2).address) && agent.stats().bind_request_sent == 1);
+    HOLD(!agent.path_for_media(60s) && !agent.takes_media_from(60s, host(2).address) && !agent.silent_since());
+    agent.set_silence(3s);
+    agent.set_silence(is_ice::nanoseconds::max());
+    HOLD(thrown([&] { agent.send_failed(9, host(1).address, host(2).address, 1); }).code() == IS_ICE_BAD_ADDRESS);
+    HOLD(agent.failed_sends().empty());
+    agent.send_failed(IS_ICE_UDP, host(1).address, host(2).address, 101);
+    agent.send_failed(IS_ICE_UDP, host(1).address, host(2).address, 101);
+    auto failed = agent.failed_sends();
+    HOLD(failed.size() == 1 && failed[0].times == 2 && failed[0].reason == 101 && failed[0].destination.bytes[3] == 2);
     agent.recreate_pairs();
     HOLD(agent.invalidate(host(1)) && agent.invalidate(remote) && !agent.invalidate(remote));
     HOLD(agent.removed_count() == 1 && agent.alike_local(host(3)) == 1);
@@ -173,8 +182,19 @@ static void says_why_a_datagram_is_rejected()
     HOLD(why(other, check.contents.size()) == is_ice::rejection::local_ufrag);
     HOLD(why(responds, 3) == is_ice::rejection::unparsed);
     HOLD(std::string(is_ice::text_of(is_ice::rejection::local_password)) == is_ice_code_text(IS_ICE_REJECTED_LOCAL_PASSWORD));
+    auto line = responds.packet_line(IS_ICE_UDP, check.source, check.destination, check.contents.data(), check.contents.size());
+    HOLD(line == "peer: discarded Binding request (request signed with another password than the agent's)"
+                 " from 10.0.0.1:5000 at 10.0.0.2:5000");
     responds.set_local_credentials("peer", "a wrong password");
     HOLD(!why(responds, check.contents.size()));
+    auto unserved = responds.unserved(IS_ICE_UDP, check.source, check.destination, check.contents.data(), check.contents.size());
+    HOLD(unserved == is_ice::unserved::early && is_ice::text_of(*unserved) == std::string(is_ice_code_text(IS_ICE_UNSERVED_EARLY)));
+    auto kind = responds.packet_kind(IS_ICE_UDP, check.source, check.destination, check.contents.data(), check.contents.size());
+    HOLD(kind == "Binding request (request before the peer's credentials are set)");
+    responds.set_remote_credentials("ufrag", "password of one");
+    unserved = responds.unserved(IS_ICE_UDP, check.source, check.destination, check.contents.data(), check.contents.size());
+    HOLD(unserved == is_ice::unserved::destination && responds.add_local(host(2)));
+    HOLD(!responds.unserved(IS_ICE_UDP, check.source, check.destination, check.contents.data(), check.contents.size()));
     HOLD(thrown([&] { responds.rejection(9, check.source, check.destination, "", 0); }).code() == IS_ICE_BAD_ADDRESS);
 }
 
@@ -192,6 +212,10 @@ static void says_why_a_pair_was_removed()
     HOLD(removed[0].state == IS_ICE_PAIR_WAITING && removed[0].checks_sent == 0 && removed[0].error == 0);
     HOLD(removed[0].has_path && removed[0].path.source.bytes[3] == 1 && removed[0].path.destination.bytes[3] == 2);
     HOLD(removed[1].path.destination.bytes[3] == 3);
+    HOLD(agent.removed_line(0) == "ufrag: removed 10.0.0.1:5000 -> 10.0.0.2:5000 waiting, 0 checks sent, 0 answered: evicted");
+    HOLD(!agent.removed_line(2) && agent.event_line(is_ice::state_changed{is_ice::connection_state::checking}) == "ufrag: state Checking");
+    auto line = agent.event_line(is_ice::heard{IS_ICE_UDP, host(1).address, host(2).address});
+    HOLD(line == "ufrag: heard again 10.0.0.1:5000 -> 10.0.0.2:5000");
 }
 
 static void has_stun_messages()

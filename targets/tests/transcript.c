@@ -100,6 +100,8 @@ static void print_event(is_ice_agent *agent, int i, const is_ice_event *event)
     case IS_ICE_STATE_CHANGED: printf("%d", (int)event->state); break;
     case IS_ICE_DISCOVERED_RECV: printf("%d %s", event->protocol, text_of(&event->source, source)); break;
     case IS_ICE_NOMINATED_SEND:
+    case IS_ICE_SILENT:
+    case IS_ICE_HEARD:
         printf("%d ", event->protocol);
         print_path(&event->source, &event->destination);
         break;
@@ -117,10 +119,10 @@ static void print_number(bool is_there, uint64_t number)
         printf(" none");
 }
 
-static void print_timeout(is_ice_agent *agent, bool soon)
+static void print_timeout(is_ice_agent *agent)
 {
     uint64_t at = 0;
-    int32_t code = soon ? is_ice_poll_timeout_soon(agent, &at) : is_ice_poll_timeout(agent, &at);
+    int32_t code = is_ice_poll_timeout(agent, &at);
     print_number(code == IS_ICE_OK, at);
     putchar('\n');
 }
@@ -236,7 +238,7 @@ static void time_passes(is_ice_agent *agent, int i, uint64_t now, uint32_t loss)
     is_ice_event event;
     for (size_t n = 0; n < sizeof random; n++) random[n] = (uint8_t)draw(256);
     must("handle_timeout", is_ice_handle_timeout(agent, now, random, sizeof random));
-    print_timeout(agent, false);
+    print_timeout(agent);
     while (is_ice_poll_transmit(agent, bytes, sizeof bytes, &head) == IS_ICE_OK) {
         print_packet(i, &head, bytes);
         send_packet(i, now, loss, &head, bytes);
@@ -310,7 +312,7 @@ static void play(void)
         if (!draw(40)) now += 3000 * MS; /* longer than a pair that works waits for its next check */
         for (int i = 0; i < 2; i++) time_passes(&agents[i], i, now, loss);
         arrive(agents, now);
-        for (int i = 0; i < 2; i++) print_timeout(&agents[i], draw(2));
+        for (int i = 0; i < 2; i++) print_timeout(&agents[i]);
     }
     for (int i = 0; i < 2; i++) end(&agents[i]);
 }
