@@ -22,12 +22,14 @@ import sys
 
 from is_ice import (
     DiscoveredRecv,
+    Heard,
     IceAgent,
     IceAgentEvent,
     IceConnectionStateChange,
     IceCreds,
     IceError,
     NominatedSend,
+    Silent,
     SocketAddress,
     has_mdns_name,
     new_creds,
@@ -53,7 +55,7 @@ class Peer:
         return f"signal {creds.ufrag} {creds.pass_} {','.join(self.agent.local_candidates())}"
 
     def note(self, event: IceAgentEvent) -> None:
-        """Prints an event, and stores the path."""
+        """Prints an event, and stores the selected path."""
         if isinstance(event, IceConnectionStateChange):
             tell(f"state {event.state.name.capitalize()}")
         elif isinstance(event, DiscoveredRecv):
@@ -61,10 +63,12 @@ class Peer:
         elif isinstance(event, NominatedSend):
             self.path = event
             tell(f"nominated {event.source} {event.destination}")
+        elif isinstance(event, (Silent, Heard)):
+            tell(f"{'silent' if isinstance(event, Silent) else 'again'} {event.source} {event.destination}")
 
     def hear(self, source: SocketAddress, local: SocketAddress, data: bytes) -> None:
-        """Prints chat from the far end of the path, or from the remote candidate of a valid pair."""
-        if not (self.path and source == self.path.destination) and not self.agent.has_viable_remote_candidate(source):
+        """Prints chat from the far end of a path."""
+        if not self.agent.takes_media_from(self.loop.now(), source):
             return  # a discovered source is not enough: anybody can replay a request from another address
         tell("heard " + data.decode(errors="replace"))
         self.heard.set()
@@ -92,8 +96,8 @@ class Peer:
             self.ended.set()
         elif word.startswith("/"):
             tell(f"peer: {word}: unknown command; there are /restart, /stats, /pairs and /quit")
-        elif self.path:
-            self.loop.send(self.path.source, self.path.destination, line.encode())
+        elif path := self.agent.media_path(self.loop.now()):
+            self.loop.send(path.source, path.destination, line.encode())
         elif line:
             tell("peer: there is no path yet: not sent")
         self.loop.wake()

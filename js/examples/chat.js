@@ -8,6 +8,7 @@ import readline from "node:readline";
 import { addressText, Candidate, IceAgent, init, newCreds } from "is-ice";
 import { hostAddresses, IceLoop } from "is-ice/node";
 
+const SILENCE = 2; // seconds without a packet of the peer after which it says so
 const [role, option] = process.argv.slice(2);
 if (!["controlling", "controlled"].includes(role)) {
   console.error("usage: node chat.js controlling|controlled [-l]");
@@ -18,6 +19,7 @@ const agent = new IceAgent(), loop = new IceLoop(agent);
 agent.setControlling(role === "controlling");
 agent.setSettings({ consentTimeout: 5000, strictConsent: true }); // notice a loss after 5 s, not 30:
 agent.setMaxStunRto(1000); // the path is checked each second
+agent.setSilence(SILENCE * 1000);
 let hosts = []; // the sockets' addresses
 
 /** Begins a session: prints new credentials and the candidates, for the peer. */
@@ -39,16 +41,22 @@ function take(line) {
     for (const candidate of lines.split(",")) agent.addRemoteCandidate(candidate);
   } else if (line === "/restart") {
     restart();
-  } else {
-    loop.send(line);
+  } else if (!loop.send(line)) {
+    throw new Error("there is no path");
   }
   loop.wake();
 }
 
 loop.on("media", (data, source) => {
-  if (agent.hasViableRemoteCandidate(source)) console.log("heard", String(data).replace(/[\0-\x1f]/g, "?"));
+  if (agent.takesMediaFrom(loop.now(), source)) console.log("heard", String(data).replace(/[\0-\x1f]/g, "?"));
 });
 loop.on("nominatedSend", ({ source, destination }) => console.log("path", addressText(source), "->", addressText(destination)));
+loop.on("silent", () => console.log(`silent no packet for ${SILENCE} s`));
+loop.on("heard", () => console.log("again a packet came"));
+loop.on("sendFailed", (error, source, destination) => {
+  const failed = agent.failedSends.find(({ path }) => addressText(path.destination) === addressText(destination));
+  if (failed?.times === 1) console.log(`error not sent to ${addressText(destination)}: ${error.message}`);
+});
 loop.on("iceConnectionStateChange", ({ state }) => {
   const { bindSuccessRecv, bindRequestSent, nominationSendCount } = agent.stats;
   console.log(`state ${state[0].toUpperCase()}${state.slice(1)}: ${bindSuccessRecv} of ${bindRequestSent} checks answered`);

@@ -2,8 +2,8 @@ import type { Bytes, Protocol, SocketAddress } from "./address.js";
 import type { Candidate, CandidateFields } from "./candidate.js";
 import type { IceCreds } from "./credentials.js";
 import type {
-  AddResult, CandidatePair, IceAgentEvent, IceAgentStats, IceConnectionState, MediaPath, NominatedPair, Rejection, RemovedPair,
-  Transmit,
+  AddResult, CandidatePair, FailedSend, IceAgentEvent, IceAgentStats, IceConnectionState, MediaPath, NominatedPair, Rejection,
+  RemovedPair, Transmit, Unserved,
 } from "./events.js";
 import { Settings } from "./settings.js";
 
@@ -62,6 +62,11 @@ export class IceAgent extends Settings {
    * that the peer has a wrong password. Anybody can send a datagram that is rejected: show the reason, and end no session for it.
    */
   rejection(source: SocketAddress, destination: SocketAddress, contents: Bytes, protocol?: Protocol): Rejection | null;
+  /**
+   * Returns why `handlePacket` would accept it, a request, and send no response to it, and changes nothing. null if it would send one, and
+   * for a response or a datagram that it would not accept: see `rejection`. Ask before `handlePacket`.
+   */
+  unserved(source: SocketAddress, destination: SocketAddress, contents: Bytes, protocol?: Protocol): Unserved | null;
   /** Returns whether it is a message for this agent, from any source, and changes nothing. */
   acceptsMessage(contents: Bytes): boolean;
   /**
@@ -69,13 +74,11 @@ export class IceAgent extends Settings {
    * source.
    */
   handleTimeout(now: number, seed?: Bytes): void;
-  /** Returns the time at which to call `handleTimeout` next, or null before the session. Call it before packets are polled. */
-  pollTimeout(): number | null;
   /**
-   * Returns that time for an agent that changed since the last `handleTimeout`: it took a packet, or the peer's credentials or a
-   * candidate came. Do not call it after `handleTimeout`, except after one that served an early request.
+   * Returns the time at which to call `handleTimeout` next: null before the session, and until the peer's credentials are set. Ask it at
+   * any place, as often as you like: it changes nothing. (With the profile `original` call it before packets are polled.)
    */
-  pollTimeoutSoon(): number | null;
+  pollTimeout(): number | null;
   /** Returns the next packet to send and removes it from the agent, or null if there is none. */
   pollTransmit(): Transmit | null;
   /** Returns the next event and removes it from the agent, or null if there is none. */
@@ -93,12 +96,34 @@ export class IceAgent extends Settings {
   readonly nominatedPair: NominatedPair | null;
   /** The path of a valid pair, one of the greatest priority. Media may go there before a path is selected (RFC 8445, section 12.1). */
   readonly validPath: MediaPath | null;
-  /** The path for media: that of `nominatedPair`, else of `validPath`. */
-  readonly mediaPath: MediaPath | null;
+  /**
+   * Returns the path for media now: the selected one; after an ICE restart the one before, until the new session has selected one, or
+   * consent for it ends (RFC 8445, section 9); else that of a valid pair (section 12.1).
+   */
+  mediaPath(now: number): MediaPath | null;
+  /** Returns whether media may come from this address now: there is a valid pair to it, or media went there before an ICE restart. */
+  takesMediaFrom(now: number, source: SocketAddress): boolean;
+  /** When the last authentic packet came on the selected path, or when it was selected, if none came since. null: none is selected. */
+  readonly silentSince: number | null;
+  /** Reports that the system did not send a datagram on this path, with the system's number of the error. */
+  sendFailed(source: SocketAddress, destination: SocketAddress, reason: number, protocol?: Protocol): void;
+  /** The last sends that failed since the last restart, each path and reason once, the oldest first: 16 at most. */
+  readonly failedSends: FailedSend[];
   /** The candidate pairs, in the order in which they were formed. */
   readonly pairs: CandidatePair[];
   /** Returns the pairs that were removed since the last restart, the oldest first: the last 32, from the index `first` on. */
   removedPairs(first?: number): RemovedPair[];
+  /** Returns the line of a log for an event: the local username fragment, a colon and what happened, as `evtj: state Connected`. */
+  eventLine(event: IceAgentEvent): string;
+  /** Returns the line for a pair of `removedPairs`, or null if there are not so many. */
+  removedLine(index: number): string | null;
+  /**
+   * Returns the line for a datagram that the agent does not accept, or to which it sends no response: the kind of message, the reason of
+   * `rejection` or `unserved` if there is one, and both addresses.
+   */
+  packetLine(source: SocketAddress, destination: SocketAddress, contents: Bytes, protocol?: Protocol): string;
+  /** Returns the kind of message and the reason of that line: under this text a program counts datagrams. */
+  packetKind(source: SocketAddress, destination: SocketAddress, contents: Bytes, protocol?: Protocol): string;
   /** Returns a pair whose remote candidate equals this one in address, base, protocol, kind and related address. */
   findPairForEquivalentRemoteCandidate(line: string): CandidatePair | null;
   /** Returns whether there is a valid pair whose remote candidate has this address. */

@@ -3,12 +3,12 @@ import { NUMBERS } from "./abi.js";
 import { putAddress } from "./address.js";
 import { fieldsFrom, protocolNumber, putCandidate } from "./candidate.js";
 import { checkedCreds, newCreds, random } from "./credentials.js";
-import { done, explained, isRejected, rejectionOf } from "./errors.js";
-import { eventFrom, nominatedFrom, packetFrom, pairFrom, pathOf, removedFrom } from "./events.js";
+import { done, explained, isRejected, reasonOf } from "./errors.js";
+import { eventFrom, failedFrom, nominatedFrom, packetFrom, pairFrom, pathOf, putEvent, removedFrom } from "./events.js";
 import { CALL, MEMORY, SLOT, WITH_CREDS } from "./handle.js";
 import { candidateRefusal, lineRefusal } from "./lines.js";
 import { bytesOf } from "./memory.js";
-import { timeToMs, toNs, whole } from "./numbers.js";
+import { small, timeToMs, toNs, whole } from "./numbers.js";
 import { Settings, STATUS } from "./settings.js";
 import { readStruct } from "./structs.js";
 import { ADDED, STATES } from "./words.js";
@@ -90,7 +90,13 @@ export class IceAgent extends Settings {
   /** Why handlePacket would not accept it, or null if it would. */
   rejection(source, destination, contents, protocol = "udp") {
     const code = this[MEMORY].call("is_ice_rejection", this[SLOT], ...this.#packet(source, destination, contents, protocol));
-    return isRejected(code) ? rejectionOf(code) : (done(code), null);
+    return isRejected(code) ? reasonOf(code) : (done(code), null);
+  }
+
+  /** Why handlePacket would accept it, a request, and send no response, or null. */
+  unserved(source, destination, contents, protocol = "udp") {
+    const code = this[MEMORY].call("is_ice_unserved", this[SLOT], ...this.#packet(source, destination, contents, protocol));
+    return done(code) ? null : reasonOf(code);
   }
 
   #packet(source, destination, contents, protocol) {
@@ -109,14 +115,9 @@ export class IceAgent extends Settings {
     this[CALL]("is_ice_handle_timeout", toNs(now), ...this[MEMORY].put(bytesOf(seed)));
   }
 
-  /** Returns when to call handleTimeout next, or null before the session. */
+  /** Returns when to call handleTimeout next: null before the session, and until the peer's credentials are set. It changes nothing. */
   pollTimeout() {
     return this.#time("is_ice_poll_timeout");
-  }
-
-  /** Returns that time for an agent that changed since the last handleTimeout. */
-  pollTimeoutSoon() {
-    return this.#time("is_ice_poll_timeout_soon");
   }
 
   #time(name) {
@@ -167,10 +168,37 @@ export class IceAgent extends Settings {
     return this.#read("is_ice_valid_path", (memory) => pathOf(readStruct(memory, "MediaPath")));
   }
 
-  /** The path for media: that of the selected pair, else of a valid one, or null. */
-  get mediaPath() {
-    const { protocol, source, destination } = this.nominatedPair ?? this.validPath ?? {};
-    return source ? { protocol, source, destination } : null;
+  /** The path for media now, also during an ICE restart, or null. */
+  mediaPath(now) {
+    return this.#read("is_ice_path_for_media", (memory) => pathOf(readStruct(memory, "MediaPath")), toNs(now));
+  }
+
+  /** Whether media may come from this address now. */
+  takesMediaFrom(now, source) {
+    const memory = this[MEMORY], { first } = memory;
+    putAddress(memory, first.at, source);
+    return this[CALL]("is_ice_takes_media_from", toNs(now), first.arg);
+  }
+
+  /** When the last authentic packet came on the selected path, or null if none is selected. */
+  get silentSince() {
+    return this.#time("is_ice_silent_since");
+  }
+
+  // ---- datagrams that the system did not send
+
+  /** Reports one, with the system's number of the error. */
+  sendFailed(source, destination, reason, protocol = "udp") {
+    const memory = this[MEMORY], { first, second } = memory;
+    putAddress(memory, first.at, source);
+    putAddress(memory, second.at, destination);
+    this[CALL]("is_ice_send_failed", protocolNumber(protocol), first.arg, second.arg, small(reason, "the number of an error", 32));
+  }
+
+  /** The last sends that failed since the last restart, each path and reason once, the oldest first: 16 at most. */
+  get failedSends() {
+    const length = this.#count("is_ice_failed_send_count");
+    return Array.from({ length }, (_, i) => this.#read("is_ice_failed_send_at", failedFrom, BigInt(i)));
   }
 
   get pairs() {
@@ -181,6 +209,27 @@ export class IceAgent extends Settings {
   removedPairs(first = 0) {
     const length = Math.max(0, this.#count("is_ice_removed_count") - Number(whole(first, "an index")));
     return Array.from({ length }, (_, i) => this.#read("is_ice_removed_at", removedFrom, BigInt(first + i)));
+  }
+
+  /** The line of an event: the local username fragment, a colon and what happened. */
+  eventLine(event) {
+    const memory = this[MEMORY];
+    return memory.textFrom("is_ice_event_line", [this[SLOT], putEvent(memory, event)]);
+  }
+
+  /** The line of a pair of removedPairs, or null. */
+  removedLine(index) {
+    return this[MEMORY].textFrom("is_ice_removed_line", [this[SLOT], whole(index, "an index")]);
+  }
+
+  /** The line of a datagram that the agent does not accept, or to which it sends no response. */
+  packetLine(source, destination, contents, protocol = "udp") {
+    return this[MEMORY].textFrom("is_ice_packet_line", [this[SLOT], ...this.#packet(source, destination, contents, protocol)]);
+  }
+
+  /** The kind of message and the reason of that line: under this text a program counts datagrams. */
+  packetKind(source, destination, contents, protocol = "udp") {
+    return this[MEMORY].textFrom("is_ice_packet_kind", [this[SLOT], ...this.#packet(source, destination, contents, protocol)]);
   }
 
   /** Returns a pair whose remote candidate equals that of this text, or null. */

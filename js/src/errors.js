@@ -25,13 +25,13 @@ export function done(code) {
 /** Whether a datagram is rejected for a reason: so says a code of is_ice_rejection that is neither OK nor an error of the call. */
 export const isRejected = (code) => code > 0 || code === CODE.Unparsed;
 
-const PREFIX = "rejected-";
+const PREFIX = /^(rejected|unserved)-/;
 
-/** The reason with its text: its word is the name of the code, as "local-password". */
-export function rejectionOf(code) {
+/** The reason of a code with its text: its word is the name of the code, as "local-password". */
+export function reasonOf(code) {
   const [name, text] = CODES[code];
   const word = [...name].map((letter) => (letter < "a" ? `-${letter.toLowerCase()}` : letter)).join("").slice(1);
-  return { reason: word.startsWith(PREFIX) ? word.slice(PREFIX.length) : word, text };
+  return { reason: word.replace(PREFIX, ""), text };
 }
 
 /** Returns what `make` returns. If it throws "BadCandidate", the exception has the explanation that `detail` returns. */

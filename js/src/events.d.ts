@@ -26,6 +26,18 @@ export interface Rejection {
   text: string;
 }
 
+/**
+ * Why an accepted request gets no response: the first reason that applies, and a text for people. `early`: the peer's credentials are not
+ * set yet, and the request waits for them. `destination`: the address at which it arrived is that of no local candidate. `use-candidate`:
+ * it has USE-CANDIDATE, and the agent is controlling. `sender`: only remote candidates that were invalidated have its source. `limit`: no
+ * remote candidate has its source, and there is no place for another one: see `setMaxDiscovered`. `local`: the local candidate was
+ * invalidated, and has no pair with the sender.
+ */
+export interface Unserved {
+  reason: "early" | "destination" | "use-candidate" | "sender" | "limit" | "local";
+  text: string;
+}
+
 /** A path for media, from `source`, a local address, to `destination`. */
 export interface MediaPath {
   protocol: Protocol;
@@ -43,7 +55,11 @@ export type IceAgentEvent =
   /** The first authentic packet from `source` over `protocol` since the last restart. */
   | { type: "discoveredRecv"; protocol: Protocol; source: SocketAddress }
   /** Send media on this path, until the next such event. */
-  | ({ type: "nominatedSend" } & MediaPath);
+  | ({ type: "nominatedSend" } & MediaPath)
+  /** No authentic packet came on the selected path for as long as `setSilence` says. */
+  | ({ type: "silent" } & MediaPath)
+  /** One came again. */
+  | ({ type: "heard" } & MediaPath);
 
 /** A candidate pair. `rtt`, `lastRequest` and `due` are null if there is none. */
 export interface CandidatePair {
@@ -84,6 +100,12 @@ export interface RemovedPair {
   error: number | null;
   reason: Removal;
   toString(): string;
+}
+/** Datagrams on one path that the system did not send for one reason, the number of its error; and how many there were. */
+export interface FailedSend {
+  path: MediaPath;
+  reason: number;
+  times: number;
 }
 /** The selected pair: the path of its `nominatedSend`, and figures. */
 export interface NominatedPair extends MediaPath {

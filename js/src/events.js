@@ -1,8 +1,8 @@
 // What an agent returns, as objects: packets, events and pairs.
 import { NUMBERS } from "./abi.js";
 import { addressText } from "./address.js";
-import { readStruct } from "./structs.js";
-import { CHECK_STATES, PROTOCOLS, REMOVALS, STATES } from "./words.js";
+import { readStruct, writeStruct } from "./structs.js";
+import { CHECK_STATES, EVENTS, numberOf, PROTOCOLS, REMOVALS, STATES } from "./words.js";
 
 /** A path: from where to where, and over which protocol. */
 export const pathOf = ({ source, destination, protocol }) => ({ protocol: PROTOCOLS[protocol], source, destination });
@@ -21,8 +21,18 @@ export function eventFrom(memory, creds) {
     case NUMBERS.RESTARTED: return { type: "iceRestart", creds: creds() };
     case NUMBERS.STATE_CHANGED: return { type: "iceConnectionStateChange", state: STATES[state] };
     case NUMBERS.DISCOVERED_RECV: return { type: "discoveredRecv", protocol, source };
-    default: return { type: "nominatedSend", protocol, source, destination };
+    default: return { type: EVENTS[kind], protocol, source, destination };
   }
+}
+
+/** Writes an event for a call that reads it, and returns the argument. */
+export function putEvent(memory, { type, state, protocol, source, destination }) {
+  const { at, arg } = memory.first;
+  writeStruct(memory, "Event", at, {
+    kind: numberOf(EVENTS, type, "type of event"), state: state && numberOf(STATES, state, "state"),
+    protocol: protocol && numberOf(PROTOCOLS, protocol, "protocol"), source, destination,
+  });
+  return arg;
 }
 
 /** Reads the pair that a call has just written. */
@@ -42,6 +52,12 @@ export function removedFrom(memory) {
   };
   Object.defineProperty(found, "toString", { value: () => removedText(found) });
   return found;
+}
+
+/** Reads the failed sends that a call has just written. */
+export function failedFrom(memory) {
+  const { reason, times, ...path } = readStruct(memory, "FailedSend");
+  return { path: pathOf(path), reason, times };
 }
 
 /** Reads the selected pair that a call has just written. */

@@ -12,13 +12,19 @@ export interface IceLoopEvents {
   iceConnectionStateChange: [event: EventOf<"iceConnectionStateChange">];
   discoveredRecv: [event: EventOf<"discoveredRecv">];
   nominatedSend: [event: EventOf<"nominatedSend">];
+  silent: [event: EventOf<"silent">];
+  heard: [event: EventOf<"heard">];
   /** A datagram that is not a STUN message. Anybody may have sent it: authenticate it, as DTLS does. */
   media: [data: Uint8Array, source: SocketAddress, local: SocketAddress];
   /** A STUN message that is not for the agent, as the response of a STUN server. */
   stun: [data: Uint8Array, source: SocketAddress, local: SocketAddress];
+  /** The system did not send a datagram. It is lost, as in the network. */
+  sendFailed: [error: Error, source: SocketAddress, destination: SocketAddress];
   /** The module stopped: the loop is closed, and the agent lost. */
   error: [error: IceError];
 }
+
+type Handlers = { [Name in keyof IceLoopEvents]: (...values: IceLoopEvents[Name]) => void };
 
 /** An agent, its UDP sockets and its timer. It emits the agent's events, as an EventEmitter does. */
 export class IceLoop extends EventEmitter {
@@ -42,7 +48,7 @@ export class IceLoop extends EventEmitter {
   receive(source: SocketAddress, local: SocketAddress, data: Uint8Array): void;
   /** Closes the sockets and stops the timer. The agent stays. */
   close(): void;
-  on<Name extends keyof IceLoopEvents>(name: Name, handler: (...args: IceLoopEvents[Name]) => void): this;
-  once<Name extends keyof IceLoopEvents>(name: Name, handler: (...args: IceLoopEvents[Name]) => void): this;
-  off<Name extends keyof IceLoopEvents>(name: Name, handler: (...args: IceLoopEvents[Name]) => void): this;
+  on<Name extends keyof IceLoopEvents>(name: Name, handler: Handlers[Name]): this;
+  once<Name extends keyof IceLoopEvents>(name: Name, handler: Handlers[Name]): this;
+  off<Name extends keyof IceLoopEvents>(name: Name, handler: Handlers[Name]): this;
 }

@@ -8,7 +8,8 @@ import { IceError } from "./errors.js";
 import { isStun } from "./stun.js";
 import { isHostAddress } from "./timing.js";
 
-const AGAIN = 50; // milliseconds until handleTimeout is called again if it failed, or if the agent names no time
+const IDLE = 1000; // milliseconds until the agent is asked again, if it names no time
+const AGAIN = 50; // milliseconds until handleTimeout is called again if it failed
 
 /** The IP addresses of this machine's interfaces that host candidates should have. */
 export function hostAddresses() {
@@ -32,16 +33,17 @@ function bound(address, port) {
 /**
  * An agent, its sockets and its timer.
  *
- * Emits the agent's events by their type: "iceRestart", "iceConnectionStateChange", "discoveredRecv" and "nominatedSend", each with the
- * event. And "media" (data, source, local) for datagrams that are not STUN messages; "stun" (data, source, local) for STUN messages that
- * are not for the agent, as responses of STUN servers; and "error" if the module stopped, which ends the loop.
+ * Emits the agent's events by their type: "iceRestart", "iceConnectionStateChange", "discoveredRecv", "nominatedSend", "silent" and
+ * "heard", each with the event. And "media" (data, source, local) for datagrams that are not STUN messages; "stun" (data, source, local)
+ * for STUN messages that are not for the agent, as responses of STUN servers; "sendFailed" (error, source, destination) for each datagram
+ * that the system did not send; and "error" if the module stopped, which ends the loop.
  */
 export class IceLoop extends EventEmitter {
   #agent;
   #sockets = new Map();
   #start = performance.now();
   #timer = null;
-  #due = null; // the earliest time that the timer was set to since the last handleTimeout
+  #due = null; // what the timer is set to
   #began = false;
   #closed = false;
 
@@ -78,33 +80,40 @@ export class IceLoop extends EventEmitter {
 
   /** Starts the session: calls handleTimeout now, and whenever the agent says. */
   begin() {
-    this.#began = !this.#closed;
+    [this.#began, this.#due] = [!this.#closed, null];
     this.#timedOut();
   }
 
   /** Sends packets, emits events and sets the timer. Call it after each call of yours that changes the agent. */
   wake() {
-    this.#turn(true);
+    this.#turn();
   }
 
   /** Sends media to the peer. Returns false if there is no path yet. */
   send(data) {
-    const path = this.#agent.closed ? null : this.#agent.mediaPath;
+    const path = this.#agent.closed ? null : this.#agent.mediaPath(this.now());
     return path !== null && this.sendFrom(path.source, path.destination, data);
   }
 
   /** Sends a datagram from the socket at a local address. Returns false if there is no such socket. */
   sendFrom(source, destination, data) {
     const socket = this.#sockets.get(addressText(source));
-    socket?.send(data, destination.port, destination.address, () => {}); // an error is a lost datagram
+    socket?.send(data, destination.port, destination.address, (error) => error && this.#failed(error, source, destination));
     return socket !== undefined;
+  }
+
+  /** The system did not send a datagram: it is lost, as in the network, and the agent lists it. */
+  #failed(error, source, destination) {
+    if (this.#closed) return;
+    this.#made(() => this.#agent.sendFailed(source, destination, Math.abs(error.errno ?? 0)));
+    this.emit("sendFailed", error, source, destination);
   }
 
   /** Takes a datagram that arrived at a local address. The loop's own sockets call it themselves. */
   receive(source, local, data) {
     if (this.#closed) return;
     if (!isStun(data)) this.emit("media", data, source, local);
-    else if (this.#made(() => this.#agent.handlePacket(this.now(), source, local, data))) this.#turn(true);
+    else if (this.#made(() => this.#agent.handlePacket(this.now(), source, local, data))) this.#turn();
     else if (!this.#closed) this.emit("stun", data, source, local);
   }
 
@@ -117,16 +126,21 @@ export class IceLoop extends EventEmitter {
   }
 
   #timedOut() {
-    if (!this.#began) return;
+    const due = this.#due;
     this.#due = null;
-    let served = false;
-    this.#made(() => {
-      const early = this.#agent.earlyRequests;
-      this.#agent.handleTimeout(this.now());
-      served = this.#agent.earlyRequests < early;
-    });
-    this.#turn(served);
-    if (this.#began && this.#due === null) this.#setTimer(this.now() + (served ? 0 : AGAIN));
+    if (!this.#began) return;
+    if (due !== null && this.now() < due) return this.#setTimer(due); // a timer may be early, and a call too early would only add its delay
+    const served = this.#made(() => this.#serves());
+    if (served === false) return this.#began && this.#setTimer(this.now() + AGAIN);
+    this.#turn();
+    if (served.early && this.#began && this.#due === null) this.#setTimer(this.now()); // with Original there is no time yet
+  }
+
+  /** Calls handleTimeout. Returns whether it served an early request. */
+  #serves() {
+    const before = this.#agent.earlyRequests;
+    this.#agent.handleTimeout(this.now());
+    return { early: this.#agent.earlyRequests < before };
   }
 
   /** Makes a call on the agent. One that fails left the agent as it was, as if the datagram had been lost. */
@@ -141,20 +155,23 @@ export class IceLoop extends EventEmitter {
     }
   }
 
-  /** `soon`: the agent has changed since handleTimeout, so the next call need not wait for its pacing interval. */
-  #turn(soon) {
+  #turn() {
     const agent = this.#agent, polled = (call) => !this.#closed && this.#made(call); // a handler may close the loop, and the agent
-    const due = polled(() => (soon ? agent.pollTimeoutSoon() : agent.pollTimeout())); // before packets are polled
-    if (this.#began && typeof due === "number") this.#setTimer(due);
+    if (this.#began) this.#setTimer(polled(() => agent.pollTimeout())); // with Original the time is sooner before packets are polled
     for (let it; (it = polled(() => agent.pollTransmit())); ) this.sendFrom(it.source, it.destination, it.contents);
     for (let it; this.#began && (it = polled(() => agent.pollEvent())); ) this.emit(it.type, it);
+    if (this.#began) this.#setTimer(polled(() => agent.pollTimeout()));
   }
 
-  /** Sets the timer, unless it is set to an earlier time. */
+  /**
+   * Sets the timer to a time, unless it is set to an earlier one. null: nothing is due until a call changes the agent, which `wake`
+   * reports; it is asked again anyway. Then a time that is set stays: that of a call that failed.
+   */
   #setTimer(due) {
-    if (this.#due !== null && this.#due <= due) return;
-    this.#due = due;
+    const hasDue = typeof due === "number";
+    if (this.#due !== null && (!hasDue || this.#due <= due)) return;
+    this.#due = hasDue ? due : null;
     clearTimeout(this.#timer);
-    this.#timer = setTimeout(() => this.#timedOut(), Math.max(0, Math.ceil(due - this.now())));
+    this.#timer = setTimeout(() => (hasDue ? this.#timedOut() : this.#turn()), hasDue ? Math.max(0, Math.ceil(due - this.now())) : IDLE);
   }
 }

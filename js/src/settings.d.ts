@@ -43,6 +43,8 @@ export class Settings {
   setMaxStunRetransmits(count: number): void;
   /** Sets how long a lite agent keeps a pair after the peer's last check on it. Default: 15000. */
   setLiteTimeout(ms: number): void;
+  /** Sets after what time without an authentic packet the selected path is silent. `Infinity`: it never is. Default: 5000. */
+  setSilence(ms: number): void;
   /** Stores how long a packet may be, and the length to warn about. `MtuTooSmall` below 588. Default: 1150 and 1280. */
   setMtu(mtu: number, warn: number): void;
   /** Sets the local preference of candidates that are added after this call. null: the default one again. */

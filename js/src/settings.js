@@ -63,6 +63,11 @@ export class Settings extends Handle {
     this[CALL]("is_ice_set_lite_timeout", toNs(ms));
   }
 
+  /** Infinity: the path never is silent. */
+  setSilence(ms) {
+    this[CALL]("is_ice_set_silence", ms === Infinity ? toCount(ms) : toNs(ms));
+  }
+
   setMtu(mtu, warn) {
     this[CALL]("is_ice_set_mtu", whole(mtu, "an MTU"), whole(warn, "an MTU"));
   }

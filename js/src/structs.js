@@ -37,6 +37,7 @@ function writeField(memory, { name, type, unit }, to, value) {
     case "u8": return view.setUint8(to, small(value, name, 8));
     case "u16": return view.setUint16(to, small(value, name, 16), true);
     case "u32": return view.setUint32(to, small(value, name, 32), true);
+    case "i32": return view.setInt32(to, small(value, name, 31), true);
     case "u64": return view.setBigUint64(to, unit.write(value, name), true);
     case "Address": return putAddress(memory, to, value);
     case "u8[12]": return memory.bytes.set(value, to);

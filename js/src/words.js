@@ -11,6 +11,9 @@ export const GRAMMARS = ["ufrag", "pass", "foundation"];
 export const CLASSES = ["request", "indication", "success", "failure"];
 export const METHODS = ["other", "binding", "", "allocate", "refresh", "", "send", "data", "create-permission", "channel-bind"];
 
+/** The types of events, which are JavaScript's own words. */
+export const EVENTS = ["", "iceRestart", "iceConnectionStateChange", "discoveredRecv", "nominatedSend", "silent", "heard"];
+
 /** The number of a word. TypeError if it is none of them. */
 export function numberOf(words, word, what) {
   const found = word === "" ? -1 : words.indexOf(word);

@@ -17,7 +17,8 @@ test("two agents find a path, and say so", () => {
   assert.deepEqual(events[2], { type: "nominatedSend", ...path });
   assert.deepEqual(events[4], { type: "discoveredRecv", protocol: "udp", source: path.destination });
   assert.equal(agents[0].state, "completed");
-  assert.deepEqual([agents[0].mediaPath, agents[0].validPath], [path, path]);
+  assert.deepEqual([agents[0].mediaPath(1000), agents[0].validPath], [path, path]);
+  assert.ok(agents[0].takesMediaFrom(1000, path.destination) && !agents[0].takesMediaFrom(1000, at(1)));
   const { totalRtt, responses, rtt, ...selected } = agents[0].nominatedPair;
   assert.deepEqual(selected, path);
   assert.ok(responses > 0 && rtt >= 0 && totalRtt >= rtt);
@@ -38,7 +39,7 @@ test("a path that no packet takes is left, with the reason", () => {
   run(agents, 1000, 40000, () => false);
   const [agent] = agents, removed = agent.removedPairs().at(-1);
   assert.equal(agent.nominatedPair, null);
-  assert.equal(agent.mediaPath, null);
+  assert.equal(agent.mediaPath(40000), null);
   assert.equal(agent.state, "disconnected");
   assert.equal(removed.reason, "consent-lost");
   assert.match(String(removed), /^10\.0\.0\.1:5000 -> 10\.0\.0\.2:5001 succeeded, \d+ checks sent, \d+ answered: consent lost$/);
@@ -61,6 +62,39 @@ test("a wrong password is named after the first packet", () => {
   closed(agents);
 });
 
+test("a request without a response has a reason", () => {
+  const agents = pair(), [agent, peer] = agents;
+  agent.handleTimeout(0);
+  const { source, destination, contents } = agent.pollTransmit();
+  assert.equal(peer.unserved(source, destination, contents), null);
+  const why = peer.unserved(source, { ...destination, port: destination.port + 1 }, contents);
+  assert.deepEqual(why, { reason: "destination", text: "request to an address that no local candidate has" });
+  peer.setMaxDiscovered(0);
+  assert.equal(peer.unserved({ ...source, port: 1 }, destination, contents).reason, "limit");
+  assert.equal(agent.unserved(source, destination, contents), null, "it is rejected");
+  closed(agents);
+});
+
+test("an agent has the lines of a log", () => {
+  const agents = pair(), [agent, peer] = agents, { ufrag } = peer.localCredentials;
+  const [source, destination] = [{ address: "10.0.0.1", port: 5000 }, { address: "10.0.0.2", port: 5001 }];
+  assert.equal(peer.eventLine({ type: "iceRestart" }), `${ufrag}: session begins`);
+  assert.equal(peer.eventLine({ type: "iceConnectionStateChange", state: "connected" }), `${ufrag}: state Connected`);
+  assert.equal(peer.eventLine({ type: "discoveredRecv", protocol: "udp", source }), `${ufrag}: discovered 10.0.0.1:5000`);
+  assert.equal(peer.eventLine({ type: "nominatedSend", protocol: "udp", source, destination }),
+    `${ufrag}: selected 10.0.0.1:5000 -> 10.0.0.2:5001`);
+  for (const [type, words] of [["silent", "silent"], ["heard", "heard again"]]) {
+    assert.equal(peer.eventLine({ type, protocol: "udp", source, destination }), `${ufrag}: ${words} 10.0.0.1:5000 -> 10.0.0.2:5001`);
+  }
+  assert.equal(peer.removedLine(0), null);
+  agent.handleTimeout(0);
+  const check = agent.pollTransmit(), why = "request to another username fragment than the agent's";
+  assert.equal(agent.packetKind(source, destination, check.contents), `Binding request (${why})`);
+  assert.equal(agent.packetLine(source, destination, check.contents),
+    `${agent.localCredentials.ufrag}: discarded Binding request (${why}) from 10.0.0.1:5000 at 10.0.0.2:5001`);
+  closed(agents);
+});
+
 test("an ICE restart", () => {
   const agents = pair();
   run(agents, 0, 1000);
@@ -72,6 +106,54 @@ test("an ICE restart", () => {
   assert.ok(events[1].some((it) => it.type === "nominatedSend"));
   agents[0].iceRestart(undefined, false);
   assert.deepEqual(agents[0].localCandidates(), []);
+  closed(agents);
+});
+
+test("a restart keeps the path for media until another one is selected", () => {
+  const agents = pair(), [agent, peer] = agents;
+  assert.equal(agent.mediaPath(0), null);
+  run(agents, 0, 1000);
+  const path = agent.mediaPath(1000);
+  agent.iceRestart(newCreds(), true);
+  assert.equal(agent.nominatedPair, null);
+  assert.deepEqual(agent.mediaPath(1000), path);
+  assert.ok(agent.takesMediaFrom(1000, path.destination) && peer.takesMediaFrom(1000, path.source));
+  peer.iceRestart(newCreds(), true);
+  meet(agents);
+  agents.forEach((it, i) => agents[1 - i].localCandidates().forEach((line) => it.addRemoteCandidate(line)));
+  for (let now = 1000; now < 2000; now += 50) {
+    run(agents, now, now + 50);
+    assert.deepEqual(agent.mediaPath(now), path);
+  }
+  assert.ok(agent.nominatedPair);
+  agent.iceRestart(newCreds(), true);
+  assert.equal(agent.mediaPath(60000), null); // consent ended
+  closed(agents);
+});
+
+test("a silent path is reported, and that it is heard again", () => {
+  const agents = pair(), [agent] = agents;
+  const of = (events) => events[0].filter(({ type }) => ["silent", "heard"].includes(type));
+  run(agents, 0, 1000);
+  const silent = of(run(agents, 1000, 10000, () => false));
+  assert.deepEqual(silent, [{ type: "silent", ...agent.mediaPath(10000) }]);
+  assert.ok(agent.silentSince < 5000);
+  assert.deepEqual(of(run(agents, 10000, 14000)), [{ type: "heard", ...agent.mediaPath(14000) }]);
+  agent.setSilence(Infinity);
+  assert.deepEqual(of(run(agents, 14000, 30000, () => false)), []);
+  agent.setSilence(1000);
+  assert.equal(of(run(agents, 30000, 31000, () => false)).length, 1);
+  closed(agents);
+});
+
+test("sends that fail are listed", () => {
+  const agents = pair(), [agent] = agents;
+  assert.deepEqual(agent.failedSends, []);
+  for (let i = 0; i < 3; i++) agent.sendFailed(at(1), at(2), 101);
+  agent.sendFailed(at(1), at(2), 1, "tcp");
+  const path = { protocol: "udp", source: at(1), destination: at(2) };
+  assert.deepEqual(agent.failedSends, [{ path, reason: 101, times: 3 }, { path: { ...path, protocol: "tcp" }, reason: 1, times: 1 }]);
+  assert.throws(() => agent.sendFailed(at(1), at(2), -1), RangeError);
   closed(agents);
 });
 
@@ -175,11 +257,10 @@ test("early requests wait for the peer's credentials", () => {
 test("what an agent would accept, and times", () => {
   const agents = pair(), [alice, bob] = agents;
   assert.equal(alice.pollTimeout(), null);
-  assert.equal(alice.pollTimeoutSoon(), null);
   alice.handleTimeout(1000.25);
   bob.handleTimeout(1000.25);
   const time = alice.pollTimeout(), { source, destination, contents } = alice.pollTransmit();
-  assert.ok(time > 1000.25 && alice.pollTimeoutSoon() >= 1005.25);
+  assert.ok(time > 1000.25 && alice.pollTimeout() === time);
   assert.ok(bob.acceptsMessage(contents) && bob.acceptsPacket(source, destination, contents) && !alice.acceptsMessage(contents));
   const view = new DataView(contents.buffer.slice(0));
   assert.ok(bob.acceptsMessage(view) && bob.acceptsMessage(view.buffer));

@@ -122,3 +122,12 @@ test("credentials", () => {
   assert.deepEqual(ice.newCreds(new Uint8Array(38)), ice.newCreds(new Uint8Array(38)));
   assert.throws(() => ice.newCreds(new Uint8Array(37)), { code: "TooFewRandomBytes" });
 });
+
+test("a local candidate by its text keeps its priority and foundation", () => {
+  const agent = new IceAgent(), line = "candidate:7 1 udp 7 192.0.2.3 9 typ prflx raddr 10.0.0.1 rport 9";
+  const added = agent.addLocalCandidate(line);
+  assert.equal(added, `${line} ufrag ${agent.localCredentials.ufrag}`);
+  assert.deepEqual(agent.localCandidates(), [added]);
+  assert.throws(() => agent.addLocalCandidate("candidate:7"), { code: "BadCandidate" });
+  agent.close();
+});

@@ -31,11 +31,21 @@ test("two loops find a path, and send media", async () => {
   assert.equal(both[0].send("too soon"), false);
   both.forEach((loop) => loop.begin());
   const [[{ source, destination }]] = await Promise.all(paths);
-  assert.deepEqual(both[0].agent.mediaPath, { protocol: "udp", source, destination });
+  assert.deepEqual(both[0].agent.mediaPath(both[0].now()), { protocol: "udp", source, destination });
   const heard = once(both[1], "media", soon);
   assert.ok(both[0].send("hello"));
   const [data, from, local] = await heard;
   assert.deepEqual([String(data), from, local], ["hello", source, destination]);
+  close(both);
+});
+
+test("a datagram that the system does not send is reported", async () => {
+  const both = await loops(), [loop] = both, [{ address: source }] = loop.agent.localFields();
+  const failed = once(loop, "sendFailed", soon);
+  loop.sendFrom(source, { address: "127.0.0.1", port: 9 }, new Uint8Array(70000)); // too long
+  const [error, from, to] = await failed;
+  assert.deepEqual([error.code, from, to], ["EMSGSIZE", source, { address: "127.0.0.1", port: 9 }]);
+  assert.deepEqual(loop.agent.failedSends.map(({ reason, times }) => [reason, times]), [[Math.abs(error.errno), 1]]);
   close(both);
 });
 

@@ -5,7 +5,7 @@
 import { createHash } from "node:crypto";
 import { readFileSync } from "node:fs";
 import { Candidate, IceAgent, init } from "is-ice";
-import { ADDED, CHECK_STATES, PROTOCOLS, REMOVALS, STATES } from "../src/words.js";
+import { ADDED, CHECK_STATES, EVENTS, PROTOCOLS, REMOVALS, STATES } from "../src/words.js";
 
 const LETTERS = "ABCDEFGHIJKLMNOPQRSTUVWXYZabcdefghijklmnopqrstuvwxyz0123456789+/";
 const TURNS = 120;
@@ -30,7 +30,7 @@ function eventText(it) {
     case "iceRestart": return `1 ${it.creds.ufrag} ${it.creds.pass}`;
     case "iceConnectionStateChange": return `2 ${STATES.indexOf(it.state)}`;
     case "discoveredRecv": return `3 ${PROTOCOLS.indexOf(it.protocol)} ${text(it.source)}`;
-    default: return `4 ${PROTOCOLS.indexOf(it.protocol)} ${path(it)}`;
+    default: return `${EVENTS.indexOf(it.type)} ${PROTOCOLS.indexOf(it.protocol)} ${path(it)}`;
   }
 }
 
@@ -107,7 +107,7 @@ function session(say) {
       for (let it; (it = agent.pollEvent()); ) say(`${i} ${eventText(it)}`);
     });
     flying = received(agents, now, flying, say);
-    for (const agent of agents) say(` ${ns(draw(2) ? agent.pollTimeoutSoon() : agent.pollTimeout())}`);
+    for (const agent of agents) say(` ${ns(agent.pollTimeout())}`);
   }
   for (const agent of agents) end(agent, say);
 }

@@ -2,7 +2,8 @@
 import {
   addressText, bindingRequest, bindingResponse, Candidate, IceAgent, IceError, init, lineFields, modernSettings, newTransaction, readMessage,
   writeMessage,
-  type CandidatePair, type IceAgentEvent, type IceConnectionState, type AgentSettings, type SocketAddress, type Transmit,
+  type AgentSettings, type CandidatePair, type FailedSend, type IceAgentEvent, type IceConnectionState, type MediaPath, type SocketAddress,
+  type Transmit,
 } from "is-ice";
 import { IceLoop } from "is-ice/node";
 
@@ -37,6 +38,10 @@ agent.removedPairs().map(String);
 agent[Symbol.dispose]();
 
 const loop = new IceLoop(agent);
+loop.on("silent", ({ destination }) => console.log(destination.port, loop.agent.silentSince?.toFixed()));
+loop.on("sendFailed", (error, source, destination) => console.log(error.message, source.port, destination.port));
+const path: MediaPath | null = agent.mediaPath(loop.now()), taken: boolean = agent.takesMediaFrom(0, { address: "10.0.0.1", port: 1 });
+console.log(path?.source.port, taken, agent.failedSends.map(({ reason }: FailedSend) => reason));
 loop.on("nominatedSend", ({ source }) => console.log(source.port)).on("media", (data) => console.log(data.length));
 const bound: string | null = await loop.bind("127.0.0.1");
 console.log(bound, loop.send("hello"));

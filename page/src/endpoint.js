@@ -11,7 +11,6 @@ export class Endpoint {
   sockets = new Map(); // by address: { address, interface }
   relays = new Map(); // by relayed address: { socket, server }
   generation = 0;
-  path = null;
   #pending = new Map(); // requests to servers without a response: when they are sent again
   #unsignaled = [];
   #peers = new Set();
@@ -59,7 +58,6 @@ export class Endpoint {
   #renew() {
     this.agent.iceRestart(this.#creds(), true);
     this.world.watch.call(this.side, "restart");
-    this.path = null;
     this.#unsignaled = [];
     this.#signal({ creds: this.agent.localCredentials, lines: this.agent.localCandidates() });
     this.turn();
@@ -198,10 +196,7 @@ export class Endpoint {
   }
 
   #told(event) {
-    if (event.type === "nominatedSend") {
-      this.path = event;
-      this.world.watch.selected(event);
-    }
+    if (event.type === "nominatedSend") this.world.watch.selected(event);
     this.#note(event.type, { event });
   }
 
@@ -218,9 +213,9 @@ export class Endpoint {
     socket.interface.send({ source: socket.address, destination: this.world.server.address, payload: word, track });
   }
 
-  /** Sends media on the path of the last nominatedSend. Returns whether there is one. */
+  /** Sends media on the path that the agent names. Returns whether there is one. */
   say(contents) {
-    const path = this.path ?? this.agent.validPath;
+    const path = this.agent.mediaPath(this.world.clock.now);
     if (path) this.#send({ source: path.source, destination: path.destination, contents });
     return Boolean(path);
   }

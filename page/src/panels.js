@@ -3,6 +3,7 @@ import { text } from "./endpoint.js";
 
 const LATEST_GONE = 8, MOST_ROWS = 24, MOST_EVENTS = 600, MANY_PAIRS = 12;
 const ORDER = ["selected", "succeeded", "in-progress", "waiting"];
+const LOUD = ["nominatedSend", "iceConnectionStateChange", "silent", "heard"], QUIET = ["gathered", "discoveredRecv"];
 const HEADS = { pair: "", to: "", answers: "answered, of the checks sent", rtt: "the last round trip, in ms" };
 
 /** A row of a table: `words` are its state, which the dot shows. */
@@ -66,6 +67,8 @@ function eventText(it) {
     case "iceConnectionStateChange": return `is ${it.event.state}`;
     case "discoveredRecv": return `DiscoveredRecv ${text(it.event.source)}`;
     case "nominatedSend": return `NominatedSend ${text(it.event.source)} → ${text(it.event.destination)}`;
+    case "silent": return `Silent: no packet from ${text(it.event.destination)} for 5 s`;
+    case "heard": return `Heard again: ${text(it.event.destination)}`;
     case "media": return `gets media: “${it.text}” from ${text(it.source)}`;
     case "rubbish": return `gets ${it.length} bytes that are not STUN, from ${text(it.source)}`;
     case "refused": return refusedText(it);
@@ -101,8 +104,7 @@ export class Log {
   }
 
   #row(it) {
-    const isLoud = ["nominatedSend", "iceConnectionStateChange"].includes(it.what), isQuiet = ["gathered", "discoveredRecv"].includes(it.what);
-    const words = html(isLoud ? "strong" : "span", { className: isQuiet ? "quiet" : "" }, eventText(it));
+    const words = html(LOUD.includes(it.what) ? "strong" : "span", { className: QUIET.includes(it.what) ? "quiet" : "" }, eventText(it));
     return html("li", {}, html("time", {}, timeText(it.at)), html("span", { className: `side ${it.side}` }, it.side), words);
   }
 }

@@ -51,7 +51,24 @@ test("the path dies: both leave it for the relay when consent ends", { skip }, (
   assert.equal(isRelayed(session, first.event), false);
   assert.equal(isRelayed(session, second.event), true);
   assert.ok(second.at > 29_600 && second.at < 2000 + 29_600 + 1000, String(second.at)); // RFC 7675: within 30 s
+  for (const side of ["A", "B"]) {
+    const [silent] = session.events.filter((it) => it.what === "silent" && it.side === side);
+    assert.ok(silent.at > 5000 && silent.at < 2000 + 5000 + 100, String(silent.at)); // 5 s after the last packet
+  }
   assert.equal(isRelayed(session, connected(session)), true);
+});
+
+test("media goes on all through an ICE restart, and a path that is mended is heard again", { skip }, () => {
+  const acts = [{ at: 2000, do: "restart" }, ...[2000, 2001, 2050, 2100, 2200].map((at) => ({ at, do: "say" }))];
+  const session = new Session({ ...DEFAULTS, ...story("two-homes").settings }, acts, ice);
+  session.runTo(4000);
+  assert.equal(session.events.filter((it) => it.what === "media" && it.side === "B").length, 5);
+  for (const [cut, after] of [[1, 8000], [0, 4000]]) {
+    for (const name of ["cutAB", "cutBA"]) session.act(name, cut);
+    session.runTo(session.now + after);
+  }
+  const told = session.events.filter((it) => it.side === "A" && ["silent", "heard"].includes(it.what)).map((it) => it.what);
+  assert.deepEqual(told, ["silent", "heard"]);
 });
 
 test("wifi to mobile: after the restart both are on the mobile path", { skip }, () => {

@@ -9,11 +9,13 @@ import asyncio
 import sys
 from dataclasses import replace
 
-from is_ice import Candidate, Consent, IceAgent, IceConnectionStateChange, IceCreds, IceError, NominatedSend, new_creds
+from is_ice import (Candidate, Consent, Heard, IceAgent, IceConnectionStateChange, IceCreds, IceError, NominatedSend, Silent,
+                    new_creds)
 from is_ice.interfaces import host_addresses
 from is_ice.loop import IceLoop
 
 SECOND = 1_000_000_000                            # times are nanoseconds
+SILENCE = 2                                       # seconds without a packet of the peer after which it says so
 
 
 class Chat:
@@ -22,7 +24,8 @@ class Chat:
         self.agent.set_controlling(role == "controlling")
         self.agent.set_settings(replace(          # notice a loss after 5 s, and not 30: the path is checked each second
             self.agent.settings, consent=Consent(5 * SECOND, strict=True), max_rto=SECOND))
-        self.loop = IceLoop(self.agent, self.note, self.hear)
+        self.agent.set_silence(SILENCE * SECOND)
+        self.loop = IceLoop(self.agent, self.note, self.hear, on_failed_send=self.fail)
 
     def restart(self):
         """Begins a session: prints new credentials and the candidates, for the peer."""
@@ -43,17 +46,23 @@ class Chat:
                 self.agent.add_remote_candidate(candidate)
         elif line == "/restart":
             self.restart()
-        elif path := self.agent.nominated_pair:
+        elif path := self.agent.media_path(self.loop.now()):
             self.loop.send(path.source, path.destination, line.encode())
+        else:
+            print("error there is no path", flush=True)
         self.loop.wake()
 
     def hear(self, source, local, data):
-        if self.agent.has_viable_remote_candidate(source):
+        if self.agent.takes_media_from(self.loop.now(), source):
             print("heard", data.decode(errors="replace").translate(dict.fromkeys(range(32), "?")), flush=True)
 
     def note(self, event):
         if isinstance(event, NominatedSend):
             print("path", event.source, "->", event.destination, flush=True)
+        elif isinstance(event, Silent):
+            print(f"silent no packet for {SILENCE} s", flush=True)
+        elif isinstance(event, Heard):
+            print("again a packet came", flush=True)
         elif isinstance(event, IceConnectionStateChange):
             stats, state = self.agent.stats, event.state.name.capitalize()
             print(f"state {state}: {stats.bind_success_recv} of {stats.bind_request_sent} checks answered", flush=True)
@@ -62,17 +71,26 @@ class Chat:
             if event.state.is_disconnected() and stats.nomination_send_count > 0:
                 self.restart()                    # before the first path the peer may not have this side's line yet
 
+    def fail(self, source, destination, error):
+        for failed in self.agent.failed_sends():
+            if failed.times == 1 and failed.path.destination == destination:
+                print("error not sent", failed, flush=True)
+
+    async def look(self):
+        """Looks at the machine's addresses, and opens sockets if there are others."""
+        ips = ["127.0.0.1"] if self.is_local else host_addresses()
+        if ips and ips != [host.ip for host in self.hosts]:
+            self.hosts = [await self.loop.open(ip) for ip in ips]
+            self.restart()
+            self.loop.begin()
+
     async def watch(self):
-        """Every two seconds looks at the machine's addresses, and opens sockets if there are others."""
         while True:
-            ips = ["127.0.0.1"] if self.is_local else host_addresses()
-            if ips and ips != [host.ip for host in self.hosts]:
-                self.hosts = [await self.loop.open(ip) for ip in ips]
-                self.restart()
-                self.loop.begin()
             await asyncio.sleep(2)
+            await self.look()
 
     async def run(self):
+        await self.look()                         # before a line is read: a signal that waits is for this session
         reader = asyncio.StreamReader()
         await asyncio.get_running_loop().connect_read_pipe(lambda: asyncio.StreamReaderProtocol(reader), sys.stdin)
         watch = asyncio.create_task(self.watch())

@@ -34,6 +34,8 @@ from .events import (
     CandidatePair,
     CheckState,
     DiscoveredRecv,
+    FailedSend,
+    Heard,
     IceAgentEvent,
     IceAgentStats,
     IceConnectionState,
@@ -46,7 +48,9 @@ from .events import (
     Rejection,
     Removal,
     RemovedPair,
+    Silent,
     Transmit,
+    Unserved,
 )
 from .lines import (
     candidate_fields,
@@ -65,11 +69,11 @@ from .settings import Consent, Profile, Settings
 
 __all__ = [
     "AddResult", "BadAddress", "BadCandidate", "BadLimit", "BadMessage", "Candidate", "CandidateFields", "CandidateKind", "CandidatePair",
-    "CheckState", "Consent", "CredentialsTooLong", "DiscoveredRecv", "HasAgent", "IceAgent", "IceAgentEvent", "IceAgentStats",
-    "IceConnectionState", "IceConnectionStateChange", "IceCreds", "IceError", "IceRestart", "KindPreferences", "LiteStaysControlled",
-    "MediaPath", "MessageTooLong", "MtuTooSmall", "NoAgent", "NominatedPair", "NominatedSend", "NotUtf8", "OutOfMemory", "PairIdsExhausted",
-    "PriorityTooHigh", "Profile", "Protocol", "Rejection", "Removal", "RemovedPair", "Settings", "SocketAddress", "TcpType",
-    "TooFewRandomBytes", "TooManyCandidates", "Transmit", "Unparsed", "candidate_fields", "candidate_line", "default_local_preference",
-    "has_mdns_name", "line_fields", "line_from_json", "line_name", "line_refusal", "line_to_json", "line_with_address", "line_with_ufrag",
-    "new_creds",
+    "CheckState", "Consent", "CredentialsTooLong", "DiscoveredRecv", "FailedSend", "HasAgent", "Heard", "IceAgent", "IceAgentEvent",
+    "IceAgentStats", "IceConnectionState", "IceConnectionStateChange", "IceCreds", "IceError", "IceRestart", "KindPreferences",
+    "LiteStaysControlled", "MediaPath", "MessageTooLong", "MtuTooSmall", "NoAgent", "NominatedPair", "NominatedSend", "NotUtf8",
+    "OutOfMemory", "PairIdsExhausted", "PriorityTooHigh", "Profile", "Protocol", "Rejection", "Removal", "RemovedPair", "Settings",
+    "Silent", "SocketAddress", "TcpType", "TooFewRandomBytes", "TooManyCandidates", "Transmit", "Unparsed", "Unserved", "candidate_fields",
+    "candidate_line", "default_local_preference", "has_mdns_name", "line_fields", "line_from_json", "line_name", "line_refusal",
+    "line_to_json", "line_with_address", "line_with_ufrag", "new_creds",
 ]

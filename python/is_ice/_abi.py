@@ -6,7 +6,7 @@ from __future__ import annotations
 import ctypes
 from ctypes import POINTER, c_bool, c_char_p, c_int32, c_size_t, c_uint16, c_uint32, c_uint64, c_uint8, c_void_p
 
-VERSION = 7
+VERSION = 8
 
 OK = 0
 NOTHING = 1
@@ -20,6 +20,12 @@ REJECTED_LOCAL_PASSWORD = 8
 REJECTED_NO_CHECK = 9
 REJECTED_PATH = 10
 REJECTED_REMOTE_PASSWORD = 11
+UNSERVED_EARLY = 12
+UNSERVED_DESTINATION = 13
+UNSERVED_USE_CANDIDATE = 14
+UNSERVED_SENDER = 15
+UNSERVED_LIMIT = 16
+UNSERVED_LOCAL = 17
 NO_AGENT = -1
 HAS_AGENT = -2
 NOT_UTF8 = -3
@@ -66,6 +72,8 @@ RESTARTED = 1
 STATE_CHANGED = 2
 DISCOVERED_RECV = 3
 NOMINATED_SEND = 4
+SILENT = 5
+HEARD = 6
 
 PAIR_WAITING = 0
 PAIR_IN_PROGRESS = 1
@@ -131,6 +139,12 @@ TEXTS = {
     REJECTED_NO_CHECK: "response to no pending check",
     REJECTED_PATH: "response on another path than that of its check",
     REJECTED_REMOTE_PASSWORD: "response signed with another password than the peer's",
+    UNSERVED_EARLY: "request before the peer's credentials are set",
+    UNSERVED_DESTINATION: "request to an address that no local candidate has",
+    UNSERVED_USE_CANDIDATE: "request with USE-CANDIDATE to a controlling agent",
+    UNSERVED_SENDER: "request from an invalidated remote candidate",
+    UNSERVED_LIMIT: "request from an unknown address while the limit on discovered candidates is reached",
+    UNSERVED_LOCAL: "request to an invalidated local candidate",
     NO_AGENT: "no agent",
     HAS_AGENT: "there is an agent already",
     NOT_UTF8: "text is not UTF-8",
@@ -243,6 +257,12 @@ class MediaPath(ctypes.Structure):
     """is_ice_media_path."""
 
     _fields_ = [("source", Address), ("destination", Address), ("protocol", c_uint8)]
+
+
+class FailedSend(ctypes.Structure):
+    """is_ice_failed_send."""
+
+    _fields_ = [("source", Address), ("destination", Address), ("times", c_uint64), ("reason", c_uint32), ("protocol", c_uint8)]
 
 
 class Pair(ctypes.Structure):
@@ -391,6 +411,7 @@ SIZES: dict[type[ctypes.Structure], int] = {
     AgentStats: 40,
     NominatedPair: 88,
     MediaPath: 60,
+    FailedSend: 72,
     Pair: 96,
     RemovedPair: 104,
     KindPreferences: 8,
@@ -432,6 +453,7 @@ PROTOTYPES: dict[str, list[object]] = {
     "is_ice_set_local_preference": [POINTER(Agent), c_uint16],
     "is_ice_set_preference_table": [POINTER(Agent), POINTER(PreferenceTable)],
     "is_ice_reset_local_preference": [POINTER(Agent)],
+    "is_ice_set_silence": [POINTER(Agent), c_uint64],
     "is_ice_set_local_credentials": [POINTER(Agent), c_char_p, c_size_t, c_char_p, c_size_t],
     "is_ice_set_remote_credentials": [POINTER(Agent), c_char_p, c_size_t, c_char_p, c_size_t],
     "is_ice_is_host_address": [POINTER(Address)],
@@ -466,23 +488,53 @@ PROTOTYPES: dict[str, list[object]] = {
     "is_ice_handle_packet": [POINTER(Agent), c_uint64, c_uint8, POINTER(Address), POINTER(Address), c_char_p, c_size_t],
     "is_ice_accepts_packet": [POINTER(Agent), c_uint8, POINTER(Address), POINTER(Address), c_char_p, c_size_t],
     "is_ice_rejection": [POINTER(Agent), c_uint8, POINTER(Address), POINTER(Address), c_char_p, c_size_t],
+    "is_ice_unserved": [POINTER(Agent), c_uint8, POINTER(Address), POINTER(Address), c_char_p, c_size_t],
     "is_ice_accepts_message": [POINTER(Agent), c_char_p, c_size_t],
     "is_ice_poll_timeout": [POINTER(Agent), POINTER(c_uint64)],
-    "is_ice_poll_timeout_soon": [POINTER(Agent), POINTER(c_uint64)],
     "is_ice_poll_transmit": [POINTER(Agent), c_void_p, c_size_t, POINTER(Packet)],
     "is_ice_poll_event": [POINTER(Agent), POINTER(Event)],
     "is_ice_restart": [POINTER(Agent), c_char_p, c_size_t, c_char_p, c_size_t, c_bool],
+    "is_ice_send_failed": [POINTER(Agent), c_uint8, POINTER(Address), POINTER(Address), c_uint32],
     "is_ice_recreate_pairs": [POINTER(Agent)],
     "is_ice_status": [POINTER(Agent), POINTER(AgentStatus)],
     "is_ice_settings": [POINTER(Agent), POINTER(AgentSettings)],
     "is_ice_stats": [POINTER(Agent), POINTER(AgentStats)],
     "is_ice_nominated": [POINTER(Agent), POINTER(NominatedPair)],
     "is_ice_valid_path": [POINTER(Agent), POINTER(MediaPath)],
+    "is_ice_path_for_media": [POINTER(Agent), c_uint64, POINTER(MediaPath)],
+    "is_ice_takes_media_from": [POINTER(Agent), c_uint64, POINTER(Address)],
+    "is_ice_silent_since": [POINTER(Agent), POINTER(c_uint64)],
+    "is_ice_failed_send_count": [POINTER(Agent), POINTER(c_size_t)],
+    "is_ice_failed_send_at": [POINTER(Agent), c_size_t, POINTER(FailedSend)],
     "is_ice_early_count": [POINTER(Agent), POINTER(c_size_t)],
     "is_ice_pair_count": [POINTER(Agent), POINTER(c_size_t)],
     "is_ice_pair_at": [POINTER(Agent), c_size_t, POINTER(Pair)],
     "is_ice_removed_count": [POINTER(Agent), POINTER(c_size_t)],
     "is_ice_removed_at": [POINTER(Agent), c_size_t, POINTER(RemovedPair)],
+    "is_ice_event_line": [POINTER(Agent), POINTER(Event), c_void_p, c_size_t, POINTER(c_size_t)],
+    "is_ice_removed_line": [POINTER(Agent), c_size_t, c_void_p, c_size_t, POINTER(c_size_t)],
+    "is_ice_packet_line": [
+        POINTER(Agent),
+        c_uint8,
+        POINTER(Address),
+        POINTER(Address),
+        c_char_p,
+        c_size_t,
+        c_void_p,
+        c_size_t,
+        POINTER(c_size_t),
+    ],
+    "is_ice_packet_kind": [
+        POINTER(Agent),
+        c_uint8,
+        POINTER(Address),
+        POINTER(Address),
+        c_char_p,
+        c_size_t,
+        c_void_p,
+        c_size_t,
+        POINTER(c_size_t),
+    ],
     "is_ice_find_pair": [POINTER(Agent), c_char_p, c_size_t, POINTER(Pair)],
     "is_ice_has_viable_remote": [POINTER(Agent), POINTER(Address)],
     "is_ice_local_ufrag": [POINTER(Agent), c_void_p, c_size_t, POINTER(c_size_t)],

@@ -21,7 +21,7 @@ from .events import Transmit
 
 # is_ice_packet as bytes: source and destination, the length, the protocol.
 PACKET = struct.Struct("=56sQB7x")
-# The source and the destination, with which is_ice_nominated_pair and is_ice_media_path begin.
+# The source and the destination, with which is_ice_media_path begins.
 PATH = struct.Struct("=56s")
 _PACKET_LENGTH = 2048
 _GREATEST_TIME = (1 << 64) - 1
@@ -33,7 +33,7 @@ class _Arguments:
     may make another call on the same agent in the same thread before this one is made, or before its result is read."""
 
     __slots__ = ("now", "protocol", "length", "due", "event", "packet", "buffer", "handle_packet", "handle_timeout", "poll_timeout",
-                 "poll_timeout_soon", "poll_event", "poll_transmit", "next_packet", "pair", "nominated", "valid_path")
+                 "poll_event", "poll_transmit", "next_packet", "path", "path_for_media")
 
     def __init__(self, library: ctypes.PyDLL, agent: object) -> None:
         self.now, self.protocol, self.length, self.due = c_uint64(), c_uint8(), c_size_t(), c_uint64()
@@ -41,12 +41,10 @@ class _Arguments:
         self.handle_packet = partial(library.is_ice_handle_packet, agent, self.now, self.protocol)
         self.handle_timeout = partial(library.is_ice_handle_timeout, agent, self.now)
         self.poll_timeout = partial(library.is_ice_poll_timeout, agent, byref(self.due))
-        self.poll_timeout_soon = partial(library.is_ice_poll_timeout_soon, agent, byref(self.due))
         self.poll_event = partial(library.is_ice_poll_event, agent, byref(self.event))
         self.poll_transmit = partial(library.is_ice_poll_transmit, agent)
-        self.pair = _abi.NominatedPair()  # the longer one of both structs
-        self.nominated = partial(library.is_ice_nominated, agent, byref(self.pair))
-        self.valid_path = partial(library.is_ice_valid_path, agent, byref(self.pair))
+        self.path = _abi.MediaPath()
+        self.path_for_media = partial(library.is_ice_path_for_media, agent, self.now, byref(self.path))
         self.make_room(_PACKET_LENGTH)
 
     def make_room(self, length: int) -> None:
@@ -107,26 +105,16 @@ class LoopCalls:
             self._release()
         return due if done(code) else None
 
-    def poll_timeout_soon(self) -> int | None:
-        """`IceAgent.poll_timeout_soon`."""
-        self._acquire()
-        try:
-            own = self._spare.pop() if self._spare else self._new()
-            code, due = own.poll_timeout_soon(), own.due.value
-            self._spare.append(own)
-        finally:
-            self._release()
-        return due if done(code) else None
-
-    def media_addresses(self) -> tuple[SocketAddress, SocketAddress] | None:
+    def media_addresses(self, now: int) -> tuple[SocketAddress, SocketAddress] | None:
         """`IceAgent.media_addresses`."""
+        if not 0 <= now <= _GREATEST_TIME:
+            in_range(now, 64, "a time")
         self._acquire()
         try:
             own = self._spare.pop() if self._spare else self._new()
-            code = own.nominated()
-            if code == NOTHING:
-                code = own.valid_path()
-            (path,) = PATH.unpack_from(own.pair)
+            own.now.value = now
+            code = own.path_for_media()
+            (path,) = PATH.unpack_from(own.path)
             self._spare.append(own)
         finally:
             self._release()

@@ -32,7 +32,7 @@ def _pair_text(pair: CandidatePair, local: list[CandidateFields], remote: list[C
 def tried(agent: IceAgent, discarded: Mapping[str, int]) -> str:
     """Says what an agent tried and what came back. `discarded` counts the STUN messages that nobody took, by kind."""
     local, remote, pairs, stats = agent.local_fields(), agent.remote_fields(), agent.pairs, agent.stats
-    removed = agent.removed_pairs()
+    removed, failed = agent.removed_pairs(), agent.failed_sends()
     return "; ".join([
         f"state {agent.state.name.capitalize()}",
         _listed("local candidates", map(_candidate_text, local), len(local)),
@@ -40,6 +40,7 @@ def tried(agent: IceAgent, discarded: Mapping[str, int]) -> str:
         _listed("pairs", (_pair_text(pair, local, remote) for pair in pairs), len(pairs)),
         _listed("removed pairs", map(str, removed), len(removed)),
         f"{stats.bind_request_sent} checks sent, {stats.bind_success_recv} answered, {stats.bind_request_recv} received in all",
+        _listed("failed sends", map(str, failed), len(failed)),
         _listed("discarded", (f"{count} x {kind}" for kind, count in discarded.items()), len(discarded))])
 
 

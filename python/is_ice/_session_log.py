@@ -1,4 +1,4 @@
-"""What a session logs, by children of the logger `is_ice`."""
+"""What a session logs, by children of the logger `is_ice`. The library makes the lines of events, removed pairs and datagrams."""
 
 from __future__ import annotations
 
@@ -8,30 +8,17 @@ from collections.abc import MutableMapping
 from itertools import dropwhile
 from typing import TYPE_CHECKING, Any
 
-from .address import SocketAddress
+from .address import Protocol, SocketAddress
 from .agent import IceAgent
-from .errors import IceError, NoAgent
-from .events import DiscoveredRecv, IceAgentEvent, IceConnectionStateChange, IceRestart, NominatedSend, Rejection, RemovedPair
-from .stun import StunClass, StunMessage
+from .errors import NoAgent
+from .events import DiscoveredRecv, IceAgentEvent, MediaPath, RemovedPair
 
 _MOST_KINDS = 32  # of messages that are counted each for itself
-_CLASSES = {StunClass.REQUEST: "request", StunClass.INDICATION: "indication", StunClass.SUCCESS: "success response",
-            StunClass.FAILURE: "error response"}
 
 if TYPE_CHECKING:
     _Adapter = logging.LoggerAdapter[logging.Logger]
 else:
     _Adapter = logging.LoggerAdapter  # takes a type parameter from Python 3.11 on
-
-
-def kind_of_message(data: bytes) -> str:
-    """Returns the method, the class and the error code of a STUN message, as "Binding error response 401"."""
-    try:
-        message = StunMessage(data)
-    except IceError:
-        return "malformed STUN message"
-    kind = f"{message.method.name.replace('_', ' ').capitalize()} {_CLASSES[message.class_]}"
-    return kind if message.error_code is None else f"{kind} {message.error_code}"
 
 
 class SessionLog(_Adapter):
@@ -54,16 +41,22 @@ class SessionLog(_Adapter):
             pass  # the last one, after the agent was closed
         return f"{self._ufrag}: {msg}", kwargs
 
+    def _line(self, level: int, line: str) -> None:
+        """Logs a line that begins with the username fragment already."""
+        self.logger.log(level, "%s", line)
+
     def event(self, event: IceAgentEvent) -> None:
         """Logs an event of the agent."""
-        if isinstance(event, IceConnectionStateChange):
-            self.info("state %s", event.state.name.capitalize())
-        elif isinstance(event, NominatedSend):
-            self.info("selected %s -> %s", event.source, event.destination)
-        elif isinstance(event, IceRestart):
-            self.info("session begins")
-        elif isinstance(event, DiscoveredRecv):
-            self.debug("discovered %s", event.source)
+        level = logging.DEBUG if isinstance(event, DiscoveredRecv) else logging.INFO
+        if self.isEnabledFor(level):
+            self._line(level, self._agent.event_line(event))
+
+    def send_failed(self, source: SocketAddress, destination: SocketAddress, reason: int) -> None:
+        """Logs that a datagram was not sent, if it is the first one on its path for this reason."""
+        path = MediaPath(source, destination, Protocol.UDP)
+        for failed in self._agent.failed_sends() if self.isEnabledFor(logging.INFO) else []:
+            if (failed.path, failed.reason, failed.times) == (path, reason, 1):
+                self.info("not sent %s", failed)
 
     def removals(self) -> None:
         """Logs each pair that was removed since the last call.
@@ -73,23 +66,20 @@ class SessionLog(_Adapter):
         if not self.isEnabledFor(logging.INFO) or self._agent.removed_pairs(max(0, len(self._removed) - 1)) == self._removed[-1:]:
             return
         known, listed = iter(self._removed), self._agent.removed_pairs()
-        for pair in dropwhile(lambda pair: pair in known, listed):
-            self.info("removed %s", pair)
+        new = len(list(dropwhile(lambda pair: pair in known, listed)))
+        for index in range(len(listed) - new, len(listed)):
+            if (line := self._agent.removed_line(index)) is not None:
+                self._line(logging.INFO, line)
         self._removed = listed
 
     def message_discarded(self, source: SocketAddress, local: SocketAddress, data: bytes) -> None:
         """Counts a STUN message, and logs it if it is the first of its kind: with the reason, as a password that the peer does not know."""
-        kind = self._kind_and_reason(source, local, data)
-        if kind not in self.discarded and len(self.discarded) >= _MOST_KINDS:
-            kind = "other STUN message"
-        self.discarded[kind] += 1
-        if self.discarded[kind] == 1:
-            self.info("discarded %s from %s at %s", kind, source, local)
-
-    def _kind_and_reason(self, source: SocketAddress, local: SocketAddress, data: bytes) -> str:
-        kind = kind_of_message(data)
         try:
-            why = self._agent.rejection(source, local, data)
+            kind = self._agent.packet_kind(source, local, data)
+            if kind not in self.discarded and len(self.discarded) >= _MOST_KINDS:
+                kind = "other STUN message"
+            self.discarded[kind] += 1
+            if self.discarded[kind] == 1 and self.isEnabledFor(logging.INFO):
+                self._line(logging.INFO, self._agent.packet_line(source, local, data))
         except NoAgent:
-            return kind  # a handler closed it
-        return kind if why in (None, Rejection.UNPARSED) else f"{kind} ({why})"
+            pass  # a handler closed it

@@ -115,6 +115,10 @@ class Setters(Unique):
         """
         done(self._c.is_ice_set_lite_timeout(self._at, in_range(nanoseconds, 64, "a time")))
 
+    def set_silence(self, nanoseconds: int | None) -> None:
+        """Sets after what time without an authentic packet the selected path is silent. Default: 5 s. None: it never is."""
+        done(self._c.is_ice_set_silence(self._at, limit_of(nanoseconds)))
+
     def set_max_stun_retransmits(self, limit: int) -> None:
         """Sets after how many checks in a row without a response a pair is removed. BadLimit for 0. Default: 11.
 

@@ -13,7 +13,7 @@ from ._grammar import checked
 from ._library import bytes_from, library, text_from
 from ._locked import holds_the_lock, one_call_at_a_time
 from ._loop_calls import LoopCalls
-from ._settings import Setters
+from ._media import Media, path_of
 from .address import PROTOCOLS, Protocol, SocketAddress, address_of, in_range, socket_of
 from .candidate import AddResult, Candidate, CandidateFields, fields_of, struct_of
 from .errors import BadCandidate, NoAgent, done, error_of, utf8
@@ -21,6 +21,7 @@ from .events import (
     CandidatePair,
     CheckState,
     DiscoveredRecv,
+    Heard,
     IceAgentEvent,
     IceAgentStats,
     IceConnectionState,
@@ -33,7 +34,10 @@ from .events import (
     Rejection,
     Removal,
     RemovedPair,
+    Silent,
     Transmit,
+    Unserved,
+    event_of,
 )
 from .lines import line_refusal
 
@@ -51,6 +55,11 @@ def first_role(made_offer: bool, lite: bool, other_is_lite: bool) -> bool:
     return done(library.calls.is_ice_role(made_offer, lite, other_is_lite))
 
 
+# Events that name a path.
+_PATH_EVENTS: dict[int, type[NominatedSend] | type[Silent] | type[Heard]] = {
+    _abi.NOMINATED_SEND: NominatedSend, _abi.SILENT: Silent, _abi.HEARD: Heard}
+
+
 def _pair_of(pair: _abi.Pair) -> CandidatePair:
     return CandidatePair(
         pair.local, pair.remote, pair.priority, CheckState(pair.state), pair.nominated, pair.selected, pair.checks_sent,
@@ -59,14 +68,13 @@ def _pair_of(pair: _abi.Pair) -> CandidatePair:
 
 
 def _removed_of(pair: _abi.RemovedPair) -> RemovedPair:
-    path = pair.path
     return RemovedPair(
-        MediaPath(socket_of(path.source), socket_of(path.destination), PROTOCOLS[path.protocol]) if pair.has_path else None,
+        path_of(pair.path) if pair.has_path else None,
         pair.priority, CheckState(pair.state), pair.checks_sent, pair.responses, pair.error or None, Removal(pair.reason))
 
 
 @one_call_at_a_time
-class IceAgent(Setters):
+class IceAgent(Media):
     """One side of a session. Its names are those of the Rust crate `is`. Times and durations are whole nanoseconds.
 
     Any thread may use it: its calls are made one at a time, and a thread waits for another one's call. It is freed by `close`, at the
@@ -221,6 +229,16 @@ class IceAgent(Setters):
         code = self._c.is_ice_rejection(self._at, protocol, address_of(source), address_of(destination), contents, len(contents))
         return Rejection.UNPARSED if code == _abi.UNPARSED else None if done(code) else Rejection(code)
 
+    def unserved(self, source: SocketAddress, destination: SocketAddress, contents: bytes,
+                 protocol: Protocol = Protocol.UDP) -> Unserved | None:
+        """Returns why `handle_packet` would accept the datagram, a request, and send no response to it, and changes nothing.
+
+        None if it would send one, and for a response or a datagram that it would not accept: see `rejection`. Ask before
+        `handle_packet`. Unparsed if it is not a STUN message, or one without what ICE requires.
+        """
+        code = self._c.is_ice_unserved(self._at, protocol, address_of(source), address_of(destination), contents, len(contents))
+        return None if done(code) else Unserved(code)
+
     def accepts_message(self, contents: bytes) -> bool:
         """Returns whether it is a message for this agent, from any source, and changes nothing."""
         return done(self._c.is_ice_accepts_message(self._at, contents, len(contents)))
@@ -232,18 +250,12 @@ class IceAgent(Setters):
 
     @holds_the_lock
     def poll_timeout(self) -> int | None:
-        """Returns the time at which to call `handle_timeout` next, or None before the session. Call it before packets are polled."""
-        return self._loop.poll_timeout()
+        """Returns the time at which to call `handle_timeout` next. None before the session, and until the remote credentials are set.
 
-    @holds_the_lock
-    def poll_timeout_soon(self) -> int | None:
-        """Returns that time for an agent that changed since the last `handle_timeout` call: it took a packet, or the peer's credentials
-        or a candidate came; or for one that served an early request in that call.
-
-        So a check that is due at once does not wait for the whole pacing interval. It is the time of `poll_timeout`, or 5 ms after the
-        last call, if that is sooner: no checks may be sent more often (RFC 8445, section 14.2).
+        With the profile `MODERN`, which an agent begins with, it changes nothing: ask at any place, as often as you like. With `ORIGINAL`
+        call it before packets are polled, and keep the earliest time since `handle_timeout`.
         """
-        return self._loop.poll_timeout_soon()
+        return self._loop.poll_timeout()
 
     @holds_the_lock
     def poll_transmit(self) -> Transmit | None:
@@ -262,7 +274,8 @@ class IceAgent(Setters):
             return IceConnectionStateChange(IceConnectionState(event.state))
         if event.kind == _abi.DISCOVERED_RECV:
             return DiscoveredRecv(PROTOCOLS[event.protocol], socket_of(event.source))
-        return NominatedSend(PROTOCOLS[event.protocol], socket_of(event.source), socket_of(event.destination))
+        kind = _PATH_EVENTS[event.kind]
+        return kind(PROTOCOLS[event.protocol], socket_of(event.source), socket_of(event.destination))
 
     def ice_restart(self, creds: IceCreds, keep_local_candidates: bool) -> None:
         """Makes an ICE restart with new local credentials. Then set the peer's new credentials and candidates.
@@ -314,12 +327,12 @@ class IceAgent(Setters):
         path = _abi.MediaPath()
         if not done(self._c.is_ice_valid_path(self._at, byref(path))):
             return None
-        return MediaPath(socket_of(path.source), socket_of(path.destination), PROTOCOLS[path.protocol])
+        return path_of(path)
 
     @holds_the_lock
-    def media_addresses(self) -> tuple[SocketAddress, SocketAddress] | None:
-        """Returns from where to where media goes: the addresses of `nominated_pair`, else of `valid_path`, or None if there is neither."""
-        return self._loop.media_addresses()
+    def media_addresses(self, now: int) -> tuple[SocketAddress, SocketAddress] | None:
+        """Returns the source and the destination of `media_path`, in less time."""
+        return self._loop.media_addresses(now)
 
     @property
     def pairs(self) -> list[CandidatePair]:
@@ -338,6 +351,33 @@ class IceAgent(Setters):
         while done(self._c.is_ice_removed_at(self._at, first + len(pairs), byref(pair))):
             pairs.append(_removed_of(pair))
         return pairs
+
+    def event_line(self, event: IceAgentEvent) -> str:
+        """Returns the line of a log for an event: the local username fragment, a colon and what happened, as `evtj: state Connected`."""
+        told = event_of(event)
+        return text_from(lambda *into: self._c.is_ice_event_line(self._at, byref(told), *into)) or ""
+
+    def removed_line(self, index: int) -> str | None:
+        """Returns the line for a pair of `removed_pairs`, or None if there are not so many."""
+        return text_from(lambda *into: self._c.is_ice_removed_line(self._at, index, *into))
+
+    def packet_line(self, source: SocketAddress, destination: SocketAddress, contents: bytes,
+                    protocol: Protocol = Protocol.UDP) -> str:
+        """Returns the line for a datagram that the agent does not accept, or to which it sends no response.
+
+        It has the kind of message, the reason of `rejection` or `unserved` if there is one, and both addresses.
+        """
+        return self._of_packet(self._c.is_ice_packet_line, source, destination, contents, protocol)
+
+    def packet_kind(self, source: SocketAddress, destination: SocketAddress, contents: bytes,
+                    protocol: Protocol = Protocol.UDP) -> str:
+        """Returns the kind of message and the reason of that line: under this text a program counts datagrams."""
+        return self._of_packet(self._c.is_ice_packet_kind, source, destination, contents, protocol)
+
+    def _of_packet(self, call: Callable[..., int], source: SocketAddress, destination: SocketAddress, contents: bytes,
+                   protocol: Protocol) -> str:
+        ends = address_of(source), address_of(destination)
+        return text_from(lambda *into: call(self._at, protocol, *ends, contents, len(contents), *into)) or ""
 
     def find_pair_for_equivalent_remote_candidate(self, line: str) -> CandidatePair | None:
         """Returns a pair whose remote candidate equals this one in address, base, protocol, kind and related address, or None.

@@ -381,7 +381,7 @@ class Connection(Unique):
         """
         if not self._connected:
             raise ConnectionError("not connected")
-        if path := self._unchecked or self.agent.media_addresses():
+        if path := self._unchecked or self.agent.media_addresses(self._loop.now()):
             self._loop.send(*path, data)
 
     async def sendto(self, data: bytes, component: int) -> None:

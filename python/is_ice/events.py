@@ -3,11 +3,12 @@
 from __future__ import annotations
 
 import enum
+import os
 from dataclasses import dataclass, field
 from typing import NamedTuple, Union
 
 from . import _abi
-from .address import Protocol, SocketAddress
+from .address import Protocol, SocketAddress, address_of
 
 
 class IceConnectionState(enum.IntEnum):
@@ -78,7 +79,36 @@ class NominatedSend:
     destination: SocketAddress
 
 
-IceAgentEvent = Union[IceRestart, IceConnectionStateChange, DiscoveredRecv, NominatedSend]
+@dataclass(frozen=True)
+class Silent:
+    """No authentic packet came on the selected path for as long as `IceAgent.set_silence` says."""
+
+    protocol: Protocol
+    source: SocketAddress
+    destination: SocketAddress
+
+
+@dataclass(frozen=True)
+class Heard:
+    """One came again on the selected path."""
+
+    protocol: Protocol
+    source: SocketAddress
+    destination: SocketAddress
+
+
+IceAgentEvent = Union[IceRestart, IceConnectionStateChange, DiscoveredRecv, NominatedSend, Silent, Heard]
+_KINDS: dict[type, int] = {IceRestart: _abi.RESTARTED, IceConnectionStateChange: _abi.STATE_CHANGED, DiscoveredRecv: _abi.DISCOVERED_RECV,
+                           NominatedSend: _abi.NOMINATED_SEND, Silent: _abi.SILENT, Heard: _abi.HEARD}
+
+
+def event_of(event: IceAgentEvent) -> _abi.Event:
+    """Converts to the library's struct."""
+    told = _abi.Event(kind=_KINDS[type(event)], state=getattr(event, "state", 0), protocol=getattr(event, "protocol", 0))
+    for name in ("source", "destination"):
+        if hasattr(event, name):
+            setattr(told, name, address_of(getattr(event, name)))
+    return told
 
 
 class Transmit(NamedTuple):
@@ -143,6 +173,22 @@ class MediaPath:
     protocol: Protocol
 
 
+@dataclass(frozen=True)
+class FailedSend:
+    """Datagrams on one path that the system did not send for one reason, as `IceAgent.send_failed` reported them.
+
+    `reason` is the `errno` of the error, and `times` how many there were. It prints as
+    `10.0.0.1:1000 -> 10.0.0.2:2000: Network is unreachable, 3 times`.
+    """
+
+    path: MediaPath
+    reason: int
+    times: int
+
+    def __str__(self) -> str:
+        return f"{self.path.source} -> {self.path.destination}: {os.strerror(self.reason)}, {self.times} times"
+
+
 class Removal(enum.IntEnum):
     """Why a pair was removed.
 
@@ -183,6 +229,30 @@ class Rejection(enum.IntEnum):
     NO_CHECK = _abi.REJECTED_NO_CHECK
     PATH = _abi.REJECTED_PATH
     REMOTE_PASSWORD = _abi.REJECTED_REMOTE_PASSWORD
+
+    def __str__(self) -> str:
+        return _abi.TEXTS[self]
+
+    def __format__(self, spec: str) -> str:
+        return format(str(self), spec)
+
+
+class Unserved(enum.IntEnum):
+    """Why an accepted request gets no response: the first reason that applies. It prints as `request to an address that no local
+    candidate has`.
+
+    EARLY: the peer's credentials are not set yet, and the request waits for them. DESTINATION: the address at which it arrived is that of
+    no local candidate. USE_CANDIDATE: it has USE-CANDIDATE, and the agent is controlling. SENDER: only remote candidates that were
+    invalidated have its source. LIMIT: no remote candidate has its source, and there is no place for another one: see
+    `set_max_discovered`. LOCAL: the local candidate was invalidated, and has no pair with the sender.
+    """
+
+    EARLY = _abi.UNSERVED_EARLY
+    DESTINATION = _abi.UNSERVED_DESTINATION
+    USE_CANDIDATE = _abi.UNSERVED_USE_CANDIDATE
+    SENDER = _abi.UNSERVED_SENDER
+    LIMIT = _abi.UNSERVED_LIMIT
+    LOCAL = _abi.UNSERVED_LOCAL
 
     def __str__(self) -> str:
         return _abi.TEXTS[self]

@@ -16,16 +16,18 @@ from .agent import IceAgent
 from .candidate import Candidate
 from .demux import is_stun
 from .errors import HasAgent, IceError, NoAgent, Unparsed
-from .events import IceAgentEvent
+from .events import IceAgentEvent, Unserved
 
 _log = logging.getLogger(__name__)
 
-_AGAIN = 50_000_000  # nanoseconds until `handle_timeout` is called again if it failed, or if the agent names no time
+_AGAIN = 50_000_000  # nanoseconds until `handle_timeout` is called again if it failed
+_IDLE = 1.0  # seconds until the agent is asked again, if it names no time
 _RECEIVE_BUFFER = 256 * 1024
 
 EventHandler = Callable[[IceAgentEvent], None]
 DatagramHandler = Callable[[SocketAddress, SocketAddress, bytes], None]
 StunHandler = Callable[[SocketAddress, SocketAddress, bytes], object]
+FailureHandler = Callable[[SocketAddress, SocketAddress, OSError], None]
 Send = Callable[[SocketAddress, bytes], None]
 
 
@@ -33,6 +35,7 @@ class _Socket(asyncio.DatagramProtocol):
     def __init__(self, receive: DatagramHandler) -> None:
         self._receive = receive
         self.local = SocketAddress("", 0)
+        self.error: Exception | None = None  # of the datagram that was sent last
 
     def connection_made(self, transport: asyncio.BaseTransport) -> None:
         """Stores the local address, and makes room for bursts."""
@@ -43,31 +46,36 @@ class _Socket(asyncio.DatagramProtocol):
         """Passes a datagram on with both addresses."""
         self._receive(SocketAddress(*addr), self.local, data)
 
+    def error_received(self, exc: Exception) -> None:
+        """Keeps the error of a datagram that the system did not send: asyncio reports it here, and `sendto` returns."""
+        self.error = exc
+
 
 class IceLoop(Unique):
     """An agent, its sockets and its timer. It cannot be copied or pickled.
 
     Calls `on_event` with events, `on_media` with datagrams that are not STUN messages, and `on_stun` with STUN messages that are not
     for the agent, such as responses of STUN and TURN servers. The last two get the source, the local address and the bytes; `on_stun`
-    returns True if it took the message. If a handler raises, the event loop's exception handler gets the exception, and the session
-    goes on. A handler may close the loop and the agent.
+    returns True if it took the message. Calls `on_failed_send` with the source, the destination and the error of a datagram that the
+    system did not send, each time; it is lost, as on the network. If a handler raises, the event loop's exception handler gets the
+    exception, and the session goes on. A handler may close the loop and the agent.
 
-    The logger `is_ice.loop` has a line for each event, for each pair that is removed, and for the first STUN message of each kind that
-    nobody took.
+    The logger `is_ice.loop` has a line for each event, for each pair that is removed, for the first STUN message of each kind that
+    nobody took or that got no response, and for the first datagram on each path that was not sent.
     """
 
-    def __init__(self, agent: IceAgent, on_event: EventHandler, on_media: DatagramHandler,
-                 on_stun: StunHandler | None = None) -> None:
+    def __init__(self, agent: IceAgent, on_event: EventHandler, on_media: DatagramHandler, on_stun: StunHandler | None = None,
+                 on_failed_send: FailureHandler | None = None) -> None:
         if hasattr(self, "agent"):
             raise HasAgent
         self.agent = agent
         self.log = SessionLog(_log, agent)
-        self._on_event, self._on_media, self._on_stun = on_event, on_media, on_stun
+        self._on_event, self._on_media, self._on_stun, self._on_failed_send = on_event, on_media, on_stun, on_failed_send
         self._start = time.monotonic_ns()
         self._sends: dict[SocketAddress, Send] = {}
         self._closes: list[Callable[[], None]] = []
         self._timer: asyncio.TimerHandle | None = None
-        self._due: int | None = None  # the earliest time that the timer was set to since the last `handle_timeout` call
+        self._due: int | None = None  # what the timer is set to
         self._began = self._closed = False
 
     def now(self) -> int:
@@ -80,7 +88,10 @@ class IceLoop(Unique):
         transport, protocol = await loop.create_datagram_endpoint(lambda: _Socket(self.receive), local_addr=(ip, port))
 
         def send(destination: SocketAddress, data: bytes) -> None:
+            protocol.error = None
             transport.sendto(data, destination[:2] if destination.version == 4 else tuple(destination))
+            if protocol.error:
+                raise protocol.error
 
         self.add_socket(protocol.local, send, transport.close)
         return protocol.local
@@ -92,7 +103,8 @@ class IceLoop(Unique):
     def add_socket(self, local: SocketAddress, send: Send, close: Callable[[], None] | None = None) -> None:
         """Adds a socket of the caller's, such as a TURN allocation, whose local address is the relayed one.
 
-        The loop calls `send` with a destination and a datagram, and `close` when it is closed. Pass what arrives to `receive`.
+        The loop calls `send` with a destination and a datagram, and `close` when it is closed. `send` raises the OSError of a datagram that
+        is not sent. Pass what arrives to `receive`.
         """
         if self._closed:
             if close:
@@ -103,28 +115,40 @@ class IceLoop(Unique):
             self._closes.append(close)
 
     def begin(self) -> None:
-        """Starts the session: calls `handle_timeout` now, and at each later time that `poll_timeout` returns, or sooner after `wake`.
+        """Starts the session: calls `handle_timeout` now, and at each time that `poll_timeout` returns.
 
         Checks of the peer may come before. The agent stores them until it has the peer's credentials, and responds then.
         """
-        self._began = not self._closed
+        self._began, self._due = not self._closed, None
         self._timed_out()
 
     def wake(self) -> None:
         """Sends packets, reports events and sets the timer. Call it after each call of yours on the agent."""
-        self._turn(soon=True)
+        self._turn()
 
     def send(self, source: SocketAddress, destination: SocketAddress, data: bytes) -> None:
         """Sends a datagram from the socket at a local address. Without such a socket the datagram is lost."""
         if send := self._sends.get(source):
-            send(destination, data)
+            try:
+                send(destination, data)
+            except OSError as error:
+                self._note_failed_send(source, destination, error)
+
+    def _note_failed_send(self, source: SocketAddress, destination: SocketAddress, error: OSError) -> None:
+        """Passes it to the agent, which lists it, to the log and to the handler."""
+        try:
+            self.agent.send_failed(source, destination, error.errno or 0)
+            self.log.send_failed(source, destination, error.errno or 0)
+        except IceError:
+            return  # as when a handler closed the agent
+        self._report(self._on_failed_send, source, destination, error)
 
     def receive(self, source: SocketAddress, local: SocketAddress, data: bytes) -> None:
         """Takes a datagram that arrived at a local address. The loop's own sockets call it themselves."""
         if self._closed:
             return
         if is_stun(data):
-            self._take(source, local, data)
+            self._take(source, local, bytes(data))
         else:
             self._on_media(source, local, data)
 
@@ -144,23 +168,29 @@ class IceLoop(Unique):
             self._closes.pop()()
 
     def _timed_out(self) -> None:
+        due, self._due = self._due, None
         if not self._began:
             return
-        self._due, served = None, False
+        if due is not None and self.now() < due:  # a timer may be early, and a call too early would only add its delay
+            self._set_timer(due)
+            return
         try:
             early = self.agent.early_requests
             self.agent.handle_timeout(self.now())
             served = self.agent.early_requests < early
-            self._turn(soon=served)
         except NoAgent:
             self.close()
         except IceError:
-            pass  # as when out of memory: the agent is unchanged
-        if self._began and self._due is None:
-            self._set_timer(self.now() + (0 if served else _AGAIN))
+            self._set_timer(self.now() + _AGAIN)  # as when out of memory: the agent is unchanged
+        else:
+            self._turn()
+            if served and self._began and self._due is None:  # with `Original` there is no time yet: the call did no more
+                self._set_timer(self.now())
 
     def _take(self, source: SocketAddress, local: SocketAddress, data: bytes) -> None:
         try:
+            if self.agent.unserved(source, local, data) not in (None, Unserved.EARLY):  # an early request waits for its response
+                self.log.message_discarded(source, local, data)
             accepted = self.agent.handle_packet(self.now(), source, local, data)
         except Unparsed:
             accepted = False  # a response without MESSAGE-INTEGRITY, as of a STUN server
@@ -170,7 +200,7 @@ class IceLoop(Unique):
         except IceError:
             return  # the agent is unchanged, as if the datagram had been lost
         if accepted:
-            self._turn(soon=True)
+            self._turn()
         else:
             self._pass_on(source, local, data)
 
@@ -178,14 +208,11 @@ class IceLoop(Unique):
         if not self._report(self._on_stun, source, local, data):
             self.log.message_discarded(source, local, data)
 
-    def _turn(self, soon: bool) -> None:
-        """`soon`: the agent has changed since `handle_timeout`, or served an early request, so the next call need not wait for its pacing
-        interval. Before the session only packets are sent: responses to checks of a peer that is known.
-        """
+    def _turn(self) -> None:
+        """Before the session only packets are sent: responses to checks of a peer that is known."""
         try:
-            due = self.agent.poll_timeout_soon() if soon else self.agent.poll_timeout()  # before packets are polled, and handlers run
-            if self._began and due is not None:
-                self._set_timer(due)
+            if self._began:
+                self._set_timer(self.agent.poll_timeout())  # with `Original` the time is sooner before packets are polled
             while not self._closed and (packet := self.agent.poll_transmit()):
                 self.send(packet.source, packet.destination, packet.contents)
             if not self._began:
@@ -194,17 +221,27 @@ class IceLoop(Unique):
             while self._began and (event := self.agent.poll_event()):
                 self.log.event(event)
                 self._report(self._on_event, event)
+            if self._began:
+                self._set_timer(self.agent.poll_timeout())
         except NoAgent:
             self.close()
 
-    def _set_timer(self, due: int) -> None:
-        """Sets the timer, unless it is set to an earlier time."""
-        if self._due is not None and self._due <= due:
+    def _set_timer(self, due: int | None) -> None:
+        """Sets the timer to this time, unless it is set to an earlier one.
+
+        None: nothing is due until a call changes the agent, which `wake` reports; it is asked again anyway. Then a time that is set stays:
+        that of a call that failed.
+        """
+        if self._due is not None and (due is None or self._due <= due):
             return
         self._due = due
         if self._timer:
             self._timer.cancel()
-        self._timer = asyncio.get_running_loop().call_later(max(0, due - self.now()) / 1e9, self._timed_out)
+        loop = asyncio.get_running_loop()
+        if due is None:
+            self._timer = loop.call_later(_IDLE, self._turn)
+        else:
+            self._timer = loop.call_later(max(0, due - self.now()) / 1e9, self._timed_out)
 
     def _report(self, handler: Callable[..., object] | None, *told: object) -> object:
         """Calls a handler, and returns what it returns."""

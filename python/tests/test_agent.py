@@ -57,6 +57,7 @@ from is_ice import (
     TooFewRandomBytes,
     TooManyCandidates,
     Unparsed,
+    Unserved,
     has_mdns_name,
     line_refusal,
     new_creds,
@@ -367,7 +368,7 @@ class Sessions(unittest.TestCase):
         pair = a.nominated_pair
         assert pair is not None
         self.assertEqual((pair.source, pair.destination), (HERE, THERE))
-        self.assertEqual(a.media_addresses(), (HERE, THERE))
+        self.assertEqual(a.media_addresses(BEGINNING), (HERE, THERE))
         events = []
         while event := a.poll_event():
             events.append(event)
@@ -393,7 +394,7 @@ class Sessions(unittest.TestCase):
     def test_a_path_is_valid_before_it_is_selected(self) -> None:
         a, b = two_agents()
         self.assertIsNone(b.valid_path)
-        self.assertIsNone(b.media_addresses())
+        self.assertIsNone(b.media_addresses(BEGINNING))
         b.handle_timeout(BEGINNING)
         for agent, other in ((b, a), (a, b)):
             packet = agent.poll_transmit()
@@ -401,7 +402,7 @@ class Sessions(unittest.TestCase):
             self.assertTrue(other.handle_packet(BEGINNING, packet.source, packet.destination, packet.contents))
         self.assertIsNone(b.nominated_pair)
         self.assertEqual(b.valid_path, MediaPath(THERE, HERE, Protocol.UDP))
-        self.assertEqual(b.media_addresses(), (THERE, HERE))
+        self.assertEqual(b.media_addresses(BEGINNING), (THERE, HERE))
 
     def test_a_query_of_the_selected_pair_polls_no_events(self) -> None:
         """Once as many events wait as `set_max_discovered` allows, by default 32, no further source is reported."""
@@ -462,7 +463,7 @@ class Sessions(unittest.TestCase):
         a, _ = two_agents()
         self.assertIsNone(a.poll_timeout())
         a.handle_timeout(BEGINNING)
-        self.assertEqual(a.poll_timeout(), BEGINNING + SECOND // 100)
+        self.assertEqual(a.poll_timeout(), BEGINNING + SECOND // 10)
 
 
 class Errors(unittest.TestCase):
@@ -722,6 +723,29 @@ class Values(unittest.TestCase):
                                   (StunMethod.BINDING, StunClass.INDICATION, Rejection.CLASS)):
             other = write_message(method, kind, bytes(12))
             self.assertIs(b.rejection(HERE, THERE, other), why)
+
+    def test_a_request_without_a_response_has_a_reason(self) -> None:
+        a, b = two_agents()
+        a.handle_timeout(BEGINNING)
+        check = a.poll_transmit()
+        assert check is not None
+        way = (check.source, check.destination)
+        self.assertIsNone(b.unserved(*way, check.contents))
+        self.assertIs(b.unserved(HERE, SocketAddress("0.0.0.0", 2000), check.contents), Unserved.DESTINATION)
+        self.assertEqual(f"{Unserved.DESTINATION}", "request to an address that no local candidate has")
+        self.assertIsNone(a.unserved(*way, check.contents))  # it is rejected
+        with self.assertRaises(Unparsed):
+            b.unserved(*way, b"media")
+        b.invalidate_candidate(LINE_OF_THERE.replace("10.0.0.2 2000", "10.0.0.1 1000"))
+        self.assertIs(b.unserved(*way, check.contents), Unserved.SENDER)
+        b.set_max_discovered(0)
+        self.assertIs(b.unserved(SocketAddress("10.0.0.3", 1000), THERE, check.contents), Unserved.LIMIT)
+        b.invalidate_candidate(Candidate.host(THERE))
+        b.set_max_discovered(None)
+        self.assertIs(b.unserved(SocketAddress("10.0.0.3", 1000), THERE, check.contents), Unserved.LOCAL)
+        early = IceAgent(IceCreds("BBBB", "Q" * 22))
+        self.assertIs(early.unserved(*way, check.contents), Unserved.EARLY)
+        self.assertTrue(early.handle_packet(BEGINNING, *way, check.contents))
 
     def test_candidates_of_each_kind(self) -> None:
         agent = IceAgent()

@@ -243,7 +243,7 @@ class Failures(unittest.IsolatedAsyncioTestCase):
         a._loop._start -= 40_000_000_000  # 40 s pass for the agent
         a.agent.add_remote_candidate(NOBODY)
         a._loop.begin()
-        self.assertEqual((a.agent.state, a.agent.media_addresses()), (IceConnectionState.CHECKING, None))
+        self.assertEqual((a.agent.state, a.agent.media_addresses(a._loop.now())), (IceConnectionState.CHECKING, None))
         with mock.patch.object(a._loop, "send") as sent:
             await a.send(b"lost")
         sent.assert_not_called()

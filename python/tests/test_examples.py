@@ -11,7 +11,7 @@ from pathlib import Path
 from pairs import PATIENCE
 
 EXAMPLES = Path(__file__).resolve().parent.parent / "examples"
-PLAYS_CHATS = EXAMPLES.parent.parent / "c" / "tests" / "chat.py"
+PLAYS_CHATS = EXAMPLES.parent.parent / "c" / "tests"
 
 
 def output(name: str, *arguments: str) -> str:
@@ -31,10 +31,16 @@ class Examples(unittest.TestCase):
         self.assertEqual(len(modern), 2)
         self.assertLess(max(modern), 100)
 
-    def test_chats_restart_lose_their_peer_and_move(self) -> None:
-        program = [sys.executable, str(EXAMPLES / "chat.py")]
-        ran = subprocess.run([sys.executable, PLAYS_CHATS, *program], capture_output=True, text=True, timeout=120 * PATIENCE)
+    def play_chats(self, test: str) -> None:
+        command = [sys.executable, str(PLAYS_CHATS / test), sys.executable, str(EXAMPLES / "chat.py")]
+        ran = subprocess.run(command, capture_output=True, text=True, timeout=120 * PATIENCE)
         self.assertEqual(ran.returncode, 0, ran.stdout + ran.stderr)
+
+    def test_chats_restart_lose_their_peer_and_move(self) -> None:
+        self.play_chats("chat.py")
+
+    def test_chats_lose_no_line_to_restarts_and_report_silence(self) -> None:
+        self.play_chats("chat_lines.py")
 
     def test_calls_are_measured(self) -> None:
         self.assertEqual(len(re.findall(r": \d+ ns$", output("calls.py", "1"), re.M)), 6)

@@ -3,6 +3,7 @@
 from __future__ import annotations
 
 import asyncio
+import errno
 import logging
 import unittest
 from types import SimpleNamespace
@@ -13,16 +14,25 @@ import is_ice.connection
 from is_ice import (
     CandidateKind,
     CheckState,
+    DiscoveredRecv,
+    FailedSend,
+    Heard,
     IceAgent,
+    IceAgentEvent,
     IceConnectionState,
+    IceConnectionStateChange,
+    IceCreds,
+    IceRestart,
     MediaPath,
+    NominatedSend,
     Protocol,
     Removal,
     RemovedPair,
+    Silent,
     SocketAddress,
 )
 from is_ice._report import tried
-from is_ice._session_log import SessionLog, kind_of_message
+from is_ice._session_log import SessionLog
 from is_ice.mdns import Mdns
 from is_ice.stun import StunClass, StunMethod, write_message
 
@@ -89,7 +99,8 @@ class Lines(unittest.IsolatedAsyncioTestCase):
 
     def test_each_removed_pair_has_a_line(self) -> None:
         listed: list[RemovedPair] = []
-        lister: Any = SimpleNamespace(local_credentials=SimpleNamespace(ufrag="abcd"), removed_pairs=lambda first=0: listed[first:])
+        lister: Any = SimpleNamespace(local_credentials=SimpleNamespace(ufrag="abcd"), removed_pairs=lambda first=0: listed[first:],
+                                      removed_line=lambda index: f"abcd: removed {listed[index]}")
         log = SessionLog(logging.getLogger("is_ice.test"), lister)
         cases: list[tuple[list[int], list[int]]] = [
             ([], []), ([1, 2], [1, 2]), ([1, 2], []), ([1, 2, 2], [2]),  # one more that is equal
@@ -120,12 +131,30 @@ class Lines(unittest.IsolatedAsyncioTestCase):
         self.assertEqual((len(log.discarded), log.discarded["other STUN message"]), (33, 68))
 
     def test_kinds_of_messages(self) -> None:
-        for method, class_, kind in ((StunMethod.ALLOCATE, StunClass.SUCCESS, "Allocate success response"),
-                                     (StunMethod.CREATE_PERMISSION, StunClass.REQUEST, "Create permission request"),
-                                     (StunMethod.DATA, StunClass.INDICATION, "Data indication")):
-            self.assertEqual(kind_of_message(write_message(method, class_, bytes(12))), kind)
+        agent = IceAgent()
+        for method, class_, kind in ((StunMethod.ALLOCATE, StunClass.SUCCESS, "Allocate success response (not a Binding message)"),
+                                     (StunMethod.CREATE_PERMISSION, StunClass.REQUEST, "Create permission request (not a Binding message)"),
+                                     (StunMethod.DATA, StunClass.INDICATION, "Data indication (not a Binding message)"),
+                                     (StunMethod.BINDING, StunClass.INDICATION, "Binding indication (neither a request nor a response)")):
+            self.assertEqual(agent.packet_kind(THERE, HERE, write_message(method, class_, bytes(12))), kind)
         for other in (b"", b"\0" * 30, unauthorized()[:-3]):
-            self.assertEqual(kind_of_message(other), "malformed STUN message")
+            self.assertEqual(agent.packet_kind(THERE, HERE, other), "malformed STUN message")
+
+    def test_lines(self) -> None:
+        agent = IceAgent(IceCreds("evtj", "h" * 22))
+        cases: list[tuple[IceAgentEvent, str]] = [
+            (IceRestart(agent.local_credentials), "session begins"),
+            (IceConnectionStateChange(IceConnectionState.CONNECTED), "state Connected"),
+            (DiscoveredRecv(Protocol.UDP, THERE), f"discovered {THERE}"),
+            (NominatedSend(Protocol.UDP, HERE, THERE), f"selected {HERE} -> {THERE}"),
+            (Silent(Protocol.UDP, HERE, THERE), f"silent {HERE} -> {THERE}"),
+            (Heard(Protocol.UDP, HERE, THERE), f"heard again {HERE} -> {THERE}"),
+        ]
+        for event, line in cases:
+            self.assertEqual(agent.event_line(event), f"evtj: {line}")
+        self.assertIsNone(agent.removed_line(0))
+        self.assertEqual(agent.packet_line(THERE, HERE, unauthorized()),
+                         f"evtj: discarded Binding error response 401 (response to no pending check) from {THERE} at {HERE}")
 
 
 class Failures(unittest.IsolatedAsyncioTestCase):
@@ -160,7 +189,7 @@ class Failures(unittest.IsolatedAsyncioTestCase):
         self.assertEqual(lines[-1], "state Disconnected")
         self.assertIn(f"; pairs: none; removed pairs: {lines[-2].removeprefix('removed ')}; ", told)
         self.assertIn(f"; local candidates: 127.0.0.1:{a.local_candidates[0].port} (host); remote candidates: 127.0.0.1:9 (host); ", told)
-        self.assertRegex(told, "; [1-9][0-9]* checks sent, 0 answered, 0 received in all; discarded: none$")
+        self.assertRegex(told, "; [1-9][0-9]* checks sent, 0 answered, 0 received in all; failed sends: none; discarded: none$")
         await a.close()
 
     async def test_there_is_no_time_left(self) -> None:
@@ -223,13 +252,16 @@ class Failures(unittest.IsolatedAsyncioTestCase):
         of_ten: Any = SimpleNamespace(
             local_fields=lambda: [fields(1)], remote_fields=lambda: [fields(port) for port in range(1, 101)], pairs=[pair] * 9,
             removed_pairs=lambda: [removed_to(2000, path=False)] * 9,
+            failed_sends=lambda: [FailedSend(MediaPath(HERE, THERE, Protocol.UDP), errno.EPERM, 3)] * 9,
             stats=SimpleNamespace(bind_request_sent=27, bind_success_recv=18, bind_request_recv=9), state=IceConnectionState.CONNECTED)
         told = tried(of_ten, {}).split("; ")
         self.assertEqual(told[1], "local candidates: 127.0.0.1:1 (server-reflexive)")
         self.assertRegex(told[2], r"^remote candidates: (127.0.0.1:[1-8] \(server-reflexive\)(, )?){8} and 92 more$")
         self.assertRegex(told[3], "^pairs: .*127.0.0.1:1 -> 127.0.0.1:100 succeeded, 3 checks sent, 2 answered, 1 received and 1 more$")
         self.assertRegex(told[4], "^removed pairs: (unknown path in progress, 3 checks sent, 0 answered: no response(, )?){8} and 1 more$")
-        self.assertEqual(told[5:], ["27 checks sent, 18 answered, 9 received in all", "discarded: none"])
+        self.assertEqual(told[5], "27 checks sent, 18 answered, 9 received in all")
+        self.assertRegex(told[6], f"^failed sends: ({HERE} -> {THERE}: Operation not permitted, 3 times(, )?){{8}} and 1 more$")
+        self.assertEqual(told[7:], ["discarded: none"])
 
 
 if __name__ == "__main__":

@@ -290,7 +290,7 @@ def receive_from(side: Side, local: SocketAddress, first: int, forged: bytes) ->
 
 class Many(unittest.IsolatedAsyncioTestCase):
     async def test_requests_of_strangers_cost_no_memory_and_no_more_time(self) -> None:
-        """From 22,000 addresses: some have no MESSAGE-INTEGRITY, the others one under a wrong password."""
+        """From 39,000 addresses: every second one has no MESSAGE-INTEGRITY, the others one under a wrong password."""
         side = Side(False)
         side.loop = IceLoop(side.agent, side.note, nothing, nothing)
         local = await side.loop.open("127.0.0.1")
@@ -301,9 +301,9 @@ class Many(unittest.IsolatedAsyncioTestCase):
         side.loop.begin()
         tracemalloc.start()
         self.addCleanup(tracemalloc.stop)
-        took = [receive_from(side, local, first, forged) for first in range(0, 17000, 1000)]
-        most = tracemalloc.get_traced_memory()[1]  # the module keeps at most 16,384 addresses
-        took += [receive_from(side, local, first, forged) for first in range(17000, 22000, 1000)]
+        took = [receive_from(side, local, first, forged) for first in range(0, 34000, 1000)]
+        most = tracemalloc.get_traced_memory()[1]  # the module keeps at most 16,384 addresses of each of the two
+        took += [receive_from(side, local, first, forged) for first in range(34000, 39000, 1000)]
         self.assertLess(tracemalloc.get_traced_memory()[1] - most, 1 << 18)
         self.assertLess(min(took[-5:]), 3 * min(took[:5]))
         self.assertEqual((side.agent.remote_candidates(), side.agent.pairs, side.agent.stats.bind_request_recv), ([], [], 0))

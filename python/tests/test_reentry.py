@@ -11,7 +11,7 @@ from typing import Any
 
 from is_ice import Candidate, IceAgent, IceCreds, Protocol, SocketAddress, Unparsed
 from is_ice._loop_calls import LoopCalls
-from is_ice._abi import NOTHING, OK
+from is_ice._abi import OK
 
 HERE, THERE = SocketAddress("10.0.0.1", 1000), SocketAddress("10.0.0.2", 2000)
 
@@ -45,9 +45,6 @@ class Library:
         due._obj.value = self._next()
         return self._ends()
 
-    def is_ice_poll_timeout_soon(self, agent: Any, due: Any) -> int:
-        return self.is_ice_poll_timeout(agent, due)
-
     def is_ice_poll_transmit(self, agent: Any, buffer: Any, size: Any, packet: Any) -> int:
         number = self._next()
         packet._obj.source.family = packet._obj.destination.family = 4
@@ -55,12 +52,9 @@ class Library:
         buffer._obj[:number] = bytes([number]) * number
         return self._ends()
 
-    def is_ice_nominated(self, agent: Any, pair: Any) -> int:
-        return NOTHING
-
-    def is_ice_valid_path(self, agent: Any, pair: Any) -> int:
-        pair._obj.source.family = pair._obj.destination.family = 4
-        pair._obj.source.port = self._next()
+    def is_ice_path_for_media(self, agent: Any, now: Any, path: Any) -> int:
+        path._obj.source.family = path._obj.destination.family = 4
+        path._obj.source.port = self._next()
         return self._ends()
 
     def is_ice_poll_event(self, agent: Any, event: Any) -> int:
@@ -103,13 +97,12 @@ class Reentry(unittest.TestCase):
         return found
 
     def test_a_path_before_the_result_is_read(self) -> None:
-        self.assertEqual([path[0].port for path in self.nested(self.calls.media_addresses)], [1, 2])
+        self.assertEqual([path[0].port for path in self.nested(lambda: self.calls.media_addresses(7))], [1, 2])
 
     def test_polls_before_the_result_is_read(self) -> None:
         self.assertEqual(self.nested(self.calls.poll_timeout), [1, 2])
-        self.assertEqual(self.nested(self.calls.poll_timeout_soon), [3, 4])
-        self.assertEqual([event.kind for event in self.nested(self.calls.poll_event)], [5, 6])
-        self.assertEqual([(p.source.port, p.contents) for p in self.nested(self.calls.poll_transmit)], [(7, b"\7" * 7), (8, b"\x08" * 8)])
+        self.assertEqual([event.kind for event in self.nested(self.calls.poll_event)], [3, 4])
+        self.assertEqual([(p.source.port, p.contents) for p in self.nested(self.calls.poll_transmit)], [(5, b"\5" * 5), (6, b"\6" * 6)])
 
 
 class SignalHandlers(unittest.TestCase):

@@ -5,10 +5,13 @@
 mod signaling;
 
 use is::stun::{StunMessage, StunPacket};
-use is::{Consent, IceAgent, IceAgentEvent, IceCreds, Protocol};
+use is::{Consent, IceAgent, IceAgentEvent, IceCreds, Protocol, SessionLog, SilenceEvent};
 use signaling::{Result, address, restart, take, typed};
-use std::net::UdpSocket;
+use std::net::{SocketAddr, UdpSocket};
 use std::time::{Duration, Instant};
+
+/// After so long without a packet of the peer it says so.
+const SILENCE: Duration = Duration::from_secs(2);
 
 fn report(agent: &mut IceAgent, socket: &UdpSocket, event: IceAgentEvent) -> Result<()> {
     if let IceAgentEvent::NominatedSend { source, destination, .. } = event {
@@ -26,41 +29,53 @@ fn report(agent: &mut IceAgent, socket: &UdpSocket, event: IceAgentEvent) -> Res
     Ok(())
 }
 
-fn receive(agent: &mut IceAgent, socket: &UdpSocket, timeout: &mut Instant) -> Result<()> {
+/// Sends a datagram. One that the system does not send is lost, as on the network. The agent lists it, and the first one is an error.
+fn send(agent: &mut IceAgent, socket: &UdpSocket, source: SocketAddr, destination: SocketAddr, bytes: &[u8]) -> Result<()> {
+    let Err(why) = socket.send_to(bytes, destination) else { return Ok(()) };
+    let reason = why.raw_os_error().map_or(0, i32::unsigned_abs);
+    agent.try_send_failed(Protocol::Udp, source, destination, reason)?;
+    match SessionLog::new().failed_send(agent, Protocol::Udp, source, destination, reason) {
+        Some(line) => Err(line.into()),
+        None => Ok(()),
+    }
+}
+
+fn receive(agent: &mut IceAgent, socket: &UdpSocket) -> Result<()> {
     let mut buffer = [0; 1500];
     let Ok((length, source)) = socket.recv_from(&mut buffer) else { return Ok(()) };
     if let Ok(message) = StunMessage::parse(&buffer[..length]) {
         let packet = StunPacket { proto: Protocol::Udp, source, destination: socket.local_addr()?, message };
-        if agent.try_handle_packet(Instant::now(), packet)? {
-            *timeout = agent.poll_timeout_soon().map_or(*timeout, |at| at.min(*timeout)); // a check may be due at once
-        }
-    } else if agent.has_viable_remote_candidate(source) {
+        agent.try_handle_packet(Instant::now(), packet)?;
+    } else if agent.takes_media_from(Instant::now(), source) {
         println!("heard {}", String::from_utf8_lossy(&buffer[..length]).escape_debug());
     }
     Ok(())
 }
 
 /// One iteration of the loop. It ends ten times a second, for lines to be read.
-fn turn(agent: &mut IceAgent, socket: &mut UdpSocket, host: &str, timeout: &mut Instant) -> Result<()> {
+fn turn(agent: &mut IceAgent, socket: &mut UdpSocket, host: &str) -> Result<()> {
     let (now, here) = (Instant::now(), socket.local_addr()?.ip());
     if let Some(ip) = address(host).ok().filter(|ip| *ip != here) {
         *socket = UdpSocket::bind((ip, 0))?;
         restart(agent, socket)?;
     }
-    if *timeout <= now {
-        *timeout = now + Duration::from_secs(1); // at the latest
+    if agent.poll_timeout().is_some_and(|at| at <= now) {
         agent.try_handle_timeout(now)?;
+    }
+    while let Some(packet) = agent.poll_transmit() {
+        send(agent, socket, packet.source, packet.destination, &packet.contents)?;
     }
     while let Some(event) = agent.poll_event() {
         report(agent, socket, event)?;
     }
-    *timeout = agent.poll_timeout().map_or(*timeout, |at| at.min(*timeout)); // before packets are polled
-    while let Some(packet) = agent.poll_transmit() {
-        let _ = socket.send_to(&packet.contents, packet.destination); // what is not sent is lost, as on the network
+    match agent.poll_silence() {
+        Some(SilenceEvent::Silent(_)) => println!("silent no packet for {} s", SILENCE.as_secs()),
+        Some(SilenceEvent::Heard(_)) => println!("again a packet came"),
+        None => {}
     }
-    let wait = timeout.saturating_duration_since(now);
+    let wait = agent.poll_timeout().map_or(Duration::MAX, |at| at.saturating_duration_since(now));
     socket.set_read_timeout(Some(wait.clamp(Duration::from_millis(1), Duration::from_millis(100))))?;
-    receive(agent, socket, timeout)
+    receive(agent, socket)
 }
 
 fn main() -> Result<()> {
@@ -74,19 +89,25 @@ fn main() -> Result<()> {
     settings.consent = Consent { timeout: Some(Duration::from_secs(5)), strict: true };
     settings.max_rto = Duration::from_secs(1);
     agent.set_settings(settings);
-    let (mut socket, mut timeout, lines) = (UdpSocket::bind("0.0.0.0:0")?, Instant::now(), typed());
+    agent.set_silence(Some(SILENCE));
+    let (mut socket, lines) = (UdpSocket::bind("0.0.0.0:0")?, typed());
+    agent.try_handle_timeout(Instant::now())?; // the session begins
+    turn(&mut agent, &mut socket, host)?; // before a line is read: a signal that waits is for this session
     loop {
         let line = lines.try_recv().unwrap_or_default();
         let done = match (line.strip_prefix("signal "), line.as_str()) {
             (Some(signal), _) => take(&mut agent, &socket, signal),
             (_, "/quit") => return Ok(()),
             (_, "/restart") => restart(&mut agent, &socket),
-            (_, "") => turn(&mut agent, &mut socket, host, &mut timeout),
-            (_, said) => match agent.selected_path() {
-                Some(path) => socket.send_to(said.as_bytes(), path.destination).map(|_| ()).map_err(Into::into),
+            (_, "") => turn(&mut agent, &mut socket, host),
+            (_, said) => match agent.media_path(Instant::now()) {
+                Some(path) => send(&mut agent, &socket, path.source, path.destination, said.as_bytes()),
                 None => Err("there is no path".into()),
             },
         };
-        done.unwrap_or_else(|why| println!("error {why}")); // the agent is as it was, and the chat goes on
+        if let Err(why) = done {
+            println!("error {why}"); // the agent is as it was, and the chat goes on
+            std::thread::sleep(Duration::from_millis(50));
+        }
     }
 }

@@ -10,8 +10,6 @@ struct Side {
     agent: IceAgent,
     socket: UdpSocket,
     local: SocketAddr,
-    /// When to call `handle_timeout` next: the earliest that the agent returned since its last call.
-    timeout: Option<Instant>,
     /// The destination of media, once a path is selected.
     peer: Option<SocketAddr>,
 }
@@ -24,7 +22,7 @@ impl Side {
         let mut agent = IceAgent::new(creds);
         agent.set_controlling(controlling);
         agent.try_set_remote_credentials(peer)?; // the peer's texts may be anything
-        Ok(Side { agent, socket, local, timeout: Some(Instant::now()), peer: None })
+        Ok(Side { agent, socket, local, peer: None })
     }
 
     /// Adds the socket as a host candidate. Returns the line for signaling.
@@ -34,43 +32,37 @@ impl Side {
     }
 
     /// Sends a datagram. One that the system does not send is lost like one on the network, and does not end the loop: as the
-    /// response to a request that somebody replays from port 0.
-    fn send(&self, bytes: &[u8], destination: SocketAddr) {
-        let _ = self.socket.send_to(bytes, destination);
+    /// response to a request that somebody replays from port 0. The agent lists it.
+    fn send(&mut self, bytes: &[u8], destination: SocketAddr) {
+        if let Err(why) = self.socket.send_to(bytes, destination) {
+            self.agent.send_failed(Protocol::Udp, self.local, destination, why.raw_os_error().map_or(0, i32::unsigned_abs));
+        }
     }
 
     /// One iteration of the loop. Returns media that arrived.
     fn turn(&mut self, now: Instant) -> Result<Option<Vec<u8>>, Box<dyn Error>> {
-        let (mut buffer, mut media, mut changed, mut called) = ([0; 1500], None, false, false);
+        let (mut buffer, mut media) = ([0; 1500], None);
         // 1. A datagram arrived. If not, the error is "would block", or that of an earlier datagram.
         if let Ok((length, source)) = self.socket.recv_from(&mut buffer) {
             if let Ok(message) = StunMessage::parse(&buffer[..length]) {
                 let packet = StunPacket { proto: Protocol::Udp, source, destination: self.local, message };
-                changed = self.agent.try_handle_packet(now, packet)?;
-            } else if Some(source) == self.peer || self.agent.has_viable_remote_candidate(source) {
+                self.agent.try_handle_packet(now, packet)?;
+            } else if self.agent.takes_media_from(now, source) {
                 media = Some(buffer[..length].to_vec());
             }
         }
-        // 2. The timeout expired.
-        if self.timeout.is_some_and(|at| at <= now) {
+        // 2. The timeout expired. The first one starts the session.
+        if self.agent.poll_timeout().is_none_or(|at| at <= now) {
             self.agent.try_handle_timeout(now)?;
-            self.timeout = None;
-            called = true;
         }
-        if changed || called {
-            // 3. The next timeout, before packets are polled. It is kept until it expires: a later call may return a later one, and a
-            // controlled agent selects its path at the first. After a packet a check may be due at once.
-            let next = if called { self.agent.poll_timeout() } else { self.agent.poll_timeout_soon() };
-            self.timeout = self.timeout.into_iter().chain(next).min();
-            // 4. Packets. This side has only one socket, so packet.source is its address.
-            while let Some(packet) = self.agent.poll_transmit() {
-                self.send(&packet.contents, packet.destination);
-            }
-            // 5. Events.
-            while let Some(event) = self.agent.poll_event() {
-                if let IceAgentEvent::NominatedSend { destination, .. } = event {
-                    self.peer = Some(destination);
-                }
+        // 3. Packets. This side has only one socket, so packet.source is its address.
+        while let Some(packet) = self.agent.poll_transmit() {
+            self.send(&packet.contents, packet.destination);
+        }
+        // 4. Events.
+        while let Some(event) = self.agent.poll_event() {
+            if let IceAgentEvent::NominatedSend { destination, .. } = event {
+                self.peer = Some(destination);
             }
         }
         Ok(media)
@@ -107,7 +99,6 @@ fn main() -> Result<(), Box<dyn Error>> {
 #[cfg(test)]
 mod tests {
     use super::*;
-    use is::Settings;
 
     /// A check of the peer is replayed from port 0, to which no socket sends: the loop goes on, and both sides connect.
     #[test]
@@ -128,12 +119,11 @@ mod tests {
         Ok(())
     }
 
-    /// How long the controlled side takes from its first check until it selects its path with the settings of the original. It is nominated in
-    /// the first milliseconds, since the clock of the other side runs ahead. Media of a stranger arrives all the time.
+    /// How long the controlled side takes from its first check until it selects its path. It is nominated in the first milliseconds, since
+    /// the clock of the other side runs ahead. Media of a stranger arrives all the time.
     fn time_among_media() -> Result<Duration, Box<dyn Error>> {
         let (mut a, mut b) = introduced()?;
         let stranger = UdpSocket::bind("127.0.0.1:0")?;
-        b.agent.set_settings(Settings::original());
         let begun = Instant::now();
         let mut ahead = begun;
         while b.peer.is_none() {
@@ -151,8 +141,7 @@ mod tests {
         Ok(begun.elapsed())
     }
 
-    /// With the settings of the original a controlled side selects its path in the next `handle_timeout`: one pacing interval after its check,
-    /// and not when the next one is due.
+    /// The path is selected as soon as it can be, and not only when a check is sent again.
     #[test]
     fn media_delays_no_timeout() -> Result<(), Box<dyn Error>> {
         let mut took = Duration::MAX;

@@ -7,12 +7,13 @@ use crate::event::{IceAgentEvent, IceAgentStats, IceConnectionState, MediaPath};
 use crate::ffi;
 use crate::ids::TransIds;
 use crate::logs::{Pii, is_heard, logged};
+use crate::media::SilenceEvent;
 use crate::pair::CandidatePair;
 use crate::preference::LocalPreference;
 use crate::proto::{address_of, number_of, protocol_of, socket_of};
 use crate::stun::{StunMessage, StunPacket};
 use crate::types::{Protocol, Sha1HmacProvider, Transmit};
-use crate::watched::{Seen, log_rejected, log_sent};
+use crate::watched::{Seen, log_not_accepted, log_rejected, log_sent};
 use std::fmt;
 use std::net::SocketAddr;
 use std::sync::{Arc, Mutex, OnceLock, PoisonError};
@@ -55,6 +56,8 @@ pub struct IceAgent {
     /// What `add_local_candidate` returned a reference to, until the next packet or timeout.
     added: Option<Box<Candidate>>,
     ids: TransIds,
+    /// What `poll_event` came across, and `poll_silence` has not returned yet.
+    pub(crate) silence: Option<SilenceEvent>,
     /// The library calls no function of the program, so this one is called before a candidate is added.
     pub(crate) preference: Option<Arc<dyn LocalPreference>>,
 }
@@ -98,6 +101,7 @@ impl IceAgent {
             remote: OnceLock::new(),
             added: None,
             ids: TransIds::default(),
+            silence: None,
             preference: None,
         })
     }
@@ -184,7 +188,8 @@ impl IceAgent {
     /// [`IceAgent::set_max_candidates`] allows.
     ///
     /// The agent gives one that was gathered its priority and its foundation. One that was read from a text, or made by
-    /// [`Candidate::from_parts`], keeps its own, and has its address as its base, since a text has none.
+    /// [`Candidate::from_parts`], keeps its own, and has its address as its base, since a text has none. Of two with the same address, base and
+    /// protocol the later one is kept, if its priority is not lower.
     ///
     /// # Panics
     ///
@@ -201,9 +206,12 @@ impl IceAgent {
     /// [`CallError::OutOfMemory`]: it may have been added, and not be listed. [`CallError::PairIdsExhausted`],
     /// [`CallError::PriorityTooHigh`], [`CallError::TooManyCandidates`].
     pub fn try_add_local_candidate(&mut self, c: Candidate) -> Result<Option<&Candidate>, CallError> {
-        self.prefer(&c)?;
+        let given = c.given();
+        if let Some(given) = &given {
+            self.prefer(&c, given)?;
+        }
         let (mut index, before) = (0, Seen::heard(self));
-        let is_added = match c.given() {
+        let is_added = match given {
             Some(given) => self.tell(|agent| known(ffi::is_ice_add_local(agent, &given, &mut index))),
             None => self.tell(|agent| ffi::is_ice_add_local_line(agent, c.text().as_bytes(), &mut index)),
         }?;
@@ -221,11 +229,11 @@ impl IceAgent {
         Ok(self.added.as_deref())
     }
 
-    /// Passes on the preference that the program's function, if any, gives the candidate. One that cannot be added needs none.
-    fn prefer(&mut self, c: &Candidate) -> Result<(), CallError> {
+    /// Passes on the preference that the program's function, if any, gives a candidate that was gathered. One that cannot be added needs none.
+    fn prefer(&mut self, c: &Candidate, given: &ffi::Candidate) -> Result<(), CallError> {
         let Some(preference) = self.preference.clone() else { return Ok(()) };
-        let (given, mut same_kind) = (c.as_gathered(), 0);
-        if self.tell(|agent| known(ffi::is_ice_alike_local(agent, &given, &mut same_kind)))? {
+        let mut same_kind = 0;
+        if self.tell(|agent| known(ffi::is_ice_alike_local(agent, given, &mut same_kind)))? {
             let number = u16::try_from(preference.calculate(c, same_kind)).map_err(|_| CallError::PriorityTooHigh)?;
             logged!(trace, "Calculated local preference: {number}");
             self.set(|agent| ffi::is_ice_set_local_preference(agent, number));
@@ -286,10 +294,13 @@ impl IceAgent {
     /// [`CallError::OutOfMemory`].
     pub fn try_invalidate_candidate(&mut self, c: &Candidate) -> Result<bool, CallError> {
         let before = Seen::heard(self);
-        let is_removed = match c.given() {
-            Some(given) => self.tell(|agent| known(ffi::is_ice_invalidate_local(agent, &given))),
-            None => self.tell(|agent| ffi::is_ice_invalidate(agent, c.text().as_bytes())),
-        }?;
+        let mut is_removed = match c.given() {
+            Some(given) => self.tell(|agent| known(ffi::is_ice_invalidate_local(agent, &given)))?,
+            None => false,
+        };
+        if !is_removed && c.is_its_own_base() {
+            is_removed = self.tell(|agent| known(ffi::is_ice_invalidate(agent, c.text().as_bytes())))?;
+        }
         if !is_removed {
             logged!(debug, "No local or remote candidate found: {:?}", Pii(c));
         } else if let Some(before) = before {
@@ -330,8 +341,8 @@ fn left_out<T>(why: CallError, nothing: T) -> Result<T, CallError> {
     if why == CallError::TooManyCandidates { Ok(nothing) } else { Err(why) }
 }
 
-/// The code of a call with a local candidate, which the library takes for none if it is peer-reflexive, or no local one may have its
-/// address.
+/// The code of a call with a candidate, which the library takes for none if it is a peer-reflexive one that was gathered, if no local one may
+/// have its address, or if its text has a username fragment that is no word.
 fn known(code: i32) -> i32 {
     if matches!(code, ffi::BAD_ADDRESS | ffi::BAD_CANDIDATE) { ffi::NOTHING } else { code }
 }
@@ -460,7 +471,7 @@ impl IceAgent {
         })?;
         match before {
             Some(before) if is_accepted => before.log_accepted(self, (proto, destination, source), bytes),
-            Some(_) => logged!(debug, "Message not accepted"),
+            Some(_) => log_not_accepted(self, (proto, destination, source), bytes),
             None => {}
         }
         Ok(is_accepted)
@@ -510,34 +521,38 @@ impl IceAgent {
         Some(transmit)
     }
 
-    /// The time at which to call `handle_timeout` next. Call it before packets are polled, and keep the earliest one that it returns
-    /// until `handle_timeout`, as `examples/udp.rs` does.
+    /// The time at which to call `handle_timeout` next. With the profile `Modern`, which an agent begins with, it is a query: ask it at any
+    /// place and as often as you like, and wait until it, as `examples/udp.rs` does. None before the session, and until the remote
+    /// credentials are set. With `Original` call it before packets are polled, and keep the earliest one since `handle_timeout`.
     pub fn poll_timeout(&mut self) -> Option<Instant> {
         let mut at = 0;
         let is_some = ffi::is_ice_poll_timeout(self.held(), &mut at) == ffi::OK;
         is_some.then(|| self.instant(at)).flatten()
     }
 
-    /// The time at which to call `handle_timeout` next, if the agent changed since its last call: it took a packet, or the peer's
-    /// credentials or a candidate came; or if that call served an early request. So a check that is due at once does not wait for the
-    /// whole pacing interval. It is the time of [`poll_timeout`](Self::poll_timeout), or 5 ms after the last call, if that is sooner: no
-    /// checks may be sent more often (RFC 8445, section 14.2).
-    pub fn poll_timeout_soon(&mut self) -> Option<Instant> {
-        let mut at = 0;
-        let is_some = ffi::is_ice_poll_timeout_soon(self.held(), &mut at) == ffi::OK;
-        is_some.then(|| self.instant(at)).flatten()
-    }
-
-    /// The next event.
+    /// The next event. Those of silence, which the original does not have, are returned by [`poll_silence`](Self::poll_silence).
     pub fn poll_event(&mut self) -> Option<IceAgentEvent> {
         let mut event = ffi::Event::default();
-        let is_some = ffi::is_ice_poll_event(self.held(), &mut event) == ffi::OK;
-        let event = is_some.then(|| IceAgentEvent::of(&event, || IceCreds::of(self.held().local_credentials())))?;
+        loop {
+            if ffi::is_ice_poll_event(self.held(), &mut event) != ffi::OK {
+                return None;
+            }
+            match SilenceEvent::of(&event) {
+                Some(silence) => self.set_aside(silence),
+                None => break,
+            }
+        }
+        let event = IceAgentEvent::of(&event, || IceCreds::of(self.held().local_credentials()));
         if let IceAgentEvent::IceConnectionStateChange(state) = event {
             logged!(debug, "State change: {state:?}");
         }
         logged!(trace, "Poll event: {:?}", Pii(&event));
         Some(event)
+    }
+
+    fn set_aside(&mut self, silence: SilenceEvent) {
+        logged!(debug, "Silence: {:?}", Pii(silence));
+        self.silence = Some(silence);
     }
 
     /// Nothing refers any longer to the candidate that was added last.
@@ -549,7 +564,13 @@ impl IceAgent {
 
     /// The time on the agent's clock, which starts at one minute.
     fn time(&mut self, now: Instant) -> u64 {
-        let first = *self.first.get_or_insert(now);
+        self.first.get_or_insert(now);
+        self.time_of(now)
+    }
+
+    /// The same for a query, which does not start it.
+    pub(crate) fn time_of(&self, now: Instant) -> u64 {
+        let first = self.first.unwrap_or(now);
         match now.checked_duration_since(first) {
             Some(since) => nanoseconds(BEGINNING.saturating_add(since)),
             None => nanoseconds(BEGINNING.saturating_sub(first.duration_since(now))),
@@ -557,7 +578,7 @@ impl IceAgent {
     }
 
     /// The time on the caller's clock, if that can represent it.
-    fn instant(&self, at: u64) -> Option<Instant> {
+    pub(crate) fn instant(&self, at: u64) -> Option<Instant> {
         let (first, at) = (self.first?, Duration::from_nanos(at));
         match at.checked_sub(BEGINNING) {
             Some(since) => first.checked_add(since),

@@ -270,15 +270,22 @@ impl Candidate {
 // ---- for the library
 
 impl Candidate {
-    /// As the library takes a candidate that was gathered; none if it was read, or is listed as a remote or a peer-reflexive one.
+    /// As the library takes a candidate that was gathered; none if it was read, or is listed as a remote one, or as a peer-reflexive one that
+    /// was added by its text.
     pub(crate) fn given(&self) -> Option<ffi::Candidate> {
-        (self.is_local && self.fields.kind != ffi::PEER_REFLEXIVE).then(|| self.as_gathered())
+        let ffi::Fields { address, local, kind, protocol, tcptype, .. } = self.fields;
+        let is_of_text = kind == ffi::PEER_REFLEXIVE && self.has_no_local();
+        (self.is_local && !is_of_text).then_some(ffi::Candidate { address, base: local, kind, protocol, tcptype })
     }
 
-    /// As the library takes a candidate to add it as a local one. A text has no base, so one that was read has its address as base.
-    pub(crate) fn as_gathered(&self) -> ffi::Candidate {
-        let ffi::Fields { address, local, kind, protocol, tcptype, .. } = self.fields;
-        ffi::Candidate { address, base: if self.is_local { local } else { address }, kind, protocol, tcptype }
+    /// Whether its text says all of it: its base is its address.
+    pub(crate) fn is_its_own_base(&self) -> bool {
+        !self.is_local || self.has_no_local() || self.local() == self.addr()
+    }
+
+    /// Whether no local socket is known of it.
+    fn has_no_local(&self) -> bool {
+        self.local().ip().is_unspecified() && self.local().port() == 0
     }
 
     /// As the library takes any other candidate.

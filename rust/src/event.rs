@@ -2,7 +2,7 @@
 
 use crate::creds::IceCreds;
 use crate::ffi;
-use crate::proto::{protocol_of, socket_of};
+use crate::proto::{address_of, number_of, protocol_of, socket_of};
 use crate::types::Protocol;
 use std::net::SocketAddr;
 
@@ -29,6 +29,16 @@ impl IceConnectionState {
             ffi::CONNECTED => IceConnectionState::Connected,
             ffi::COMPLETED => IceConnectionState::Completed,
             _ => IceConnectionState::Disconnected,
+        }
+    }
+
+    fn number(self) -> i32 {
+        match self {
+            IceConnectionState::New => ffi::NEW,
+            IceConnectionState::Checking => ffi::CHECKING,
+            IceConnectionState::Connected => ffi::CONNECTED,
+            IceConnectionState::Completed => ffi::COMPLETED,
+            IceConnectionState::Disconnected => ffi::DISCONNECTED,
         }
     }
 
@@ -105,6 +115,26 @@ impl IceAgentEvent {
             ffi::STATE_CHANGED => IceAgentEvent::IceConnectionStateChange(IceConnectionState::of(event.state)),
             ffi::DISCOVERED_RECV => IceAgentEvent::DiscoveredRecv { proto, source },
             _ => IceAgentEvent::NominatedSend { proto, source, destination: socket_of(&event.destination) },
+        }
+    }
+
+    /// The library's event. It has no credentials.
+    pub(crate) fn told(&self) -> ffi::Event {
+        let path = |kind, proto: &Protocol, source: &SocketAddr| ffi::Event {
+            kind,
+            protocol: number_of(*proto),
+            source: address_of(*source),
+            ..Default::default()
+        };
+        match self {
+            IceAgentEvent::IceRestart(_) => ffi::Event { kind: ffi::RESTARTED, ..Default::default() },
+            IceAgentEvent::IceConnectionStateChange(state) => {
+                ffi::Event { kind: ffi::STATE_CHANGED, state: state.number(), ..Default::default() }
+            }
+            IceAgentEvent::DiscoveredRecv { proto, source } => path(ffi::DISCOVERED_RECV, proto, source),
+            IceAgentEvent::NominatedSend { proto, source, destination } => {
+                ffi::Event { destination: address_of(*destination), ..path(ffi::NOMINATED_SEND, proto, source) }
+            }
         }
     }
 }

@@ -32,10 +32,12 @@ mod ffi;
 mod hmac;
 mod ids;
 mod logs;
+mod media;
 mod pair;
 mod preference;
 mod proto;
 mod rejection;
+mod rejection_counts;
 mod removed;
 #[cfg(any(feature = "serde", str0m_types))]
 mod serde;
@@ -47,6 +49,7 @@ mod stun_texts;
 mod stun_timing;
 #[cfg(not(str0m_types))]
 mod types;
+mod unserved;
 mod watched;
 #[cfg(str0m_types)]
 use str0m_proto as types;
@@ -59,9 +62,12 @@ pub use creds::IceCreds;
 pub use error::{CallError, IceError, StunError};
 pub use event::{IceAgentEvent, IceAgentStats, IceConnectionState, MediaPath};
 pub use hmac::DefaultSha1HmacProvider;
+pub use media::{FailedSend, SilenceEvent};
 pub use pair::{CandidatePair, CheckState};
 pub use preference::{KindPreferences, LocalPreference, PreferenceTable, default_local_preference, try_default_local_preference};
 pub use rejection::Rejection;
+pub use rejection_counts::RejectionCounts;
 pub use removed::{Removal, RemovedPair};
 pub use session_log::SessionLog;
 pub use types::{Protocol, Sha1HmacProvider, TcpType, Transmit};
+pub use unserved::Unserved;

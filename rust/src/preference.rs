@@ -94,7 +94,7 @@ pub fn try_default_local_preference(c: &Candidate, same_kind: usize) -> Result<u
     let mut preference = 0;
     let of_given = c.given().map(|given| ffi::is_ice_candidate_preference(&given, same_kind, &mut preference));
     let code = match of_given {
-        None | Some(ffi::BAD_ADDRESS) => ffi::is_ice_line_preference(c.text().as_bytes(), same_kind, &mut preference),
+        None | Some(ffi::BAD_ADDRESS | ffi::BAD_CANDIDATE) => ffi::is_ice_line_preference(c.text().as_bytes(), same_kind, &mut preference),
         Some(code) => code,
     };
     found(code).map(|_| preference)

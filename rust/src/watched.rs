@@ -7,7 +7,7 @@ use crate::event::{IceAgentStats, MediaPath};
 use crate::logs::{Pii, is_heard, logged, role_name};
 use crate::pair::CandidatePair;
 use crate::removed::{Removal, RemovedPair, new_ones};
-use crate::stun::{Class, Method, StunMessage};
+use crate::stun::{Class, Method, StunMessage, StunPacket};
 use crate::types::{Protocol, Transmit};
 use std::fmt;
 use std::net::SocketAddr;
@@ -327,6 +327,15 @@ pub(crate) fn log_rejected(agent: &IceAgent, message: &StunMessage<'_>) {
             _ => logged!(trace, "Message rejected, integrity check failed"),
         },
         (method, _) => logged!(trace, "Message rejected, TURN method({method:?}) unexpected in this context"),
+    }
+}
+
+/// Logs why a packet was not accepted.
+pub(crate) fn log_not_accepted(agent: &IceAgent, (proto, destination, source): Path, bytes: &[u8]) {
+    let why = StunMessage::parse(bytes).ok().and_then(|message| agent.rejection(&StunPacket { proto, source, destination, message }));
+    match why {
+        Some(why) => logged!(debug, "Message not accepted: {why}, from {:?}", Pii(source)),
+        None => logged!(debug, "Message not accepted"),
     }
 }
 

@@ -167,14 +167,18 @@ fn the_clock_may_stand_or_go_back() {
     assert_eq!(agent.poll_timeout(), Some(began + ms(100)));
 }
 
+/// A query: nothing is due until the check is repeated, whether or not it was polled; and soon after a candidate.
 #[test]
-fn an_agent_that_changed_is_called_soon() {
+fn the_next_timeout_is_a_query() {
     let (mut agent, began) = (paired(), Instant::now());
-    assert_eq!(agent.poll_timeout_soon(), None);
+    assert_eq!(agent.poll_timeout(), None);
     agent.handle_timeout(began);
-    assert_eq!((agent.poll_timeout(), agent.poll_timeout_soon()), (Some(began + ms(10)), Some(began + ms(5))));
-    agent.set_timing_advance(ms(2));
-    assert_eq!((agent.poll_timeout(), agent.poll_timeout_soon()), (Some(began + ms(2)), Some(began + ms(2))));
+    assert_eq!((agent.poll_timeout(), agent.poll_timeout()), (Some(began + ms(100)), Some(began + ms(100))));
+    assert!(agent.poll_transmit().is_some());
+    agent.set_timing_advance(ms(20));
+    assert_eq!(agent.poll_timeout(), Some(began + ms(100)));
+    agent.add_local_candidate(host("10.0.0.9:1000")).expect("a candidate");
+    assert_eq!((agent.poll_timeout(), agent.poll_timeout()), (Some(began + ms(5)), Some(began + ms(5))));
 }
 
 #[test]
@@ -193,7 +197,7 @@ fn each_call_serves_an_early_request() {
         agent.handle_timeout(began + ms(5));
         assert_eq!(agent.early_requests(), left);
         assert!(agent.poll_transmit().is_some() && agent.poll_transmit().is_none());
-        assert_eq!(agent.poll_timeout_soon(), Some(began + ms(5)));
+        assert_eq!(agent.poll_timeout(), Some(began + ms(5)));
     }
 }
 
@@ -519,27 +523,26 @@ fn a_local_candidate_that_was_read_is_added_with_its_address_as_base() {
     for candidate in gathered() {
         let read = Candidate::from_sdp_string(&candidate.to_sdp_string()).unwrap();
         let added = agent.add_local_candidate(read.clone()).expect("a new one").clone();
-        let said = |of: &Candidate| (of.addr(), of.proto(), of.kind(), of.tcptype());
-        assert_eq!((said(&added), added.local(), added.ufrag()), (said(&read), read.addr(), Some("near")));
-        assert_eq!(agent.add_local_candidate(read), None);
+        let said = |of: &Candidate| (of.addr(), of.local(), of.proto(), of.kind(), of.tcptype(), of.prio());
+        assert_eq!((said(&added), added.foundation(), added.ufrag()), (said(&read), read.foundation(), Some("near")));
+        // one of the same priority takes its place
+        assert_eq!(agent.add_local_candidate(read), Some(&added));
+        assert_eq!(agent.local_candidates().collect::<Vec<_>>(), std::slice::from_ref(&added));
         assert!(agent.invalidate_candidate(&added));
+        assert_eq!(agent.local_candidates().count(), 0);
     }
-    let related = Some("10.0.0.1:9".parse().unwrap());
-    let proto = Protocol::Udp;
-    let learned = Candidate::from_parts(
-        "7".to_owned(),
-        1,
-        proto,
-        7,
-        "192.0.2.1:9".parse().unwrap(),
-        CandidateKind::PeerReflexive,
-        related,
-        None,
-        None,
-    );
-    let added = agent.add_local_candidate(learned.clone()).expect("a new one").clone();
-    assert_eq!((added.kind(), added.prio(), added.foundation()), (CandidateKind::PeerReflexive, 7, learned.foundation()));
-    assert!(agent.invalidate_candidate(&learned));
+    let (outer, related, kind) = (at("192.0.2.3:9"), Some(at("10.0.0.1:9")), CandidateKind::PeerReflexive);
+    let learned = Candidate::from_parts("7".to_owned(), 1, Protocol::Udp, 7, outer, kind, related, None, None);
+    let odd = Candidate::from_sdp_string("candidate:7 1 udp 7 224.0.0.1 9 typ host raddr 10.0.0.1 rport 9").unwrap();
+    for made in [learned, odd] {
+        for as_listed in [true, false] {
+            let added = agent.add_local_candidate(made.clone()).expect("a new one").clone();
+            assert_eq!((added.kind(), added.prio(), added.foundation()), (made.kind(), 7, made.foundation()));
+            assert!(is::default_local_preference(&added, 0) <= 65535);
+            let named = if as_listed { &added } else { &made };
+            assert!(agent.invalidate_candidate(named) && !agent.invalidate_candidate(named));
+        }
+    }
     agent.add_local_candidate(host("10.0.0.1:1000")).expect("a new one");
     assert!(agent.invalidate_candidate(&Candidate::from_sdp_string(&host("10.0.0.1:1000").to_sdp_string()).unwrap()));
     assert_eq!(agent.local_candidates().count(), 0);
@@ -635,9 +638,12 @@ fn a_preference_function_counts_as_the_library_does() {
 fn a_preference_function_is_not_asked_of_what_cannot_be_added() {
     let mut agent = IceAgent::new(creds("near"));
     agent.set_local_preference(|_: &Candidate, _: usize| 65536);
-    let discovered = Candidate::from_sdp_string("candidate:1 1 udp 7 10.0.0.1 1 typ prflx raddr 10.0.0.2 rport 2").unwrap();
-    assert_eq!(agent.try_add_local_candidate(discovered), Ok(None));
     assert_eq!(agent.try_add_local_candidate(host("10.0.0.1:1")), Err(CallError::PriorityTooHigh));
+    // These have a priority.
+    for line in ["candidate:1 1 udp 7 10.0.0.1 1 typ prflx raddr 10.0.0.2 rport 2", "candidate:1 1 udp 7 224.0.0.1 1 typ host"] {
+        let read = Candidate::from_sdp_string(line).unwrap();
+        assert_eq!(agent.try_add_local_candidate(read).map(|added| added.map(Candidate::prio)), Ok(Some(7)));
+    }
 }
 
 // ---- others

@@ -7,7 +7,7 @@ mod random;
 
 use is::stun::{AddressFamily, BindingResponse, StunMessage, StunMessageBuilder, StunPacket, StunTiming, TransId};
 use is::{Candidate, CandidateKind, DefaultSha1HmacProvider, IceAgent, IceAgentEvent, IceCreds, Sha1HmacProvider, TcpType};
-use is::{Consent, KindPreferences, PreferenceTable, Profile, Protocol, SessionLog, Settings};
+use is::{Consent, KindPreferences, PreferenceTable, Profile, Protocol, RejectionCounts, SessionLog, Settings};
 use random::Random;
 use random::looks::{PASSWORD, is_named_by_a_word, look_at_candidate, look_at_message, look_at_pair};
 use std::hint::black_box;
@@ -25,6 +25,7 @@ struct Session {
     random: Random,
     agents: [IceAgent; 2],
     logs: [SessionLog; 2],
+    rejected: RejectionCounts,
     candidates: Vec<Candidate>,
     wire: Vec<Datagram>,
     began: Instant,
@@ -83,7 +84,8 @@ impl Session {
         }
         let began = Instant::now();
         let logs = [SessionLog::new(), SessionLog::new()];
-        Session { seed, random, agents, logs, candidates: Vec::new(), wire: Vec::new(), began, now: began, seen: [0; 2] }
+        let rejected = RejectionCounts::new();
+        Session { seed, random, agents, logs, rejected, candidates: Vec::new(), wire: Vec::new(), began, now: began, seen: [0; 2] }
     }
 
     fn run(mut self) -> [usize; 2] {
@@ -182,14 +184,14 @@ impl Session {
         let (candidate, side) = (self.any_candidate(), self.side());
         let agent = &mut self.agents[side];
         match self.random.below(9) {
-            0 | 1 => {
+            0 | 1 if candidate.prio() < u32::MAX => {
                 if let Some(added) = agent.add_local_candidate(candidate).cloned() {
                     if let Ok(signaled) = Candidate::from_sdp_string(&added.to_sdp_string()) {
                         self.agents[1 - side].add_remote_candidate(signaled);
                     }
                 }
             }
-            2 => _ = black_box(agent.try_add_local_candidate(candidate)),
+            0..=2 => _ = black_box(agent.try_add_local_candidate(candidate)),
             3 if is_named_by_a_word(&candidate) => agent.add_remote_candidate(candidate),
             3 | 4 => _ = black_box(agent.try_add_remote_candidate(candidate)),
             5 => _ = black_box(agent.invalidate_candidate(&candidate)),
@@ -256,6 +258,7 @@ impl Session {
             16 => _ = black_box(agent.try_set_remote_credentials(creds)),
             17 if flag || settings.max_retransmits == 0 => _ = black_box(agent.try_set_settings(settings)),
             17 => agent.set_settings(settings),
+            18 if number > 99 => agent.set_silence(flag.then_some(duration)),
             18 => agent.set_max_candidates(flag.then_some(number)),
             _ => {
                 agent.set_local_credentials(self::creds("near"));
@@ -301,6 +304,8 @@ impl Session {
         black_box((agent.state().is_connected(), agent.state().is_disconnected(), agent.settings()));
         black_box((agent.nominated_pair_rtt(), agent.nominated_pair_total_rtt(), agent.nominated_pair_responses_received()));
         black_box((agent.selected_path(), agent.valid_path(), agent.has_viable_remote_candidate(address), agent.pairs().count()));
+        black_box((agent.media_path(self.now), agent.takes_media_from(self.now, address), agent.silent_since()));
+        agent.failed_sends().for_each(|failed| _ = black_box(failed.to_string()));
         let (local, remote) = (agent.try_local_candidates().unwrap(), agent.try_remote_candidates().unwrap());
         assert_eq!((agent.local_candidates().collect(), agent.remote_candidates().collect()), (local.clone(), remote.clone()));
         agent.pairs().take(2).for_each(|pair| look_at_pair(&pair, &local, &remote));
@@ -335,8 +340,14 @@ impl Session {
 
     fn poll(&mut self, side: usize) {
         let agent = &mut self.agents[side];
-        black_box((agent.poll_timeout(), agent.poll_timeout_soon(), agent.early_requests()));
+        black_box((agent.poll_timeout(), agent.early_requests()));
         while let Some(sent) = agent.poll_transmit() {
+            if self.random.once_in(20) {
+                let reason = self.random.number() as u32;
+                agent.send_failed(sent.proto, sent.source, sent.destination, reason);
+                agent.try_send_failed(sent.proto, sent.source, sent.destination, reason).unwrap();
+                black_box(self.logs[side].failed_send(agent, sent.proto, sent.source, sent.destination, reason));
+            }
             assert!(sent.contents.len() <= 596 && StunMessage::parse_any(&sent.contents).is_ok());
             self.wire.push((1 - side, sent.proto, sent.source, sent.destination, sent.contents));
         }
@@ -350,6 +361,9 @@ impl Session {
             self.seen[1] += usize::from(matches!(event, IceAgentEvent::NominatedSend { .. }));
             let text = format!("{event:?} {}", self.logs[side].event(agent, &event));
             assert!(!text.contains(PASSWORD), "{text}");
+        }
+        if let Some(event) = agent.poll_silence() {
+            black_box(self.logs[side].silence(agent, &event));
         }
     }
 
@@ -388,7 +402,15 @@ impl Session {
         let agent = &mut self.agents[side];
         let accepts = agent.accepts_packet(&packet);
         black_box(agent.accepts_message(&message));
-        assert_eq!(agent.rejection(&packet).is_none(), accepts);
+        let why = agent.rejection(&packet);
+        assert_eq!(why.is_none(), accepts);
+        black_box(agent.unserved(&packet));
+        let line = self.logs[side].packet(agent, &packet);
+        assert!(!line.contains(PASSWORD), "{line}");
+        if let Some(why) = why {
+            assert_eq!(self.rejected.note(why), self.rejected.of(why));
+            assert!(self.rejected.iter().any(|(known, count)| known == why && count > 0));
+        }
         let accepted =
             if self.random.once_in(2) { agent.handle_packet(now, packet) } else { agent.try_handle_packet(now, packet).unwrap() };
         assert_eq!(accepts, accepted);

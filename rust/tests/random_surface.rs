@@ -5,12 +5,13 @@ use std::fs::{read_dir, read_to_string};
 use std::path::Path;
 
 /// What a method of a type is called on in the sessions. A builder is also what its own methods return.
-const RECEIVERS: [(&str, &[&str]); 9] = [
+const RECEIVERS: [(&str, &[&str]); 10] = [
     ("IceAgent", &["agent", "self.agents[side]"]),
     ("IceConnectionState", &["agent.state()"]),
     ("Candidate", &["c", "named"]),
     ("CandidatePair", &["pair"]),
     ("SessionLog", &["self.logs[side]"]),
+    ("RejectionCounts", &["self.rejected"]),
     ("StunMessage", &["m"]),
     ("StunTiming", &["timing", "StunTiming::default()"]),
     ("Builder", &["new()", "method", "builder", ")"]),

@@ -7,7 +7,7 @@
 #![allow(unsafe_code)]
 #![allow(dead_code)] // the crate does not use all that the header declares
 
-pub(crate) const VERSION: u32 = 7;
+pub(crate) const VERSION: u32 = 8;
 
 pub(crate) const OK: i32 = 0;
 pub(crate) const NOTHING: i32 = 1;
@@ -21,6 +21,12 @@ pub(crate) const REJECTED_LOCAL_PASSWORD: i32 = 8;
 pub(crate) const REJECTED_NO_CHECK: i32 = 9;
 pub(crate) const REJECTED_PATH: i32 = 10;
 pub(crate) const REJECTED_REMOTE_PASSWORD: i32 = 11;
+pub(crate) const UNSERVED_EARLY: i32 = 12;
+pub(crate) const UNSERVED_DESTINATION: i32 = 13;
+pub(crate) const UNSERVED_USE_CANDIDATE: i32 = 14;
+pub(crate) const UNSERVED_SENDER: i32 = 15;
+pub(crate) const UNSERVED_LIMIT: i32 = 16;
+pub(crate) const UNSERVED_LOCAL: i32 = 17;
 pub(crate) const NO_AGENT: i32 = -1;
 pub(crate) const HAS_AGENT: i32 = -2;
 pub(crate) const NOT_UTF8: i32 = -3;
@@ -67,6 +73,8 @@ pub(crate) const RESTARTED: i32 = 1;
 pub(crate) const STATE_CHANGED: i32 = 2;
 pub(crate) const DISCOVERED_RECV: i32 = 3;
 pub(crate) const NOMINATED_SEND: i32 = 4;
+pub(crate) const SILENT: i32 = 5;
+pub(crate) const HEARD: i32 = 6;
 
 pub(crate) const PAIR_WAITING: i32 = 0;
 pub(crate) const PAIR_IN_PROGRESS: i32 = 1;
@@ -133,6 +141,12 @@ pub(crate) fn text_of(code: i32) -> &'static str {
         REJECTED_NO_CHECK => "response to no pending check",
         REJECTED_PATH => "response on another path than that of its check",
         REJECTED_REMOTE_PASSWORD => "response signed with another password than the peer's",
+        UNSERVED_EARLY => "request before the peer's credentials are set",
+        UNSERVED_DESTINATION => "request to an address that no local candidate has",
+        UNSERVED_USE_CANDIDATE => "request with USE-CANDIDATE to a controlling agent",
+        UNSERVED_SENDER => "request from an invalidated remote candidate",
+        UNSERVED_LIMIT => "request from an unknown address while the limit on discovered candidates is reached",
+        UNSERVED_LOCAL => "request to an invalidated local candidate",
         NO_AGENT => "no agent",
         HAS_AGENT => "there is an agent already",
         NOT_UTF8 => "text is not UTF-8",
@@ -255,6 +269,16 @@ pub(crate) struct NominatedPair {
 pub(crate) struct MediaPath {
     pub(crate) source: Address,
     pub(crate) destination: Address,
+    pub(crate) protocol: u8,
+}
+
+#[repr(C)]
+#[derive(Clone, Copy, Debug, Default, PartialEq, Eq, Hash)]
+pub(crate) struct FailedSend {
+    pub(crate) source: Address,
+    pub(crate) destination: Address,
+    pub(crate) times: u64,
+    pub(crate) reason: u32,
     pub(crate) protocol: u8,
 }
 
@@ -456,6 +480,12 @@ const _: () = {
     assert!(offset_of!(MediaPath, source) == 0);
     assert!(offset_of!(MediaPath, destination) == 28);
     assert!(offset_of!(MediaPath, protocol) == 56);
+    assert!(size_of::<FailedSend>() == 72 && align_of::<FailedSend>() == 8);
+    assert!(offset_of!(FailedSend, source) == 0);
+    assert!(offset_of!(FailedSend, destination) == 28);
+    assert!(offset_of!(FailedSend, times) == 56);
+    assert!(offset_of!(FailedSend, reason) == 64);
+    assert!(offset_of!(FailedSend, protocol) == 68);
     assert!(size_of::<Pair>() == 96 && align_of::<Pair>() == 8);
     assert!(offset_of!(Pair, local) == 0);
     assert!(offset_of!(Pair, remote) == 8);
@@ -573,20 +603,26 @@ unsafe extern "C" {
     pub(crate) safe fn is_ice_set_local_preference(agent: &mut Agent, preference: u16) -> i32;
     pub(crate) safe fn is_ice_set_preference_table(agent: &mut Agent, table: &PreferenceTable) -> i32;
     pub(crate) safe fn is_ice_reset_local_preference(agent: &mut Agent) -> i32;
+    pub(crate) safe fn is_ice_set_silence(agent: &mut Agent, nanoseconds: u64) -> i32;
     pub(crate) safe fn is_ice_is_host_address(address: &Address) -> i32;
     pub(crate) safe fn is_ice_add_local(agent: &mut Agent, candidate: &Candidate, index: &mut usize) -> i32;
     pub(crate) safe fn is_ice_invalidate_local(agent: &mut Agent, candidate: &Candidate) -> i32;
     pub(crate) safe fn is_ice_alike_local(agent: &mut Agent, candidate: &Candidate, count: &mut usize) -> i32;
     pub(crate) safe fn is_ice_candidate_preference(candidate: &Candidate, same_kind: usize, preference: &mut u32) -> i32;
     pub(crate) safe fn is_ice_poll_timeout(agent: &mut Agent, at: &mut u64) -> i32;
-    pub(crate) safe fn is_ice_poll_timeout_soon(agent: &mut Agent, at: &mut u64) -> i32;
     pub(crate) safe fn is_ice_poll_event(agent: &mut Agent, event: &mut Event) -> i32;
+    pub(crate) safe fn is_ice_send_failed(agent: &mut Agent, protocol: u8, source: &Address, destination: &Address, reason: u32) -> i32;
     pub(crate) safe fn is_ice_recreate_pairs(agent: &mut Agent) -> i32;
     pub(crate) safe fn is_ice_status(agent: &mut Agent, status: &mut AgentStatus) -> i32;
     pub(crate) safe fn is_ice_settings(agent: &mut Agent, settings: &mut AgentSettings) -> i32;
     pub(crate) safe fn is_ice_stats(agent: &mut Agent, stats: &mut AgentStats) -> i32;
     pub(crate) safe fn is_ice_nominated(agent: &mut Agent, nominated: &mut NominatedPair) -> i32;
     pub(crate) safe fn is_ice_valid_path(agent: &mut Agent, path: &mut MediaPath) -> i32;
+    pub(crate) safe fn is_ice_path_for_media(agent: &mut Agent, now: u64, path: &mut MediaPath) -> i32;
+    pub(crate) safe fn is_ice_takes_media_from(agent: &mut Agent, now: u64, source: &Address) -> i32;
+    pub(crate) safe fn is_ice_silent_since(agent: &mut Agent, since: &mut u64) -> i32;
+    pub(crate) safe fn is_ice_failed_send_count(agent: &mut Agent, count: &mut usize) -> i32;
+    pub(crate) safe fn is_ice_failed_send_at(agent: &mut Agent, index: usize, failed: &mut FailedSend) -> i32;
     pub(crate) safe fn is_ice_early_count(agent: &mut Agent, count: &mut usize) -> i32;
     pub(crate) safe fn is_ice_pair_count(agent: &mut Agent, count: &mut usize) -> i32;
     pub(crate) safe fn is_ice_pair_at(agent: &mut Agent, index: usize, pair: &mut Pair) -> i32;
@@ -755,6 +791,14 @@ pub(super) mod raw {
             bytes: *const u8,
             length: usize,
         ) -> i32;
+        pub(crate) fn is_ice_unserved(
+            agent: &mut Agent,
+            protocol: u8,
+            source: &Address,
+            destination: &Address,
+            bytes: *const u8,
+            length: usize,
+        ) -> i32;
         pub(crate) fn is_ice_accepts_message(agent: &mut Agent, bytes: *const u8, length: usize) -> i32;
         pub(crate) fn is_ice_poll_transmit(agent: &mut Agent, buffer: *mut u8, size: usize, packet: &mut Packet) -> i32;
         pub(crate) fn is_ice_restart(
@@ -764,6 +808,30 @@ pub(super) mod raw {
             pass: *const u8,
             pass_length: usize,
             keep_local_candidates: bool,
+        ) -> i32;
+        pub(crate) fn is_ice_event_line(agent: &mut Agent, event: &Event, buffer: *mut u8, size: usize, length: &mut usize) -> i32;
+        pub(crate) fn is_ice_removed_line(agent: &mut Agent, index: usize, buffer: *mut u8, size: usize, length: &mut usize) -> i32;
+        pub(crate) fn is_ice_packet_line(
+            agent: &mut Agent,
+            protocol: u8,
+            source: &Address,
+            destination: &Address,
+            bytes: *const u8,
+            bytes_length: usize,
+            buffer: *mut u8,
+            size: usize,
+            length: &mut usize,
+        ) -> i32;
+        pub(crate) fn is_ice_packet_kind(
+            agent: &mut Agent,
+            protocol: u8,
+            source: &Address,
+            destination: &Address,
+            bytes: *const u8,
+            bytes_length: usize,
+            buffer: *mut u8,
+            size: usize,
+            length: &mut usize,
         ) -> i32;
         pub(crate) fn is_ice_find_pair(agent: &mut Agent, line: *const u8, length: usize, pair: &mut Pair) -> i32;
         pub(crate) fn is_ice_local_ufrag(agent: &mut Agent, buffer: *mut u8, size: usize, length: &mut usize) -> i32;
@@ -1002,6 +1070,11 @@ pub(crate) fn is_ice_rejection(agent: &mut Agent, protocol: u8, source: &Address
     unsafe { raw::is_ice_rejection(agent, protocol, source, destination, bytes.as_ptr(), bytes.len()) }
 }
 
+pub(crate) fn is_ice_unserved(agent: &mut Agent, protocol: u8, source: &Address, destination: &Address, bytes: &[u8]) -> i32 {
+    // SAFETY: as the module says.
+    unsafe { raw::is_ice_unserved(agent, protocol, source, destination, bytes.as_ptr(), bytes.len()) }
+}
+
 pub(crate) fn is_ice_accepts_message(agent: &mut Agent, bytes: &[u8]) -> i32 {
     // SAFETY: as the module says.
     unsafe { raw::is_ice_accepts_message(agent, bytes.as_ptr(), bytes.len()) }
@@ -1015,6 +1088,66 @@ pub(crate) fn is_ice_poll_transmit(agent: &mut Agent, buffer: &mut [u8], packet:
 pub(crate) fn is_ice_restart(agent: &mut Agent, ufrag: &[u8], pass: &[u8], keep_local_candidates: bool) -> i32 {
     // SAFETY: as the module says.
     unsafe { raw::is_ice_restart(agent, ufrag.as_ptr(), ufrag.len(), pass.as_ptr(), pass.len(), keep_local_candidates) }
+}
+
+pub(crate) fn is_ice_event_line(agent: &mut Agent, event: &Event, buffer: &mut [u8], length: &mut usize) -> i32 {
+    // SAFETY: as the module says.
+    unsafe { raw::is_ice_event_line(agent, event, buffer.as_mut_ptr(), buffer.len(), length) }
+}
+
+pub(crate) fn is_ice_removed_line(agent: &mut Agent, index: usize, buffer: &mut [u8], length: &mut usize) -> i32 {
+    // SAFETY: as the module says.
+    unsafe { raw::is_ice_removed_line(agent, index, buffer.as_mut_ptr(), buffer.len(), length) }
+}
+
+pub(crate) fn is_ice_packet_line(
+    agent: &mut Agent,
+    protocol: u8,
+    source: &Address,
+    destination: &Address,
+    bytes: &[u8],
+    buffer: &mut [u8],
+    length: &mut usize,
+) -> i32 {
+    // SAFETY: as the module says.
+    unsafe {
+        raw::is_ice_packet_line(
+            agent,
+            protocol,
+            source,
+            destination,
+            bytes.as_ptr(),
+            bytes.len(),
+            buffer.as_mut_ptr(),
+            buffer.len(),
+            length,
+        )
+    }
+}
+
+pub(crate) fn is_ice_packet_kind(
+    agent: &mut Agent,
+    protocol: u8,
+    source: &Address,
+    destination: &Address,
+    bytes: &[u8],
+    buffer: &mut [u8],
+    length: &mut usize,
+) -> i32 {
+    // SAFETY: as the module says.
+    unsafe {
+        raw::is_ice_packet_kind(
+            agent,
+            protocol,
+            source,
+            destination,
+            bytes.as_ptr(),
+            bytes.len(),
+            buffer.as_mut_ptr(),
+            buffer.len(),
+            length,
+        )
+    }
 }
 
 pub(crate) fn is_ice_find_pair(agent: &mut Agent, line: &[u8], pair: &mut Pair) -> i32 {

@@ -30,11 +30,12 @@ pub struct Side {
     pub agent: IceAgent,
     pub events: Vec<(Duration, IceAgentEvent)>,
     pub sent: usize,
+    has_begun: bool,
 }
 
 impl Side {
     fn new(ufrag: &str) -> Side {
-        Side { agent: IceAgent::new(creds(ufrag)), events: Vec::new(), sent: 0 }
+        Side { agent: IceAgent::new(creds(ufrag)), events: Vec::new(), sent: 0, has_begun: false }
     }
 
     /// The path of the selected pair.
@@ -175,15 +176,17 @@ impl World {
         } else {
             self.now = self.now.max(wakes[side]);
             let now = self.now();
+            self.sides[side].has_begun = true;
             self.sides[side].agent.handle_timeout(now);
         }
         true
     }
 
-    /// The next timeout of the side: at once, if there was none yet.
+    /// The next timeout of the side: the first one at once, and none while it waits for the peer's credentials.
     fn wake(&mut self, side: usize) -> Duration {
-        let at = self.sides[side].agent.poll_timeout();
-        at.map_or(self.now, |at| at.saturating_duration_since(self.began))
+        let side = &mut self.sides[side];
+        let never = if side.has_begun { Duration::MAX } else { self.now };
+        side.agent.poll_timeout().map_or(never, |at| at.saturating_duration_since(self.began))
     }
 
     /// Polls packets and events.

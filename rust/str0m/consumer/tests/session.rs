@@ -218,6 +218,13 @@ fn what_packets_do_is_logged() {
         others[0].ice.handle_timeout(now);
         pass(&mut others, 0, "10.0.0.2:5000", now);
         assert!(sides[0].add_host(at("10.0.0.1:5000"), Protocol::Udp).is_none());
+        // A response from another address than that of its check.
+        let mut known = two();
+        known[0].ice.handle_timeout(now);
+        pass(&mut known, 0, "10.0.0.2:5000", now);
+        let response = known[1].ice.poll_transmit().unwrap();
+        let (source, destination, contents) = (at("10.0.0.9:9"), response.destination, &response.contents[..]);
+        assert!(!known[0].handle(now, Receive { proto: response.proto, source, destination, contents }));
         others[1].ice.set_ice_lite(true);
         let mapped = is::Candidate::server_reflexive(at("192.0.2.1:1"), at("10.0.0.4:1"), "udp").unwrap();
         assert!(others[1].ice.add_local_candidate(mapped).is_none());
@@ -231,6 +238,7 @@ fn what_packets_do_is_logged() {
         "DEBUG is::agent Switch role: controlling -> controlled",
         "DEBUG is::agent Discarding STUN request on unknown interface: 10.0.0.9:5000",
         "TRACE is::agent Message rejected, local user mismatch: ",
+        "DEBUG is::agent Message not accepted: response on another path than that of its check, from 10.0.0.9:9",
         "DEBUG is::agent Reject redundant candidate, current: Candidate",
         "DEBUG is::agent Reject non-host candidate due to ice-lite mode: Candidate",
     ]);
