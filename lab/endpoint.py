@@ -73,6 +73,7 @@ class Endpoint:
     def _configure(self) -> None:
         s, agent = self.settings, self.agent
         agent.set_controlling(s.controlling)
+        agent.set_silence(None)  # the model has no monitor
         agent.set_ice_lite(s.lite)
         agent.set_renomination(s.renomination)
         for value, set_duration in ((s.initial_rto_ms, agent.set_initial_stun_rto), (s.max_rto_ms, agent.set_max_stun_rto),
@@ -82,7 +83,8 @@ class Endpoint:
         for limit, set_limit in ((s.retransmits, agent.set_max_stun_retransmits), (s.max_pairs, agent.set_max_candidate_pairs)):
             if limit is not None:
                 set_limit(limit)
-        agent.set_settings(settings_by(s, agent.settings))
+        if (settings := settings_by(s, agent.settings)) != agent.settings:
+            agent.set_settings(settings)
 
     # ---- starting, restarting, interfaces
 
@@ -225,9 +227,10 @@ class Endpoint:
         while packet := self.agent.poll_transmit():
             self._send(packet.source, packet.destination, packet.contents)
         self._report()
-        if timeout is not None and timeout != self._timeout:
+        if timeout != self._timeout:
             self._timeout = timeout
-            self._clock.at(timeout + nanoseconds(self.settings.late_ms), self._timed_out, timeout)
+            if timeout is not None:
+                self._clock.at(timeout + nanoseconds(self.settings.late_ms), self._timed_out, timeout)
 
     def _report(self) -> None:
         """Reports events. A call that may emit some is followed by this before the next one, so that the log shows which call did."""

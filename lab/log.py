@@ -49,10 +49,15 @@ class Log:
 
 
 class LoggedAgent:
-    """An agent whose calls are logged. A poll that returns nothing is left out, except for `poll_timeout`, which fixes due times."""
+    """An agent whose calls are logged. Polls that return nothing are left out, not `poll_timeout`: with `Original` it fixes due times."""
 
     def __init__(self, agent: IceAgent, side: str, clock: Clock, log: Log) -> None:
         self._agent, self._side, self._clock, self._log = agent, side, clock, log
+
+    @property
+    def unlogged(self) -> IceAgent:
+        """The agent, whose calls are not logged."""
+        return self._agent
 
     def __getattr__(self, name: str) -> Any:
         found = getattr(self._agent, name)

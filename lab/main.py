@@ -8,7 +8,7 @@ import time
 from contextlib import ExitStack
 from pathlib import Path
 
-from . import bars, compare, consent, coverage, figures, hosts, pool, profiles, scenario
+from . import bars, compare, consent, coverage, figures, headline, hosts, pool, profiles, scenario
 from .guarantees import Broken
 from .scenario import BadScenario, Scenario
 
@@ -45,7 +45,11 @@ def _arguments() -> argparse.Namespace:
     covering.add_argument("-n", "--sessions", type=int, default=200, help="sessions of each scenario (200)")
     covering.add_argument("--set", action="append", default=[], metavar="KEY=VALUE", help="as for measure")
     covering.add_argument("--settle", type=float, metavar="S", help="go on this long after the last selection (as the scenario says: 12 s)")
-    for command in (measure, comparing, many, each, keeping, covering):
+    deciding = words.add_parser("headline", help="decides the clauses of docs/HEADLINE.md, and shows how many sessions they cover")
+    deciding.add_argument("scenario", nargs="*", help="as for measure; default: those in which two full agents with opposite roles connect")
+    deciding.add_argument("-n", "--sessions", type=int, default=50, help="sessions of each scenario (50)")
+    deciding.add_argument("--set", action="append", default=[], metavar="KEY=VALUE", help="as for measure")
+    for command in (measure, comparing, many, each, keeping, covering, deciding):
         command.add_argument("--seed", type=int, default=0, help="the first seed (0)")
         command.add_argument("-j", "--processes", type=int, default=1, help="number of processes (1)")
         command.add_argument("-q", "--quiet", action="store_true", help="no progress bar")
@@ -76,6 +80,13 @@ def _cover(options: argparse.Namespace) -> None:
     print(coverage.tables([told[s.name] for s in scenarios]))
 
 
+def _decide(options: argparse.Namespace) -> None:
+    known = [scenario.load(name, tuple(options.set)) for name in options.scenario or scenario.names()]
+    scenarios = known if options.scenario else [s for s in known if headline.is_ordinary(s)]
+    found = pool.run_by(headline.Play(), scenarios, options.sessions, options.seed, options.processes, options.quiet)
+    print(headline.table([s.name for s in scenarios], found))
+
+
 def _plot(options: argparse.Namespace, scenarios: list[Scenario], told: dict[str, figures.Figures]) -> None:
     rows = [bars.Bar(s.title, bars.quantiles(told[s.name].first)) for s in scenarios]
     bars.write(options.plot, "When both sides have a path", "seconds from the first signaling message, logarithmic",
@@ -93,6 +104,8 @@ def main() -> int:
             _measure(options)
         elif options.word == "coverage":
             _cover(options)
+        elif options.word == "headline":
+            _decide(options)
         elif options.word == "hosts":
             hosts.run(options.sessions, options.seed, options.processes, options.quiet, options.plot, options.own_svg, options.document)
         elif options.word == "profiles":

@@ -10,7 +10,7 @@ from dataclasses import dataclass, replace
 from is_ice import SocketAddress
 from is_ice.stun import StunMessage
 
-from .candidates import Candidates, put
+from .candidates import LEAST_ADVANCE, Candidates, put
 from .clock import SECOND
 from .kinds import is_brought, kind_of, turn_of
 from .numbers import LAST_NUMBER, as_taken
@@ -37,7 +37,9 @@ Result = tuple["Agent", "Issued | None", tuple[Path, ...]]
 
 @dataclass(frozen=True)
 class Agent(Candidates):
-    """An agent."""
+    """An agent, and the deadline that the library keeps for it."""
+
+    deadline: int | None = None
 
     # ---- nomination
 
@@ -235,6 +237,28 @@ class Agent(Candidates):
         if self.modern and pair.is_urgent:
             return 2 if is_brought(self.remote, pair) else 1
         return 3 + turn_of(self.next_kind, kind_of(self.local, self.remote, pair))
+
+    def next_call(self) -> int | None:
+        """Returns when `handle_timeout` has something to do next: never while the peer is unknown."""
+        if self.peer is None or self.last is None:
+            return None
+        soon = self.last + self.pacing(self.last)
+        if self.queue or self.is_pressing:
+            return soon
+        if self.lite or not self.pairs:
+            return self.last + 3 * SECOND
+        return max(min(p.fixed(self.last, self.timing).wake_at(self.last, self.timing) for p in self.pairs), soon)
+
+    def fixed_after(self, soon: bool) -> Agent:
+        """Returns it after what follows a call of the library with `Modern`: due times are fixed, and the deadline is moved up."""
+        if not self.modern:
+            return self
+        at = self.next_call()
+        if at is not None and self.last is not None and soon:
+            at = min(at, self.last + LEAST_ADVANCE)
+        if at is not None and self.deadline is not None:
+            at = min(at, self.deadline)
+        return replace(self.poll_timeout(True)[0], deadline=at)
 
     def poll_timeout(self, is_waiting: bool) -> tuple[Agent, int | None]:
         """Returns when `handle_timeout` is due, and fixes due times. `is_waiting`: a packet waits to be polled."""

@@ -5,7 +5,7 @@ from __future__ import annotations
 import textwrap
 from dataclasses import dataclass, field
 
-from is_ice import DiscoveredRecv, IceAgentEvent, IceConnectionState, IceConnectionStateChange, IceRestart, NominatedSend
+from is_ice import DiscoveredRecv, Heard, IceAgentEvent, IceConnectionState, IceConnectionStateChange, IceRestart, NominatedSend, Silent
 
 from .clock import BEGINNING
 from .network import Datagram
@@ -96,6 +96,10 @@ def flag_of(event: IceAgentEvent) -> str:
         return f"discovered {event.source}"
     if isinstance(event, IceRestart):
         return "session starts"
+    if isinstance(event, Silent):
+        return "silent"
+    if isinstance(event, Heard):
+        return "heard again"
     return event.state.name.capitalize()
 
 

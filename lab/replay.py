@@ -159,9 +159,42 @@ TIMING = {"set_initial_stun_rto": "initial", "set_max_stun_rto": "greatest", "se
           "set_lite_timeout": "lite"}
 
 
+# Calls that are followed by fixing due times, and whether `handle_timeout` then comes soon.
+FOLLOWED = {"add_local_candidate": True, "add_remote_candidate": True, "invalidate_candidate": True, "ice_restart": True,
+            "recreate_candidate_pairs": True, "set_remote_credentials": True, "set_controlling": True, "set_ice_lite": False,
+            "set_renomination": False, "set_settings": False, **dict.fromkeys(TIMING, False), "set_timing_advance": False}
+
+
+def _is_soon(old: Agent, new: Agent, entry: Entry) -> bool | None:
+    """Returns whether `handle_timeout` comes soon after the call. None: nothing follows it, since it changed nothing."""
+    call, returned = entry.call, entry.returned
+    if call == "handle_timeout":
+        return len(new.queue) < len(old.queue)
+    if call == "handle_packet":
+        return not new.is_settled if returned else None
+    if call == "add_local_candidate" and returned is None or call == "add_remote_candidate" and new is old:
+        return None
+    return None if call == "invalidate_candidate" and not returned else FOLLOWED.get(call)
+
+
 def _next(agent: Agent, entry: Entry, seen: Issued | None, is_waiting: bool) -> tuple[Agent, tuple[object] | None]:
     """Returns the next agent, and what the model foresees of the call, if the log shows it."""
+    new, foreseen = _called(agent, entry, seen, is_waiting)
+    return followed(agent, new, entry), foreseen
+
+
+def followed(old: Agent, new: Agent, entry: Entry) -> Agent:
+    """Returns the agent, which was `old` before the call and is `new` after it, after what follows the call."""
+    soon = _is_soon(old, new, entry)
+    kept = replace(new, deadline=None) if entry.call == "handle_timeout" else new
+    return kept if soon is None else kept.fixed_after(soon)
+
+
+def _called(agent: Agent, entry: Entry, seen: Issued | None, is_waiting: bool) -> tuple[Agent, tuple[object] | None]:
+    """Returns the agent after the call itself, and what the model foresees of it."""
     call, given = entry.call, entry.given
+    if call == "poll_timeout" and agent.modern:
+        return agent, (agent.deadline,)
     if call == "poll_timeout":
         new, wake = agent.poll_timeout(is_waiting)
         return new, (wake,)

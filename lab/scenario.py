@@ -42,10 +42,10 @@ class AgentSettings:
     lite: bool = False
     renomination: bool = False  # each nomination replaces the earlier ones
     initial_rto_ms: float | None = None
-    max_rto_ms: float = 3000.0
+    max_rto_ms: float | None = 3000.0
     advance_ms: float | None = None
     late_ms: float = 0.0  # how much later than the agent's timeout its endpoint calls `handle_timeout`
-    retransmits: int = 9
+    retransmits: int | None = 9
     max_pairs: int | None = None
     profile: str = "modern"  # or original
     consent_ms: float = 29600.0  # how long a response keeps a pair with `Modern`, as by the modern settings; 0: by the RTOs

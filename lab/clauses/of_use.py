@@ -25,9 +25,17 @@ class Choice:
     polled: bool
 
 
+def deadline_of(x: Execution, c: Choice) -> int | None:
+    """Returns the time that the agent's own `poll_timeout` returns then. With `Modern` the library's returns a kept time, which may be
+    sooner, and each call that may make something due polled the agent, so that a poll here would fix no more due times."""
+    start = x.state(c.asked, c.side)
+    returned: int | None = start.poll_timeout(c.queued > 0)[1] if start.modern else x.steps[c.asked].entry.returned
+    return returned
+
+
 def lacking(x: Execution, c: Choice) -> Lacks:
     """Returns the preconditions that do not hold (`IsTurn`)."""
-    start, deadline = x.state(c.asked, c.side), x.steps[c.asked].entry.returned
+    start, deadline = x.state(c.asked, c.side), deadline_of(x, c)
     return lacks(IsFresh=is_new_agent(x.state(0, c.side)), AreTaken=c.queued == 0, timed_out=deadline is not None,
                  kept=deadline is None or deadline <= x.now(c.moment), polled=c.polled, IsChecking=is_checking(start),
                  pairs=bool(start.pairs), early=deadline is None or deadline < MAX)

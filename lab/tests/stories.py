@@ -13,7 +13,7 @@ from lab.clock import BEGINNING, MILLISECOND, SECOND
 from lab.log import Beginning, Entry, Log
 from lab.model import Agent, Issued
 from lab.pairs import Path, Timing
-from lab.replay import Replay, after_setting, other, replay
+from lab.replay import Replay, after_setting, followed, other, replay
 from lab.stun import NOMINATION
 
 A, B = SocketAddress("10.0.0.1", 1000), SocketAddress("10.0.0.2", 2000)
@@ -95,6 +95,10 @@ class Story:
 
     # ---- calls
 
+    def _becomes(self, side: str, new: Agent) -> None:
+        """The side is `new` after the call that was logged last, and then what follows that call."""
+        self.agents[side] = followed(self.agents[side], new, self.log.entries[-1])
+
     def _log(self, time: float, side: str, call: str, given: tuple[object, ...] = (), returned: object = None) -> None:
         self.log.entries.append(Entry(at(time), side, call, given, returned))
 
@@ -125,7 +129,7 @@ class Story:
         """The side changes a setting."""
         self._log(time, side, name, (value,))
         old = self.agents[side]
-        self.agents[side] = after_setting(old, self.log.entries[-1])
+        self._becomes(side, after_setting(old, self.log.entries[-1]))
         if self.agents[side].state is not old.state:
             self._log(time, side, "poll_event", (), IceConnectionStateChange(self.agents[side].state))
 
@@ -145,8 +149,9 @@ class Story:
     def _joins(self, time: float, side: str, joined: Agent, call: str, given: object, returned: object) -> None:
         """Logs a call that adds or removes a candidate, after which the side is `joined`, or selects another path."""
         old = self.agents[side]
-        self.agents[side], paths = joined.reselected(old)
+        new, paths = joined.reselected(old)
         self._log(time, side, call, (given,), returned)
+        self._becomes(side, old if joined is old else new)
         self._events(time, side, old, paths)
 
     def timeout(self, side: str, time: float) -> Transmit | None:
@@ -173,7 +178,10 @@ class Story:
 
     def _polls(self, side: str, time: float, new: Agent, issued: Issued | None, paths: tuple[Path, ...]) -> Transmit | None:
         old, packet = self.agents[side], None
-        self.agents[side], wake = new.poll_timeout(issued is not None)
+        self._becomes(side, new)
+        wake = self.agents[side].deadline
+        if not new.modern:
+            self.agents[side], wake = new.poll_timeout(issued is not None)
         self._log(time, side, "poll_timeout", (), wake)
         if issued is not None:
             packet = Transmit(Protocol.UDP, *issued.path, message(issued.kind, issued.id, self._attributes(old, new, issued)))

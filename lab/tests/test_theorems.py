@@ -99,8 +99,8 @@ class Ends(unittest.TestCase):
     def test_the_next_timeout_comes_before_consent_ends(self) -> None:
         x = answered().network().x
         self.assertEqual(self.lacking(x), [])
-        # Until the nomination is sent, the agent asks for a call after 10 ms. So this caller is 40 ms late.
-        self.assertEqual(consent_ends_in_time.find(x), Verdict("", at(0), at(1000 + 40), at(50)))
+        # Until the nomination is sent, the agent asks for a call 5 ms after the last one. So this caller is 45 ms late.
+        self.assertEqual(consent_ends_in_time.find(x), Verdict("", at(0), at(1000 + 45), at(50)))
 
     def test_the_preconditions(self) -> None:
         story = answered()
