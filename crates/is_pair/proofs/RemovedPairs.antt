@@ -1,5 +1,5 @@
 -- What is kept of the pairs that are removed.
-use Rattle.std.proofs.Common.{◌≡◌, ℕ, ◌<◌, ◌≤◌, ◌⊎◌, Bool, true, false, List, [], ◌∷◌, ◌++◌, length, drop, filter, get_or, zero, suc, nat_lt}
+use Rattle.std.proofs.Common.{◌≡◌, ℕ, ◌+◌, ◌<◌, ◌≤◌, ◌⊎◌, Bool, true, false, List, [], ◌∷◌, ◌++◌, length, drop, filter, get_or, zero, suc, nat_lt, Option, Some, None, ap}
 use Rattle.std.proofs.Common.{inl, inr, refl, sym, subst, arith, if◌then◌else◌}
 use Rattle.std.proofs.lemmas.Bool.Decides.{nat_tests}
 use Rattle.std.proofs.lemmas.List.{length-append, length-drop}
@@ -7,7 +7,7 @@ use Rattle.is_proto.specs.Lists.{Has}
 use Rattle.is_pair.specs.declared.checklist.removed.RemovedPair.{RemovedPair}
 use Rattle.is_pair.specs.declared.checklist.removed.Removal.{Removal}
 use Rattle.is_pair.specs.Pairs.{PairRecord}
-use Rattle.is_pair.specs.Removed.{with_removed, AreRemoved, IsOf, MayKeep, REMOVED_LIMIT}
+use Rattle.is_pair.specs.Removed.{with_removed, AreKeptInTurn, AreRemoved, IsKeptLast, IsOf, MayKeep, REMOVED_LIMIT}
 
 pub has-at : {X : Type 0} (xs : List X) (i : ℕ) (x : X) → i < length xs → x ≡ get_or xs i x → Has xs x
 has-at [] i x within is = absurd (omega arith)
@@ -81,3 +81,40 @@ removed-then test some reason pairs left start old new every among before after 
     either : (r : RemovedPair) → Has old r ⊎ Reason some reason left r → Has start r ⊎ Reason test reason pairs r
     either r (inl had) = before.1 r had
     either r (inr (p, has, passes, is, why)) = inr (p, among p has, every p, is, why)
+
+-- ---- with room for all that pass
+
+count-more : (test : PairRecord → Bool) (p : PairRecord) (ps : List PairRecord) → test p ≡ true → length (filter test (p ∷ ps)) ≡ length (filter test ps) + 1
+count-more test p ps passes = (elim (test p) as (λ b. b ≡ true → length (if b then p ∷ filter test ps else filter test ps) ≡ length (filter test ps) + 1) [
+  | true ↦ λ _. omega arith
+  | false ↦ λ no. absurd (cc)
+]) passes
+
+count-same : (test : PairRecord → Bool) (p : PairRecord) (ps : List PairRecord) → test p ≡ false → length (filter test (p ∷ ps)) ≡ length (filter test ps)
+count-same test p ps fails = (elim (test p) as (λ b. b ≡ false → length (if b then p ∷ filter test ps else filter test ps) ≡ length (filter test ps)) [
+  | true ↦ λ no. absurd (cc)
+  | false ↦ λ _. refl
+]) fails
+
+-- there is room for the first one that passes
+pub room-over : (test : PairRecord → Bool) (p : PairRecord) (ps : List PairRecord) (len capacity : ℕ) → test p ≡ true → len + length (filter test (p ∷ ps)) ≤ capacity → len < capacity
+room-over test p ps len capacity passes room = omega (arith, room, count-more test p ps passes)
+
+-- and for the others after it
+pub room-less : (test : PairRecord → Bool) (p : PairRecord) (ps : List PairRecord) (len more capacity grown : ℕ) → test p ≡ true → len + length (filter test (p ∷ ps)) ≤ capacity
+    → more ≤ len + 1 → capacity ≤ grown → more + length (filter test ps) ≤ grown
+room-less test p ps len more capacity grown passes room one grows = omega (arith, room, one, grows, count-more test p ps passes)
+
+pub room-same : (test : PairRecord → Bool) (p : PairRecord) (ps : List PairRecord) (len capacity : ℕ) → test p ≡ false → len + length (filter test (p ∷ ps)) ≤ capacity
+    → len + length (filter test ps) ≤ capacity
+room-same test p ps len capacity fails room = omega (arith, room, count-same test p ps fails)
+
+pub kept-more : (test : PairRecord → Bool) (reason : PairRecord → Removal) (p : PairRecord) (ps : List PairRecord) (r : RemovedPair) (old mid end : List RemovedPair)
+    → test p ≡ true → IsOf p r → r.why ≡ reason p → mid ≡ with_removed r old → AreKeptInTurn test reason ps mid end → AreKeptInTurn test reason (p ∷ ps) old end
+kept-more test reason p ps r old mid end passes is why made rest =
+    (mid, subst (λ b. IsKeptLast (reason p) (if b then Some p else None) old mid) (sym passes) (r, is, why, made), rest)
+
+pub kept-none : (test : PairRecord → Bool) (reason : PairRecord → Removal) (p : PairRecord) (ps : List PairRecord) (old end : List RemovedPair)
+    → test p ≡ false → AreKeptInTurn test reason ps old end → AreKeptInTurn test reason (p ∷ ps) old end
+kept-none test reason p ps old end fails rest =
+    (old, subst (λ b. IsKeptLast (reason p) (if b then Some p else None) old old) (sym fails) refl, rest)

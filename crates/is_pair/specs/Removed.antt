@@ -1,6 +1,6 @@
 -- The pairs that were removed last, and why. They are not part of the abstract state, since nothing is decided by them. One is left out
 -- if memory is short.
-use Rattle.std.specs.Prelude.{◌≡◌, ℕ, ◌<◌, ◌≤◌, ◌⊎◌, ◌++◌, ◌∷◌, [], Bool, true, nat_lt, List, length, drop, Option, Some, None, if◌then◌else◌}
+use Rattle.std.specs.Prelude.{◌≡◌, ℕ, ◌+◌, ◌<◌, ◌≤◌, ◌⊎◌, ◌++◌, ◌∷◌, [], Bool, true, nat_lt, List, length, drop, Option, Some, None, if◌then◌else◌}
 use Rattle.std.specs.VecDeque.{deque_len, deque_capacity}
 use Rattle.is_proto.specs.Lists.{Has}
 use Rattle.is_pair.specs.declared.checklist.Checklist.{Checklist}
@@ -40,9 +40,18 @@ abbrev pub IsKeptLast : Removal → Option PairRecord → List RemovedPair → L
 IsKeptLast why None old new = new ≡ old
 IsKeptLast why (Some p) old new = (r : RemovedPair) × IsOf p r × (r.why ≡ why) × (new ≡ with_removed r old)
 
--- there is capacity for one more removed pair
+-- Each pair that passes is kept last in its turn, with its reason.
+abbrev pub AreKeptInTurn : (PairRecord → Bool) → (PairRecord → Removal) → List PairRecord → List RemovedPair → List RemovedPair → Type 0
+AreKeptInTurn test reason [] old new = new ≡ old
+AreKeptInTurn test reason (p ∷ ps) old new =
+    (mid : List RemovedPair) × IsKeptLast (reason p) (if test p then Some p else None) old mid × AreKeptInTurn test reason ps mid new
+
+-- there is capacity for one more removed pair, and for so many more
 abbrev pub HasRemovedRoom : Checklist → Type 0
 HasRemovedRoom list = deque_len list.removed < deque_capacity list.removed
+
+abbrev pub HasRemovedRoomFor : ℕ → Checklist → Type 0
+HasRemovedRoomFor n list = deque_len list.removed + n ≤ deque_capacity list.removed
 
 -- why a pair that expired is removed
 abbrev pub expired_reason : Bool → PairRecord → Removal

@@ -54,11 +54,11 @@ pub struct Checklist {
 }
 
 impl Checklist {
-    ghost use Rattle.std.specs.Prelude.{◌<◌, ◌+◌, ◌↔◌, ℕ, IsTrue, is_some, length, OnOk, [], ◌++◌, ◌∷◌};
+    ghost use Rattle.std.specs.Prelude.{◌<◌, ◌+◌, ◌↔◌, ℕ, IsTrue, filter, is_some, length, OnOk, [], ◌++◌, ◌∷◌};
     ghost use Rattle.std.specs.Option.{option_copied};
     ghost use Rattle.is_pair.specs.Multiset.{is_numbered, has_number, pair_numbered, are_below, without};
     ghost use Rattle.is_pair.specs.Checklists.{multiset_of, HasRoom, HasCheckRoom};
-    ghost use Rattle.is_pair.specs.Removed.{removed_of, AreRemoved, HasRemovedRoom, IsKeptLast};
+    ghost use Rattle.is_pair.specs.Removed.{removed_of, AreKeptInTurn, AreRemoved, HasRemovedRoom, HasRemovedRoomFor, IsKeptLast};
 
     /// Makes a checklist without pairs.
     pub fn new(alloc: Global) -> Checklist
@@ -141,6 +141,8 @@ impl Checklist {
         ensures check_room { (n : ℕ) → HasCheckRoom n self.old → HasCheckRoom n self.new }
         ensures below { (n : ℕ) → are_below n (multiset_of self.old) ≡ true → are_below n (multiset_of self.new) ≡ true }
         ensures removed { AreRemoved (T.passes test.now) (T.reason test.now) (multiset_of self.old) (removed_of self.old) (removed_of self.new) }
+        ensures kept { HasRemovedRoomFor (length (filter (T.passes test.now) (multiset_of self.old))) self.old
+            → AreKeptInTurn (T.passes test.now) (T.reason test.now) (multiset_of self.old) (removed_of self.old) (removed_of self.new) }
     {
         removed::keep_passing(&mut self.removed, &self.pairs, test);
         listed::drop_passing(&mut self.pairs, test);

@@ -1,11 +1,11 @@
 //! The pairs that were removed last, and why: for callers that ask why a session failed. Nothing is decided by them.
 
-ghost use Rattle.std.specs.Prelude.{◌≡◌, ◌<◌, ◌==◌, ℕ, not, true, List, [], filter, length, slice_get};
+ghost use Rattle.std.specs.Prelude.{◌≡◌, ◌+◌, ◌<◌, ◌≤◌, ◌==◌, ℕ, not, true, List, [], filter, length, slice_get};
 ghost use Rattle.std.specs.Option.{option_copied};
 ghost use Rattle.std.specs.VecDeque.{deque_len, deque_capacity};
 ghost use Rattle.is_pair.specs.Multiset.{is_numbered, pair_numbered, rises};
 ghost use Rattle.is_pair.specs.Checklists.{multiset_of, HasRoom, HasCheckRoom};
-ghost use Rattle.is_pair.specs.Removed.{removed_of, with_removed, AreRemoved, IsKeptLast, IsOf, MayKeep};
+ghost use Rattle.is_pair.specs.Removed.{removed_of, with_removed, AreKeptInTurn, AreRemoved, IsKeptLast, IsOf, MayKeep};
 
 use super::{Checklist, PairTest, listed};
 use crate::pair::{CandidatePair, CheckState};
@@ -90,6 +90,8 @@ impl RemovedPair {
 fn keep(removed: &mut VecDeque<RemovedPair>, pair: RemovedPair)
     ensures kept { MayKeep pair removed.old.items removed.new.items }
     ensures with_room { deque_len removed.old < deque_capacity removed.old → removed.new.items ≡ with_removed pair removed.old.items }
+    ensures len { deque_len removed.new ≤ deque_len removed.old + 1 }
+    ensures capacity { deque_capacity removed.old ≤ deque_capacity removed.new }
 {
     if removed.push_back(pair).is_ok() && removed.len() > LIMIT {
         let _ = removed.pop_front();
@@ -119,7 +121,9 @@ pub(super) fn keep_passing<T: PairRemoval>(
     pairs: &[CandidatePair],
     test: &T,
 )
-    ensures { AreRemoved (T.passes test.now) (T.reason test.now) pairs.now removed.old.items removed.new.items }
+    ensures removed { AreRemoved (T.passes test.now) (T.reason test.now) pairs.now removed.old.items removed.new.items }
+    ensures with_room { deque_len removed.old + length (filter (T.passes test.now) pairs.now) ≤ deque_capacity removed.old
+        → AreKeptInTurn (T.passes test.now) (T.reason test.now) pairs.now removed.old.items removed.new.items }
 {
     for pair in pairs {
         if test.passes(pair) {
