@@ -96,11 +96,13 @@ export class IceAgent extends Settings {
   readonly nominatedPair: NominatedPair | null;
   /** The path of a valid pair, one of the greatest priority. Media may go there before a path is selected (RFC 8445, section 12.1). */
   readonly validPath: MediaPath | null;
+  /** The path for media outside of an ICE restart: that of `nominatedPair`, else of `validPath`. */
+  readonly mediaPath: MediaPath | null;
   /**
    * Returns the path for media now: the selected one; after an ICE restart the one before, until the new session has selected one, or
    * consent for it ends (RFC 8445, section 9); else that of a valid pair (section 12.1).
    */
-  mediaPath(now: number): MediaPath | null;
+  pathForMedia(now: number): MediaPath | null;
   /** Returns whether media may come from this address now: there is a valid pair to it, or media went there before an ICE restart. */
   takesMediaFrom(now: number, source: SocketAddress): boolean;
   /** When the last authentic packet came on the selected path, or when it was selected, if none came since. null: none is selected. */

@@ -168,8 +168,14 @@ export class IceAgent extends Settings {
     return this.#read("is_ice_valid_path", (memory) => pathOf(readStruct(memory, "MediaPath")));
   }
 
+  /** The path for media: that of the selected pair, else of a valid one, or null. */
+  get mediaPath() {
+    const { protocol, source, destination } = this.nominatedPair ?? this.validPath ?? {};
+    return source ? { protocol, source, destination } : null;
+  }
+
   /** The path for media now, also during an ICE restart, or null. */
-  mediaPath(now) {
+  pathForMedia(now) {
     return this.#read("is_ice_path_for_media", (memory) => pathOf(readStruct(memory, "MediaPath")), toNs(now));
   }
 

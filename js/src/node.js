@@ -91,7 +91,7 @@ export class IceLoop extends EventEmitter {
 
   /** Sends media to the peer. Returns false if there is no path yet. */
   send(data) {
-    const path = this.#agent.closed ? null : this.#agent.mediaPath(this.now());
+    const path = this.#agent.closed ? null : this.#agent.pathForMedia(this.now());
     return path !== null && this.sendFrom(path.source, path.destination, data);
   }
 

@@ -17,7 +17,7 @@ test("two agents find a path, and say so", () => {
   assert.deepEqual(events[2], { type: "nominatedSend", ...path });
   assert.deepEqual(events[4], { type: "discoveredRecv", protocol: "udp", source: path.destination });
   assert.equal(agents[0].state, "completed");
-  assert.deepEqual([agents[0].mediaPath(1000), agents[0].validPath], [path, path]);
+  assert.deepEqual([agents[0].pathForMedia(1000), agents[0].mediaPath, agents[0].validPath], [path, path, path]);
   assert.ok(agents[0].takesMediaFrom(1000, path.destination) && !agents[0].takesMediaFrom(1000, at(1)));
   const { totalRtt, responses, rtt, ...selected } = agents[0].nominatedPair;
   assert.deepEqual(selected, path);
@@ -39,7 +39,7 @@ test("a path that no packet takes is left, with the reason", () => {
   run(agents, 1000, 40000, () => false);
   const [agent] = agents, removed = agent.removedPairs().at(-1);
   assert.equal(agent.nominatedPair, null);
-  assert.equal(agent.mediaPath(40000), null);
+  assert.equal(agent.pathForMedia(40000), null);
   assert.equal(agent.state, "disconnected");
   assert.equal(removed.reason, "consent-lost");
   assert.match(String(removed), /^10\.0\.0\.1:5000 -> 10\.0\.0\.2:5001 succeeded, \d+ checks sent, \d+ answered: consent lost$/);
@@ -111,23 +111,23 @@ test("an ICE restart", () => {
 
 test("a restart keeps the path for media until another one is selected", () => {
   const agents = pair(), [agent, peer] = agents;
-  assert.equal(agent.mediaPath(0), null);
+  assert.equal(agent.pathForMedia(0), null);
   run(agents, 0, 1000);
-  const path = agent.mediaPath(1000);
+  const path = agent.pathForMedia(1000);
   agent.iceRestart(newCreds(), true);
   assert.equal(agent.nominatedPair, null);
-  assert.deepEqual(agent.mediaPath(1000), path);
+  assert.deepEqual(agent.pathForMedia(1000), path);
   assert.ok(agent.takesMediaFrom(1000, path.destination) && peer.takesMediaFrom(1000, path.source));
   peer.iceRestart(newCreds(), true);
   meet(agents);
   agents.forEach((it, i) => agents[1 - i].localCandidates().forEach((line) => it.addRemoteCandidate(line)));
   for (let now = 1000; now < 2000; now += 50) {
     run(agents, now, now + 50);
-    assert.deepEqual(agent.mediaPath(now), path);
+    assert.deepEqual(agent.pathForMedia(now), path);
   }
   assert.ok(agent.nominatedPair);
   agent.iceRestart(newCreds(), true);
-  assert.equal(agent.mediaPath(60000), null); // consent ended
+  assert.equal(agent.pathForMedia(60000), null); // consent ended
   closed(agents);
 });
 
@@ -136,9 +136,9 @@ test("a silent path is reported, and that it is heard again", () => {
   const of = (events) => events[0].filter(({ type }) => ["silent", "heard"].includes(type));
   run(agents, 0, 1000);
   const silent = of(run(agents, 1000, 10000, () => false));
-  assert.deepEqual(silent, [{ type: "silent", ...agent.mediaPath(10000) }]);
+  assert.deepEqual(silent, [{ type: "silent", ...agent.pathForMedia(10000) }]);
   assert.ok(agent.silentSince < 5000);
-  assert.deepEqual(of(run(agents, 10000, 14000)), [{ type: "heard", ...agent.mediaPath(14000) }]);
+  assert.deepEqual(of(run(agents, 10000, 14000)), [{ type: "heard", ...agent.pathForMedia(14000) }]);
   agent.setSilence(Infinity);
   assert.deepEqual(of(run(agents, 14000, 30000, () => false)), []);
   agent.setSilence(1000);

@@ -31,7 +31,7 @@ test("two loops find a path, and send media", async () => {
   assert.equal(both[0].send("too soon"), false);
   both.forEach((loop) => loop.begin());
   const [[{ source, destination }]] = await Promise.all(paths);
-  assert.deepEqual(both[0].agent.mediaPath(both[0].now()), { protocol: "udp", source, destination });
+  assert.deepEqual(both[0].agent.pathForMedia(both[0].now()), { protocol: "udp", source, destination });
   const heard = once(both[1], "media", soon);
   assert.ok(both[0].send("hello"));
   const [data, from, local] = await heard;

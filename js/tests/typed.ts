@@ -40,7 +40,7 @@ agent[Symbol.dispose]();
 const loop = new IceLoop(agent);
 loop.on("silent", ({ destination }) => console.log(destination.port, loop.agent.silentSince?.toFixed()));
 loop.on("sendFailed", (error, source, destination) => console.log(error.message, source.port, destination.port));
-const path: MediaPath | null = agent.mediaPath(loop.now()), taken: boolean = agent.takesMediaFrom(0, { address: "10.0.0.1", port: 1 });
+const path: MediaPath | null = agent.pathForMedia(loop.now()), taken: boolean = agent.takesMediaFrom(0, { address: "10.0.0.1", port: 1 });
 console.log(path?.source.port, taken, agent.failedSends.map(({ reason }: FailedSend) => reason));
 loop.on("nominatedSend", ({ source }) => console.log(source.port)).on("media", (data) => console.log(data.length));
 const bound: string | null = await loop.bind("127.0.0.1");

@@ -215,7 +215,7 @@ export class Endpoint {
 
   /** Sends media on the path that the agent names. Returns whether there is one. */
   say(contents) {
-    const path = this.agent.mediaPath(this.world.clock.now);
+    const path = this.agent.pathForMedia(this.world.clock.now);
     if (path) this.#send({ source: path.source, destination: path.destination, contents });
     return Boolean(path);
   }

@@ -330,9 +330,15 @@ class IceAgent(Media):
         return path_of(path)
 
     @holds_the_lock
-    def media_addresses(self, now: int) -> tuple[SocketAddress, SocketAddress] | None:
-        """Returns the source and the destination of `media_path`, in less time."""
-        return self._loop.media_addresses(now)
+    def media_addresses(self, now: int | None = None) -> tuple[SocketAddress, SocketAddress] | None:
+        """Returns the source and the destination of `media_path`, in less time.
+
+        Without a time those of `nominated_pair`, else of `valid_path`: no path is known then during an ICE restart.
+        """
+        if now is not None:
+            return self._loop.media_addresses(now)
+        path = self.nominated_pair or self.valid_path
+        return (path.source, path.destination) if path else None
 
     @property
     def pairs(self) -> list[CandidatePair]:

@@ -368,7 +368,7 @@ class Sessions(unittest.TestCase):
         pair = a.nominated_pair
         assert pair is not None
         self.assertEqual((pair.source, pair.destination), (HERE, THERE))
-        self.assertEqual(a.media_addresses(BEGINNING), (HERE, THERE))
+        self.assertEqual((a.media_addresses(BEGINNING), a.media_addresses()), ((HERE, THERE), (HERE, THERE)))
         events = []
         while event := a.poll_event():
             events.append(event)
@@ -394,7 +394,7 @@ class Sessions(unittest.TestCase):
     def test_a_path_is_valid_before_it_is_selected(self) -> None:
         a, b = two_agents()
         self.assertIsNone(b.valid_path)
-        self.assertIsNone(b.media_addresses(BEGINNING))
+        self.assertEqual((b.media_addresses(BEGINNING), b.media_addresses()), (None, None))
         b.handle_timeout(BEGINNING)
         for agent, other in ((b, a), (a, b)):
             packet = agent.poll_transmit()
