@@ -4,7 +4,8 @@ ghost use Rattle.std.specs.Prelude.{◌≡◌};
 ghost use Rattle.std.specs.Option.{option_map};
 ghost use Rattle.is_turn.specs.Receipts.{received_view};
 ghost use Rattle.is_turn.specs.OneRelay.{is_at, is_of, has_event, has_packet, is_due_at, is_over, is_asking, started_relay, arrived_view, passed, relayed_after, polled_as, sent_as};
-ghost use Rattle.is_turn.specs.OneRelay.{TakesDatagram, TakesPacket, PollsRelay, RelayTimesOut, ReportsEvent, PermitsPeer, Probes, Closes, Loses};
+ghost use Rattle.is_turn.specs.OneRelay.{TakesDatagram, TakesPacket, PollsRelay, RelayTimesOut, ReportsEvent, PermitsPeer, Probes, Closes};
+ghost use Rattle.is_turn.specs.AllRelays.{LosesAt};
 
 use crate::lease::same_address;
 use crate::session::{Allocation, Phase};
@@ -240,9 +241,12 @@ impl<H: Sha1HmacProvider> Relay<H> {
         self.client.close(now);
     }
 
-    pub(crate) fn lose(&mut self)
-        ensures { Loses self.old self.new }
+    /// A socket is gone: the client ends if it is the client's.
+    pub(crate) fn lose_of(&mut self, local: SocketAddr)
+        ensures { LosesAt local self.old self.new }
     {
-        self.client.lose();
+        if same_address(self.local, local) {
+            self.client.lose();
+        }
     }
 }
