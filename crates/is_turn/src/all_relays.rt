@@ -1,9 +1,9 @@
 //! What is asked of all clients of a program, and which of them a question is about.
 
 ghost use Rattle.std.specs.Prelude.{◌≡◌, ◌<◌, IfSome, position, vec_len};
-ghost use Rattle.is_turn.specs.OneRelay.{has_event, Probes, Closes};
+ghost use Rattle.is_turn.specs.OneRelay.{has_event, is_asking, Probes, Closes};
 ghost use Rattle.is_turn.specs.Relays.{ChangesAt};
-ghost use Rattle.is_turn.specs.AllRelays.{serves, relays_from, some_packet, ends_at, is_gathering, ChangesEach, RequestsPermission, LosesAt};
+ghost use Rattle.is_turn.specs.AllRelays.{is_serving, serves, relays_from, some_packet, ends_at, is_gathering, ChangesEach, RequestsPermission, LosesAt};
 
 use crate::lease::same_address;
 use crate::relays::Relays;
@@ -13,14 +13,25 @@ use std::net::SocketAddr;
 impl<H: Sha1HmacProvider> Relays<H> {
     // ---- questions
 
+    fn place_serving(&self, local: SocketAddr, server: SocketAddr) -> Option<usize>
+        ensures { result ≡ position (is_serving local server) self.now.relays.items }
+    {
+        self.relays
+            .iter()
+            .position(|relay| relay.is_serving(local, server))
+    }
+
+    fn place_asking(&self) -> Option<usize>
+        ensures { result ≡ position is_asking self.now.relays.items }
+    {
+        self.relays.iter().position(|relay| relay.is_asking())
+    }
+
     /// Whether a client that is not over has this socket and server.
     pub fn serves(&self, local: SocketAddr, server: SocketAddr) -> bool
         ensures { result ≡ serves local server self.now.relays.items }
     {
-        self.relays
-            .iter()
-            .position(|relay| relay.is_at(local, server) && !relay.is_over())
-            .is_some()
+        self.place_serving(local, server).is_some()
     }
 
     /// Whether a packet with this source goes through a client.
@@ -59,10 +70,7 @@ impl<H: Sha1HmacProvider> Relays<H> {
     pub fn is_gathering(&self) -> bool
         ensures { result ≡ is_gathering self.now.relays.items }
     {
-        self.relays
-            .iter()
-            .position(|relay| relay.is_asking())
-            .is_some()
+        self.place_asking().is_some()
     }
 
     // ---- calls

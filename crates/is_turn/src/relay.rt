@@ -5,7 +5,7 @@ ghost use Rattle.std.specs.Option.{option_map};
 ghost use Rattle.is_turn.specs.Receipts.{received_view};
 ghost use Rattle.is_turn.specs.OneRelay.{is_at, is_of, has_event, has_packet, is_due_at, is_over, is_asking, started_relay, arrived_view, passed, relayed_after, polled_as, sent_as};
 ghost use Rattle.is_turn.specs.OneRelay.{TakesDatagram, TakesPacket, PollsRelay, RelayTimesOut, ReportsEvent, PermitsPeer, Probes, Closes};
-ghost use Rattle.is_turn.specs.AllRelays.{LosesAt};
+ghost use Rattle.is_turn.specs.AllRelays.{is_serving, LosesAt};
 
 use crate::lease::same_address;
 use crate::session::{Allocation, Phase};
@@ -154,6 +154,13 @@ impl<H: Sha1HmacProvider> Relay<H> {
         ensures { result ≡ is_over self.now }
     {
         self.client.session.phase == Phase::Ended && !self.has_event()
+    }
+
+    /// Whether it has this socket and server, and is not over.
+    pub(crate) fn is_serving(&self, local: SocketAddr, server: SocketAddr) -> bool
+        ensures { result ≡ is_serving local server self.now }
+    {
+        self.is_at(local, server) && !self.is_over()
     }
 
     /// Whether it waits for its first answer, or what that said was not reported yet.
