@@ -4,7 +4,7 @@ use Rattle.std.specs.declared.net.socket_addr.SocketAddr.{SocketAddr}
 use Rattle.is_proto.specs.declared.proto.Instant.{Instant}
 use Rattle.is_turn.specs.declared.relay.Relay.{Relay}
 use Rattle.is_turn.specs.declared.turn.TurnClient.{TurnClient}
-use Rattle.is_turn.specs.AllRelays.{serves, ChangesEach, RequestsPermission, LosesAt} 
+use Rattle.is_turn.specs.AllRelays.{serves, ChangesEach, RequestsPermission, LosesAt}
 use Rattle.is_turn.specs.AllRelays.{is_gathering as relays_gather}
 use Rattle.is_turn.specs.OneRelay.{is_over, started_relay, Probes, Closes}
 use Rattle.is_turn.specs.Relays.{earlier_time, earliest_time, relay_added}
