@@ -114,7 +114,7 @@ place_of v6 text = place_by v6 text (at_start (split_at 91 text))
 abbrev pub before_bracket : List ℕ → Option (List ℕ)
 before_bracket text = option_map (λ parts. parts.0) (split_at 93 text)
 
--- what stands in brackets
+-- what is in brackets
 abbrev pub bracketed : List ℕ → Option (List ℕ)
 bracketed text = option_and_then before_bracket (at_start (split_at 91 text))
 
