@@ -1,5 +1,5 @@
 -- The host and the port in the URL of a server (RFC 3986, sections 2, 3.2.2 and 3.2.3).
-use Rattle.std.specs.Prelude.{◌≡◌, ℕ, ◌+◌, ◌-◌, ◌*◌, ◌==◌, ◌&&◌, ◌||◌, Bool, true, false, not, List, length, [], fold, nat_le, nat_lt, Option, Some, None, option_map, MatchBool, if◌then◌else◌}
+use Rattle.std.specs.Prelude.{◌≡◌, ℕ, ◌+◌, ◌-◌, ◌*◌, ◌==◌, ◌&&◌, ◌||◌, Bool, false, not, List, length, [], fold, nat_le, nat_lt, Option, Some, None, option_map, MatchBool, if◌then◌else◌}
 use Rattle.std.specs.List.{before_first, after_first, position_or_len}
 use Rattle.std.specs.Option.{option_and_then}
 use Rattle.std.specs.Net.Grammar.{IsIpv6Text}

@@ -1,13 +1,13 @@
 -- The URLs of STUN and TURN servers: scheme ":" host [ ":" port ] (RFC 7064, section 3.1), and for TURN [ "?transport=" transport ]
 -- (RFC 7065, section 3.1).
-use Rattle.std.specs.Prelude.{◌≡◌, ℕ, Bool, true, false, bytes_eq, codes, List, map, Option, Some, None, option_map, if◌then◌else◌}
+use Rattle.std.specs.Prelude.{ℕ, Bool, true, false, bytes_eq, codes, List, map, Option, Some, None, if◌then◌else◌}
 use Rattle.std.specs.Char.{to_ascii_lowercase}
 use Rattle.is_servers.specs.declared.transport.Transport.{Transport}
 use Rattle.is_servers.specs.declared.transport.Transport.TheVariants.{Udp, Tcp}
 use Rattle.is_servers.specs.declared.url.Scheme.{Scheme}
 use Rattle.is_servers.specs.declared.url.Scheme.TheVariants.{Stun, Turn}
 use Rattle.is_servers.specs.declared.url.ServerUrl.{ServerUrl}
-use Rattle.is_servers.specs.Hosts.{split_at, place_of, port_of, bracketed, IsV6If}
+use Rattle.is_servers.specs.Hosts.{split_at, place_of, port_of, bracketed}
 
 -- what a URL says
 pub record Url : Type 0 where
