@@ -1,4 +1,4 @@
--- Where a message ends in a stream (RFC 8489, section 5; RFC 8656, section 12.5).
+-- The end of a message in a stream (RFC 8489, section 5; RFC 8656, section 12.5).
 use Rattle.std.specs.Prelude.{ℕ, ◌+◌, ◌*◌, ◌/◌, ◌-◌, List, ◌∷◌, nat_lt, replicate, if◌then◌else◌}
 use Rattle.is_stun.specs.Tlv.{u16_of}
 use Rattle.is_servers.specs.declared.framing.Frame.{Frame}

@@ -14,7 +14,7 @@ split_at c text =
     if nat_lt (position_or_len (λ b. b == c) text) (length text) then Some (before_first (λ b. b == c) text, after_first (λ b. b == c) text)
     else None
 
--- the text after the first such character, if it stands at the start
+-- the text after the first such character, if it is at the start
 abbrev pub at_start : Option (List ℕ × List ℕ) → Option (List ℕ)
 at_start None = None
 at_start (Some parts) = if is_empty parts.0 then Some parts.1 else None
@@ -107,7 +107,7 @@ abbrev pub place_by : Bool → List ℕ → Option (List ℕ) → Option (List �
 place_by v6 text (Some rest) = in_brackets v6 (split_at 93 rest)
 place_by v6 text None = not_bracketed text (split_at 58 text)
 
--- the host and the digits, given whether what stands in brackets is an IPv6 address
+-- the host and the digits, given whether what is in brackets is an IPv6 address
 abbrev pub place_of : Bool → List ℕ → Option (List ℕ × List ℕ)
 place_of v6 text = place_by v6 text (at_start (split_at 91 text))
 

@@ -29,7 +29,7 @@ polled_over transport (Err e) = Err e
 
 -- ---- padding
 
--- zeros after what stands at the front of the buffer
+-- zeros after what is at the front of the buffer
 abbrev pub padded_at : ℕ → List ℕ → List ℕ
 padded_at n buf = take n buf ++ padding n ++ drop (padded n) buf
 

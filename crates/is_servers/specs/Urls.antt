@@ -20,7 +20,7 @@ pub record Url : Type 0 where
 abbrev pub url_view : ServerUrl → Url
 url_view u = record { scheme = u.scheme; is_secure = u.is_secure; transport = u.transport; host = u.host.now; port = u.port }
 
--- the same text but for the case of letters (RFC 5234, section 2.3)
+-- the same text, in upper or lower case (RFC 5234, section 2.3)
 abbrev pub same_word : List ℕ → List ℕ → Bool
 same_word a b = bytes_eq (map to_ascii_lowercase a) (map to_ascii_lowercase b)
 
@@ -83,7 +83,7 @@ abbrev pub url_in : Bool → Option (List ℕ × List ℕ) → Option Url
 url_in v6 None = None
 url_in v6 (Some parts) = url_after v6 (scheme_of parts.0) (without_query parts.1)
 
--- what the text says, given whether what stands in brackets is an IPv6 address
+-- what the text says, given whether what is in brackets is an IPv6 address
 abbrev pub url_of : Bool → List ℕ → Option Url
 url_of v6 text = url_in v6 (split_at 58 text)
 
@@ -95,6 +95,6 @@ abbrev pub bracketed_by : Option (List ℕ × List ℕ) → Option (List ℕ)
 bracketed_by None = None
 bracketed_by (Some parts) = bracketed_after (scheme_of parts.0) parts.1
 
--- what stands in brackets after a scheme
+-- what is in brackets after a scheme
 abbrev pub bracketed_in : List ℕ → Option (List ℕ)
 bracketed_in text = bracketed_by (split_at 58 text)

@@ -1,4 +1,4 @@
-//! Where a message ends in a stream (RFC 8489, section 6.2.2; RFC 8656, section 12.5).
+//! The end of a message in a stream (RFC 8489, section 6.2.2; RFC 8656, section 12.5).
 
 ghost use Rattle.std.specs.Prelude.{◌≡◌, ◌<◌, ◌^◌};
 ghost use Rattle.is_servers.specs.Frames.{padded, frame_length};

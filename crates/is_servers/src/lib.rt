@@ -1,5 +1,5 @@
-//! The STUN and TURN clients of a program, over UDP and TCP, without I/O: what stands between its sockets and its agents. Also the URLs of
-//! servers (RFC 7064, RFC 7065), and where a message in a stream ends (RFC 8489, RFC 8656).
+//! The STUN and TURN clients of a program, over UDP and TCP, without I/O: what is between its sockets and its agents. Also the URLs of
+//! servers (RFC 7064, RFC 7065), and the length of a message in a stream (RFC 8489, RFC 8656).
 //!
 //! Pass each datagram of a socket, and each frame of a stream, to `Servers::receive` first, and what that returns to the agent. Pass each
 //! packet of the agent to `Servers::outgoing` first, and send what that says.

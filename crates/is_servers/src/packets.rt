@@ -88,7 +88,7 @@ pub(crate) fn poll_over<H: Sha1HmacProvider>(
 
 // ---- padding
 
-/// Writes zeros after what stands at the front of the buffer, up to a multiple of four bytes, and returns the length with them.
+/// Writes zeros after what is at the front of the buffer, up to a multiple of four bytes, and returns the length with them.
 fn pad(len: usize, buf: &mut [u8]) -> usize
     requires { len + 3 ≤ length buf.old }
     ensures len { result ≡ padded len }

@@ -33,7 +33,7 @@ const PORT: u16 = 3478;
 /// The port of `stuns:` and `turns:`.
 const SECURE_PORT: u16 = 5349;
 
-/// Whether two texts are the same but for the case of letters (RFC 5234, section 2.3).
+/// Whether two texts are the same, in upper or lower case (RFC 5234, section 2.3).
 fn same_word(a: &str, b: &str) -> bool
     ensures { result ≡ same_word a.now b.now }
 {

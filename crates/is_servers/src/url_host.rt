@@ -202,7 +202,7 @@ fn is_v6(text: &str) -> bool
     }
 }
 
-/// Returns the IPv6 address that stands before a bracket, and the digits of the port after it.
+/// Returns the IPv6 address before a bracket, and the digits of the port after it.
 fn in_brackets(text: &str) -> Option<(&str, &str)>
     ensures { (v6 : Bool) × IsV6If (before_bracket text.now) v6
         × (option_map (λ parts. (parts.0.now, parts.1.now)) result ≡ in_brackets v6 (split_at 93 text.now)) }

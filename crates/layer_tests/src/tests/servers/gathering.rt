@@ -44,7 +44,7 @@ fn two_servers_answer(rt: HostRuntime) -> Result<(), AllocError> {
     Ok(())
 }
 
-/// A second client of the same socket and server is not added, and would wait in vain.
+/// A second client of the same socket and server is not added: it would have no response.
 #[test]
 fn a_second_client_is_not_added(rt: HostRuntime) -> Result<(), AllocError> {
     let mut program = Program::new(rt.alloc());
