@@ -27,7 +27,9 @@ fn two_servers_answer(rt: HostRuntime) -> Result<(), AllocError> {
     assert!(rt; !program.servers.is_gathering());
     program.servers.add_stun(at(0), socket(5001), server(1))?;
     assert!(rt; program.servers.poll_timeout() == Some(at(0)));
-    assert!(rt; matches!(program.sends_at(0), Some(sent) if sent.local == socket(5001) && sent.server == server(1)));
+    assert!(rt;
+        matches!(program.sends_at(0), Some(sent) if sent.local == socket(5001) && sent.server == server(1))
+    );
     let answer = Builder::new()
         .binding()
         .success()
@@ -35,11 +37,15 @@ fn two_servers_answer(rt: HostRuntime) -> Result<(), AllocError> {
         .build(program.id());
     assert!(rt; !program.answers(Transport::Udp, 1, answer));
     assert!(rt; program.servers.is_gathering());
-    assert!(rt; matches!(program.servers.poll_event(), Some(event) if event.what == Happened::Mapped(server(66))));
+    assert!(rt;
+        matches!(program.servers.poll_event(), Some(event) if event.what == Happened::Mapped(server(66)))
+    );
     assert!(rt; !program.servers.is_gathering());
     program.add(rt.alloc(), Transport::Udp, 2)?;
     assert!(rt; program.servers.is_gathering());
-    assert!(rt; matches!(program.allocates(Transport::Udp, 2), Some(event) if event.what == Happened::Allocated(allocation())));
+    assert!(rt;
+        matches!(program.allocates(Transport::Udp, 2), Some(event) if event.what == Happened::Allocated(allocation()))
+    );
     assert!(rt; !program.servers.is_gathering());
     Ok(())
 }
@@ -65,11 +71,10 @@ fn other_datagrams_are_the_agents(rt: HostRuntime) -> Result<(), AllocError> {
     program.servers.add_stun(at(0), socket(5001), server(1))?;
     assert!(rt; program.sends_at(0).is_some());
     let given = program.hears(Transport::Udp, 1, &MEDIA);
-    assert!(rt; matches!(given, Some(datagram) if datagram.source == server(1) && datagram.contents == MEDIA.as_slice()));
-    let other = Builder::new()
-        .binding()
-        .success()
-        .build(TransId([9; 12]));
+    assert!(rt;
+        matches!(given, Some(datagram) if datagram.source == server(1) && datagram.contents == MEDIA.as_slice())
+    );
+    let other = Builder::new().binding().success().build(TransId([9; 12]));
     assert!(rt; program.answers(Transport::Udp, 1, other));
     Ok(())
 }

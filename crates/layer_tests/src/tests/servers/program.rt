@@ -79,9 +79,7 @@ impl Program {
     /// Handles the timeout that is due; where its packet goes, if there is one.
     pub(super) fn sends_at(&mut self, now: u64) -> Option<ServerPacket> {
         self.servers.handle_timeout(at(now), &mut self.rng);
-        self.servers
-            .poll_transmit(&mut self.packet)
-            .unwrap_or(None)
+        self.servers.poll_transmit(&mut self.packet).unwrap_or(None)
     }
 
     pub(super) fn id(&self) -> TransId {

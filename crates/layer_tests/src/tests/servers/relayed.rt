@@ -16,14 +16,18 @@ fn data_goes_both_ways_over_udp(rt: HostRuntime) -> Result<(), AllocError> {
     assert!(rt; program.allocates(Transport::Udp, 1).is_some());
     assert!(rt; program.goes(socket(5001)) == Some(ServerOutgoing::AsItIs));
     let sent = program.goes(server(50));
-    assert!(rt; matches!(sent, Some(ServerOutgoing::Through(packet)) if packet.local == socket(5001) && packet.server == server(1)));
+    assert!(rt;
+        matches!(sent, Some(ServerOutgoing::Through(packet)) if packet.local == socket(5001) && packet.server == server(1))
+    );
     assert!(rt; program.packet[1] == 0x16);
     let mut buf = [0; 100];
     let len = write_send(peer(), &MEDIA, &TransId([7; 12]), &mut buf).unwrap_or(0);
     assert!(rt; len > 0 && len <= 100);
     buf[1] = 0x17;
     let given = program.hears(Transport::Udp, 1, &buf[..len]);
-    assert!(rt; matches!(given, Some(datagram) if datagram.source == peer() && datagram.destination == server(50)));
+    assert!(rt;
+        matches!(given, Some(datagram) if datagram.source == peer() && datagram.destination == server(50))
+    );
     assert!(rt; matches!(given, Some(datagram) if datagram.contents == MEDIA.as_slice()));
     Ok(())
 }
@@ -45,7 +49,9 @@ fn channel_data_is_padded_over_tcp(rt: HostRuntime) -> Result<(), AllocError> {
     assert!(rt; !program.answers(Transport::Tcp, 1, bound));
     program.packet = [0xFF; 200];
     let sent = program.goes(server(50));
-    assert!(rt; matches!(sent, Some(ServerOutgoing::Through(packet)) if packet.len == 12 && packet.transport == Transport::Tcp));
+    assert!(rt;
+        matches!(sent, Some(ServerOutgoing::Through(packet)) if packet.len == 12 && packet.transport == Transport::Tcp)
+    );
     let mut frame = [0; 12];
     frame[..4].copy_from_slice(&channel_header(0x4001, 5));
     frame[4..9].copy_from_slice(&MEDIA);
@@ -53,7 +59,9 @@ fn channel_data_is_padded_over_tcp(rt: HostRuntime) -> Result<(), AllocError> {
     assert!(rt; program.packet[12] == 0xFF);
     assert!(rt; frame_length(&frame) == Frame::Of(12));
     let given = program.hears(Transport::Tcp, 1, &frame);
-    assert!(rt; matches!(given, Some(datagram) if datagram.source == peer() && datagram.contents == MEDIA.as_slice()));
+    assert!(rt;
+        matches!(given, Some(datagram) if datagram.source == peer() && datagram.contents == MEDIA.as_slice())
+    );
     Ok(())
 }
 
@@ -65,5 +73,5 @@ fn frames_have_their_lengths(rt: HostRuntime) {
     assert!(rt; frame_length(&[0x40, 0, 0, 8, 1]) == Frame::Of(12));
     assert!(rt; frame_length(&[0x4F, 0xFF, 0xFF, 0xFF]) == Frame::Of(65_540));
     assert!(rt; frame_length(&[0x50, 0, 0, 8]) == Frame::Neither);
-    assert!(rt; frame_length(b"HTTP/1.1") == Frame::Neither);
+    assert!(rt; frame_length(b"SSH-2.0") == Frame::Neither);
 }

@@ -43,9 +43,15 @@ fn turn_urls(rt: HostRuntime) {
 /// Hosts of RFC 3986, section 3.2.2.
 #[test]
 fn hosts(rt: HostRuntime) {
-    assert!(rt; matches!(server_url("stun:192.0.2.1:5349"), Some(url) if url.host == "192.0.2.1" && url.port == 5349));
-    assert!(rt; matches!(server_url("turn:[2001:db8::1]"), Some(url) if url.host == "2001:db8::1" && url.port == 3478));
-    assert!(rt; matches!(server_url("turn:[2001:db8::1]:80?transport=tcp"), Some(url) if url.host == "2001:db8::1" && url.port == 80));
+    assert!(rt;
+        matches!(server_url("stun:192.0.2.1:5349"), Some(url) if url.host == "192.0.2.1" && url.port == 5349)
+    );
+    assert!(rt;
+        matches!(server_url("turn:[2001:db8::1]"), Some(url) if url.host == "2001:db8::1" && url.port == 3478)
+    );
+    assert!(rt;
+        matches!(server_url("turn:[2001:db8::1]:80?transport=tcp"), Some(url) if url.host == "2001:db8::1" && url.port == 80)
+    );
     assert!(rt; matches!(server_url("stun:a%2Fb"), Some(url) if url.host == "a%2Fb"));
     assert!(rt; matches!(server_url("stun:a:"), Some(url) if url.port == 3478));
 }
