@@ -1,5 +1,5 @@
 -- What arrives at the clients of servers, and what they send and report: for which of them a call is. It changes no other.
-use Rattle.std.specs.Prelude.{◌≡◌, ℕ, ◌-◌, ◌&&◌, Bool, true, false, List, ◌++◌, length, take, drop, nat_le, nat_lt, position, is_some, Option, Some, None, Result, Ok, Err}
+use Rattle.std.specs.Prelude.{◌≡◌, ℕ, ◌-◌, ◌&&◌, Bool, true, false, List, ◌++◌, length, take, drop, nat_le, position, is_some, Option, Some, None, Result, Ok, Err}
 use Rattle.std.specs.Option.{option_and_then}
 use Rattle.std.specs.declared.net.socket_addr.SocketAddr.{SocketAddr}
 use Rattle.rand_core.specs.Stream.{Stream}
@@ -27,6 +27,19 @@ use Rattle.is_servers.specs.Events.{turn_happened}
 use Rattle.is_servers.specs.Mappings.{Takes, TimesOutAt, Polls, Reports, earliest, due, some_packet, some_event}
 use Rattle.is_servers.specs.Packets.{sent_over, polled_over, padded_buffer, padded_outgoing}
 use Rattle.is_servers.specs.Servers.{mappings_of, udp_of, tcp_of, IsSame}
+
+-- the first time is there, and not later than the other
+abbrev pub is_first : Option Instant → Option Instant → Bool
+is_first None other = false
+is_first (Some time) None = true
+is_first (Some time) (Some other) = nat_le time.0 other.0
+
+-- the event of a TURN client, with its socket and server
+abbrev pub event_from : Transport → Option (SocketAddr × SocketAddr) → Option (ℕ × TurnEvent) → Option ServerEvent
+event_from transport None event = None
+event_from transport (Some ends) None = None
+event_from transport (Some ends) (Some event) =
+    Some (record { transport = transport; local = ends.0; server = ends.1; what = turn_happened event.1 })
 
 module _ {H : Type 0} where
   -- ---- datagrams
@@ -106,12 +119,6 @@ module _ {H : Type 0} where
 
   -- ---- the clock
 
-  -- the first time is there, and not later than the other
-  abbrev pub is_first : Option Instant → Option Instant → Bool
-  is_first None other = false
-  is_first (Some time) None = true
-  is_first (Some time) (Some other) = nat_le time.0 other.0
-
   pub record MappingTimesOut (now : Instant) (stream stream_new : Stream) (old new : Servers H) : Type 0 where
     pub mappings : TimesOutAt (due now (mappings_of old)) now stream stream_new (mappings_of old) (mappings_of new)
     pub udp : udp_of new ≡ udp_of old
@@ -188,12 +195,6 @@ module _ {H : Type 0} where
   -- the socket and the server of the client whose event is next
   abbrev pub next_ends : List (Relay H) → Option (SocketAddr × SocketAddr)
   next_ends l = option_and_then (λ place. ends_at place l) (position relay_has_event l)
-
-  abbrev pub event_from : Transport → Option (SocketAddr × SocketAddr) → Option (ℕ × TurnEvent) → Option ServerEvent
-  event_from transport None event = None
-  event_from transport (Some ends) None = None
-  event_from transport (Some ends) (Some event) =
-      Some (record { transport = transport; local = ends.0; server = ends.1; what = turn_happened event.1 })
 
   pub record ReportsRelays (transport : Transport) (old : List (Relay H)) (result : Option ServerEvent) (new : List (Relay H)) : Type 0 where
     pub event : Option (ℕ × TurnEvent)

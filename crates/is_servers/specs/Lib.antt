@@ -6,3 +6,5 @@ pub mod Mapping
 pub mod Mappings
 pub mod Servers
 pub mod Calls
+pub mod Hosts
+pub mod Urls

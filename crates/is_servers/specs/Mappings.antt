@@ -1,5 +1,5 @@
 -- The STUN clients of a program: which of them a call is for. It changes no other.
-use Rattle.std.specs.Prelude.{◌≡◌, ℕ, Bool, false, true, List, map, fold, ◌++◌, ◌∷◌, [], position, nat_le, slice_get, slice_set, is_some, Option, Some, None, option_map, Result, Ok, Err, if◌then◌else◌}
+use Rattle.std.specs.Prelude.{◌≡◌, ℕ, Bool, false, List, map, fold, ◌++◌, ◌∷◌, [], position, nat_le, slice_get, slice_set, is_some, Option, Some, None, option_map, Result, Ok, Err, if◌then◌else◌}
 use Rattle.std.specs.declared.net.socket_addr.SocketAddr.{SocketAddr}
 use Rattle.rand_core.specs.Stream.{Stream}
 use Rattle.is_proto.specs.declared.error.StunError.{StunError}
@@ -10,7 +10,7 @@ use Rattle.is_servers.specs.declared.events.ServerEvent.{ServerEvent}
 use Rattle.is_servers.specs.declared.mapping.Mapping.{Mapping}
 use Rattle.is_servers.specs.declared.packets.ServerPacket.{ServerPacket}
 use Rattle.is_servers.specs.declared.transport.Transport.TheVariants.{Udp}
-use Rattle.is_servers.specs.Mapping.{new_mapping, is_at, is_over, is_asking, is_due_at, time_of, timed_out, has_packet, has_event, reported, closed, lost_at, TakesResponse, PollsMapping}
+use Rattle.is_servers.specs.Mapping.{new_mapping, is_at, is_over, is_asking, is_due_at, time_of, timed_out, has_packet, has_event, reported, TakesResponse, PollsMapping}
 
 -- of the clients only the one in this place is changed, as the relation says
 pub record ChangesAt (place : ℕ) (Changes : Mapping → Mapping → Type 0) (old new : List Mapping) : Type 0 where

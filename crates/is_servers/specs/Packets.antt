@@ -1,5 +1,5 @@
 -- What goes to a server. Over TCP it is padded to a multiple of four bytes (RFC 8656, section 12.5).
-use Rattle.std.specs.Prelude.{ℕ, ◌+◌, List, ◌++◌, length, take, drop, Option, Some, None, Result, Ok, Err}
+use Rattle.std.specs.Prelude.{ℕ, List, ◌++◌, take, drop, Option, Some, None, Result, Ok, Err}
 use Rattle.is_proto.specs.declared.error.StunError.{StunError}
 use Rattle.is_turn.specs.declared.relay.Outbound.{Outbound}
 use Rattle.is_turn.specs.declared.relay.Outgoing.{Outgoing}

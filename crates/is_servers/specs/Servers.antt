@@ -1,10 +1,10 @@
 -- All STUN and TURN clients of a program: what each call does to the three lists of them.
-use Rattle.std.specs.Prelude.{◌≡◌, ℕ, ◌||◌, Bool, true, false, List, [], map, position, is_some, Option, Some, None, Result, Ok, Err}
+use Rattle.std.specs.Prelude.{◌≡◌, ◌||◌, Bool, true, false, List, map, position, Option}
 use Rattle.std.specs.declared.net.socket_addr.SocketAddr.{SocketAddr}
 use Rattle.is_proto.specs.declared.proto.Instant.{Instant}
 use Rattle.is_turn.specs.declared.relay.Relay.{Relay}
 use Rattle.is_turn.specs.declared.turn.TurnClient.{TurnClient}
-use Rattle.is_turn.specs.AllRelays.{serves, ChangesEach, RequestsPermission, LosesAt} 
+use Rattle.is_turn.specs.AllRelays.{serves, ChangesEach, RequestsPermission, LosesAt}
 use Rattle.is_turn.specs.AllRelays.{is_gathering as relays_gather}
 use Rattle.is_turn.specs.OneRelay.{is_over, started_relay, Probes, Closes}
 use Rattle.is_turn.specs.Relays.{earlier_time, earliest_time, relay_added}

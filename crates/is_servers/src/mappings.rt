@@ -2,7 +2,7 @@
 
 ghost use Rattle.std.specs.Prelude.{◌≡◌, [], ◌<◌, IfSome, MatchResult, map, position, vec_len};
 ghost use Rattle.is_turn.specs.Relays.{earlier_time};
-ghost use Rattle.is_servers.specs.Mapping.{is_at, is_over, is_due_at, has_packet, has_event, closed, lost_at, new_mapping, TakesResponse};
+ghost use Rattle.is_servers.specs.Mapping.{is_at, is_over, is_asking, is_due_at, has_packet, has_event, closed, lost_at, new_mapping, TakesResponse};
 ghost use Rattle.is_servers.specs.Mappings.{ChangesAt, placed, added, Takes, earliest, due, TimesOut, TimesOutAt, some_packet, some_event, is_gathering, sent_by, PollsOne, Polls, ReportsOne, Reports};
 
 use crate::events::ServerEvent;
@@ -96,6 +96,12 @@ impl Mappings {
         self.all.iter().position(|m| m.is_due_at(time))
     }
 
+    fn place_asking(&self) -> Option<usize>
+        ensures { result ≡ position is_asking self.now.all.items }
+    {
+        self.all.iter().position(|m| m.is_asking())
+    }
+
     /// Returns the place of the client whose time comes first, if it has come.
     fn due_place(&self, now: Instant) -> Option<usize>
         ensures place { result ≡ due now self.now.all.items }
@@ -116,7 +122,7 @@ impl Mappings {
     pub(crate) fn is_gathering(&self) -> bool
         ensures { result ≡ is_gathering self.now.all.items }
     {
-        self.all.iter().position(|m| m.is_asking()).is_some()
+        self.place_asking().is_some()
     }
 
     pub(crate) fn has_packet(&self) -> bool
