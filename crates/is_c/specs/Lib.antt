@@ -38,3 +38,4 @@ pub mod ServersCalls
 pub mod ServersEvents
 pub mod ServersLines
 pub mod ServerStreams
+pub mod ServerUrls

@@ -53,10 +53,10 @@ MakesSigner username password (Err why) =
     ((why ≡ NOT_UTF8) × ¬ (IsUtf8 username × IsUtf8 password)) ⊎ ((why ≡ CREDENTIALS_TOO_LONG) × IsTooLong username password)
 
 -- a client that did nothing yet
-pub record IsNew (ends : Ends) (family : Option AddressFamily) (places : ℕ) (credentials : Option Credentials)
+pub record IsNew (ends : Ends) (family : Option AddressFamily) (places : ℕ) (signer : Option Credentials)
     (client : TurnClient DefaultSha1HmacProvider) : Type 0 where
   pub session : client.session ≡ new_session ends.remote family (timing_over ends.transport) LIFETIME
-  pub credentials : client.credentials ≡ credentials
+  pub credentials : client.credentials ≡ signer
   pub leases : client.leases.items ≡ replicate places unused
 
 abbrev pub AddsNew : ℕ → Ends → Option AddressFamily → ℕ → Option Credentials → Clients → Clients → Type 0

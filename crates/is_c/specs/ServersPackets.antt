@@ -38,10 +38,10 @@ IsOffset whole (b ∷ bs) place = IsPlaceFrom whole (b ∷ bs) 0 place
 -- ---- received datagrams
 
 -- what arrived, as a part of the bytes
-pub record IsArrival (d : Arrived) (offset : ℕ) (arrival : Arrival) : Type 0 where
+pub record IsArrival (d : Arrived) (start : ℕ) (arrival : Arrival) : Type 0 where
   pub source : socket_of arrival.source ≡ Some d.source
   pub destination : socket_of arrival.destination ≡ Some d.destination
-  pub offset : arrival.offset ≡ offset
+  pub offset : arrival.offset ≡ start
   pub length : arrival.length ≡ length d.contents
 
 abbrev pub PutsPlaced : Option ℕ → Arrived → Arrival → Arrival → ℤ → Type 0
