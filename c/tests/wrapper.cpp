@@ -272,6 +272,83 @@ static void takes_spans()
 }
 #endif
 
+static is_ice::address at(uint8_t last, uint16_t port) { return is_ice::ipv4({10, 0, 0, last}, port); }
+
+/* A STUN client of 10.0.0.1:1000 at 10.0.0.9:3478 learns its mapped address. */
+static void has_a_stun_server()
+{
+    is_ice::servers servers;
+    HOLD(!servers.gathering() && !servers.poll_timeout() && !servers.poll_event() && !servers.poll_transmit());
+    servers.add_stun(0ns, at(1, 1000), at(9, 3478));
+    HOLD(servers.gathering() && servers.poll_timeout() == 0ns);
+    servers.handle_timeout(0ns, {});
+    auto request = servers.poll_transmit();
+    HOLD(request && request->contents.size() == IS_ICE_STUN_REQUEST_LENGTH && request->destination.port == 3478);
+    is_ice::stun_message response{};
+    response.method = IS_ICE_STUN_BINDING, response.cls = IS_ICE_STUN_SUCCESS, response.mapped = at(77, 7);
+    auto data = is_ice::stun_write(response, {}, "", "");
+    HOLD(!servers.receive(1ms, IS_ICE_UDP, at(9, 3478), at(1, 1000), data.data(), data.size()));
+    auto event = servers.poll_event();
+    HOLD(event && event->local.port == 1000 && std::get<is_ice::mapped>(event->what).address.port == 7);
+    HOLD(is_ice::servers_event_line(*event) == "server 10.0.0.9:3478 udp 10.0.0.1:1000: mapped 10.0.0.77:7");
+    servers.lose(IS_ICE_UDP, at(1, 1000));
+    auto gone = servers.poll_event();
+    HOLD(std::get<is_ice::ended>(gone->what).why == is_ice::ending::lost && !std::get<is_ice::ended>(gone->what).code);
+}
+
+/* A TURN client without credentials gets the relayed address 10.0.0.9:5000, and a peer its data. */
+static void has_a_turn_server()
+{
+    is_ice::servers servers;
+    servers.add_turn(0ns, IS_ICE_UDP, at(1, 1000), at(9, 3478), "", "");
+    servers.handle_timeout(0ns, {});
+    HOLD(servers.poll_transmit().has_value());
+    is_ice::stun_message response{};
+    response.method = IS_ICE_STUN_ALLOCATE, response.cls = IS_ICE_STUN_SUCCESS;
+    response.lifetime = {600, true}, response.relayed = at(9, 5000), response.mapped = at(77, 7);
+    auto data = is_ice::stun_write(response, {}, "", "");
+    HOLD(!servers.receive(1ms, IS_ICE_UDP, at(9, 3478), at(1, 1000), data.data(), data.size()));
+    auto event = servers.poll_event();
+    auto made = std::get<is_ice::allocated>(event->what);
+    HOLD(made.relayed.port == 5000 && made.mapped->port == 7);
+    HOLD(is_ice::servers_event_line(*event).find(": allocated 10.0.0.9:5000, mapped 10.0.0.77:7") != std::string::npos);
+    servers.permit(2ms, at(2, 2000));
+    auto wrapped = servers.outgoing(3ms, at(9, 5000), at(2, 2000), "\x80", 1, {});
+    HOLD(std::get<is_ice::packet>(wrapped).destination.port == 3478 && std::get<is_ice::packet>(wrapped).contents.size() == 48);
+    HOLD(std::holds_alternative<is_ice::as_it_is>(servers.outgoing(3ms, at(1, 1000), at(2, 2000), "\x80", 1, {})));
+    auto direct = servers.receive(4ms, IS_ICE_UDP, at(2, 2000), at(1, 1000), "\x80x", 2);
+    HOLD(direct && direct->length == 2 && direct->data[1] == 'x' && direct->source.port == 2000);
+    servers.probe(5ms);
+    servers.close(6ms);
+    HOLD(servers.poll_timeout().has_value());
+    servers.lose(IS_ICE_UDP, at(1, 1000));
+    auto dropped = servers.outgoing(7ms, at(9, 5000), at(2, 2000), "\x80", 1, {});
+    HOLD(std::holds_alternative<is_ice::no_relay>(dropped));
+}
+
+static void owns_its_servers()
+{
+    is_ice::servers first;
+    is_ice::servers second = std::move(first);
+    HOLD(thrown([&] { first.gathering(); }).code() == IS_ICE_NO_SERVERS);
+    HOLD(thrown([&] { second.add_stun(0ns, {}, at(9, 1)); }).code() == IS_ICE_BAD_ADDRESS);
+    std::string many(509, 'u');
+    auto turn = [&](std::string_view name) { second.add_turn(0ns, IS_ICE_TCP, at(1, 1), at(9, 1), name, "pass", 4); };
+    HOLD(thrown([&] { turn(many); }).code() == IS_ICE_CREDENTIALS_TOO_LONG);
+    turn("user");
+    HOLD(second.gathering());
+}
+
+static void reads_urls_and_frames()
+{
+    auto url = is_ice::server_url_of("turns:turn.example.org:443");
+    HOLD(url.host == "turn.example.org" && url.port == 443 && url.scheme == IS_ICE_TURN && url.protocol == IS_ICE_TLS);
+    HOLD(is_ice::server_url_of("stun:[2001:db8::1]").host == "2001:db8::1");
+    HOLD(thrown([] { is_ice::server_url_of("http://turn.example.org"); }).code() == IS_ICE_BAD_URL);
+    HOLD(is_ice::frame_length("\x40\0\0\x05", 4) == 12 && !is_ice::frame_length("\x40", 1));
+    HOLD(thrown([] { (void)is_ice::frame_length("\xff\0\0\0", 4); }).code() == IS_ICE_UNPARSED);
+}
+
 int main()
 {
     owns_an_agent();
@@ -284,6 +361,10 @@ int main()
     says_why_a_pair_was_removed();
     has_stun_messages();
     passes_codes_on();
+    has_a_stun_server();
+    has_a_turn_server();
+    owns_its_servers();
+    reads_urls_and_frames();
 #if __cplusplus >= 202002L
     takes_spans();
 #endif
