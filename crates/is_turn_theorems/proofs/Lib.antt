@@ -1,2 +1,4 @@
 mod Standing
 mod OtherCalls
+mod Responses
+mod Verdicts
