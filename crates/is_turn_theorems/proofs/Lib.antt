@@ -2,3 +2,5 @@ mod Standing
 mod OtherCalls
 mod Responses
 mod Verdicts
+mod Timeouts
+mod TimeoutSteps
