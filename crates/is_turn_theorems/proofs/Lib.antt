@@ -4,3 +4,5 @@ mod Responses
 mod Verdicts
 mod Timeouts
 mod TimeoutSteps
+mod LeaseAnswers
+mod TimelyRuns
