@@ -1,8 +1,7 @@
 -- What a user's calls and polls do to a session keeps how far its renewal is.
-use Rattle.std.proofs.Common.{◌≡◌, ℕ, ◌+◌, ◌*◌, ◌≤◌, ◌==◌, ◌&&◌, ◌||◌, Bool, true, false, cond, List, Option, Some, None, is_none, is_some, position, Result, Ok, Err, arith, refl, sym, subst}
+use Rattle.std.proofs.Common.{◌≡◌, ℕ, ◌+◌, ◌≤◌, ◌==◌, ◌&&◌, ◌||◌, Bool, true, false, cond, List, Option, Some, None, is_none, is_some, position, Result, Ok, Err, arith, refl, sym, subst}
 use Rattle.std.specs.declared.net.socket_addr.SocketAddr.{SocketAddr}
 use Rattle.is_proto.specs.declared.error.StunError.{StunError}
-use Rattle.is_proto.specs.declared.proto.Instant.{Instant}
 use Rattle.is_turn.specs.declared.operation.Operation.{Operation}
 use Rattle.is_turn.specs.declared.lease.Lease.{Lease}
 use Rattle.is_turn.specs.declared.requests.Request.{Request}
@@ -21,8 +20,8 @@ use Rattle.is_turn.specs.Places.{at_place, bound_channel}
 use Rattle.is_turn.specs.Relaying.{after_route, route_of, routed, routed_if, permits_peer, with_media, after_poll, client_packet, packet_after, lease_packet_at, lease_packet_of, lease_request, session_after_event, reported}
 use Rattle.is_turn.specs.Session.{PACE, is_new, is_ready, is_gone, request_timing, asking, turn_started, with_request, changed_by, unsent, left, closed, closed_early, closed_in, may_be_made, quiet_after, lost, probed, lease_failed}
 use Rattle.is_turn.specs.Turn.{packet_due, packet_or, request_or, alive_or_nothing, packet_polled, reported_by, after_event}
-use Rattle.is_turn_theorems.specs.Limits.{Limits, attempt_time}
-use Rattle.is_turn_theorems.proofs.Standing.{Holds, Standing, Fresh, Soon, Stage, SentLast, DueIn}
+use Rattle.is_turn_theorems.specs.Limits.{Limits}
+use Rattle.is_turn_theorems.proofs.Standing.{Holds, Soon, Stage, SentLast, DueIn}
 
 -- ---- cases
 
@@ -49,7 +48,6 @@ pub unready : (k : Limits) (now d : ℕ) (s : Session) → s.paced.0 ≤ now + P
 unready k now d s p e = record { paced = p; ready = λ r. absurd (cc (e, r)) }
 
 -- ---- a request begins
-
 
 request_begins : (k : Limits) (now d : ℕ) (r : Request) (s : Session) (o : Option Operation) → is_none o ≡ true → d ≤ now → Holds k now d s
     → (is_ready s.phase ≡ true → Soon k now s.renew.0 o) → Holds k now d (with_request (at_time now) r s)

@@ -1,34 +1,23 @@
 -- What a response of the server does to a session keeps how far its renewal is.
-use Rattle.std.proofs.Common.{◌≡◌, ◌⊎◌, inl, inr, ◌↔◌, ℕ, ◌+◌, ◌*◌, ◌-◌, ◌/◌, ◌≤◌, ◌<◌, ◌==◌, ◌&&◌, ◌||◌, not, nat_lt, min, Bool, true, false, cond, IsTrue, List, Option, Some, None, is_none, is_some, arith, refl, sym, ap, subst, ◌∙◌}
-use Rattle.std.proofs.lemmas.Bool.Decides.{nat_tests}
+use Rattle.std.proofs.Common.{◌≡◌, inl, inr, ℕ, ◌+◌, ◌*◌, ◌/◌, ◌≤◌, ◌<◌, ◌==◌, min, Bool, true, false, cond, Option, Some, None, arith, refl, ap, ◌∙◌}
 use Rattle.std.specs.declared.net.socket_addr.SocketAddr.{SocketAddr}
 use Rattle.is_proto.specs.Times.{MAX, SECOND, later}
 use Rattle.is_proto.specs.declared.proto.Instant.{Instant}
-use Rattle.is_stun.specs.Message.{Message}
 use Rattle.is_turn.specs.declared.attempts.Attempt.{Attempt}
 use Rattle.is_turn.specs.declared.operation.Operation.{Operation}
-use Rattle.is_turn.specs.declared.requests.Request.{Request}
-use Rattle.is_turn.specs.declared.requests.Request.TheVariants as requests
 use Rattle.is_turn.specs.declared.session.Allocation.{Allocation}
 use Rattle.is_turn.specs.declared.session.Phase.{Phase}
 use Rattle.is_turn.specs.declared.session.Phase.TheVariants as phases
 use Rattle.is_turn.specs.declared.session.Session.{Session}
 use Rattle.is_turn.specs.declared.timing.ClientTiming.{ClientTiming}
-use Rattle.is_turn.specs.declared.verdict.Verdict.{Verdict}
-use Rattle.is_turn.specs.declared.verdict.Verdict.TheVariants as verdicts
 use Rattle.is_turn.specs.Client.{at_time}
-use Rattle.is_turn.specs.Credentials.{Credentials}
-use Rattle.is_turn.specs.Operations.{takes_challenge, stale_count, is_allowed, doubted, hinted, another}
-use Rattle.is_turn.specs.Outcome.{answered_in, answered_by, attempt_answered, key_in, is_unknown, is_last_sent, on_alternate, on_code, on_success, on_challenge, code_or_success, or_success, lasts, relays, seconds_or_none, outcome_by, outcome_or, outcome_with}
-use Rattle.is_turn.specs.Receipts.{Receipt}
-use Rattle.is_turn.specs.Session.{PACE, is_ready, lifetime_of, renewal_of, request_timing, changed_by, extended, allocated_in, refreshed_in, renewed, lost, closed, failed_in, has_failed, is_gone, retried, is_redirected}
-use Rattle.is_turn.specs.Turn.{OutcomeApplies, Follows, challenge_taken, with_doubt, with_hint, with_another}
-use Rattle.is_turn.specs.Verdict.{is_challenge, is_code, is_malformed, code_of, verdict_by, verdict_of, verdict_with, IsSignedFor}
-use Rattle.is_turn.specs.Worlds.{IsBelievable}
-use Rattle.is_turn_theorems.specs.Limits.{Limits, lead, attempt_time, renewal_time, Leave}
-use Rattle.is_turn_theorems.specs.Timely.{IsGranted, IsStale}
-use Rattle.is_turn_theorems.proofs.Standing.{Holds, Standing, Fresh, Sent, Soon, SoonFor, Stage, SentLast, Pending, Due, DueIn, times_more}
-use Rattle.is_turn_theorems.proofs.OtherCalls.{through, holds_is, holds_cond, unready, both}
+use Rattle.is_turn.specs.Operations.{stale_count, doubted, hinted, another}
+use Rattle.is_turn.specs.Outcome.{lasts}
+use Rattle.is_turn.specs.Session.{PACE, is_ready, lifetime_of, renewal_of, request_timing, changed_by, extended, allocated_in, refreshed_in, renewed, lost, failed_in, has_failed, is_redirected}
+use Rattle.is_turn.specs.Turn.{Follows}
+use Rattle.is_turn_theorems.specs.Limits.{Limits, lead, attempt_time, Leave}
+use Rattle.is_turn_theorems.proofs.Standing.{Holds, Soon, Stage, SentLast, DueIn, times_more}
+use Rattle.is_turn_theorems.proofs.OtherCalls.{holds_is, holds_cond, unready}
 
 -- ---- a call at this time
 
@@ -72,7 +61,7 @@ pub extends : (k : Limits) (now since seconds : ℕ) → Leave k → now + 3600 
     → Extends k now since seconds
 extends k now since seconds leave shown lasts after within =
     let h = reach_by since now (renewal_of (lifetime_of seconds)) (lifetime_of seconds) (lead k) k.within after within shown (lifetime_most seconds)
-        (lead_le k.lifetime seconds lasts) (lead_half k.lifetime seconds lasts) (within_le k leave) in
+    (lead_le k.lifetime seconds lasts) (lead_half k.lifetime seconds lasts) (within_le k leave) in
     record { reach = h.0; ahead = h.1 }
 
 pub allocated_holds : (k : Limits) (now d : ℕ) (phase : Phase) (since : Instant) (seconds : ℕ) (allocation : Allocation) (s : Session) → d ≤ now
@@ -170,7 +159,7 @@ another_holds k now d b code s (Some o) le h soon counts = record {
       begun = omega arith;
       soon =
           let e : stale_count code o.stale * attempt_time k ≡ o.stale * attempt_time k + attempt_time k =
-              ap (λ (n : ℕ). n * attempt_time k) (counts r) ∙ times_more o.stale (attempt_time k) in
+          ap (λ (n : ℕ). n * attempt_time k) (counts r) ∙ times_more o.stale (attempt_time k) in
           let p = (soon r).bound in omega (arith, e, p);
       paced = h.paced;
     };

@@ -1,20 +1,19 @@
 -- Each call of a punctual caller whose server answers keeps the renewal of an allocation in time, so along each run nothing lapses.
-use Rattle.std.proofs.Common.{◌≡◌, ◌⊎◌, inl, inr, ◌↔◌, ℕ, ◌+◌, ◌*◌, ◌≤◌, ◌<◌, min, max, Bool, true, false, IsTrue, List, [], ◌∷◌, Option, Some, None, is_some, position, arith, refl, sym, ap, subst}
+use Rattle.std.proofs.Common.{◌≡◌, ◌⊎◌, inl, inr, ◌↔◌, ℕ, ◌+◌, ◌≤◌, ◌<◌, min, max, Bool, true, IsTrue, List, [], ◌∷◌, Option, Some, None, position, arith, refl, subst}
 use Rattle.std.specs.declared.net.socket_addr.SocketAddr.{SocketAddr}
 use Rattle.rand_core.specs.Stream.{Stream}
-use Rattle.is_proto.specs.Times.{MAX, SECOND}
+use Rattle.is_proto.specs.Times.{MAX}
 use Rattle.is_proto.specs.declared.proto.Instant.{Instant}
 use Rattle.is_stun.specs.Message.{Message}
 use Rattle.is_turn.specs.declared.attempts.Attempt.{Attempt}
 use Rattle.is_turn.specs.declared.lease.Lease.{Lease}
-use Rattle.is_turn.specs.declared.operation.Operation.{Operation}
 use Rattle.is_turn.specs.declared.session.Session.{Session}
 use Rattle.is_turn.specs.Alternate.{alternate_in}
 use Rattle.is_turn.specs.Client.{at_time}
 use Rattle.is_turn.specs.Credentials.{Credentials}
 use Rattle.is_turn.specs.Incoming.{Datagram, datagram_of, channel_data, peer_data, response, malformed, unasked, unparsed}
 use Rattle.is_turn.specs.Leases.{is_answered_by}
-use Rattle.is_turn.specs.Outcome.{attempt_answered, answered_by, key_in}
+use Rattle.is_turn.specs.Outcome.{attempt_answered, key_in}
 use Rattle.is_turn.specs.Places.{at_place}
 use Rattle.is_turn.specs.Receipts.{Receipt}
 use Rattle.is_turn.specs.Receiving.{IsRespondedBy, IsReceivedAs}
@@ -24,7 +23,7 @@ use Rattle.is_turn.specs.Turn.{key_now}
 use Rattle.is_turn.specs.Verdict.{code_of, IsSignedFor}
 use Rattle.is_turn.specs.Worlds.{Acceptance, World, Call, start, close, permit, send, probe, handle_timeout, poll_transmit, poll_event, receive, IsBelievable, Does, IsFresh}
 use Rattle.is_turn_theorems.specs.Limits.{Limits, Leave, margin}
-use Rattle.is_turn_theorems.specs.Timely.{Entry, is_timeout, timeout_of, due_since, IsGranted, IsStale, IsServed, Serves, IsKept, IsInTime, IsTimelyFrom, IsTimely, IsAhead, NothingLapses}
+use Rattle.is_turn_theorems.specs.Timely.{Entry, is_timeout, timeout_of, due_since, IsStale, IsServed, Serves, IsKept, IsInTime, IsTimelyFrom, IsTimely, IsAhead, NothingLapses}
 use Rattle.is_turn_theorems.proofs.Standing.{Holds, Soon, soon, ahead, holds_later, holds_rings}
 use Rattle.is_turn_theorems.proofs.OtherCalls.{through, holds_is, unready, holds_started, holds_closed, holds_routed, holds_probed, holds_polled, holds_event}
 use Rattle.is_turn_theorems.proofs.Responses.{Called}
@@ -153,16 +152,16 @@ entered k mac accepted due w x leave h step =
     let past : w.clock ≤ now = step.forward in
     let in_time : now ≤ due + k.late = step.punctual in
     let sooner : (r : is_ready w.session.phase ≡ true) → Soon k now w.session.renew.0 w.session.operation = λ r.
-        soon k (request_timing w.session) now w.clock due w.session.renew.0 w.session.paced.0 w.session.operation (h.ready r).pending (h.ready r).due in_time
-        (step.kept r).answered in
+    soon k (request_timing w.session) now w.clock due w.session.renew.0 w.session.paced.0 w.session.operation (h.ready r).pending (h.ready r).due in_time
+    (step.kept r).answered in
     let far : (r : is_ready w.session.phase ≡ true) → now + margin k ≤ w.session.until.0 = λ r.
-        ahead k now w.session.renew.0 w.session.until.0 w.session.operation (sooner r) (step.kept r).seldom_stale (h.ready r).reach leave in
+    ahead k now w.session.renew.0 w.session.until.0 w.session.operation (sooner r) (step.kept r).seldom_stale (h.ready r).reach leave in
     let called : Called k now (min due now) w.session = record {
-        past = omega arith;
-        holds = holds_later k w.clock now due (min due now) w.session past (omega arith) h;
-        soon = sooner;
-        shown = step.shown;
-        leave = leave;
+      past = omega arith;
+      holds = holds_later k w.clock now due (min due now) w.session past (omega arith) h;
+      soon = sooner;
+      shown = step.shown;
+      leave = leave;
     } in
     let after = called_follows k x.call mac accepted due w x.after called (λ r. meets k now w.session leave (far r) (step.kept r)) step.serves step.does in
     (record { ahead = far; stays = after.stays }, after.holds)

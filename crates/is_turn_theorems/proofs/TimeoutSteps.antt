@@ -1,10 +1,7 @@
 -- Each step of `handle_timeout` keeps how far the renewal of an allocation is.
-use Rattle.std.proofs.Common.{◌≡◌, ◌⊎◌, inl, inr, ℕ, ◌+◌, ◌*◌, ◌≤◌, ◌<◌, ◌==◌, ◌&&◌, nat_le, nat_lt, min, Bool, true, false, cond, List, Option, Some, None, is_none, arith, refl, sym, ap, subst}
+use Rattle.std.proofs.Common.{◌≡◌, ℕ, ◌+◌, ◌≤◌, ◌<◌, ◌&&◌, nat_le, nat_lt, Bool, true, false, cond, List, Option, Some, None, arith, refl, sym, ap, subst}
 use Rattle.std.proofs.lemmas.Bool.Decides.{nat_tests}
 use Rattle.rand_core.specs.Stream.{Stream, fill_bytes}
-use Rattle.is_proto.specs.Times.{MAX, SECOND}
-use Rattle.is_proto.specs.declared.proto.Instant.{Instant}
-use Rattle.is_turn.specs.declared.attempts.Attempt.{Attempt}
 use Rattle.is_turn.specs.declared.lease.Lease.{Lease}
 use Rattle.is_turn.specs.declared.operation.Operation.{Operation}
 use Rattle.is_turn.specs.declared.session.Session.{Session}
@@ -17,10 +14,10 @@ use Rattle.is_turn.specs.Relaying.{is_idle_step, lease_due, sending_for, step_at
 use Rattle.is_turn.specs.Session.{PACE, is_ready, request_timing, keep_alive_due, due_of, due_or, step_of, sending, failed_in}
 use Rattle.is_turn.specs.Turn.{after_step}
 use Rattle.is_turn_theorems.specs.Limits.{Limits}
-use Rattle.is_turn_theorems.proofs.Standing.{Holds, Standing, Fresh, Stage, Pending, Due, DueIn}
+use Rattle.is_turn_theorems.proofs.Standing.{Fresh, Stage, Due, DueIn}
 use Rattle.is_turn_theorems.proofs.OtherCalls.{through, both, unready}
 use Rattle.is_turn_theorems.proofs.Responses.{failed_unready}
-use Rattle.is_turn_theorems.proofs.Timeouts.{Ran, Running, Kept, Early, NotFresh, due_in, due_now, sends, rests, lives, attempts, repeats, times_out_late}
+use Rattle.is_turn_theorems.proofs.Timeouts.{Ran, Running, Kept, NotFresh, due_in, due_now, sends, rests, lives, attempts, repeats, times_out_late}
 
 -- ---- what is known of each step
 
@@ -147,8 +144,8 @@ timeout_kept k now key stream s l None new l_new stream_new e run does =
     (session_step k now key stream s run)
 timeout_kept k now key stream s l (Some place) new l_new stream_new e run does =
     let is : (is_ready s.phase && (is_idle_step (step_of (at_time now) s) && nat_le s.paced.0 now)) ≡ true =
-        some_due (is_ready s.phase && (is_idle_step (step_of (at_time now) s) && nat_le s.paced.0 now)) (due_place (at_time now) l) place e in
+    some_due (is_ready s.phase && (is_idle_step (step_of (at_time now) s) && nat_le s.paced.0 now)) (due_place (at_time now) l) place e in
     let idle = both (is_idle_step (step_of (at_time now) s)) (nat_le s.paced.0 now)
-        (both (is_ready s.phase) (is_idle_step (step_of (at_time now) s) && nat_le s.paced.0 now) is).1 in
+    (both (is_ready s.phase) (is_idle_step (step_of (at_time now) s) && nat_le s.paced.0 now) is).1 in
     kept_is k now s (sending_for (step_at place s l) (at_time now) s) new does.0
     (lease_sends k now s.timing (at_place place l).operation s run (λ r. idle_not_fresh k now s (run.ready r) idle.1 idle.0))

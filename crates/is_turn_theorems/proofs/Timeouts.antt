@@ -1,13 +1,10 @@
 -- What `handle_timeout` does to a session keeps how far its renewal is, and does not end a client with an allocation.
-use Rattle.std.proofs.Common.{◌≡◌, ◌⊎◌, inl, inr, ℕ, ◌+◌, ◌*◌, ◌≤◌, ◌<◌, ◌==◌, ◌&&◌, nat_le, nat_lt, min, zero, suc, Bool, true, false, cond, List, Option, Some, None, is_none, arith, refl, sym, ap, subst}
+use Rattle.std.proofs.Common.{◌≡◌, ◌⊎◌, inl, inr, ℕ, ◌+◌, ◌*◌, ◌≤◌, ◌<◌, ◌==◌, ◌&&◌, nat_le, nat_lt, zero, suc, Bool, true, false, cond, List, Option, Some, None, is_none, arith, refl, sym, ap, subst}
 use Rattle.std.proofs.lemmas.Bool.{cases_lt}
 use Rattle.std.proofs.lemmas.Bool.Decides.{nat_tests}
-use Rattle.rand_core.specs.Stream.{Stream, fill_bytes}
-use Rattle.is_proto.specs.Times.{MAX, SECOND, later}
-use Rattle.is_proto.specs.declared.proto.Instant.{Instant}
+use Rattle.is_proto.specs.Times.{MAX, later}
 use Rattle.is_stun.specs.declared.trans_id.TransId.{TransId}
 use Rattle.is_turn.specs.declared.attempts.Attempt.{Attempt}
-use Rattle.is_turn.specs.declared.lease.Lease.{Lease}
 use Rattle.is_turn.specs.declared.operation.Operation.{Operation}
 use Rattle.is_turn.specs.declared.requests.Request.TheVariants.{Refresh}
 use Rattle.is_turn.specs.declared.session.Phase.{Phase}
@@ -15,17 +12,13 @@ use Rattle.is_turn.specs.declared.session.Session.{Session}
 use Rattle.is_turn.specs.declared.timing.ClientTiming.{ClientTiming}
 use Rattle.is_turn.specs.Client.{at_time}
 use Rattle.is_turn.specs.Operations.{is_exhausted, attempted, sent_once_more, repeat_wait}
-use Rattle.is_turn.specs.Places.{at_place, due_place}
-use Rattle.is_turn.specs.Relaying.{is_idle_step, lease_due, sending_for, step_at, TimesOutBy}
-use Rattle.is_turn.specs.Leases.{step_for}
-use Rattle.is_turn.specs.Session.{PACE, is_ready, is_renewal_due, request_timing, with_request, with_renewal, keep_alive_due, due_of, due_or, step_of, sending, tried_by, repeated_by, kept_alive, failed_in}
+use Rattle.is_turn.specs.Session.{PACE, is_ready, is_renewal_due, request_timing, with_request, with_renewal, sending, tried_by, kept_alive}
 use Rattle.is_turn.specs.Timing.{first_wait, next_wait}
-use Rattle.is_turn.specs.Turn.{after_step}
 use Rattle.is_turn_theorems.specs.Limits.{Limits, lead, attempt_time, wait_at, waits, patience}
 use Rattle.is_turn_theorems.specs.Timely.{IsAnswered, IsWithin}
-use Rattle.is_turn_theorems.proofs.Standing.{Holds, Standing, Fresh, Sent, Soon, SoonFor, Stage, SentLast, Pending, Due, DueIn}
-use Rattle.is_turn_theorems.proofs.OtherCalls.{through, both, unready}
-use Rattle.is_turn_theorems.proofs.Responses.{Called, failed_unready}
+use Rattle.is_turn_theorems.proofs.Standing.{Holds, Fresh, Soon, SoonFor, Stage, SentLast, Pending, Due, DueIn}
+use Rattle.is_turn_theorems.proofs.OtherCalls.{through, both}
+use Rattle.is_turn_theorems.proofs.Responses.{Called}
 
 -- ---- a session with the renewal that is due
 

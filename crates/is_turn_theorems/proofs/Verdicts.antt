@@ -1,8 +1,7 @@
 -- What the server's response to the pending request does to a session keeps how far its renewal is.
-use Rattle.std.proofs.Common.{◌≡◌, ◌⊎◌, inl, inr, ◌↔◌, ℕ, ◌+◌, ◌*◌, ◌≤◌, ◌<◌, ◌==◌, ◌&&◌, ◌||◌, not, nat_lt, Bool, true, false, cond, IsTrue, List, Option, Some, None, is_none, is_some, arith, refl, sym, ap, subst, ◌∙◌}
+use Rattle.std.proofs.Common.{◌≡◌, ◌⊎◌, inl, inr, ℕ, ◌+◌, ◌≤◌, ◌<◌, ◌==◌, ◌&&◌, ◌||◌, not, nat_lt, Bool, true, false, cond, List, Option, Some, None, is_none, is_some, arith, refl, sym, ap, subst}
 use Rattle.std.proofs.lemmas.Bool.Decides.{nat_tests}
 use Rattle.std.specs.declared.net.socket_addr.SocketAddr.{SocketAddr}
-use Rattle.is_proto.specs.Times.{MAX, SECOND}
 use Rattle.is_stun.specs.Message.{Integrity, Message}
 use Rattle.is_turn.specs.declared.attempts.Attempt.{Attempt}
 use Rattle.is_turn.specs.declared.operation.Operation.{Operation}
@@ -17,17 +16,16 @@ use Rattle.is_turn.specs.Attempts.{is_last as is_last_of_id}
 use Rattle.is_turn.specs.Client.{at_time}
 use Rattle.is_turn.specs.Credentials.{Credentials}
 use Rattle.is_turn.specs.Operations.{takes_challenge, stale_count, is_allowed}
-use Rattle.is_turn.specs.Outcome.{answered_in, answered_by, attempt_answered, key_in, is_unknown, is_last_sent, on_alternate, on_code, on_success, on_challenge, code_or_success, or_success, lasts, relays, seconds_or_none, outcome_by, outcome_or, outcome_with}
+use Rattle.is_turn.specs.Outcome.{answered_in, answered_by, is_unknown, is_last_sent, on_alternate, on_code, on_success, on_challenge, code_or_success, or_success, lasts, relays, seconds_or_none, outcome_by, outcome_or, outcome_with}
 use Rattle.is_turn.specs.Receipts.{Receipt}
 use Rattle.is_turn.specs.Session.{is_ready, request_timing, is_allocated, is_refreshed, has_failed}
 use Rattle.is_turn.specs.Turn.{OutcomeApplies, challenge_taken, with_doubt, with_hint, with_another}
-use Rattle.is_turn.specs.Verdict.{is_challenge, is_code, is_malformed, code_of, verdict_of, IsSignedFor}
-use Rattle.is_turn.specs.Worlds.{IsBelievable}
-use Rattle.is_turn_theorems.specs.Limits.{Limits, Leave}
+use Rattle.is_turn.specs.Verdict.{is_challenge, is_code, is_malformed, code_of, verdict_of}
+use Rattle.is_turn_theorems.specs.Limits.{Limits}
 use Rattle.is_turn_theorems.specs.Timely.{IsGranted, IsStale}
 use Rattle.is_turn_theorems.proofs.Standing.{Holds}
 use Rattle.is_turn_theorems.proofs.OtherCalls.{through, holds_is, holds_cond, both}
-use Rattle.is_turn_theorems.proofs.Responses.{Called, Counts, Extends, extends, allocated_holds, refreshed_holds, failed_unready, follows_unready, hint_unready, doubt_holds, another_holds}
+use Rattle.is_turn_theorems.proofs.Responses.{Called, Counts, extends, allocated_holds, refreshed_holds, failed_unready, follows_unready, hint_unready, doubt_holds, another_holds}
 
 -- ---- the verdict on the server's response
 

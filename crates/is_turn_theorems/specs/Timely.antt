@@ -1,7 +1,6 @@
 -- A TURN client whose caller is punctual and whose server answers: each call, its time, and what comes of it.
 use Rattle.std.specs.Prelude.{◌≡◌, ◌⊎◌, ℕ, ◌+◌, ◌*◌, ◌≤◌, ◌<◌, Bool, true, false, List, [], ◌∷◌, is_some, max, min, Option, Some, None}
 use Rattle.is_proto.specs.Times.{MAX, SECOND}
-use Rattle.is_proto.specs.declared.proto.Instant.{Instant}
 use Rattle.is_stun.specs.Message.{Message}
 use Rattle.is_turn.specs.declared.attempts.Attempt.{Attempt}
 use Rattle.is_turn.specs.declared.operation.Operation.{Operation}
@@ -13,7 +12,7 @@ use Rattle.is_turn.specs.Outcome.{attempt_answered, seconds_or_none}
 use Rattle.is_turn.specs.Relaying.{next_client_time}
 use Rattle.is_turn.specs.Session.{is_ready, request_timing}
 use Rattle.is_turn.specs.Verdict.{code_of}
-use Rattle.is_turn.specs.Worlds.{Acceptance, World, Call, start, close, permit, send, probe, handle_timeout, poll_transmit, poll_event, receive, IsBelievable, Does}
+use Rattle.is_turn.specs.Worlds.{Acceptance, World, Call, handle_timeout, receive, IsBelievable, Does}
 use Rattle.is_turn_theorems.specs.Limits.{Limits, margin, patience}
 
 -- a call, and the client, the clock and what left after it
