@@ -1,5 +1,5 @@
 -- What a response of the server does to a session keeps how far its renewal is.
-use Rattle.std.proofs.Common.{◌≡◌, inl, inr, ℕ, ◌+◌, ◌*◌, ◌/◌, ◌≤◌, ◌<◌, ◌==◌, min, Bool, true, false, cond, Option, Some, None, arith, refl, ap, ◌∙◌}
+use Rattle.std.proofs.Common.{◌≡◌, inl, inr, ℕ, ◌+◌, ◌*◌, ◌≤◌, ◌<◌, ◌==◌, Bool, true, false, cond, Option, Some, None, arith, refl, ap, ◌∙◌}
 use Rattle.std.specs.declared.net.socket_addr.SocketAddr.{SocketAddr}
 use Rattle.is_proto.specs.Times.{MAX, SECOND, later}
 use Rattle.is_proto.specs.declared.proto.Instant.{Instant}
@@ -33,12 +33,11 @@ unready_if k now d s p not_ready = record { paced = p; ready = λ r. absurd (not
 
 -- ---- success responses
 
-lead_le : (life seconds : ℕ) → life ≤ seconds
-    → renewal_of (lifetime_of seconds) + min (120 * SECOND) (lifetime_of life / 2) ≤ lifetime_of seconds
-lead_le life seconds h = omega arith
+lead_le : (k : Limits) (seconds : ℕ) → k.lifetime ≤ seconds → renewal_of (lifetime_of seconds) + lead k ≤ lifetime_of seconds
+lead_le k seconds h = omega (arith, h)
 
-lead_half : (life seconds : ℕ) → life ≤ seconds → min (120 * SECOND) (lifetime_of life / 2) ≤ renewal_of (lifetime_of seconds)
-lead_half life seconds h = omega arith
+lead_half : (k : Limits) (seconds : ℕ) → k.lifetime ≤ seconds → lead k ≤ renewal_of (lifetime_of seconds)
+lead_half k seconds h = omega (arith, h)
 
 within_le : (k : Limits) → Leave k → k.within ≤ lead k
 within_le k h =
@@ -61,7 +60,7 @@ pub extends : (k : Limits) (now since seconds : ℕ) → Leave k → now + 3600 
     → Extends k now since seconds
 extends k now since seconds leave shown lasts after within =
     let h = reach_by since now (renewal_of (lifetime_of seconds)) (lifetime_of seconds) (lead k) k.within after within shown (lifetime_most seconds)
-    (lead_le k.lifetime seconds lasts) (lead_half k.lifetime seconds lasts) (within_le k leave) in
+    (lead_le k seconds lasts) (lead_half k seconds lasts) (within_le k leave) in
     record { reach = h.0; ahead = h.1 }
 
 pub allocated_holds : (k : Limits) (now d : ℕ) (phase : Phase) (since : Instant) (seconds : ℕ) (allocation : Allocation) (s : Session) → d ≤ now

@@ -109,12 +109,14 @@ ahead_by now renew late used most reach until a b c d = omega arith
 pub ahead : (k : Limits) (now renew until : ℕ) (o : Option Operation) → Soon k now renew o → IsSeldomStale k.challenges o → renew + lead k ≤ until → Leave k
     → now + margin k ≤ until
 ahead k now renew until None h seldom reach leave =
-    ahead_by now renew k.late 0 ((k.challenges + 1) * attempt_time k) (lead k) until (omega (arith, h)) (omega arith) reach leave
+    let left = ahead_by now renew k.late 0 ((k.challenges + 1) * attempt_time k) (lead k) until (omega (arith, h)) (omega arith) reach (omega (arith, leave)) in
+    omega (arith, left)
 ahead k now renew until (Some o) h seldom reach leave =
-    let le : o.stale * attempt_time k ≤ k.challenges * attempt_time k = times_le o.stale k.challenges (attempt_time k) seldom in
+    let le : o.stale * attempt_time k ≤ k.challenges * attempt_time k = times_le o.stale k.challenges (attempt_time k) (omega (arith, seldom)) in
     let more : (k.challenges + 1) * attempt_time k ≡ k.challenges * attempt_time k + attempt_time k = times_more k.challenges (attempt_time k) in
-    ahead_by now renew k.late (o.stale * attempt_time k + attempt_time k) ((k.challenges + 1) * attempt_time k) (lead k) until
-    h.bound (omega (arith, le, more)) reach leave
+    let left = ahead_by now renew k.late (o.stale * attempt_time k + attempt_time k) ((k.challenges + 1) * attempt_time k) (lead k) until
+    h.bound (omega (arith, le, more)) reach (omega (arith, leave)) in
+    omega (arith, left)
 
 -- ---- time passes
 

@@ -1,5 +1,5 @@
 -- Each call of a punctual caller whose server answers keeps the renewal of an allocation in time, so along each run nothing lapses.
-use Rattle.std.proofs.Common.{◌≡◌, ◌⊎◌, inl, inr, ◌↔◌, ℕ, ◌+◌, ◌≤◌, ◌<◌, min, max, Bool, true, IsTrue, List, [], ◌∷◌, Option, Some, None, position, arith, refl, subst}
+use Rattle.std.proofs.Common.{◌≡◌, ◌⊎◌, inl, inr, ◌↔◌, ℕ, ◌+◌, ◌≤◌, ◌<◌, min, max, Bool, true, IsTrue, List, [], ◌∷◌, Option, Some, None, position, arith, refl, sym, subst}
 use Rattle.std.specs.declared.net.socket_addr.SocketAddr.{SocketAddr}
 use Rattle.rand_core.specs.Stream.{Stream}
 use Rattle.is_proto.specs.Times.{MAX}
@@ -52,7 +52,7 @@ responded : (k : Limits) (mac : List ℕ → List ℕ → List ℕ) (now d : ℕ
     → IsRespondedBy p mac (at_time now) m alternate w.session w.leases w.credentials result new l_new c_new → Holds k now d new
 responded k mac now d w m alternate None result new l_new c_new called served step =
     response_holds k now d m.attributes.realm m.attributes.nonce w.session w.credentials result new c_new called step.0.0 w.session.operation m alternate refl
-    (λ x e success. (served x e).granted success)
+    (λ x e success. (served x e).success success)
     (λ x e r. servers mac step.0.0 w.credentials m x (signed_for mac step.0.0 m (attempt_answered m w.session) x e step.0.1) ((served x e).authentic r)) step.0.2
 responded k mac now d w m alternate (Some place) result new l_new c_new called served step =
     lease_answer_holds k now d place m.attributes.realm m.attributes.nonce w.session w.leases w.credentials result new l_new c_new called step.0 w.session.phase
@@ -81,8 +81,11 @@ record Follows (k : Limits) (call : Call) (due : ℕ) (w new : World) : Type 0 w
   pub holds : Holds k new.clock (due_since call due new) new.session
   pub stays : is_timeout call ≡ true → is_ready w.session.phase ≡ true → is_ready new.session.phase ≡ true
 
-rung : (k : Limits) (d : ℕ) (x : Session) (new : World) → new.session ≡ x → Holds k new.clock d x → Holds k new.clock (max (timeout_of new) d) new.session
-rung k d x new e h = holds_rings k new.clock d new.session new.leases (holds_is k new.clock d x new.session e h)
+rung : (k : Limits) (d due : ℕ) (x : Session) (new : World) → due ≡ max (timeout_of new) d → new.session ≡ x → Holds k new.clock d x
+    → Holds k new.clock due new.session
+rung k d due x new since e h =
+    subst (λ (n : ℕ). Holds k new.clock n new.session) (sym since)
+    (holds_rings k new.clock d new.session new.leases (holds_is k new.clock d x new.session e h))
 
 renewal_ready : (now : Instant) (s : Session) → is_ready s.phase ≡ true → is_ready (with_renewal now s).phase ≡ true
 renewal_ready now s r = through s (λ x. is_ready x.phase ≡ true) (is_renewal_due now s) _ _ (λ e. r) (λ e. r)
@@ -99,35 +102,35 @@ called_follows : (k : Limits) (call : Call) (mac : List ℕ → List ℕ → Lis
     → Called k new.clock (min due new.clock) w.session → (is_ready w.session.phase ≡ true → Meets k new.clock w.session) → Serves call k mac new.clock w
     → Does call mac accepted new.clock w new → Follows k call due w new
 called_follows k start mac accepted due w new called meets serves does = record {
-  holds = rung k (min due new.clock) _ new does.0 (holds_started k new.clock (min due new.clock) w.session called.holds);
+  holds = rung k (min due new.clock) _ _ new (omega arith) does.0 (holds_started k new.clock (min due new.clock) w.session called.holds);
   stays = λ e. absurd (cc e);
 }
 called_follows k (close has) mac accepted due w new called meets serves does = record {
-  holds = rung k (min due new.clock) _ new does.0 (holds_closed k new.clock (min due new.clock) w.session.phase has w.session called.holds);
+  holds = rung k (min due new.clock) _ _ new (omega arith) does.0 (holds_closed k new.clock (min due new.clock) w.session.phase has w.session called.holds);
   stays = λ e. absurd (cc e);
 }
 called_follows k (permit peer) mac accepted due w new called meets serves does = record {
-  holds = rung k (min due new.clock) w.session new does.0 called.holds;
+  holds = rung k (min due new.clock) _ w.session new (omega arith) does.0 called.holds;
   stays = λ e. absurd (cc e);
 }
 called_follows k (send peer media) mac accepted due w new called meets serves does = record {
-  holds = rung k (min due new.clock) _ new does.0 (holds_routed k new.clock (min due new.clock) peer media w.session w.leases called.holds);
+  holds = rung k (min due new.clock) _ _ new (omega arith) does.0 (holds_routed k new.clock (min due new.clock) peer media w.session w.leases called.holds);
   stays = λ e. absurd (cc e);
 }
 called_follows k probe mac accepted due w new called meets serves does = record {
-  holds = rung k (min due new.clock) _ new does.0 (holds_probed k new.clock (min due new.clock) w.session called.past called.holds called.soon);
+  holds = rung k (min due new.clock) _ _ new (omega arith) does.0 (holds_probed k new.clock (min due new.clock) w.session called.past called.holds called.soon);
   stays = λ e. absurd (cc e);
 }
 called_follows k (poll_transmit result) mac accepted due w new called meets serves does = record {
-  holds = rung k (min due new.clock) _ new does.0 (holds_polled k new.clock (min due new.clock) result w.session w.leases called.holds);
+  holds = rung k (min due new.clock) _ _ new (omega arith) does.0 (holds_polled k new.clock (min due new.clock) result w.session w.leases called.holds);
   stays = λ e. absurd (cc e);
 }
 called_follows k poll_event mac accepted due w new called meets serves does = record {
-  holds = rung k (min due new.clock) _ new does.0 (holds_event k new.clock (min due new.clock) w.session w.leases called.holds);
+  holds = rung k (min due new.clock) _ _ new (omega arith) does.0 (holds_event k new.clock (min due new.clock) w.session w.leases called.holds);
   stays = λ e. absurd (cc e);
 }
 called_follows k (receive bytes result) mac accepted due w new called meets serves does = record {
-  holds = holds_rings k new.clock (min due new.clock) new.session new.leases
+  holds = rung k (min due new.clock) _ new.session new (omega arith) refl
       (received k mac new.clock (min due new.clock) w (datagram_of bytes) (alternate_in bytes) result new.session new.leases new.credentials called
       (λ m e a. serves m a e) does.2);
   stays = λ e. absurd (cc e);
@@ -138,7 +141,7 @@ called_follows k (handle_timeout stream stream_new) mac accepted due w new calle
     let l = advanced_in w.session.phase now w.leases in
     timed k due w new stream stream_new called meets
     (timeout_kept k new.clock (key_now w.credentials) stream s l (lease_due now (step_of now s) s l) new.session new.leases stream_new refl
-    (begins k new.clock (min due new.clock) w.session called (λ r. (meets r).ahead) (λ r. (meets r).kept.answered) (λ r. (meets r).kept.patient)) does.2)
+    (begins k new.clock (min due new.clock) w.session called (λ r. (meets r).ahead) (λ r. (meets r).kept.answered) (λ r. let p = (meets r).kept.patient in omega (arith, p))) does.2)
 
 -- ---- runs
 
@@ -150,7 +153,7 @@ entered : (k : Limits) (mac : List ℕ → List ℕ → List ℕ) (accepted : Li
 entered k mac accepted due w x leave h step =
     let now = x.after.clock in
     let past : w.clock ≤ now = step.forward in
-    let in_time : now ≤ due + k.late = step.punctual in
+    let in_time : now ≤ due + k.late = let p = step.punctual in omega (arith, p) in
     let sooner : (r : is_ready w.session.phase ≡ true) → Soon k now w.session.renew.0 w.session.operation = λ r.
     soon k (request_timing w.session) now w.clock due w.session.renew.0 w.session.paced.0 w.session.operation (h.ready r).pending (h.ready r).due in_time
     (step.kept r).answered in

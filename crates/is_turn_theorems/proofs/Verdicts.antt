@@ -22,7 +22,7 @@ use Rattle.is_turn.specs.Session.{is_ready, request_timing, is_allocated, is_ref
 use Rattle.is_turn.specs.Turn.{OutcomeApplies, challenge_taken, with_doubt, with_hint, with_another}
 use Rattle.is_turn.specs.Verdict.{is_challenge, is_code, is_malformed, code_of, verdict_of}
 use Rattle.is_turn_theorems.specs.Limits.{Limits}
-use Rattle.is_turn_theorems.specs.Timely.{IsGranted, IsStale}
+use Rattle.is_turn_theorems.specs.Timely.{IsPrompt, IsStale}
 use Rattle.is_turn_theorems.proofs.Standing.{Holds}
 use Rattle.is_turn_theorems.proofs.OtherCalls.{through, holds_is, holds_cond, both}
 use Rattle.is_turn_theorems.proofs.Responses.{Called, Counts, extends, allocated_holds, refreshed_holds, failed_unready, follows_unready, hint_unready, doubt_holds, another_holds}
@@ -78,7 +78,7 @@ fine_verdict b is_last key (Some c) m (inl (success, inr signed)) =
     (fine_success b is_last key c.password m.integrity (code_of m) success signed)
 fine_verdict b is_last key (Some c) m (inr stale) =
     fine_cond (is_malformed m) (verdict_on (code_of m) b is_last key c.password m.integrity) (code_of m)
-    (fine_stale b is_last key c.password m.integrity (code_of m) stale.0)
+    (fine_stale b is_last key c.password m.integrity (code_of m) (cc (stale.0)))
 
 -- ---- what it does
 
@@ -117,18 +117,20 @@ module _ (k : Limits) (now d : ℕ) (realm nonce : Option (List ℕ)) (s : Sessi
       (allocated_holds k now d s.phase a.since seconds (record { relayed = relayed; mapped = m.attributes.xor_mapped_address }) s called.past called.holds.paced
       (extends k now a.since.0 seconds called.leave called.shown long after within))) step
 
-  relays_holds : (a : Attempt) (m : Message) (relayed : Option SocketAddr) → IsGranted k now m a
+  relays_holds : (a : Attempt) (m : Message) (relayed : Option SocketAddr) → IsPrompt k now m a
       → OutcomeApplies (at_time now) (relays a m relayed) realm nonce s c result new c_new → Holds k now d new
   relays_holds a m None g step = keeps step.1
-  relays_holds a m (Some relayed) g step = lasts_holds a m relayed m.attributes.lifetime g.lasts g.after g.within step
+  relays_holds a m (Some relayed) g step =
+      let long : k.lifetime ≤ seconds_or_none m.attributes.lifetime = let p = g.lasts in omega (arith, p) in
+      lasts_holds a m relayed m.attributes.lifetime long g.after g.within step
 
-  success_holds : (r : Request) (a : Attempt) (m : Message) → IsGranted k now m a
+  success_holds : (r : Request) (a : Attempt) (m : Message) → IsPrompt k now m a
       → OutcomeApplies (at_time now) (on_success r a m) realm nonce s c result new c_new → Holds k now d new
   success_holds (requests.Allocate seconds family) a m g step = relays_holds a m m.attributes.xor_relayed_address g step
   success_holds (requests.Refresh seconds) a m g step =
       holds_is k now d (is_refreshed a.since (seconds_or_none m.attributes.lifetime) s) new step.1
       (refreshed_holds k now d s.phase a.since (seconds_or_none m.attributes.lifetime) s called.past called.holds.paced
-      (extends k now a.since.0 (seconds_or_none m.attributes.lifetime) called.leave called.shown g.lasts g.after g.within))
+      (extends k now a.since.0 (seconds_or_none m.attributes.lifetime) called.leave called.shown (let p = g.lasts in omega (arith, p)) g.after g.within))
   success_holds (requests.CreatePermission peer) a m g step = keeps step.1
   success_holds (requests.ChannelBind number peer) a m g step = keeps step.1
 
@@ -146,7 +148,7 @@ module _ (k : Limits) (now d : ℕ) (realm nonce : Option (List ℕ)) (s : Sessi
   alternate_holds phases.Closing alternate not_ready step = fails_holds 300 not_ready step.1
   alternate_holds phases.Ended alternate not_ready step = fails_holds 300 not_ready step.1
 
-  code_holds : (phase : Phase) (r : Request) (a : Attempt) (m : Message) (alternate : Option SocketAddr) (code : Option ℕ) → (code ≡ None → IsGranted k now m a)
+  code_holds : (phase : Phase) (r : Request) (a : Attempt) (m : Message) (alternate : Option SocketAddr) (code : Option ℕ) → (code ≡ None → IsPrompt k now m a)
       → (is_ready s.phase ≡ true → code ≡ None) → OutcomeApplies (at_time now) (on_code phase r a m alternate code) realm nonce s c result new c_new
       → Holds k now d new
   code_holds phase r a m alternate None g fine step = success_holds r a m (g refl) step
@@ -176,7 +178,7 @@ module _ (k : Limits) (now d : ℕ) (realm nonce : Option (List ℕ)) (s : Sessi
       (not_false (takes_challenge a.id (is_some a.key) code o) taken))) step.1) step) step
 
   verdict_holds : (v : Verdict) (unknown : Bool) (o : Operation) (a : Attempt) (m : Message) (alternate : Option SocketAddr) → s.operation ≡ Some o
-      → (code_of m ≡ None → IsGranted k now m a) → (is_ready s.phase ≡ true → IsFine v (code_of m))
+      → (code_of m ≡ None → IsPrompt k now m a) → (is_ready s.phase ≡ true → IsFine v (code_of m))
       → OutcomeApplies (at_time now) (outcome_by v s.phase unknown o a m alternate) realm nonce s c result new c_new → Holds k now d new
   verdict_holds verdicts.Malformed unknown o a m alternate e g fine step = keeps step.1
   verdict_holds verdicts.Unauthentic unknown o a m alternate e g fine step =
@@ -191,7 +193,7 @@ module _ (k : Limits) (now d : ℕ) (realm nonce : Option (List ℕ)) (s : Sessi
 
   -- a response that answers this attempt, if it answers one
   answer_holds : (b : Bool) (o : Operation) (a : Option Attempt) (m : Message) (alternate : Option SocketAddr) → s.operation ≡ Some o
-      → ((x : Attempt) → a ≡ Some x → code_of m ≡ None → IsGranted k now m x)
+      → ((x : Attempt) → a ≡ Some x → code_of m ≡ None → IsPrompt k now m x)
       → ((x : Attempt) → a ≡ Some x → is_ready s.phase ≡ true → IsServers b c m)
       → OutcomeApplies (at_time now) (outcome_or b s.phase c m alternate o a) realm nonce s c result new c_new → Holds k now d new
   answer_holds b o None m alternate e g served step = keeps step.1
@@ -200,7 +202,7 @@ module _ (k : Limits) (now d : ℕ) (realm nonce : Option (List ℕ)) (s : Sessi
       (λ r. fine_verdict b (is_last_sent a o) a.key c m (served a refl r)) step
 
   pub response_holds : (b : Bool) (o : Option Operation) (m : Message) (alternate : Option SocketAddr) → s.operation ≡ o
-      → ((x : Attempt) → answered_by m o ≡ Some x → code_of m ≡ None → IsGranted k now m x)
+      → ((x : Attempt) → answered_by m o ≡ Some x → code_of m ≡ None → IsPrompt k now m x)
       → ((x : Attempt) → answered_by m o ≡ Some x → is_ready s.phase ≡ true → IsServers b c m)
       → OutcomeApplies (at_time now) (outcome_with b s.phase c m alternate o) realm nonce s c result new c_new → Holds k now d new
   response_holds b None m alternate e g served step = keeps step.1

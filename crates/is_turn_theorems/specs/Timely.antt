@@ -52,7 +52,7 @@ IsSeldomStale challenges None = Unit {0}
 IsSeldomStale challenges (Some o) = o.stale ≤ challenges
 
 -- a success response to this attempt comes in time, and says that the allocation lasts long enough
-pub record IsGranted (k : Limits) (now : ℕ) (m : Message) (a : Attempt) : Type 0 where
+pub record IsPrompt (k : Limits) (now : ℕ) (m : Message) (a : Attempt) : Type 0 where
   pub lasts : k.lifetime ≤ seconds_or_none m.attributes.lifetime
   pub after : a.since.0 ≤ now
   pub within : now ≤ a.since.0 + k.within
@@ -63,7 +63,7 @@ IsStale m c = (code_of m ≡ Some 438) × (is_some c ≡ true)
 
 -- the server's response to this attempt; of a client with an allocation it is an authentic success response, or a challenge
 pub record IsServed (k : Limits) (mac : List ℕ → List ℕ → List ℕ) (now : ℕ) (w : World) (m : Message) (a : Attempt) : Type 0 where
-  pub granted : code_of m ≡ None → IsGranted k now m a
+  pub success : code_of m ≡ None → IsPrompt k now m a
   pub authentic : is_ready w.session.phase ≡ true → ((code_of m ≡ None) × IsBelievable mac m a w.credentials) ⊎ IsStale m w.credentials
 
 -- what is received: any response to the pending request is the server's
