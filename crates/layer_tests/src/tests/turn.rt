@@ -2,6 +2,7 @@
 
 mod allocating;
 mod binding;
+mod lapsing;
 mod messages;
 mod relaying;
 mod relays;
