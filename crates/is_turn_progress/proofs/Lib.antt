@@ -1,0 +1,5 @@
+mod Packets
+mod Steps
+mod Asking
+mod AllocateResponses
+mod ReachedAllocations
