@@ -3,3 +3,5 @@ mod Steps
 mod Asking
 mod AllocateResponses
 mod ReachedAllocations
+mod Outcomes
+mod LittleChanges

@@ -2,4 +2,5 @@
 //! is the contract of a function that does nothing.
 #![tactic(auto)]
 
+pub mod authentic;
 pub mod progress;
