@@ -5,3 +5,4 @@ mod AllocateResponses
 mod ReachedAllocations
 mod Outcomes
 mod LittleChanges
+mod PublicPackets

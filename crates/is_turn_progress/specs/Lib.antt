@@ -1,3 +1,4 @@
 pub mod States
 pub mod Reaching
 pub mod Authentic
+pub mod Secrets

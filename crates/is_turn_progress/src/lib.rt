@@ -4,3 +4,4 @@
 
 pub mod authentic;
 pub mod progress;
+pub mod secrets;
