@@ -90,7 +90,7 @@ challenge_applies mac now m alternate b o a k password result new c_new is knows
     let realm = subst (λ (r : Option (List ℕ)). IsChallengedBy now false 401 s (challenge_taken r m.attributes.nonce (Some k)) result new c_new) h.has_realm asked in
     let nonce = subst (λ (n : Option (List ℕ)). IsChallengedBy now false 401 s (challenge_taken (Some h.realm) n (Some k)) result new c_new) h.has_nonce realm in
     let known = subst (λ (t : Option Credentials × Bool). IsChallengedBy now false 401 s t result new c_new)
-            (taken k h.realm h.nonce password h.short_realm h.short_nonce knows) nonce in
+            (taken k h.realm h.nonce password (omega (arith, h.short_realm)) (omega (arith, h.short_nonce)) knows) nonce in
     (known.1, known.2)
 
 -- ---- a success response

@@ -65,7 +65,7 @@ challenge_grounds : (mac : List ℕ → List ℕ → List ℕ) (m : Message) (c 
     → (b ≡ true → IsSignedFor mac m a.key) → takes_challenge a.id (is_some a.key) (code_or_success m) o ≡ true → IsMeant b c m o a verdicts.Challenge
     → Grounds mac m c o a
 challenge_grounds mac m c o a b signed allowed (is, inl yes_signed) = inr (inl (signed yes_signed))
-challenge_grounds mac m c o a b signed allowed (is, inr unsigned) = inr (inr (unsigned, inr (inl (is, allowed))))
+challenge_grounds mac m c o a b signed allowed (is, inr unsigned) = inr (inr (unsigned, inr (inl (search is, search allowed))))
 
 -- ---- a response to the request for the allocation
 
@@ -81,12 +81,12 @@ session_verdict : (v : Verdict) (mac : List ℕ → List ℕ → List ℕ) (now 
 session_verdict verdicts.Malformed mac now bytes m alternate s l c result new l_new c_new b o a h means kept step =
     inl (step.2, inl (step.1, inr (kept ∙ ap (λ (x : Session). kept_leases x l) step.1)))
 session_verdict verdicts.Unauthentic mac now bytes m alternate s l c result new l_new c_new b o a h means kept step =
-    inl (step.2, inr (inl (code_or_success m, step.1,
+    inl (step.2, inr (inl (code_or_success m, search (step.1),
     kept ∙ ap (λ (x : Session). kept_leases x l) step.1 ∙ doubt_phase (code_or_success m) s.operation s l)))
 session_verdict verdicts.Hint mac now bytes m alternate s l c result new l_new c_new b o a h means kept step =
-    inr (has_grounds mac bytes s l c m b o a h (inr (inr (means.0, inr (inr (means.1, means.2))))))
+    inr (has_grounds mac bytes s l c m b o a h (inr (inr (means.0, inr (inr (search (means.1), search (means.2)))))))
 session_verdict verdicts.Redirect mac now bytes m alternate s l c result new l_new c_new b o a h means kept step =
-    inr (has_grounds mac bytes s l c m b o a h (inr (inr (means.0, inl (means.1, means.2)))))
+    inr (has_grounds mac bytes s l c m b o a h (inr (inr (means.0, inl (search (means.1), search (means.2))))))
 session_verdict verdicts.Genuine mac now bytes m alternate s l c result new l_new c_new b o a h means kept step =
     inr (has_grounds mac bytes s l c m b o a h (genuine_grounds mac m c o a b h.signed means))
 session_verdict verdicts.Challenge mac now bytes m alternate s l c result new l_new c_new b o a h means kept step =
@@ -125,11 +125,11 @@ lease_verdict : (v : Verdict) (mac : List ℕ → List ℕ → List ℕ) (now : 
     → Little mac bytes s l c new l_new c_new
 lease_verdict verdicts.Malformed mac now bytes m place s l c result new l_new c_new b o a h means step = inl (step.3, inl (step.1, inl step.2))
 lease_verdict verdicts.Unauthentic mac now bytes m place s l c result new l_new c_new b o a h means step =
-    inl (step.3, inr (inr (inl (place, code_or_success m, step.1, step.2))))
+    inl (step.3, inr (inr (inl (place, code_or_success m, step.1, search (step.2)))))
 lease_verdict verdicts.Hint mac now bytes m place s l c result new l_new c_new b o a h means step =
-    inr (has_grounds mac bytes s l c m b o a h (inr (inr (means.0, inr (inr (means.1, means.2))))))
+    inr (has_grounds mac bytes s l c m b o a h (inr (inr (means.0, inr (inr (search (means.1), search (means.2)))))))
 lease_verdict verdicts.Redirect mac now bytes m place s l c result new l_new c_new b o a h means step =
-    inr (has_grounds mac bytes s l c m b o a h (inr (inr (means.0, inl (means.1, means.2)))))
+    inr (has_grounds mac bytes s l c m b o a h (inr (inr (means.0, inl (search (means.1), search (means.2))))))
 lease_verdict verdicts.Genuine mac now bytes m place s l c result new l_new c_new b o a h means step =
     inr (has_grounds mac bytes s l c m b o a h (genuine_grounds mac m c o a b h.signed means))
 lease_verdict verdicts.Challenge mac now bytes m place s l c result new l_new c_new b o a h means step =
@@ -170,7 +170,7 @@ abbrev SameUnclocked : List Lease → List Lease → Type 0
 SameUnclocked l new = map unclocked new ≡ map unclocked l
 
 used_set : (now : Instant) (i : ℕ) (l : List Lease) → SameUnclocked l (set l i (used_at now (at_place i l)))
-used_set now i l = map-set_same unclocked l i (used_at now (at_place i l)) unused refl
+used_set now i l = map-set_same unclocked l i (used_at now (at_place i l)) unused (cc)
 
 used_place : (now : Instant) (p : Option ℕ) (l : List Lease) → SameUnclocked l (used_in now p l)
 used_place now None l = refl

@@ -40,7 +40,9 @@ challenge_signs mac u v None (Some b) h e macs = absurd (cc e)
 challenge_signs mac u v (Some a) None h e macs = absurd (cc e)
 challenge_signs mac u v (Some a) (Some b) h e macs =
     let same : keyless_challenge a ≡ keyless_challenge b = cc e in
-    (h, ap (λ (c : Challenge). c.realm) same, ap (λ (c : Challenge). c.nonce) same, λ text. search macs)
+    let realm = ap (λ (c : Challenge). c.realm) same in
+    let nonce = ap (λ (c : Challenge). c.nonce) same in
+    (h, cc realm, cc nonce, λ text. search macs)
 
 same_signer : (mac : List ℕ → List ℕ → List ℕ) (c d : Option Credentials) → option_map without_secrets c ≡ option_map without_secrets d
     → SameMacs mac (key_now c) (key_now d) → SameSigner mac (signer_of c) (signer_of d)
@@ -49,7 +51,8 @@ same_signer mac None (Some b) e macs = absurd (cc e)
 same_signer mac (Some a) None e macs = absurd (cc e)
 same_signer mac (Some a) (Some b) e macs =
     let same : without_secrets a ≡ without_secrets b = cc e in
-    challenge_signs mac a.username b.username a.challenge b.challenge (ap (λ (c : Credentials). c.username) same) (ap (λ (c : Credentials). c.challenge) same) macs
+    let name = ap (λ (c : Credentials). c.username) same in
+    challenge_signs mac a.username b.username a.challenge b.challenge (cc name) (ap (λ (c : Credentials). c.challenge) same) macs
 
 -- ---- what is written
 

@@ -63,7 +63,7 @@ called : (call : Call) (mac : List ℕ → List ℕ → List ℕ) (x : State) (b
     → Effect call mac new.clock x new → IsOrdinary call mac x new → Called mac x b o new
 called start mac x b o new is effect ordinary =
     quiet mac x b o new (turn_started (at_time new.clock)) is effect.0 (like b o (asks b o) refl) effect.2
-called (close has) mac x b o new is effect ordinary = absurd ordinary
+called (close has) mac x b o new is effect ordinary = let never : ⊥ = search ordinary in absurd never
 called (permit peer) mac x b o new is effect ordinary = quiet mac x b o new (λ s. s) is effect.0 (like b o (asks b o) refl) effect.2
 called (send peer media) mac x b o new is effect ordinary =
     quiet mac x b o new (λ s. after_route (routed (at_time new.clock) peer media s x.leases).1 (at_time new.clock) s) is effect.0 (like b o (asks b o) refl) effect.2
@@ -173,7 +173,7 @@ answered_by mac r d by s new k c_new (Some challenge) m alternate result now aft
     let signed : h.attempt.key ≡ Some challenge.key = h.key ∙ ap (λ (c : Option Challenge). key_now (Some (record k { challenge = c }))) is in
     let right_one = subst (λ (key : Option (List ℕ)). IsRightTo mac m h.attempt.id.0 key) signed right in
     inl (signed_success mac (at_time after) m alternate h.base h.operation h.attempt k challenge.key result new c_new (last_of r d by s (Some k) now h) signed
-    right_one.0 right_one.1 step)
+    right_one.0 (search (right_one.1)) step)
 
 answered : (mac : List ℕ → List ℕ → List ℕ) (r d by : ℕ) (s new : Session) (c c_new : Option Credentials) (m : Message) (alternate : Option SocketAddr)
     (result : Receipt) (now after : ℕ) → (h : Waits r d by s c now) → now ≤ after → after ≤ h.attempt.since.0 + r → IsRight mac m h.attempt c
@@ -230,10 +230,10 @@ passed mac r d by x new before (inl h) step =
     (omega (arith, le, most),
     begins_called mac r d by x new h le (called step.step.call mac x h.base h.operation new h.is step.step.effect step.ordinary))
 passed mac r d by x new before (inr h) step =
-    let served = step.served h.attempt (waits_for r d by x.session x.credentials x.clock h) in
+    let served : new.clock ≤ h.attempt.since.0 + r = omega (arith, step.served h.attempt (waits_for r d by x.session x.credentials x.clock h)) in
     let most = h.enough in
     (omega (arith, served, most),
-    waits_called mac r d by x new before h (step.step.forward) served (called step.step.call mac x h.base h.operation new h.is step.step.effect step.ordinary))
+    waits_called mac r d by x new before h (omega (arith, step.step.forward)) served (called step.step.call mac x h.base h.operation new h.is step.step.effect step.ordinary))
 
 reached_or : (r d by : ℕ) (x : State) (run : List State) → (Stage r d by x.session x.credentials x.clock → IsReachedBy by run) → Next r d by x
     → IsAllocated x ⊎ IsReachedBy by run
@@ -245,7 +245,7 @@ reached_from : (mac : List ℕ → List ℕ → List ℕ) (r d by : ℕ) (x : St
 reached_from mac r d by x [] before h steps = tt
 reached_from mac r d by x (next ∷ rest) before h steps =
     let after = passed mac r d by x next before h steps.0 in
-    (after.0, reached_or r d by next rest (λ k. reached_from mac r d by next rest before k steps.1) after.1)
+    (omega (arith, after.0), reached_or r d by next rest (λ k. reached_from mac r d by next rest before k steps.1) after.1)
 
 -- ---- the beginning
 
@@ -271,10 +271,12 @@ started time r d x h =
       due = omega arith;
       paced = omega arith;
       enough = omega (arith, least);
-      soon = h.soon;
+      soon = omega (arith, h.soon);
       knows = new_knows x.credentials h.credentials;
     }
 
 pub reached_in_time : (mac : List ℕ → List ℕ → List ℕ) (time r d : ℕ) (x : State) (run : List State) → IsStarted time r d x → IsAnsweredRun mac r d x run
     → IsReachedBy (time + ALLOCATING r d) run
-reached_in_time mac time r d x run h steps = reached_from mac r d (time + ALLOCATING r d) x run h.before_end (inl (started time r d x h)) steps
+reached_in_time mac time r d x run h steps =
+    let before : time + ALLOCATING r d < MAX = omega (arith, h.before_end) in
+    reached_from mac r d (time + ALLOCATING r d) x run before (inl (started time r d x h)) steps
