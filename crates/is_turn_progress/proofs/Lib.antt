@@ -6,3 +6,5 @@ mod ReachedAllocations
 mod Outcomes
 mod LittleChanges
 mod PublicPackets
+mod ForgottenSecrets
+mod ForgottenRuns
