@@ -24,116 +24,19 @@ use Rattle.is_turn.specs.Session.{PACE, sending, step_of}
 use Rattle.is_turn.specs.Timing.{first_wait, wait_after}
 use Rattle.is_turn.specs.Turn.{key_now, alive_or_nothing, after_step, packet_polled, reported_by, after_event}
 use Rattle.is_turn_progress.specs.Reaching.{waiting}
-use Rattle.is_turn_progress.proofs.Packets.{packet_case}
+use Rattle.is_turn_progress.proofs.HeldRequests.{held, Held, held_as}
 use Rattle.is_turn_progress.proofs.Steps.{by_cond}
 
 -- ---- the client while it asks
 
 abbrev pub asks : Session → Operation → Session
-asks b o = record b { phase = phases.Asking; operation = Some o }
+asks b o = held phases.Asking b o
 
--- its session, with the same request
-pub record Like (b : Session) (o : Operation) (new : Session) : Type 0 where
-  pub base : Session
-  pub operation : Operation
-  pub is : new ≡ asks base operation
-  pub paced : base.paced.0 ≡ b.paced.0
-  pub timing : base.timing ≡ b.timing
-  pub request : operation.request ≡ o.request
-  pub fresh : operation.is_fresh ≡ o.is_fresh
-  pub due : operation.due.0 ≡ o.due.0
-  pub attempts : operation.attempts ≡ o.attempts
-  pub sent : operation.sent ≡ o.sent
+abbrev pub Like : Session → Operation → Session → Type 0
+Like b o new = Held phases.Asking b o new
 
 pub like : (b : Session) (o : Operation) (new : Session) → new ≡ asks b o → Like b o new
-like b o new h = record {
-  base = b;
-  operation = o;
-  is = h;
-  paced = refl;
-  timing = refl;
-  request = refl;
-  fresh = refl;
-  due = refl;
-  attempts = refl;
-  sent = refl;
-}
-
-like_alive : (alive : Option TransId) (b : Session) (o : Operation) → Like b o (packet_polled (alive_or_nothing alive) (asks b o))
-like_alive None b o = like b o (asks b o) refl
-like_alive (Some id) b o = record {
-  base = record b { alive = None };
-  operation = o;
-  is = refl;
-  paced = refl;
-  timing = refl;
-  request = refl;
-  fresh = refl;
-  due = refl;
-  attempts = refl;
-  sent = refl;
-}
-
-like_request : (b : Session) (o : Operation) → Like b o (asks b (polled o))
-like_request b o = record {
-  base = b;
-  operation = polled o;
-  is = refl;
-  paced = refl;
-  timing = refl;
-  request = refl;
-  fresh = refl;
-  due = refl;
-  attempts = refl;
-  sent = refl;
-}
-
-like_packet : (b : Session) (o : Operation) (l : List Lease) → Like b o (packet_polled (client_packet (asks b o) l) (asks b o))
-like_packet b o l =
-    packet_case (λ packet. Like b o (packet_polled packet (asks b o))) (asks b o) l (λ alive. like_alive alive b o) (λ r a. like_request b o)
-    (λ place r a. like b o (asks b o) refl)
-
-pub like_poll : (result : Result (Option ℕ) StunError) (b : Session) (o : Operation) (l : List Lease)
-    → Like b o (after_poll result (client_packet (asks b o) l) (asks b o))
-like_poll (Ok None) b o l = like b o (asks b o) refl
-like_poll (Ok (Some n)) b o l = like_packet b o l
-like_poll (Err e) b o l = like b o (asks b o) refl
-
-like_reported : (made : Option Allocation) (b : Session) (o : Operation) → Like b o (reported_by made (asks b o))
-like_reported None b o = record {
-  base = record b { ending = None };
-  operation = o;
-  is = refl;
-  paced = refl;
-  timing = refl;
-  request = refl;
-  fresh = refl;
-  due = refl;
-  attempts = refl;
-  sent = refl;
-}
-like_reported (Some made) b o = record {
-  base = record b { made = None };
-  operation = o;
-  is = refl;
-  paced = refl;
-  timing = refl;
-  request = refl;
-  fresh = refl;
-  due = refl;
-  attempts = refl;
-  sent = refl;
-}
-
-like_cond : (p : Bool) (b : Session) (o : Operation) (x y : Session) → Like b o x → Like b o y → Like b o (cond p x y)
-like_cond true b o x y h k = h
-like_cond false b o x y h k = k
-
-pub like_event : (l : List Lease) (b : Session) (o : Operation) → Like b o (session_after_event (asks b o) l)
-like_event l b o =
-    let after = like_reported b.made b o in
-    like_cond (is_some b.made) b o (after_event (asks b o)) (cond (is_some (reported l).1) (asks b o) (after_event (asks b o))) after
-    (like_cond (is_some (reported l).1) b o (asks b o) (after_event (asks b o)) (like b o (asks b o) refl) after)
+like b o new h = held_as phases.Asking b o new h
 
 -- ---- the clock
 

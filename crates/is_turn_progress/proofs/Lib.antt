@@ -1,5 +1,6 @@
 mod Packets
 mod Steps
+mod HeldRequests
 mod Asking
 mod AllocateResponses
 mod ReachedAllocations
@@ -8,3 +9,4 @@ mod LittleChanges
 mod PublicPackets
 mod ForgottenSecrets
 mod ForgottenRuns
+mod ClosedClients

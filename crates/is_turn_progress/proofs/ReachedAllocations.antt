@@ -10,6 +10,7 @@ use Rattle.is_turn.specs.declared.lease.Lease.{Lease}
 use Rattle.is_turn.specs.declared.operation.Operation.{Operation}
 use Rattle.is_turn.specs.declared.requests.Request.TheVariants.{Allocate}
 use Rattle.is_turn.specs.declared.session.Allocation.{Allocation}
+use Rattle.is_turn.specs.declared.session.Phase.TheVariants as phases
 use Rattle.is_turn.specs.declared.session.Session.{Session}
 use Rattle.is_turn.specs.declared.turn.TurnEvent.TheVariants as events
 use Rattle.is_turn.specs.Alternate.{alternate_in}
@@ -26,7 +27,8 @@ use Rattle.is_turn.specs.Turn.{key_now, kept_credentials, after_step}
 use Rattle.is_turn.specs.Worlds.{Call, start, close, permit, send, probe, handle_timeout, poll_transmit, poll_event, receive}
 use Rattle.is_turn_progress.specs.States.{State, Effect}
 use Rattle.is_turn_progress.specs.Reaching.{ALLOCATING, IsAllocateSuccess, IsRightTo, IsRight, IsExpected, IsOrdinary, IsNewUser, Passes, IsAnswered as IsAnsweredRun, IsStarted, IsAllocated, IsReachedBy, waiting}
-use Rattle.is_turn_progress.proofs.Asking.{asks, sent_base, Like, like, like_poll, like_event, fresh_timed, waiting_timed, more, more_by, KnowsPassword, Begins, Waits, Stage, begins_like, waits_like, begins_attempted, waits_repeated, never_exhausted, waits_for, begins_next}
+use Rattle.is_turn_progress.proofs.Asking.{asks, sent_base, Like, like, fresh_timed, waiting_timed, more, more_by, KnowsPassword, Begins, Waits, Stage, begins_like, waits_like, begins_attempted, waits_repeated, never_exhausted, waits_for, begins_next}
+use Rattle.is_turn_progress.proofs.HeldRequests.{held_poll, held_event}
 use Rattle.is_turn_progress.proofs.AllocateResponses.{IsLast, with_key, challenge_applies, open_success, signed_success}
 
 -- ---- what each call is to a client that asks
@@ -72,9 +74,9 @@ called (handle_timeout stream stream_new) mac x b o new is effect ordinary =
     let step = subst (λ (s : Session). TimesOut (at_time new.clock) (key_now x.credentials) stream s x.leases new.session new.leases stream_new) is effect.1 in
     inr (inl (stream, stream_new, step.0, effect.0))
 called (poll_transmit result) mac x b o new is effect ordinary =
-    quiet mac x b o new (λ s. after_poll result (client_packet s x.leases) s) is effect.0 (like_poll result b o x.leases) effect.2
+    quiet mac x b o new (λ s. after_poll result (client_packet s x.leases) s) is effect.0 (held_poll phases.Asking result b o x.leases) effect.2
 called poll_event mac x b o new is effect ordinary =
-    quiet mac x b o new (λ s. session_after_event s x.leases) is effect.0 (like_event x.leases b o) effect.2
+    quiet mac x b o new (λ s. session_after_event s x.leases) is effect.0 (held_event phases.Asking x.leases b o) effect.2
 called (receive bytes result) mac x b o new is effect ordinary = received mac bytes result x b o new is effect ordinary
 
 -- ---- the stages

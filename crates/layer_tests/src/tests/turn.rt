@@ -3,6 +3,7 @@
 mod allocating;
 mod binding;
 mod messages;
+mod progress;
 mod relaying;
 mod relays;
 mod side;
