@@ -18,7 +18,7 @@ use Rattle.is_turn.specs.Timing.{wait_after}
 use Rattle.is_turn.specs.Turn.{key_now, after_step}
 use Rattle.is_turn.specs.Worlds.{Call, start, close, permit, send, probe, handle_timeout, poll_transmit, poll_event, receive}
 use Rattle.is_turn_progress.specs.States.{State, Effect}
-use Rattle.is_turn_progress.specs.Closing.{CLOSING, IsClosed, IsUnchallenged, Passes, IsPunctualCourse, HasEnded, IsEndedBy}
+use Rattle.is_turn_progress.specs.Closing.{CLOSING, IsClosed, IsFinal, IsUnchallenged, Passes, IsPunctualCourse, HasEnded, IsEndedBy}
 use Rattle.is_turn_progress.proofs.HeldRequests.{held, Held, held_as, held_poll, held_event}
 use Rattle.is_turn_progress.proofs.Steps.{by_cond}
 
@@ -46,9 +46,9 @@ quiet : (x : State) (b : Session) (o : Operation) (new : State) (f : Session →
     → Held phases.Closing b o (f (frees b o)) → Called x b o new
 quiet x b o new f is step k = inl (subst (λ (s : Session). Held phases.Closing b o s) (sym (step ∙ ap f is)) k)
 
-final : (x : State) (b : Session) (o : Operation) (new : State) → x.session ≡ frees b o → (new.session ≡ x.session) ⊎ HasEnded new → Called x b o new
+final : (x : State) (b : Session) (o : Operation) (new : State) → x.session ≡ frees b o → IsFinal x new → Called x b o new
 final x b o new is (inl same) = quiet x b o new (λ s. s) is same (held_as phases.Closing b o (frees b o) refl)
-final x b o new is (inr end) = inr (inr end)
+final x b o new is (inr end) = inr (inr (search end))
 
 called : (call : Call) (mac : List ℕ → List ℕ → List ℕ) (x : State) (b : Session) (o : Operation) (new : State) → x.session ≡ frees b o
     → Effect call mac new.clock x new → IsUnchallenged call x new → Called x b o new

@@ -308,7 +308,7 @@ call_forgets start mac x new h does =
     becomes (turn_started (at_time new.clock) x.session) x.leases x.credentials new
     (safe_cond (is_new x.session.phase) (asking (at_time new.clock) x.session) x.session x.credentials x.leases tt h) does
 call_forgets (close has) mac x new h does =
-    kept_new (closed_in x.session.phase (at_time new.clock) has x.session) new.session x.credentials new.credentials x.leases new.leases does.1.0 does.1.2 does.1.1
+    kept_new (closed_in x.session.phase (at_time new.clock) has x.session) new.session x.credentials new.credentials x.leases new.leases does.1.0 (search (does.1.2)) (search (does.1.1))
     (closed_kept x.session.phase (at_time new.clock) has x.session x.credentials x.leases refl h)
 call_forgets (permit peer) mac x new h does =
     becomes x.session (permits_peer (at_time new.clock) peer x.session x.leases).0 x.credentials new
@@ -321,7 +321,7 @@ call_forgets (send peer media) mac x new h does =
 call_forgets probe mac x new h does =
     becomes (probed (at_time new.clock) x.session) x.leases x.credentials new (probed_safe (at_time new.clock) x.session x.credentials x.leases h) does
 call_forgets (handle_timeout stream stream_new) mac x new h does =
-    times_out (at_time new.clock) (key_now x.credentials) stream x.session x.leases x.credentials new.session new.leases new.credentials stream_new h does.0 does.1
+    times_out (at_time new.clock) (key_now x.credentials) stream x.session x.leases x.credentials new.session new.leases new.credentials stream_new h (search (does.0)) does.1
 call_forgets (poll_transmit result) mac x new h does =
     becomes (after_poll result (client_packet x.session x.leases) x.session) (leases_after_poll result (client_packet x.session x.leases) x.leases) x.credentials new
     (polled_safe result x.session x.credentials x.leases h) does

@@ -223,8 +223,8 @@ after_cond false x y c l h k = k
 allocated_after : (p : Phase) (now since : Instant) (seconds : ℕ) (allocation : Allocation) (s : Session) (c : Option Credentials) (l : List Lease)
     → After (allocated_in p now allocation (extended since seconds s)) (option_map forgotten c) l
 allocated_after phases.New now since seconds allocation s c l = none_forgot c
-allocated_after phases.Asking now since seconds allocation s c l = none_forgot c
-allocated_after phases.Leaving now since seconds allocation s c l = none_forgot c
+allocated_after phases.Asking now since seconds allocation s c l = search (none_forgot c)
+allocated_after phases.Leaving now since seconds allocation s c l = search (none_forgot c)
 allocated_after phases.Ready now since seconds allocation s c l = none_forgot c
 allocated_after phases.Closing now since seconds allocation s c l = none_forgot c
 allocated_after phases.Ended now since seconds allocation s c l = none_forgot c

@@ -83,13 +83,13 @@ writes_same mac None (Some b) r id old result new same h = absurd same
 writes_same mac (Some a) None r id old result new same h = absurd same
 writes_same mac (Some a) (Some b) r id old result new same h =
     let rows = rows_same id.0 r a b same.0 same.1 same.2 in
-    let refused : rows_rejection (Some a.key) (length old) (request_rows id.0 r (Some a)) ≡ rows_rejection (Some b.key) (length old) (request_rows id.0 r (Some b)) =
+    let rejected : rows_rejection (Some a.key) (length old) (request_rows id.0 r (Some a)) ≡ rows_rejection (Some b.key) (length old) (request_rows id.0 r (Some b)) =
             ap (λ (x : List Row). rows_rejection (Some b.key) (length old) x) rows in
     let written : written_rows mac (Some a.key) (type_of r) id.0 (request_rows id.0 r (Some a))
             ≡ written_rows mac (Some b.key) (type_of r) id.0 (request_rows id.0 r (Some b)) =
             ap (λ (x : List Row). written_rows mac (Some a.key) (type_of r) id.0 x) rows
             ∙ written_same mac a.key b.key (type_of r) id.0 (request_rows id.0 r (Some b)) same.3 in
-    subst (λ (e : Option StunError). WritesOr result old new e (written_rows mac (Some b.key) (type_of r) id.0 (request_rows id.0 r (Some b)))) refused
+    subst (λ (e : Option StunError). WritesOr result old new e (written_rows mac (Some b.key) (type_of r) id.0 (request_rows id.0 r (Some b)))) rejected
     (subst (λ (w : List ℕ). WritesOr result old new (rows_rejection (Some a.key) (length old) (request_rows id.0 r (Some a))) w) written h)
 
 polls_request : (mac : List ℕ → List ℕ → List ℕ) (c d : Option Credentials) (r : Request) (a : Attempt) (old : List ℕ) (result : Result (Option ℕ) StunError)

@@ -62,7 +62,7 @@ IsDoubtOfLease s l new l_new = (place : ℕ) × (code : ℕ) × (new ≡ s) × (
 abbrev pub IsSame : Session → List Lease → Session → List Lease → Type 0
 IsSame s l new l_new = (new ≡ s) × ((l_new ≡ l) ⊎ (l_new ≡ kept_leases s l))
 
--- a lease but for when it was used
+-- a lease, except when it was used
 abbrev pub unclocked : Lease → Lease
 unclocked g = record g { used = at_time 0 }
 
