@@ -1,10 +1,9 @@
 -- What the right response to an Allocate request does: a challenge makes another attempt, a success response the allocation.
-use Rattle.std.proofs.Common.{◌≡◌, ℕ, ◌<◌, ◌≤◌, ◌==◌, ◌&&◌, Bool, true, false, cond, List, length, Option, Some, None, bytes_eq, nat_lt, not, is_some, arith, refl, sym, ap, subst, ◌∙◌}
+use Rattle.std.proofs.Common.{◌≡◌, ℕ, ◌≤◌, ◌==◌, Bool, true, false, List, length, Option, Some, None, bytes_eq, nat_lt, not, arith, refl, sym, ap, subst}
 use Rattle.std.proofs.lemmas.Bool.Decides.{nat_tests}
 use Rattle.std.proofs.lemmas.Slice.Eq.{bytes_eq-Decides}
 use Rattle.std.specs.declared.net.socket_addr.SocketAddr.{SocketAddr}
 use Rattle.is_proto.specs.declared.proto.Instant.{Instant}
-use Rattle.is_stun.specs.declared.header.Class.TheVariants as classes
 use Rattle.is_stun.specs.declared.header.Method.TheVariants as methods
 use Rattle.is_stun.specs.declared.requested.AddressFamily.{AddressFamily}
 use Rattle.is_stun.specs.Integrity.{IsSignedBy}
@@ -18,7 +17,7 @@ use Rattle.is_turn.specs.declared.session.Phase.TheVariants as phases
 use Rattle.is_turn.specs.declared.session.Session.{Session}
 use Rattle.is_turn.specs.declared.verdict.Verdict.{Verdict}
 use Rattle.is_turn.specs.declared.verdict.Verdict.TheVariants as verdicts
-use Rattle.is_turn.specs.Credentials.{Credentials, Challenge, long_term_key}
+use Rattle.is_turn.specs.Credentials.{Credentials, long_term_key}
 use Rattle.is_turn.specs.Operations.{another, takes_challenge}
 use Rattle.is_turn.specs.Outcome.{answered_in, key_in, is_last_sent, is_unknown, code_or_success, on_challenge, on_code, on_success, relays, lasts, outcome_by, outcome_or}
 use Rattle.is_turn.specs.Receipts.{Receipt}
@@ -76,21 +75,21 @@ pub challenge_applies : (mac : List ℕ → List ℕ → List ℕ) (now : Instan
 challenge_applies mac now m alternate b o a k password result new c_new is knows unsigned h step =
     let s = asks b o in
     let found = subst (λ (x : Option Attempt). OutcomeApplies now (outcome_or step.0 phases.Asking (Some k) m alternate o x) m.attributes.realm
-            m.attributes.nonce s (Some k) result new c_new) (answered_last m o a is h.method h.to) step.2 in
+    m.attributes.nonce s (Some k) result new c_new) (answered_last m o a is h.method h.to) step.2 in
     let judged = subst (λ (v : Verdict). OutcomeApplies now (outcome_by v phases.Asking (is_unknown (Some k)) o a m alternate) m.attributes.realm
-            m.attributes.nonce s (Some k) result new c_new) (challenge_verdict step.0 (is_last_sent a o) a.key k m a.id.0 h) found in
+    m.attributes.nonce s (Some k) result new c_new) (challenge_verdict step.0 (is_last_sent a o) a.key k m a.id.0 h) found in
     let coded = subst (λ (code : ℕ). OutcomeApplies now (on_challenge o a code (is_unknown (Some k))) m.attributes.realm m.attributes.nonce s (Some k)
-            result new c_new) (challenge_code m a.id.0 h) judged in
+    result new c_new) (challenge_code m a.id.0 h) judged in
     let keyed = subst (λ (key : Option (List ℕ)). OutcomeApplies now (on_challenge o (record a { key = key }) 401 (is_unknown (Some k)))
-            m.attributes.realm m.attributes.nonce s (Some k) result new c_new) unsigned coded in
+    m.attributes.realm m.attributes.nonce s (Some k) result new c_new) unsigned coded in
     let asked = by_cond (λ outcome. OutcomeApplies now outcome m.attributes.realm m.attributes.nonce s (Some k) result new c_new
-            → IsChallengedBy now false 401 s (challenge_taken m.attributes.realm m.attributes.nonce (Some k)) result new c_new)
-            (not (takes_challenge a.id false 401 o)) _ _ (λ refused. λ x. let e : not (takes_challenge a.id false 401 o) ≡ false = ap not (takes o a is) in absurd (cc (e, refused)))
-            (λ allowed. λ x. x) keyed in
+    → IsChallengedBy now false 401 s (challenge_taken m.attributes.realm m.attributes.nonce (Some k)) result new c_new)
+    (not (takes_challenge a.id false 401 o)) _ _ (λ refused. λ x. let e : not (takes_challenge a.id false 401 o) ≡ false = ap not (takes o a is) in absurd (cc (e, refused)))
+    (λ allowed. λ x. x) keyed in
     let realm = subst (λ (r : Option (List ℕ)). IsChallengedBy now false 401 s (challenge_taken r m.attributes.nonce (Some k)) result new c_new) h.has_realm asked in
     let nonce = subst (λ (n : Option (List ℕ)). IsChallengedBy now false 401 s (challenge_taken (Some h.realm) n (Some k)) result new c_new) h.has_nonce realm in
     let known = subst (λ (t : Option Credentials × Bool). IsChallengedBy now false 401 s t result new c_new)
-            (taken k h.realm h.nonce password (omega (arith, h.short_realm)) (omega (arith, h.short_nonce)) knows) nonce in
+    (taken k h.realm h.nonce password (omega (arith, h.short_realm)) (omega (arith, h.short_nonce)) knows) nonce in
     (known.1, known.2)
 
 -- ---- a success response
@@ -119,7 +118,7 @@ genuine_applies now m alternate b o a c result new c_new is h step =
     let realm = m.attributes.realm in
     let nonce = m.attributes.nonce in
     let coded = subst (λ (code : Option ℕ). OutcomeApplies now (on_code phases.Asking o.request a m alternate code) realm nonce s c result new c_new)
-            (success_code m a.id.0 h) step in
+    (success_code m a.id.0 h) step in
     let requested = subst (λ (r : Request). OutcomeApplies now (on_success r a m) realm nonce s c result new c_new) is.request coded in
     let relayed = subst (λ (r : Option SocketAddr). OutcomeApplies now (relays a m r) realm nonce s c result new c_new) h.has_relayed requested in
     let lasting = subst (λ (n : Option ℕ). OutcomeApplies now (lasts a m h.relayed n) realm nonce s c result new c_new) h.has_lifetime relayed in
@@ -133,7 +132,7 @@ pub open_success : (mac : List ℕ → List ℕ → List ℕ) (now : Instant) (m
 open_success mac now m alternate b o a result new c_new is h step =
     let s = asks b o in
     let found = subst (λ (x : Option Attempt). OutcomeApplies now (outcome_or step.0 phases.Asking None m alternate o x) m.attributes.realm
-            m.attributes.nonce s None result new c_new) (answered_last m o a is h.method h.to) step.2 in
+    m.attributes.nonce s None result new c_new) (answered_last m o a is h.method h.to) step.2 in
     genuine_applies now m alternate b o a None result new c_new is h
     (subst (λ (v : Verdict). OutcomeApplies now (outcome_by v phases.Asking (is_unknown None) o a m alternate) m.attributes.realm m.attributes.nonce s None
     result new c_new) (open_verdict step.0 (is_last_sent a o) a.key m a.id.0 h) found)
@@ -145,11 +144,11 @@ signed_success mac now m alternate b o a k key result new c_new is keyed h signe
     let s = asks b o in
     let own = answered_last m o a is h.method h.to in
     let found = subst (λ (x : Option Attempt). OutcomeApplies now (outcome_or step.0 phases.Asking (Some k) m alternate o x) m.attributes.realm
-            m.attributes.nonce s (Some k) result new c_new) own step.2 in
+    m.attributes.nonce s (Some k) result new c_new) own step.2 in
     let counts : step.0 ≡ true =
-            step.1.1 (subst (λ (x : Option Attempt). IsSignedFor mac m (key_in x)) (sym own) (subst (λ (x : Option (List ℕ)). IsSignedFor mac m x) (sym keyed) signed)) in
+    step.1.1 (subst (λ (x : Option Attempt). IsSignedFor mac m (key_in x)) (sym own) (subst (λ (x : Option (List ℕ)). IsSignedFor mac m x) (sym keyed) signed)) in
     let verified = subst (λ (t : Bool). OutcomeApplies now (outcome_by (verdict_of t (is_last_sent a o) a.key (Some k) m) phases.Asking (is_unknown (Some k)) o a m
-            alternate) m.attributes.realm m.attributes.nonce s (Some k) result new c_new) counts found in
+    alternate) m.attributes.realm m.attributes.nonce s (Some k) result new c_new) counts found in
     genuine_applies now m alternate b o a (Some k) result new c_new is h
     (subst (λ (v : Verdict). OutcomeApplies now (outcome_by v phases.Asking (is_unknown (Some k)) o a m alternate) m.attributes.realm m.attributes.nonce s (Some k)
     result new c_new) (signed_verdict (is_last_sent a o) a.key k m a.id.0 h) verified)

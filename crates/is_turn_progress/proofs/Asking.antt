@@ -1,28 +1,25 @@
 -- A client that requests an allocation: what calls and the clock leave of its request.
-use Rattle.std.proofs.Common.{◌≡◌, ◌⊎◌, ℕ, ◌+◌, ◌*◌, ◌<◌, ◌≤◌, ◌==◌, min, max, Bool, true, false, cond, List, Option, Some, None, is_some, Result, Ok, Err, nat_lt, nat_le, arith, refl, sym, ap, subst, ◌∙◌, inl, inr}
+use Rattle.std.proofs.Common.{◌≡◌, ◌⊎◌, ℕ, ◌+◌, ◌*◌, ◌<◌, ◌≤◌, ◌==◌, max, Bool, true, false, cond, List, Option, Some, None, nat_lt, nat_le, arith, refl, sym, ap, subst, ◌∙◌, inl, inr}
 use Rattle.std.proofs.lemmas.Bool.Decides.{nat_tests}
 use Rattle.rand_core.specs.Stream.{Stream, fill_bytes}
 use Rattle.is_proto.specs.Times.{MAX, later}
-use Rattle.is_proto.specs.declared.error.StunError.{StunError}
 use Rattle.is_proto.specs.declared.proto.Instant.{Instant}
 use Rattle.is_stun.specs.declared.requested.AddressFamily.{AddressFamily}
-use Rattle.is_stun.specs.declared.trans_id.TransId.{TransId}
 use Rattle.is_turn.specs.declared.attempts.Attempt.{Attempt}
 use Rattle.is_turn.specs.declared.attempts.Attempts.{Attempts}
 use Rattle.is_turn.specs.declared.lease.Lease.{Lease}
 use Rattle.is_turn.specs.declared.operation.Operation.{Operation}
 use Rattle.is_turn.specs.declared.requests.Request.TheVariants.{Allocate}
-use Rattle.is_turn.specs.declared.session.Allocation.{Allocation}
 use Rattle.is_turn.specs.declared.session.Phase.TheVariants as phases
 use Rattle.is_turn.specs.declared.session.Session.{Session}
 use Rattle.is_turn.specs.declared.timing.ClientTiming.{ClientTiming}
 use Rattle.is_turn.specs.Client.{at_time, time_after}
 use Rattle.is_turn.specs.Credentials.{Credentials, Challenge}
-use Rattle.is_turn.specs.Operations.{attempted, sent_once_more, polled, is_exhausted, repeat_wait}
-use Rattle.is_turn.specs.Relaying.{reported, client_packet, after_poll, next_client_time, session_after_event}
+use Rattle.is_turn.specs.Operations.{attempted, sent_once_more, is_exhausted}
+use Rattle.is_turn.specs.Relaying.{next_client_time}
 use Rattle.is_turn.specs.Session.{PACE, sending, step_of}
-use Rattle.is_turn.specs.Timing.{first_wait, wait_after}
-use Rattle.is_turn.specs.Turn.{key_now, alive_or_nothing, after_step, packet_polled, reported_by, after_event}
+use Rattle.is_turn.specs.Timing.{wait_after}
+use Rattle.is_turn.specs.Turn.{key_now, after_step}
 use Rattle.is_turn_progress.specs.Reaching.{waiting}
 use Rattle.is_turn_progress.proofs.HeldRequests.{held, Held, held_as}
 use Rattle.is_turn_progress.proofs.Steps.{by_cond}
@@ -50,8 +47,8 @@ pub fresh_timed : (now : Instant) (key : Option (List ℕ)) (stream stream_new :
     ⊎ (new ≡ asks (sent_base now b) (attempted (record { id = record { 0 = (fill_bytes 12 stream).0 }; key = key; since = now }) b.timing o))
 fresh_timed now key stream stream_new b o new h =
     let Result : Type 0 =
-            Like b o new
-            ⊎ (new ≡ asks (sent_base now b) (attempted (record { id = record { 0 = (fill_bytes 12 stream).0 }; key = key; since = now }) b.timing o)) in
+    Like b o new
+    ⊎ (new ≡ asks (sent_base now b) (attempted (record { id = record { 0 = (fill_bytes 12 stream).0 }; key = key; since = now }) b.timing o)) in
     let idle : (new, stream_new) ≡ (asks b o, stream) → Result = λ step. inl (like b o new (ap (λ (x : Session × Stream). x.0) step)) in
     by_cond (λ step. (new, stream_new) ≡ after_step step now key stream (asks b o) → Result) (nat_lt now.0 b.paced.0) _ _ (λ p. idle)
     (λ p. by_cond (λ step. (new, stream_new) ≡ after_step step now key stream (asks b o) → Result) (nat_lt now.0 o.due.0) _ _ (λ q. idle)

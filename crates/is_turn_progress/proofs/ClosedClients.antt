@@ -1,9 +1,7 @@
 -- A client with an allocation that is closed sends two requests at most, and then it ends.
-use Rattle.std.proofs.Common.{◌≡◌, ◌⊎◌, ℕ, ◌+◌, ◌*◌, ◌<◌, ◌≤◌, ◌==◌, min, max, Bool, true, false, cond, List, [], ◌∷◌, Option, Some, None, nat_lt, nat_le, arith, refl, sym, ap, subst, ◌∙◌, inl, inr}
+use Rattle.std.proofs.Common.{◌≡◌, ◌⊎◌, ℕ, ◌+◌, ◌*◌, ◌≤◌, ◌==◌, max, Bool, true, false, cond, List, [], ◌∷◌, Option, None, nat_lt, nat_le, arith, refl, sym, ap, subst, ◌∙◌, inl, inr}
 use Rattle.rand_core.specs.Stream.{Stream, fill_bytes}
-use Rattle.is_proto.specs.Times.{MAX, later}
 use Rattle.is_proto.specs.declared.proto.Instant.{Instant}
-use Rattle.is_turn.specs.declared.attempts.Attempt.{Attempt}
 use Rattle.is_turn.specs.declared.operation.Operation.{Operation}
 use Rattle.is_turn.specs.declared.requests.Request.TheVariants.{Refresh}
 use Rattle.is_turn.specs.declared.session.Phase.{Phase}

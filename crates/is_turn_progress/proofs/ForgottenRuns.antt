@@ -1,5 +1,5 @@
 -- Each call keeps no more secrets than are needed, so it is so in each course.
-use Rattle.std.proofs.Common.{◌≡◌, ◌⊎◌, ℕ, ◌==◌, ◌&&◌, ◌||◌, Bool, true, false, cond, List, [], ◌∷◌, set, map, position, nat_lt, nat_le, arith, Option, Some, None, is_some, is_none, Result, Ok, Err, refl, sym, ap, subst, ◌∙◌, inl, inr}
+use Rattle.std.proofs.Common.{◌≡◌, ℕ, ◌&&◌, Bool, true, false, cond, List, [], ◌∷◌, set, position, nat_lt, nat_le, arith, Option, Some, None, is_some, is_none, Result, Ok, Err, refl, sym, ap, subst, ◌∙◌}
 use Rattle.std.proofs.lemmas.List.{set_past}
 use Rattle.std.specs.declared.net.socket_addr.SocketAddr.{SocketAddr}
 use Rattle.rand_core.specs.Stream.{Stream, fill_bytes}
@@ -9,7 +9,6 @@ use Rattle.is_stun.specs.declared.trans_id.TransId.{TransId}
 use Rattle.is_turn.specs.declared.attempts.Attempt.{Attempt}
 use Rattle.is_turn.specs.declared.lease.Lease.{Lease}
 use Rattle.is_turn.specs.declared.operation.Operation.{Operation}
-use Rattle.is_turn.specs.declared.requests.Request.{Request}
 use Rattle.is_turn.specs.declared.requests.Request.TheVariants.{Refresh}
 use Rattle.is_turn.specs.declared.session.Allocation.{Allocation}
 use Rattle.is_turn.specs.declared.session.Phase.{Phase}
@@ -22,12 +21,12 @@ use Rattle.is_turn.specs.Credentials.{Credentials}
 use Rattle.is_turn.specs.Incoming.{datagram_of}
 use Rattle.is_turn.specs.Leases.{is_reported, lease_polled, plain, step_for, without_report}
 use Rattle.is_turn.specs.Operations.{polled, attempted, sent_once_more, is_exhausted}
-use Rattle.is_turn.specs.Places.{at_place, bound_channel, due_place, permitted}
-use Rattle.is_turn.specs.Relaying.{kept_in as leases_in, kept_leases, permits_peer, with_media, route_of, routed_over, routed_if, routed_by, routed, after_route, advanced_in, lease_due, sending_for, step_at, driven, TimesOut, TimesOutBy, client_packet, after_poll, leases_after_poll, lease_polled_in, reported_at, reported, session_after_event, leases_after_event}
-use Rattle.is_turn.specs.Session.{is_new, is_ready, asking, turn_started, closed, freed, may_be_made, unsent, left, closed_early, closed_in, failed_in, is_gone, lost, retried, not_renewed, probed, quiet_after, takes_permissions, with_request, with_renewal, sending, changed_by, request_timing, tried_by, repeated_by, step_of, due_or, due_of, keep_alive_due}
+use Rattle.is_turn.specs.Places.{at_place, bound_channel, due_place}
+use Rattle.is_turn.specs.Relaying.{kept_in as leases_in, kept_leases, permits_peer, with_media, route_of, routed_if, routed, after_route, advanced_in, lease_due, sending_for, step_at, driven, TimesOut, TimesOutBy, client_packet, after_poll, leases_after_poll, lease_polled_in, reported_at, reported, session_after_event, leases_after_event}
+use Rattle.is_turn.specs.Session.{is_new, is_ready, asking, turn_started, closed, may_be_made, unsent, left, closed_early, closed_in, failed_in, probed, takes_permissions, with_request, with_renewal, sending, changed_by, request_timing, tried_by, repeated_by, step_of, due_or, keep_alive_due}
 use Rattle.is_turn.specs.Turn.{kept_in, kept_credentials, key_now, alive_or_nothing, after_step, packet_polled, reported_by, after_event}
 use Rattle.is_turn.specs.Worlds.{Call, start, close, permit, send, probe, handle_timeout, poll_transmit, poll_event, receive}
-use Rattle.is_turn_progress.specs.States.{State, HasBecome, Effect, Advances, IsCourse}
+use Rattle.is_turn_progress.specs.States.{State, HasBecome, Effect, IsCourse}
 use Rattle.is_turn_progress.specs.Secrets.{password_of, IsForgotten, Forgets, IsNewClient, AlwaysForgets}
 use Rattle.is_turn_progress.proofs.ForgottenSecrets.{Safe, Kept, kept_cond, safe_cond, kept_safe, safe_changed, received_after}
 use Rattle.is_turn_progress.proofs.Packets.{packet_case}

@@ -1,11 +1,8 @@
 -- A client keeps its password only until the server has answered, and nothing after the end.
-use Rattle.std.proofs.Common.{◌≡◌, ◌⊎◌, ℕ, ◌==◌, ◌&&◌, ◌||◌, Bool, true, false, cond, not, List, [], ◌∷◌, set, map, length, position, bytes_eq, nat_lt, arith, Option, Some, None, option_map, is_some, is_none, Result, Ok, Err, refl, sym, ap, subst, ◌∙◌, inl, inr}
+use Rattle.std.proofs.Common.{◌≡◌, ℕ, ◌==◌, ◌&&◌, ◌||◌, Bool, true, false, cond, not, List, [], length, position, nat_lt, arith, Option, Some, None, option_map, is_some, is_none, refl, sym, ap, subst, ◌∙◌, inl, inr}
 use Rattle.std.proofs.lemmas.List.{get_or_past}
 use Rattle.std.specs.declared.net.socket_addr.SocketAddr.{SocketAddr}
-use Rattle.rand_core.specs.Stream.{Stream, fill_bytes}
-use Rattle.is_proto.specs.declared.error.StunError.{StunError}
 use Rattle.is_proto.specs.declared.proto.Instant.{Instant}
-use Rattle.is_stun.specs.declared.trans_id.TransId.{TransId}
 use Rattle.is_stun.specs.Message.{Message}
 use Rattle.is_turn.specs.declared.attempts.Attempt.{Attempt}
 use Rattle.is_turn.specs.declared.lease.Lease.{Lease}
@@ -14,30 +11,26 @@ use Rattle.is_turn.specs.declared.outcome.Reason.TheVariants as reasons
 use Rattle.is_turn.specs.declared.requests.Request.{Request}
 use Rattle.is_turn.specs.declared.requests.Request.TheVariants as requests
 use Rattle.is_turn.specs.declared.session.Allocation.{Allocation}
-use Rattle.is_turn.specs.declared.session.Ending.{Ending}
 use Rattle.is_turn.specs.declared.session.Phase.{Phase}
 use Rattle.is_turn.specs.declared.session.Phase.TheVariants as phases
 use Rattle.is_turn.specs.declared.session.Session.{Session}
 use Rattle.is_turn.specs.declared.verdict.Verdict.{Verdict}
 use Rattle.is_turn.specs.declared.verdict.Verdict.TheVariants as verdicts
-use Rattle.is_turn.specs.Alternate.{alternate_in}
-use Rattle.is_turn.specs.Client.{at_time}
 use Rattle.is_turn.specs.Credentials.{Credentials, Challenge, challenge_by, with_challenge, challenged, forgotten, without_challenge}
-use Rattle.is_turn.specs.Incoming.{Datagram, datagram_of, channel_data, peer_data, response, malformed, unasked, unparsed}
-use Rattle.is_turn.specs.LeaseResponses.{with_changed, LeaseApplies, IsLeaseAnswered, heard_peer, heard_data}
+use Rattle.is_turn.specs.Incoming.{Datagram, channel_data, peer_data, response, malformed, unasked, unparsed}
+use Rattle.is_turn.specs.LeaseResponses.{LeaseApplies, IsLeaseAnswered, heard_peer, heard_data}
 use Rattle.is_turn.specs.Leases.{unused, is_answered_by}
 use Rattle.is_turn.specs.Operations.{doubted, hinted, another, takes_challenge}
 use Rattle.is_turn.specs.Outcome.{is_unknown, code_or_success, on_alternate, on_code, on_success, relays, lasts, outcome_by, seconds_or_none}
 use Rattle.is_turn.specs.Places.{at_place, channel_peer}
 use Rattle.is_turn.specs.Receipts.{Receipt, dropped}
-use Rattle.is_turn.specs.Receiving.{IsAnswered, IsReceived, IsReceivedAs, IsRespondedBy}
+use Rattle.is_turn.specs.Receiving.{IsAnswered, IsReceivedAs, IsRespondedBy}
 use Rattle.is_turn.specs.Relaying.{kept_in as leases_in, kept_leases}
-use Rattle.is_turn.specs.Session.{changed_by, request_timing, is_ready, is_new, asking, turn_started, closed, lost, freed, may_be_made, unsent, left, closed_early, closed_in, extended, allocated_in, refreshed_in, renewed, is_redirected, is_gone, retried, not_renewed, failed_in, has_failed, is_allocated, is_refreshed, probed, lease_failed, with_request}
+use Rattle.is_turn.specs.Session.{changed_by, request_timing, is_ready, lost, extended, allocated_in, refreshed_in, renewed, is_gone, retried, failed_in, has_failed, is_allocated, is_refreshed, probed, lease_failed, with_request}
 use Rattle.is_turn.specs.Turn.{kept_in, kept_credentials, challenge_taken, with_doubt, with_hint, with_another, OutcomeApplies, Follows}
 use Rattle.is_turn.specs.Verdict.{code_of}
-use Rattle.is_turn_progress.specs.States.{State}
-use Rattle.is_turn_progress.specs.Secrets.{password_of, IsForgotten, Forgets}
-use Rattle.is_turn_progress.proofs.Outcomes.{IsMeant, outcome_case}
+use Rattle.is_turn_progress.specs.Secrets.{password_of, IsForgotten}
+use Rattle.is_turn_progress.proofs.Outcomes.{outcome_case}
 use Rattle.is_turn_progress.proofs.Steps.{by_cond}
 
 -- ---- what is forgotten in a phase

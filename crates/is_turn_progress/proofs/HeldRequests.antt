@@ -1,27 +1,15 @@
 -- A client with a request, in any phase: what polls leave of it.
-use Rattle.std.proofs.Common.{◌≡◌, ◌⊎◌, ℕ, ◌+◌, ◌*◌, ◌<◌, ◌≤◌, ◌==◌, min, max, Bool, true, false, cond, List, Option, Some, None, is_some, Result, Ok, Err, nat_lt, nat_le, arith, refl, sym, ap, subst, ◌∙◌, inl, inr}
-use Rattle.rand_core.specs.Stream.{Stream, fill_bytes}
-use Rattle.is_proto.specs.Times.{MAX, later}
+use Rattle.std.proofs.Common.{◌≡◌, ℕ, Bool, true, false, cond, List, Option, Some, None, is_some, Result, Ok, Err, refl}
 use Rattle.is_proto.specs.declared.error.StunError.{StunError}
-use Rattle.is_proto.specs.declared.proto.Instant.{Instant}
-use Rattle.is_stun.specs.declared.requested.AddressFamily.{AddressFamily}
 use Rattle.is_stun.specs.declared.trans_id.TransId.{TransId}
-use Rattle.is_turn.specs.declared.attempts.Attempt.{Attempt}
-use Rattle.is_turn.specs.declared.attempts.Attempts.{Attempts}
 use Rattle.is_turn.specs.declared.lease.Lease.{Lease}
 use Rattle.is_turn.specs.declared.operation.Operation.{Operation}
-use Rattle.is_turn.specs.declared.requests.Request.TheVariants.{Allocate}
 use Rattle.is_turn.specs.declared.session.Allocation.{Allocation}
 use Rattle.is_turn.specs.declared.session.Phase.{Phase}
 use Rattle.is_turn.specs.declared.session.Session.{Session}
-use Rattle.is_turn.specs.declared.timing.ClientTiming.{ClientTiming}
-use Rattle.is_turn.specs.Client.{at_time, time_after}
-use Rattle.is_turn.specs.Credentials.{Credentials, Challenge}
-use Rattle.is_turn.specs.Operations.{attempted, sent_once_more, polled, is_exhausted, repeat_wait}
-use Rattle.is_turn.specs.Relaying.{reported, client_packet, after_poll, next_client_time, session_after_event}
-use Rattle.is_turn.specs.Session.{PACE, sending, step_of}
-use Rattle.is_turn.specs.Timing.{first_wait, wait_after}
-use Rattle.is_turn.specs.Turn.{key_now, alive_or_nothing, after_step, packet_polled, reported_by, after_event}
+use Rattle.is_turn.specs.Operations.{polled}
+use Rattle.is_turn.specs.Relaying.{reported, client_packet, after_poll, session_after_event}
+use Rattle.is_turn.specs.Turn.{alive_or_nothing, packet_polled, reported_by, after_event}
 use Rattle.is_turn_progress.proofs.Packets.{packet_case}
 
 -- ---- a client in a phase, with a request

@@ -1,5 +1,5 @@
 -- A datagram changes little, or it is a response with grounds.
-use Rattle.std.proofs.Common.{◌≡◌, ◌⊎◌, ℕ, ◌==◌, ◌&&◌, Bool, true, false, cond, not, List, Option, Some, None, is_some, map, set, position, refl, sym, ap, subst, ◌∙◌, inl, inr}
+use Rattle.std.proofs.Common.{◌≡◌, ◌⊎◌, ℕ, Bool, true, false, cond, not, List, Option, Some, None, is_some, map, set, position, refl, ap, subst, ◌∙◌, inl, inr}
 use Rattle.std.proofs.Math.Seq.{map-set_same}
 use Rattle.std.specs.declared.net.socket_addr.SocketAddr.{SocketAddr}
 use Rattle.is_proto.specs.declared.proto.Instant.{Instant}
@@ -13,16 +13,16 @@ use Rattle.is_turn.specs.declared.verdict.Verdict.TheVariants as verdicts
 use Rattle.is_turn.specs.Alternate.{alternate_in}
 use Rattle.is_turn.specs.Credentials.{Credentials}
 use Rattle.is_turn.specs.Incoming.{Datagram, datagram_of, channel_data, peer_data, response, malformed, unasked, unparsed}
-use Rattle.is_turn.specs.LeaseResponses.{LeaseApplies, IsLeaseAnswered, heard_if, heard_peer, heard_data}
+use Rattle.is_turn.specs.LeaseResponses.{LeaseApplies, IsLeaseAnswered, heard_peer, heard_data}
 use Rattle.is_turn.specs.Leases.{unused, is_answered_by, is_open, is_permission_of, is_channel_of, ip_of, used_at}
 use Rattle.is_turn.specs.Operations.{doubted, takes_challenge}
 use Rattle.is_turn.specs.Outcome.{answered_by, answered_in, key_in, is_unknown, code_or_success, outcome_by}
-use Rattle.is_turn.specs.Places.{at_place, channel_peer, heard, heard_at, heard_by, used_in}
+use Rattle.is_turn.specs.Places.{at_place, channel_peer, heard_at, used_in}
 use Rattle.is_turn.specs.Receipts.{Receipt}
 use Rattle.is_turn.specs.Receiving.{IsAnswered, IsReceived, IsReceivedAs, IsRespondedBy}
-use Rattle.is_turn.specs.Relaying.{kept_in, kept_leases}
+use Rattle.is_turn.specs.Relaying.{kept_leases}
 use Rattle.is_turn.specs.Session.{changed_by, is_ready}
-use Rattle.is_turn.specs.Turn.{OutcomeApplies, with_doubt}
+use Rattle.is_turn.specs.Turn.{OutcomeApplies}
 use Rattle.is_turn.specs.Verdict.{IsSignedFor}
 use Rattle.is_turn_progress.specs.Authentic.{Grounds, IsPending, HasGrounds, unclocked, ChangesLittle}
 use Rattle.is_turn_progress.proofs.Outcomes.{IsMeant, outcome_case}
@@ -81,8 +81,14 @@ session_verdict : (v : Verdict) (mac : List ℕ → List ℕ → List ℕ) (now 
 session_verdict verdicts.Malformed mac now bytes m alternate s l c result new l_new c_new b o a h means kept step =
     inl (step.2, inl (step.1, inr (kept ∙ ap (λ (x : Session). kept_leases x l) step.1)))
 session_verdict verdicts.Unauthentic mac now bytes m alternate s l c result new l_new c_new b o a h means kept step =
-    inl (step.2, inr (inl (code_or_success m, search (step.1),
-    kept ∙ ap (λ (x : Session). kept_leases x l) step.1 ∙ doubt_phase (code_or_success m) s.operation s l)))
+    inl (
+      step.2,
+      inr (inl (
+        code_or_success m,
+        search (step.1),
+        kept ∙ ap (λ (x : Session). kept_leases x l) step.1 ∙ doubt_phase (code_or_success m) s.operation s l,
+      )),
+    )
 session_verdict verdicts.Hint mac now bytes m alternate s l c result new l_new c_new b o a h means kept step =
     inr (has_grounds mac bytes s l c m b o a h (inr (inr (means.0, inr (inr (search (means.1), search (means.2)))))))
 session_verdict verdicts.Redirect mac now bytes m alternate s l c result new l_new c_new b o a h means kept step =
@@ -199,8 +205,14 @@ data_little : (mac : List ℕ → List ℕ → List ℕ) (now : Instant) (bytes 
     (c : Option Credentials) (result : Receipt) (new : Session) (l_new : List Lease) (c_new : Option Credentials)
     → (result, l_new) ≡ heard_data now peer contents s l → new ≡ s → c_new ≡ c → Little mac bytes s l c new l_new c_new
 data_little mac now bytes peer contents s l c result new l_new c_new h same kept =
-    inl (kept, inr (inr (inr (same, ap (λ (x : Receipt × List Lease). map unclocked x.1) h
-    ∙ data_cond (is_ready s.phase) l (heard_peer now peer contents l) _ (heard_by_peer now peer contents l) refl))))
+    inl (
+      kept,
+      inr (inr (inr (
+        same,
+        ap (λ (x : Receipt × List Lease). map unclocked x.1) h
+            ∙ data_cond (is_ready s.phase) l (heard_peer now peer contents l) _ (heard_by_peer now peer contents l) refl,
+      ))),
+    )
 
 -- ---- any datagram
 

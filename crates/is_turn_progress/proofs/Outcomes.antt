@@ -1,5 +1,5 @@
 -- What is decided of a response, by the verdict on it, and what each verdict means.
-use Rattle.std.proofs.Common.{◌≡◌, ◌⊎◌, ℕ, ◌==◌, ◌&&◌, ◌||◌, Bool, true, false, cond, List, Option, Some, None, is_some, is_none, arith, refl, sym, inl, inr}
+use Rattle.std.proofs.Common.{◌≡◌, ◌⊎◌, ℕ, ◌&&◌, ◌||◌, Bool, true, false, Option, Some, None, is_some, is_none, arith, refl, inl, inr}
 use Rattle.std.specs.declared.net.socket_addr.SocketAddr.{SocketAddr}
 use Rattle.is_stun.specs.Message.{Integrity, Message}
 use Rattle.is_turn.specs.declared.attempts.Attempt.{Attempt}

@@ -1,5 +1,5 @@
 -- What the packet is that a client has to send: nothing, a keep-alive, the request of the allocation, or that of a lease.
-use Rattle.std.proofs.Common.{◌≡◌, ℕ, Bool, true, false, cond, List, Option, Some, None, position}
+use Rattle.std.proofs.Common.{ℕ, Bool, true, false, cond, List, Option, Some, None, position}
 use Rattle.is_stun.specs.declared.trans_id.TransId.{TransId}
 use Rattle.is_turn.specs.declared.attempts.Attempt.{Attempt}
 use Rattle.is_turn.specs.declared.lease.Lease.{Lease}

@@ -1,5 +1,5 @@
 -- Clients that differ in their secrets only, and whose MACs are the same, write the same packets.
-use Rattle.std.proofs.Common.{◌≡◌, ◌⊎◌, ℕ, ◌+◌, ◌<◌, ◌≤◌, Bool, true, false, cond, List, [], ◌∷◌, ◌++◌, length, map, position, nat_lt, Option, Some, None, option_map, is_some, Result, Ok, Err, refl, sym, ap, subst, ◌∙◌, inl, inr}
+use Rattle.std.proofs.Common.{◌≡◌, ◌⊎◌, ℕ, ◌+◌, ◌<◌, ◌≤◌, Bool, true, false, cond, List, [], ◌∷◌, ◌++◌, length, map, position, Option, Some, None, option_map, is_some, Result, Ok, Err, refl, sym, ap, subst, ◌∙◌, inl, inr}
 use Rattle.std.proofs.lemmas.Bool.{cases_lt}
 use Rattle.std.proofs.lemmas.List.{get_or_past, get_or-map, length-map}
 use Rattle.std.specs.List.{position_or_len}
@@ -84,11 +84,11 @@ writes_same mac (Some a) None r id old result new same h = absurd same
 writes_same mac (Some a) (Some b) r id old result new same h =
     let rows = rows_same id.0 r a b same.0 same.1 same.2 in
     let rejected : rows_rejection (Some a.key) (length old) (request_rows id.0 r (Some a)) ≡ rows_rejection (Some b.key) (length old) (request_rows id.0 r (Some b)) =
-            ap (λ (x : List Row). rows_rejection (Some b.key) (length old) x) rows in
+    ap (λ (x : List Row). rows_rejection (Some b.key) (length old) x) rows in
     let written : written_rows mac (Some a.key) (type_of r) id.0 (request_rows id.0 r (Some a))
-            ≡ written_rows mac (Some b.key) (type_of r) id.0 (request_rows id.0 r (Some b)) =
-            ap (λ (x : List Row). written_rows mac (Some a.key) (type_of r) id.0 x) rows
-            ∙ written_same mac a.key b.key (type_of r) id.0 (request_rows id.0 r (Some b)) same.3 in
+    ≡ written_rows mac (Some b.key) (type_of r) id.0 (request_rows id.0 r (Some b)) =
+    ap (λ (x : List Row). written_rows mac (Some a.key) (type_of r) id.0 x) rows
+    ∙ written_same mac a.key b.key (type_of r) id.0 (request_rows id.0 r (Some b)) same.3 in
     subst (λ (e : Option StunError). WritesOr result old new e (written_rows mac (Some b.key) (type_of r) id.0 (request_rows id.0 r (Some b)))) rejected
     (subst (λ (w : List ℕ). WritesOr result old new (rows_rejection (Some a.key) (length old) (request_rows id.0 r (Some a))) w) written h)
 

@@ -1,32 +1,28 @@
 -- A client that is started has its allocation in time: each call and each right response leads from one stage to the next.
 use Rattle.std.specs.declared.net.socket_addr.SocketAddr.{SocketAddr}
-use Rattle.std.proofs.Common.{◌≡◌, ◌⊎◌, ℕ, ◌+◌, ◌*◌, ◌<◌, ◌≤◌, max, Bool, true, false, cond, List, [], ◌∷◌, Option, Some, None, is_some, position, arith, refl, sym, ap, subst, ◌∙◌, inl, inr}
+use Rattle.std.proofs.Common.{◌≡◌, ◌⊎◌, ℕ, ◌+◌, ◌<◌, ◌≤◌, max, Bool, true, false, cond, List, [], ◌∷◌, Option, Some, None, arith, refl, sym, ap, subst, ◌∙◌, inl, inr}
 use Rattle.rand_core.specs.Stream.{Stream, fill_bytes}
 use Rattle.is_proto.specs.Times.{MAX}
-use Rattle.is_proto.specs.declared.proto.Instant.{Instant}
 use Rattle.is_stun.specs.Message.{Message}
 use Rattle.is_turn.specs.declared.attempts.Attempt.{Attempt}
-use Rattle.is_turn.specs.declared.lease.Lease.{Lease}
 use Rattle.is_turn.specs.declared.operation.Operation.{Operation}
 use Rattle.is_turn.specs.declared.requests.Request.TheVariants.{Allocate}
 use Rattle.is_turn.specs.declared.session.Allocation.{Allocation}
 use Rattle.is_turn.specs.declared.session.Phase.TheVariants as phases
 use Rattle.is_turn.specs.declared.session.Session.{Session}
-use Rattle.is_turn.specs.declared.turn.TurnEvent.TheVariants as events
 use Rattle.is_turn.specs.Alternate.{alternate_in}
 use Rattle.is_turn.specs.Client.{at_time}
-use Rattle.is_turn.specs.Credentials.{Credentials, Challenge, new_credentials}
-use Rattle.is_turn.specs.Incoming.{Datagram, datagram_of, response}
-use Rattle.is_turn.specs.Leases.{is_answered_by}
+use Rattle.is_turn.specs.Credentials.{Credentials, Challenge}
+use Rattle.is_turn.specs.Incoming.{Datagram}
 use Rattle.is_turn.specs.Operations.{new_operation, attempted, sent_once_more, another}
 use Rattle.is_turn.specs.Receipts.{Receipt}
 use Rattle.is_turn.specs.Receiving.{IsAnswered, IsReceived, IsReceivedAs, IsRespondedBy}
-use Rattle.is_turn.specs.Relaying.{TimesOut, client_event, client_packet, after_poll, routed, after_route, session_after_event}
+use Rattle.is_turn.specs.Relaying.{TimesOut, client_packet, after_poll, routed, after_route, session_after_event}
 use Rattle.is_turn.specs.Session.{PACE, new_session, turn_started, probed, step_of}
 use Rattle.is_turn.specs.Turn.{key_now, kept_credentials, after_step}
 use Rattle.is_turn.specs.Worlds.{Call, start, close, permit, send, probe, handle_timeout, poll_transmit, poll_event, receive}
 use Rattle.is_turn_progress.specs.States.{State, Effect}
-use Rattle.is_turn_progress.specs.Reaching.{ALLOCATING, IsAllocateSuccess, IsRightTo, IsRight, IsExpected, IsOrdinary, IsNewUser, Passes, IsAnswered as IsAnsweredRun, IsStarted, IsAllocated, IsReachedBy, waiting}
+use Rattle.is_turn_progress.specs.Reaching.{ALLOCATING, IsRightTo, IsRight, IsExpected, IsOrdinary, IsNewUser, Passes, IsAnswered as IsAnsweredRun, IsStarted, IsAllocated, IsReachedBy, waiting}
 use Rattle.is_turn_progress.proofs.Asking.{asks, sent_base, Like, like, fresh_timed, waiting_timed, more, more_by, KnowsPassword, Begins, Waits, Stage, begins_like, waits_like, begins_attempted, waits_repeated, never_exhausted, waits_for, begins_next}
 use Rattle.is_turn_progress.proofs.HeldRequests.{held_poll, held_event}
 use Rattle.is_turn_progress.proofs.AllocateResponses.{IsLast, with_key, challenge_applies, open_success, signed_success}
@@ -169,7 +165,7 @@ answered_by mac r d by s new k c_new None m alternate result now after h le serv
     let unsigned : h.attempt.key ≡ None = h.key ∙ ap (λ (c : Option Challenge). key_now (Some (record k { challenge = c }))) is in
     let first = subst (λ (key : Option (List ℕ)). IsRightTo mac m h.attempt.id.0 key) unsigned right in
     let then = challenge_applies mac (at_time after) m alternate h.base h.operation h.attempt k h.knows.0 result new c_new (last_of r d by s (Some k) now h) h.knows.1
-            unsigned first step in
+    unsigned first step in
     inr (challenged_begins r d by s new k c_new first.realm first.nonce h.knows.0 now after h le served is h.knows.1 then.0 then.1)
 answered_by mac r d by s new k c_new (Some challenge) m alternate result now after h le served is right step =
     let signed : h.attempt.key ≡ Some challenge.key = h.key ∙ ap (λ (c : Option Challenge). key_now (Some (record k { challenge = c }))) is in
@@ -228,14 +224,16 @@ passed mac r d by x new before (inl h) step =
     let due = h.due in
     let paced = h.paced in
     let le : new.clock ≤ h.time + d = omega (arith, late, due, paced) in
-    let most = h.enough in
-    (omega (arith, le, most),
-    begins_called mac r d by x new h le (called step.step.call mac x h.base h.operation new h.is step.step.effect step.ordinary))
+    let most = h.enough in (
+      omega (arith, le, most),
+      begins_called mac r d by x new h le (called step.step.call mac x h.base h.operation new h.is step.step.effect step.ordinary),
+    )
 passed mac r d by x new before (inr h) step =
     let served : new.clock ≤ h.attempt.since.0 + r = omega (arith, step.served h.attempt (waits_for r d by x.session x.credentials x.clock h)) in
-    let most = h.enough in
-    (omega (arith, served, most),
-    waits_called mac r d by x new before h (omega (arith, step.step.forward)) served (called step.step.call mac x h.base h.operation new h.is step.step.effect step.ordinary))
+    let most = h.enough in (
+      omega (arith, served, most),
+      waits_called mac r d by x new before h (omega (arith, step.step.forward)) served (called step.step.call mac x h.base h.operation new h.is step.step.effect step.ordinary),
+    )
 
 reached_or : (r d by : ℕ) (x : State) (run : List State) → (Stage r d by x.session x.credentials x.clock → IsReachedBy by run) → Next r d by x
     → IsAllocated x ⊎ IsReachedBy by run
