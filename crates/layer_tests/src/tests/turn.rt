@@ -4,6 +4,7 @@ mod allocating;
 mod binding;
 mod lapsing;
 mod messages;
+mod progress;
 mod relaying;
 mod relays;
 mod side;

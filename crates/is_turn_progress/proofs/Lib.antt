@@ -1,0 +1,12 @@
+mod Packets
+mod Steps
+mod HeldRequests
+mod Asking
+mod AllocateResponses
+mod ReachedAllocations
+mod Outcomes
+mod LittleChanges
+mod PublicPackets
+mod ForgottenSecrets
+mod ForgottenRuns
+mod ClosedClients

@@ -1,0 +1,5 @@
+pub mod States
+pub mod Reaching
+pub mod Authentic
+pub mod Secrets
+pub mod Closing
