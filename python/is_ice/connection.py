@@ -85,8 +85,9 @@ class Connection(Unique):
                  turn_ssl: bool = False, turn_transport: str = "udp", use_ipv4: bool = True, use_ipv6: bool = True,
                  transport_policy: Any = TransportPolicy.ALL, addresses: Sequence[str] | None = None,
                  hide_addresses: bool = False, servers: Iterable[ServerLike] = (), tls: ssl.SSLContext | None = None) -> None:
-        """`servers`: STUN and TURN servers as browsers' `iceServers`, besides `stun_server` and `turn_server`. `tls`: for those over TLS, by
-        default the system's certificates. `addresses`: the local IP addresses for host candidates, by default those of all interfaces.
+        """`servers`: STUN and TURN servers as browsers' `iceServers`, besides `stun_server` and `turn_server`. `tls` is for those over TLS;
+        by default the system's certificates count. `addresses`: the local IP addresses for host candidates, by default those of all
+        interfaces.
 
         ImportError if addresses are hidden, and aioice is not installed. BadUrl for the URL of a server. ValueError for more than one
         component. HasAgent if it is called again.
@@ -125,7 +126,8 @@ class Connection(Unique):
         """The servers of the arguments that aioice has, too."""
         own = [Server(ServerUrl(Scheme.STUN, Protocol.UDP, *self.stun_server[:2]))] if self.stun_server else []
         if self.turn_server:
-            own.append(TurnServer(self.turn_server[:2], self.turn_username, self.turn_password, self.turn_ssl, self.turn_transport).server())
+            turn = TurnServer(self.turn_server[:2], self.turn_username, self.turn_password, self.turn_ssl, self.turn_transport)
+            own.append(turn.server())
         return own
 
     def _start_state(self) -> None:
@@ -202,8 +204,8 @@ class Connection(Unique):
     # ---- gathering
 
     async def gather_candidates(self) -> None:
-        """Gathers local candidates. It waits for servers for 5 s. What they bring later is added then: `on_candidate` is called with it, for
-        the peer. A second call changes nothing. It ends when the connection is closed.
+        """Gathers local candidates. It waits for servers for 5 s. What they bring later is added then: `on_candidate` is called with it,
+        for the peer. A second call changes nothing. It ends when the connection is closed.
         """
         if self._closed:
             return
@@ -250,6 +252,8 @@ class Connection(Unique):
             raise ConnectionError(self._failure("the peer has no candidates"))
         if self._connected:
             return
+        if not self._loop.gatherer.is_gathering and not self.agent.local_candidates():
+            raise ConnectionError(self._failure("there are no local candidates"))
         try:
             self.agent.set_remote_credentials(checked(IceCreds(self.remote_username, self.remote_password)))
         except (IceError, ValueError) as error:

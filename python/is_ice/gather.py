@@ -1,4 +1,4 @@
-"""The clients of STUN and TURN servers over asyncio: names are resolved, connections over TCP and TLS opened, and the clients' time kept."""
+"""The clients of STUN and TURN servers over asyncio: resolves names, opens connections over TCP and TLS, and keeps the clients' time."""
 
 from __future__ import annotations
 
@@ -12,7 +12,7 @@ from dataclasses import dataclass, field
 from typing import Any, TypeVar, Union
 
 from .address import Protocol, SocketAddress
-from .errors import NoAgent, Unparsed
+from .errors import Unparsed
 from .gatherer import GatheringComplete, GatheringEvent, IceGatherer, LocalCandidate, Server
 from .servers import Datagram, EndedWhy, Scheme, ServerEnded, ServerNotPermitted, ServerUrl, frame_length
 
@@ -252,7 +252,8 @@ class ServerLoop:
         self._end_if_over()
 
     def _tell(self, event: LoopEvent) -> None:
-        if isinstance(event, (ServerNotPermitted, ServerUnreachable)) or isinstance(event, ServerEnded) and event.why is not EndedWhy.CLOSED:
+        has_ended = isinstance(event, ServerEnded) and event.why is not EndedWhy.CLOSED
+        if has_ended or isinstance(event, (ServerNotPermitted, ServerUnreachable)):
             self.problems = [*self.problems[1 - _MOST_PROBLEMS:], str(event)]
         if isinstance(event, GatheringComplete) and self._complete and not self._complete.done():
             self._complete.set_result(None)

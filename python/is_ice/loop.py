@@ -61,15 +61,16 @@ class IceLoop(Unique):
 
     Calls `on_event` with events, `on_media` with datagrams that are not STUN messages, and `on_stun` with STUN messages that are not
     for the agent or a client. The last two get the source, the local address and the bytes; `on_stun` returns True if it took the
-    message. Media through a TURN server has the peer as its source and the relayed address as the local one. Calls `on_failed_send` with the source, the destination and the error of a datagram that the
-    system did not send, each time; it is lost, as on the network. If a handler raises, the event loop's exception handler gets the
-    exception, and the session goes on. A handler may close the loop and the agent.
+    message. What comes through a TURN server has the peer as its source and the relayed address as the local one. Calls
+    `on_failed_send` with the source, the destination and the error of a datagram that the system did not send, each time; it is lost,
+    as on the network. If a handler raises, the event loop's exception handler gets the exception, and the session goes on. A handler
+    may close the loop and the agent.
 
     `servers` are those of `IceGatherer`; `gather` starts their clients. `on_gathering` is called with what happens to them, and with each
     `LocalCandidate` for the peer. `tls` is for connections to servers over TLS; by default the system's certificates count.
 
-    The logger `is_ice.loop` has a line for each event, also of servers, for each pair that is removed, for the first STUN message of each kind that
-    nobody took or that got no response, and for the first datagram on each path that was not sent.
+    The logger `is_ice.loop` has a line for each event, also of servers, for each pair that is removed, for the first STUN message of
+    each kind that nobody took or that got no response, and for the first datagram on each path that was not sent.
     """
 
     def __init__(self, agent: IceAgent, on_event: EventHandler, on_media: DatagramHandler, on_stun: StunHandler | None = None,

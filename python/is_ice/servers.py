@@ -1,4 +1,4 @@
-"""The clients of STUN and TURN servers (RFC 8489, RFC 8656), without sockets, clocks and names: between a program's sockets and its agent."""
+"""The clients of STUN and TURN servers (RFC 8489, RFC 8656), without I/O: what is between a program's sockets and its agent."""
 
 from __future__ import annotations
 
@@ -36,9 +36,8 @@ class ServerUrl:
 
     def __str__(self) -> str:
         scheme = self.scheme.name.lower() + ("s" if self.protocol is Protocol.TLS else "")
-        host = f"[{self.host}]" if ":" in self.host else self.host
-        return f"{scheme}:{host}:{self.port}" + (f"?transport={'udp' if self.protocol is Protocol.UDP else 'tcp'}"
-                                                if self.scheme is Scheme.TURN else "")
+        transport = "?transport=tcp" if self.protocol is Protocol.TCP else ""
+        return f"{scheme}:{SocketAddress(self.host, self.port)}{transport}"
 
 
 def server_url(text: str) -> ServerUrl:

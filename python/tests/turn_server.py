@@ -1,6 +1,7 @@
-"""A strict TURN server for tests (RFC 8656), without the module's own reader and writer of STUN: in the time that a test passes, or over loopback.
+"""A strict TURN server for tests (RFC 8656): in the time that a test passes, or over loopback.
 
-What it granted ends to the nanosecond, and it drops whatever is not permitted. It has the long-term credentials of `USER`.
+It reads and writes STUN itself. What it granted ends to the nanosecond, and it drops whatever is not permitted. It has the long-term
+credentials of `USER`.
 """
 
 from __future__ import annotations
@@ -61,14 +62,14 @@ class Request:
         kind, self.transaction = int.from_bytes(data[:2], "big"), data[8:20]
         self.method, self.kind = kind & 0x3EEF, kind & 0x110
         self.values: dict[int, bytes] = {}
-        self.has_integrity = self.is_signed = False
+        self.is_signed = False
         place = 20
         while place < len(data):
             code, length = struct.unpack_from("!HH", data, place)
             value = data[place + 4 : place + 4 + length]
             if code == _INTEGRITY:
                 text = data[:2] + struct.pack("!H", place + 4) + data[4:place]
-                self.has_integrity, self.is_signed = True, hmac.compare_digest(value, hmac.digest(KEY, text, "sha1"))
+                self.is_signed = hmac.compare_digest(value, hmac.digest(KEY, text, "sha1"))
                 break
             self.values[code] = value
             place += 4 + (length + 3) // 4 * 4
