@@ -41,8 +41,9 @@ class Coturn:
         self.address = host, free_port(host)
         self.tls_port = free_port(host)
         arguments = [
-            "-n", "-L", host, "-E", host, "-p", str(self.address[1]), "--no-dtls", "--no-cli", "-a", "-r", "example.org", "-u", "user:secret",
-            "--allow-loopback-peers", "--pidfile", f"{folder}/pid", "--db", f"{folder}/db", "--log-file", "stdout", "--simple-log", "-m", "1"]
+            "-n", "-L", host, "-E", host, "-p", str(self.address[1]), "--no-dtls", "--no-cli", "-a", "-r", "example.org", "-u",
+            "user:secret", "--allow-loopback-peers", "--pidfile", f"{folder}/pid", "--db", f"{folder}/db", "--log-file", "stdout",
+            "--simple-log", "-m", "1"]
         if certificate:
             arguments += ["--tls-listening-port", str(self.tls_port), "--cert", certificate, "--pkey", certificate]
         else:
