@@ -279,6 +279,10 @@ class IceGatherer(Unique):
         """Whether a server is waited for."""
         return bool(self._unreached) or self.clients.is_gathering
 
+    def probe(self, now: int) -> None:
+        """Has TURN clients ask whether their allocations are still there: after sleep, if the network changed, if a path was lost."""
+        self.clients.probe(now)
+
     # ---- the end
 
     def close(self, now: int) -> None:

@@ -146,6 +146,11 @@ class IceLoop(Unique):
         """
         return self._servers.gather(self._opened)
 
+    def probe(self) -> None:
+        """Has TURN clients ask whether their allocations are still there: after sleep, if the network changed, if a path was lost."""
+        self.gatherer.probe(self.now())
+        self._servers.turn()
+
     def add_remote_candidate(self, line: str) -> AddResult:
         """Adds a candidate of the peer to the agent, has TURN servers let in its packets, and wakes the loop."""
         result = self.gatherer.add_remote_candidate(self.now(), line)

@@ -377,7 +377,7 @@ class Connecting(unittest.TestCase):
         world = World()
         a, b = self.two(world)
         world.server.forget()
-        a.ice.clients.probe(world.now)
+        a.ice.probe(world.now)
         self.assertTrue(world.run(2 * SECOND, lambda: bool(a.of(ServerEnded))))
         self.assertEqual([(event.why, event.code) for event in a.of(ServerEnded)], [(EndedWhy.LOST, 437)])
         self.assertEqual((a.lines, a.agent.state), ([], IceConnectionState.DISCONNECTED))

@@ -84,8 +84,9 @@ class Calls(unittest.TestCase):
             self.assertEqual(self.servers.outgoing(0, HERE, AT, data), Transmit(UDP, HERE, AT, data))
         told = self.servers.poll_timeout(), self.servers.poll_transmit(), self.servers.poll_event(), self.servers.is_gathering
         self.assertEqual(told, (None, None, None, False))
-        for call in (self.servers.handle_timeout, self.servers.probe, self.servers.close):
-            call(1)
+        self.servers.handle_timeout(1)
+        self.servers.probe(1)
+        self.servers.close(1)
         self.servers.permit(0, PEER)
         self.servers.lose(HERE)
 
