@@ -5,7 +5,7 @@ If the peer is lost, and it says why, if the network changes, and at /restart it
 
 usage: chat.py controlling|controlled [-l] [-t URL].. [-u USER] [-w PASSWORD]
   -l   at 127.0.0.1 only
-  -t   a TURN server, as turn:turn.example.org or turn:192.0.2.1:3478?transport=tcp, with this user name and password;
+  -t   a TURN server, as turn:turn.example.org or turn:192.0.2.1:3478?transport=tcp, with this username and password;
        or a STUN server, as stun:stun.example.org
 """
 import asyncio

@@ -19,7 +19,7 @@ from .events import Transmit
 
 
 class Scheme(enum.IntEnum):
-    """What the URL of a server asks for: where it sees a socket (RFC 7064), or a relayed address (RFC 7065)."""
+    """What a URL is for: the address at which the server sees a socket (RFC 7064), or a relayed one (RFC 7065)."""
 
     STUN = _abi.STUN
     TURN = _abi.TURN
@@ -200,7 +200,7 @@ class Servers(Unique):
         """Adds the TURN client of a socket or connection, and starts it. `protocol` is UDP or TCP; TCP also over TLS.
 
         `family` is the IP version of the relayed address, None the server's default, which is 4. `places` is how many permissions and
-        channels there are together at most. CredentialsTooLong: the user name is longer than 508 bytes, or the password than 763.
+        channels there are together at most. CredentialsTooLong: USERNAME is longer than 508 bytes, or the password than 763.
         """
         user, secret = utf8(username or ""), utf8(password or "")
         done(self._c.is_ice_servers_add_turn(
