@@ -256,6 +256,8 @@ class ServerLoop:
         has_ended = isinstance(event, ServerEnded) and event.why is not EndedWhy.CLOSED
         if has_ended or isinstance(event, (ServerNotPermitted, ServerUnreachable)):
             self.problems = [*self.problems[1 - _MOST_PROBLEMS:], str(event)]
+        if isinstance(event, ServerEnded) and (stream := self._streams.pop(event.local, None)):
+            stream.transport.close()  # a connection serves one client
         if isinstance(event, GatheringComplete) and self._complete and not self._complete.done():
             self._complete.set_result(None)
         self._report(event)

@@ -243,6 +243,7 @@ class Connections(unittest.IsolatedAsyncioTestCase):
                 await a.gather_candidates()
             self.assertLess(time.monotonic() - start, 2 * PATIENCE)
             self.assertRegex(lines.output[0], "server 127.0.0.1:.*401")
+            self.assertEqual(a._loop._servers._streams, {})
             await a.close()
 
     async def test_a_refused_peer(self) -> None:
