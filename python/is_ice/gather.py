@@ -4,7 +4,7 @@ from __future__ import annotations
 
 import asyncio
 import contextlib
-import logging
+import errno
 import socket
 import ssl
 from collections.abc import Callable, Coroutine, Iterable
@@ -12,11 +12,9 @@ from dataclasses import dataclass, field
 from typing import Any, TypeVar, Union
 
 from .address import Protocol, SocketAddress
-from .errors import Unparsed
+from .errors import MessageTooLong, Unparsed
 from .gatherer import GatheringComplete, GatheringEvent, IceGatherer, LocalCandidate, Server
 from .servers import Datagram, EndedWhy, Scheme, ServerEnded, ServerNotPermitted, ServerUrl, frame_length
-
-_log = logging.getLogger(__name__)
 
 _RESOLVING = 10.0  # seconds for a name, and for a connection
 _CLOSING = 1.0  # seconds for TURN servers to free allocations
@@ -209,8 +207,12 @@ class ServerLoop:
         return told
 
     def send(self, source: SocketAddress, destination: SocketAddress, data: bytes) -> None:
-        """Sends a datagram from a relayed address. It is lost if that is gone, or if the server does not let it through."""
-        packet = self._gatherer.outgoing(self._now(), source, destination, data)
+        """Sends a datagram from a relayed address. It is lost if that is gone, or if the server does not let it through. OSError as of a
+        socket, also if it is longer than a message."""
+        try:
+            packet = self._gatherer.outgoing(self._now(), source, destination, data)
+        except MessageTooLong as error:
+            raise OSError(errno.EMSGSIZE, str(error)) from error
         if packet is None or packet.source == source:
             return
         if packet.protocol is Protocol.UDP:
@@ -264,7 +266,7 @@ class ServerLoop:
 
     def _set_timer(self) -> None:
         due = self._gatherer.clients.poll_timeout()
-        if due == self._due:
+        if due == self._due or self._over and self._over.done():
             return
         if self._timer:
             self._timer.cancel()

@@ -94,6 +94,9 @@ class FromTurnServers(unittest.IsolatedAsyncioTestCase):
             await within(join(a, b), 5)
             self.assertEqual([c.type for c in a.local_candidates], ["relay"])
             await talk(a, b)
+            for length in (65505, 70000):  # with what is around it at the server, more than UDP carries, and more than a message
+                await a.send(bytes([128]) * length)
+            self.assertEqual([failed.times for failed in a.agent.failed_sends()], [2])
             await close(a, b)
             self.assertEqual((server.strict.freed, server.strict.allocations), (2, {}))
             server.close()
