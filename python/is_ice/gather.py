@@ -12,7 +12,7 @@ from dataclasses import dataclass, field
 from typing import Any, TypeVar, Union
 
 from .address import Protocol, SocketAddress
-from .errors import MessageTooLong, Unparsed
+from .errors import IceError, MessageTooLong, Unparsed
 from .gatherer import GatheringComplete, GatheringEvent, IceGatherer, LocalCandidate, Server
 from .servers import Datagram, EndedWhy, Scheme, ServerEnded, ServerNotPermitted, ServerUrl, frame_length
 
@@ -161,11 +161,14 @@ class ServerLoop:
         except (OSError, UnicodeError, asyncio.TimeoutError) as error:
             self._cannot_reach(server, f"the name is not resolved: {error or type(error).__name__}")
             ips = []
-        if server.url.protocol is Protocol.UDP:
-            for ip in ips:
-                self._gatherer.add_server(self._now(), server, ip)
-        else:
-            await all_of(*(self._connect(server, base, ip) for base in self._bases() for ip in ips if (":" in base) == (":" in ip)))
+        try:
+            if server.url.protocol is Protocol.UDP:
+                for ip in ips:
+                    self._gatherer.add_server(self._now(), server, ip)
+            else:
+                await all_of(*(self._connect(server, base, ip) for base in self._bases() for ip in ips if (":" in base) == (":" in ip)))
+        except IceError as error:  # as a username that is too long
+            self._cannot_reach(server, str(error))
         self._gatherer.reached(server)
         self.turn()
 
@@ -192,7 +195,8 @@ class ServerLoop:
     def _security(self, url: ServerUrl) -> dict[str, Any]:
         if url.protocol is not Protocol.TLS:
             return {}
-        return {"ssl": self._tls or ssl.create_default_context(), "server_hostname": url.host}
+        self._tls = self._tls or ssl.create_default_context()
+        return {"ssl": self._tls, "server_hostname": url.host}
 
     def _cannot_reach(self, server: Server, why: str) -> None:
         self._tell(ServerUnreachable(server.url, why))

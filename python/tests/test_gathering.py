@@ -10,7 +10,7 @@ from typing import Any
 from unittest import mock
 
 import is_ice._local
-from is_ice import BadUrl, IceAgent, IceServer, ServerEnded, SocketAddress
+from is_ice import BadUrl, GatheringComplete, IceAgent, IceServer, ServerEnded, SocketAddress
 from is_ice.connection import TransportPolicy
 from is_ice.gather import ServerUnreachable, TurnServer as TurnServerOf
 from is_ice.interfaces import host_addresses
@@ -69,11 +69,13 @@ class FromStunServers(unittest.IsolatedAsyncioTestCase):
 
     async def test_a_name_that_is_not_resolved(self) -> None:
         told: list[Any] = []
-        loop = IceLoop(IceAgent(), print, print, servers=[{"urls": "turn:no.such.host.invalid"}], on_gathering=told.append)
+        servers = [{"urls": ["turn:no.such.host.invalid", "turn:localhost:9"], "username": "u" * 509}]
+        loop = IceLoop(IceAgent(), print, print, servers=servers, on_gathering=told.append)
         await loop.bind("127.0.0.1")
         await within(loop.gather(), 12)
-        self.assertIsInstance(told[0], ServerUnreachable)
-        self.assertRegex(loop.tried(), "servers: server turn:no.such.host.invalid:3478: the name is not resolved")
+        self.assertEqual([type(event) for event in told], [ServerUnreachable, ServerUnreachable, GatheringComplete])
+        self.assertRegex(loop.tried(), "server turn:no.such.host.invalid:3478: the name is not resolved")
+        self.assertRegex(loop.tried(), "server turn:localhost:9: ICE credentials too long")
         loop.close()
         await loop.wait_closed()
 
