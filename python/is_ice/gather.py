@@ -285,8 +285,12 @@ class ServerLoop:
     # ---- the end
 
     def remove_socket(self, local: SocketAddress) -> None:
-        """Removes a socket with its candidates and clients."""
+        """Removes a socket with its candidates and clients, and the connections from its address if it was the last one there."""
         self._gatherer.remove_socket(self._now(), local)
+        for stream in [] if local.ip in self._bases() else list(self._streams.values()):
+            if stream.local.ip == local.ip:
+                stream.transport.abort()
+                self._lost(stream)
         self.turn()
 
     def close(self, when_over: Callable[[], None]) -> None:

@@ -260,6 +260,15 @@ class Connections(unittest.IsolatedAsyncioTestCase):
             await within(a.connect(), 10)
         await a.close()
 
+    async def test_an_address_that_is_gone(self) -> None:
+        server = await self.server()
+        a = self.side(True, server.url("turn", "tcp"))
+        await a.gather_candidates()
+        self.assertEqual(len(a.local_candidates), 1)
+        a._loop.remove_socket(a._loop.gatherer.sockets[0])
+        self.assertEqual((a.local_candidates, a._loop._servers._streams, a._loop.gatherer.is_over), ([], {}, True))
+        await a.close()
+
     async def test_a_connection_to_the_server_that_breaks(self) -> None:
         server = await self.server()
         a, b = await self.joined(server.url("turn", "tcp"))

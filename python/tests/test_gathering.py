@@ -112,6 +112,8 @@ class FromTurnServers(unittest.IsolatedAsyncioTestCase):
         a._loop.probe()
         await until(lambda: not a.local_candidates)
         self.assertRegex(a._loop.tried(), "servers: server .* lost, 437")
+        await within(a._loop.gather(), 5)
+        self.assertEqual(len(a.local_candidates), 1)
         await a.close()
         server.close()
 
