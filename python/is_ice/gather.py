@@ -8,7 +8,7 @@ import errno
 import socket
 import ssl
 from collections.abc import Callable, Coroutine, Iterable
-from dataclasses import dataclass, field
+from dataclasses import dataclass
 from typing import Any, TypeVar, Union
 
 from .address import Protocol, SocketAddress
@@ -39,23 +39,18 @@ async def all_of(*calls: Coroutine[Any, Any, T]) -> list[T]:
     return [task.result() for task in tasks]
 
 
-@dataclass(frozen=True)
-class TurnServer:
-    """A TURN server with its credentials, reached over "udp" or "tcp", or TLS over TCP if `ssl` is set."""
-
-    address: ServerAddress
-    username: str | None = None
-    password: str | None = field(default=None, repr=False)
-    ssl: bool = False
-    transport: str = "udp"
-
-    def server(self) -> Server:
-        """The server as a gatherer has it. ValueError for another transport."""
-        protocols = {"udp": Protocol.UDP, "tcp": Protocol.TCP}
-        if self.transport not in protocols:
-            raise ValueError(f"the transport of a TURN server is udp or tcp, not {self.transport}")
-        protocol = Protocol.TLS if self.ssl else protocols[self.transport]
-        return Server(ServerUrl(Scheme.TURN, protocol, *self.address), self.username, self.password)
+def stun_and_turn(stun: ServerAddress | None, turn: ServerAddress | None, username: str | None, password: str | None, is_secure: bool,
+                  transport: str) -> list[Server]:
+    """Returns the servers of the arguments that aioice's `Connection` has: a STUN server, and a TURN server over "udp" or "tcp", or over
+    TLS if `is_secure`. ValueError for another transport."""
+    protocols = {"udp": Protocol.UDP, "tcp": Protocol.TCP}
+    if transport not in protocols:
+        raise ValueError(f"the transport of a TURN server is udp or tcp, not {transport}")
+    servers = [Server(ServerUrl(Scheme.STUN, Protocol.UDP, *stun[:2]))] if stun else []
+    if turn:
+        protocol = Protocol.TLS if is_secure else protocols[transport]
+        servers.append(Server(ServerUrl(Scheme.TURN, protocol, *turn[:2]), username, password))
+    return servers
 
 
 @dataclass(frozen=True)

@@ -12,7 +12,7 @@ from unittest import mock
 import is_ice._local
 from is_ice import BadUrl, GatheringComplete, IceAgent, IceServer, ServerEnded, SocketAddress
 from is_ice.connection import TransportPolicy
-from is_ice.gather import ServerUnreachable, TurnServer as TurnServerOf
+from is_ice.gather import ServerUnreachable
 from is_ice.interfaces import host_addresses
 from is_ice.loop import IceLoop
 
@@ -84,7 +84,6 @@ class FromStunServers(unittest.IsolatedAsyncioTestCase):
             self.assertRaises(BadUrl, agent, True, servers=[{"urls": bad}])
         self.assertRaises(ValueError, agent, True, turn_server=("127.0.0.1", 9), turn_transport="sctp")
         self.assertRaises(ValueError, agent, True, transport_policy=RELAY)
-        self.assertNotIn("secret", repr(TurnServerOf(("192.0.2.1", 3478), "user", "secret").server()))
 
 
 class FromTurnServers(unittest.IsolatedAsyncioTestCase):
