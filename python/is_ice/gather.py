@@ -201,8 +201,10 @@ class ServerLoop:
     def receive(self, source: SocketAddress, local: SocketAddress, data: bytes) -> Datagram | None:
         """Takes a datagram of a socket. Returns what is for the agent, or media. None: it was a client's."""
         told = self._gatherer.receive(self._now(), source, local, data)
-        if told is None or told.destination != local:
+        if told is None:
             self.turn()
+        elif told.destination != local:
+            self._set_timer()  # what peers send may make a renewal due
         return told
 
     def send(self, source: SocketAddress, destination: SocketAddress, data: bytes) -> None:
@@ -222,8 +224,10 @@ class ServerLoop:
 
     def _framed(self, stream: _Stream, frame: bytes) -> None:
         told = self._gatherer.receive(self._now(), stream.remote, stream.local, frame, Protocol.TCP)
-        self.turn()
-        if told:
+        if told is None:
+            self.turn()
+        else:
+            self._set_timer()
             self._take(told)
 
     def _lost(self, stream: _Stream) -> None:
@@ -257,7 +261,7 @@ class ServerLoop:
         has_ended = isinstance(event, ServerEnded) and event.why is not EndedWhy.CLOSED
         if has_ended or isinstance(event, (ServerNotPermitted, ServerUnreachable)):
             self.problems = [*self.problems[1 - _MOST_PROBLEMS:], str(event)]
-        if isinstance(event, ServerEnded) and (stream := self._streams.pop(event.local, None)):
+        if isinstance(event, ServerEnded) and event.protocol is Protocol.TCP and (stream := self._streams.pop(event.local, None)):
             stream.transport.close()  # a connection serves one client
         if isinstance(event, GatheringComplete) and self._complete and not self._complete.done():
             self._complete.set_result(None)
