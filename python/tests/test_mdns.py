@@ -16,7 +16,8 @@ from is_ice.connection import Connection, TransportPolicy
 from is_ice.mdns import Mdns
 
 from pairs import HIDDEN, LOOPBACK, PATIENCE, add_candidates, agent, aioice, close, gather, join, nobody, other_tasks, talk, within
-from test_stun_client import SEEN, StunServer
+from turn_server import TurnServer
+from test_stun import SEEN, StunServer
 
 # Two connections over loopback in a new process. Prints the seconds from the first candidate until both connect, and the modules that were
 # imported meanwhile. Its argument is the name of a further candidate of each side, or "".
@@ -233,10 +234,10 @@ class Hidden(unittest.IsolatedAsyncioTestCase):
 
     @unittest.skipIf(aioice is None, "aioice is not installed (Debian's python3-aioice)")
     async def test_a_relayed_candidate(self) -> None:
-        from turn_server import TurnServer
         server = TurnServer()
+        await server.start()
         with with_client(Client(0)):
-            a = agent(True, turn_server=await server.start(), hide_addresses=True)
+            a = agent(True, servers=[server.urls], hide_addresses=True)
             await a.gather_candidates()
         relayed = a.local_candidates[-1]
         self.assertEqual((relayed.type, relayed.related_address, relayed.related_port), ("relay", "0.0.0.0", 0))
