@@ -27,15 +27,15 @@ is_between low high c = nat_le low c && nat_le c high
 abbrev pub is_digit : ℕ → Bool
 is_digit c = is_between 48 57 c
 
-abbrev pub is_letter : ℕ → Bool
-is_letter c = is_between 65 90 c || is_between 97 122 c
+abbrev pub is_alpha : ℕ → Bool
+is_alpha c = is_between 65 90 c || is_between 97 122 c
 
 abbrev pub is_hex_digit : ℕ → Bool
 is_hex_digit c = is_digit c || (is_between 65 70 c || is_between 97 102 c)
 
 -- a letter, a digit, or one of `-._~`
 abbrev pub is_unreserved : ℕ → Bool
-is_unreserved c = is_letter c || (is_digit c || (c == 45 || (c == 46 || (c == 95 || c == 126))))
+is_unreserved c = is_alpha c || (is_digit c || (c == 45 || (c == 46 || (c == 95 || c == 126))))
 
 -- one of `!$&'()*+,;=`
 abbrev pub is_sub_delimiter : ℕ → Bool

@@ -4,7 +4,7 @@ ghost use Rattle.std.specs.Prelude.{◌≡◌, Bool, MatchBool};
 ghost use Rattle.std.specs.Option.{option_map};
 ghost use Rattle.std.specs.Net.Grammar.{IsIpv6Text};
 ghost use Rattle.std.specs.declared.net.ipv6_addr.Ipv6Addr.{Ipv6Addr as RawIpv6Addr};
-ghost use Rattle.is_servers.specs.Hosts.{is_empty, split_at, at_start, is_digit, is_letter, is_hex_digit, is_unreserved, is_sub_delimiter, digits_due, name_step, is_whole, is_name, digit_added, port_step, port_of, digits_after, in_brackets, named, before_bracket, bracketed, place_of, IsV6If};
+ghost use Rattle.is_servers.specs.Hosts.{is_empty, split_at, at_start, is_digit, is_alpha, is_hex_digit, is_unreserved, is_sub_delimiter, digits_due, name_step, is_whole, is_name, digit_added, port_step, port_of, digits_after, in_brackets, named, before_bracket, bracketed, place_of, IsV6If};
 
 use std::net::Ipv6Addr;
 
@@ -57,8 +57,8 @@ fn is_digit(byte: u8) -> bool
     b'0' <= byte && byte <= b'9'
 }
 
-fn is_letter(byte: u8) -> bool
-    ensures { result ≡ is_letter byte }
+fn is_alpha(byte: u8) -> bool
+    ensures { result ≡ is_alpha byte }
 {
     (b'A' <= byte && byte <= b'Z') || (b'a' <= byte && byte <= b'z')
 }
@@ -73,12 +73,7 @@ fn is_hex_digit(byte: u8) -> bool
 fn is_unreserved(byte: u8) -> bool
     ensures { result ≡ is_unreserved byte }
 {
-    is_letter(byte)
-        || is_digit(byte)
-        || byte == b'-'
-        || byte == b'.'
-        || byte == b'_'
-        || byte == b'~'
+    is_alpha(byte) || is_digit(byte) || byte == b'-' || byte == b'.' || byte == b'_' || byte == b'~'
 }
 
 /// One of `!$&'()*+,;=`.

@@ -70,7 +70,7 @@ fn other_datagrams_are_the_agents(rt: HostRuntime) -> Result<(), AllocError> {
     let mut program = Program::new(rt.alloc());
     program.servers.add_stun(at(0), socket(5001), server(1))?;
     assert!(rt; program.sends_at(0).is_some());
-    let given = program.hears(Transport::Udp, 1, &MEDIA);
+    let given = program.is_left_of(Transport::Udp, 1, &MEDIA);
     assert!(rt;
         matches!(given, Some(datagram) if datagram.source == server(1) && datagram.contents == MEDIA.as_slice())
     );

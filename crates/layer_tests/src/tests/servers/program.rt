@@ -135,7 +135,7 @@ impl Program {
     }
 
     /// What is for the agent of bytes from a server at 30 ms.
-    pub(super) fn hears<'a>(
+    pub(super) fn is_left_of<'a>(
         &mut self,
         transport: Transport,
         n: u8,

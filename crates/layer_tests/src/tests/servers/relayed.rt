@@ -24,7 +24,7 @@ fn data_goes_both_ways_over_udp(rt: HostRuntime) -> Result<(), AllocError> {
     let len = write_send(peer(), &MEDIA, &TransId([7; 12]), &mut buf).unwrap_or(0);
     assert!(rt; len > 0 && len <= 100);
     buf[1] = 0x17;
-    let given = program.hears(Transport::Udp, 1, &buf[..len]);
+    let given = program.is_left_of(Transport::Udp, 1, &buf[..len]);
     assert!(rt;
         matches!(given, Some(datagram) if datagram.source == peer() && datagram.destination == server(50))
     );
@@ -58,7 +58,7 @@ fn channel_data_is_padded_over_tcp(rt: HostRuntime) -> Result<(), AllocError> {
     assert!(rt; program.packet[..12] == frame[..]);
     assert!(rt; program.packet[12] == 0xFF);
     assert!(rt; frame_length(&frame) == Frame::Of(12));
-    let given = program.hears(Transport::Tcp, 1, &frame);
+    let given = program.is_left_of(Transport::Tcp, 1, &frame);
     assert!(rt;
         matches!(given, Some(datagram) if datagram.source == peer() && datagram.contents == MEDIA.as_slice())
     );
