@@ -1514,7 +1514,7 @@ IS_ICE_CALL int32_t is_ice_servers_receive(
  * relayed address is gone, or the server barred the peer within the last minute, or all places are taken. After these two and
  * each error the buffer and *packet are unchanged. IS_ICE_TOO_FEW_RANDOM_BYTES: fewer than 12. IS_ICE_BAD_ADDRESS: an
  * unknown family. IS_ICE_BUFFER_TOO_SHORT, IS_ICE_MESSAGE_TOO_LONG (longer than 65535 bytes, or than one message holds): the
- * peer is permitted all the same. */
+ * peer may have been permitted all the same. */
 enum { IS_ICE_SERVERS_RANDOM = 12, IS_ICE_WRAPPING_LENGTH = 64 };
 IS_ICE_CALL int32_t is_ice_servers_outgoing(
     is_ice_servers *servers, uint64_t now, const is_ice_address *source, const is_ice_address *destination,

@@ -15,6 +15,7 @@
  * No block is left when the agents are freed. */
 #define _GNU_SOURCE
 #include "fuzz_arguments.h"
+#include "fuzz_servers.h"
 
 int LLVMFuzzerTestOneInput(const uint8_t *data, size_t size);
 
@@ -837,7 +838,8 @@ static void (*const steps[])(void) = {
     line_fields, candidate_fields, line_parts, json_texts, line_texts, candidate_texts, preferences, find_pair, invalidate, queries,
     credentials, stun_read, stun_write, stun_text, stun_username, stun_response, stun_request, set_bool, set_number, set_limit, set_mtu,
     set_preference, set_settings, set_credentials, restart, recreate, create, destroy, make_credentials, fail_next, version,
-    fields_line, line_with_fields, json_fields, times, grammar, host_address, role, username_parts, hmac, alike, send_failed, log_lines, add_local_line};
+    fields_line, line_with_fields, json_fields, times, grammar, host_address, role, username_parts, hmac, alike, send_failed, log_lines, add_local_line,
+    servers, servers, servers};
 
 /* Two agents that know each other's credentials and candidates. */
 static void introduce(void)
@@ -889,6 +891,8 @@ int LLVMFuzzerTestOneInput(const uint8_t *data, size_t size)
         memset(agents[i], 0, sizeof(is_ice_agent));
         is_held[i] = false;
     }
+    if (!servers_held) servers_held = (is_ice_servers *)(void *)(fenced_pages(1) + PAGE - sizeof *servers_held);
+    memset(servers_held, 0, sizeof *servers_held), has_servers = false, memset(&request, 0, sizeof request);
     if (!one_in(8)) introduce();
     while (at < end) {
         uint8_t choice = take();
@@ -898,6 +902,7 @@ int LLVMFuzzerTestOneInput(const uint8_t *data, size_t size)
     left = -1;
     look();
     for (size_t i = 0; i < AGENTS; i++) is_ice_agent_free(agents[i]);
+    is_ice_servers_free(servers_held);
     if (live != 0) stop("memory is left after all agents are freed");
     return 0;
 }

@@ -90,7 +90,9 @@ struct view {
 /* A code as the number of a bit: the reasons of is_ice_rejection have one. */
 static unsigned bit_of(int32_t code)
 {
-    if (code > IS_ICE_UNSERVED_LOCAL || code < IS_ICE_LITE_STAYS_CONTROLLED) stop("there is no such code");
+    if (code > IS_ICE_NO_RELAY || code < IS_ICE_HAS_SERVERS) stop("there is no such code");
+    if (code == IS_ICE_NO_RELAY) return 28;
+    if (code <= IS_ICE_BAD_URL) return 29 + (unsigned)(IS_ICE_BAD_URL - code);
     if (code >= IS_ICE_UNSERVED_EARLY) return 27;
     if (code >= IS_ICE_REJECTED_METHOD) return 22;
     return code > IS_ICE_OK ? 18 + (unsigned)code : (unsigned)-code;
@@ -168,8 +170,14 @@ enum {
     QUERY = 1u << 24, /* nor change the agent */
     MOVES = 1u << 25, /* IS_ICE_BUFFER_TOO_SHORT takes the packet out of those for which is_ice_poll_timeout returns an early time */
     UNSERVED = 1u << 27,
+    NO_RELAY = 1u << 28,
+    BAD_URL = 1u << 29,
+    NO_SERVERS = 1u << 30,
     LISTS = 1u << 26  /* it lists the pairs that it removes, and leaves one out if that allocation fails */
 };
+
+/* No int holds it. */
+#define HAS_SERVERS (1u << 31)
 
 static struct view before;
 static long asked_before;

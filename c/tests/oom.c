@@ -1,6 +1,6 @@
-/* Makes each allocation fail in turn, while two agents connect, restart and lose candidates. The call that needed the memory
- * returns IS_ICE_OUT_OF_MEMORY and succeeds when it is repeated; or it only does not list a pair that it removed. All later packets,
- * events and statistics are the same as without a failure, and no memory leaks.
+/* Makes each allocation fail in turn, while two agents connect, restart and lose candidates, and clients of servers are made and
+ * end. The call that needed the memory returns IS_ICE_OUT_OF_MEMORY and succeeds when it is repeated; or it only does not list a pair
+ * that it removed. All later packets, events and statistics are the same as without a failure, and no memory leaks.
  *
  * Link with -Wl,--wrap=malloc,--wrap=realloc,--wrap=free. */
 #include "is_ice.h"
@@ -377,6 +377,8 @@ static void end(struct story *s)
     is_ice_agent_free(&s->b);
 }
 
+#include "oom_servers.h"
+
 static struct story played(long refused)
 {
     struct story s;
@@ -389,6 +391,7 @@ static struct story played(long refused)
     write_messages();
     connect(&s);
     list_candidates(&s);
+    have_servers(&s);
     end(&s);
     left = -1;
     return s;

@@ -387,6 +387,8 @@ static void messages(struct story *s)
     CALL(IS_ICE_OK, is_ice_stun_response(&id, longest, length, &result));
 }
 
+#include "stack_servers.h"
+
 static void *tell(void *told)
 {
     struct story *s = told;
@@ -400,6 +402,8 @@ static void *tell(void *told)
     candidates();
     messages(s);
     json_without_nesting();
+    have_servers();
+    read_servers();
     change(s);
     static const size_t levels[] = {1, 3, 5, 6, 7, 8, 9, 126, 127, 128, NESTED};
     for (size_t i = 0; i < sizeof levels / sizeof *levels; i++)

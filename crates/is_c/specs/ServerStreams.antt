@@ -1,4 +1,4 @@
--- Where the frames of a stream end, as C gets it.
+-- The ends of the frames of a stream, as C gets them.
 use Rattle.std.specs.Prelude.{◌≡◌, ℕ, ℤ}
 use Rattle.is_servers.specs.declared.framing.Frame.{Frame}
 use Rattle.is_servers.specs.declared.framing.Frame.TheVariants.{TooShort, Neither, Of}

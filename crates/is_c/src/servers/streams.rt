@@ -1,4 +1,4 @@
-//! Where the frames of a stream end (RFC 8656, section 12.5).
+//! The ends of the frames of a stream (RFC 8656, section 12.5).
 
 ghost use Rattle.is_servers.specs.Frames.{frame_length};
 ghost use Rattle.is_c.specs.ServerStreams.{PutsFrame};
