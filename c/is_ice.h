@@ -1454,7 +1454,7 @@ typedef struct is_ice_server_url {
  * IS_ICE_OK. IS_ICE_HAS_SERVERS: it refers to some, which stay. IS_ICE_OUT_OF_MEMORY. */
 IS_ICE_CALL int32_t is_ice_servers_new(is_ice_servers *servers);
 
-/* is_ice_servers_free - frees all clients, with their passwords and keys. The servers are not told, and keep their
+/* is_ice_servers_free - frees all clients, with their passwords and keys. The servers do not notice, and keep their
  * allocations up to ten minutes: call is_ice_servers_close before, and go on until each client ended. The is_ice_servers may
  * then be passed to is_ice_servers_new again. A null pointer: the call does nothing, as free() does. */
 void is_ice_servers_free(is_ice_servers *servers);
@@ -1462,24 +1462,25 @@ void is_ice_servers_free(is_ice_servers *servers);
 /* is_ice_servers_add_stun - adds a STUN client of a socket, over UDP, and starts it: the next
  * is_ice_servers_handle_timeout calls send its requests. It keeps the mapping of NATs alive by a request each 20 s.
  *
- * Add one client for each socket and server. A TURN client over UDP finds the mapped address, too, and needs no STUN client
- * at the same server.
+ * A second STUN client of the socket at this server is not added. A TURN client over UDP finds the mapped address, too, and
+ * needs no STUN client at the same server.
  *
  * IS_ICE_OK. IS_ICE_BAD_ADDRESS: an unknown family. IS_ICE_OUT_OF_MEMORY. */
 IS_ICE_CALL int32_t is_ice_servers_add_stun(
     is_ice_servers *servers, uint64_t now, const is_ice_address *local, const is_ice_address *server);
 
-/* is_ice_servers_add_turn - adds a TURN client of a socket or connection, and starts it: it requests an allocation, renews it,
- * and requests permissions and channels of peers as they are needed (RFC 8656, sections 7 to 12).
+/* is_ice_servers_add_turn - adds a TURN client of a socket or connection, and starts it. It requests an allocation and renews
+ * it, and it requests permissions and channels of peers as they are needed (RFC 8656, sections 7 to 12).
  *
  * `family` is that of the relayed address: 4, 6, or 0 for the server's default, which is IPv4 (section 7.1). `places` is how
  * many permissions and channels it has together, at most: each IP address of a peer needs one, and each address that media
- * goes to another one. IS_ICE_SERVERS_PLACES are enough for an agent whose peer has up to 60 candidates. User name and
- * password are the long-term credentials (RFC 8489, section 9.2). An empty user name: without credentials. Add one client
- * for each socket and server: a server has one allocation for both (RFC 8656, section 2.2).
+ * goes to another one. IS_ICE_SERVERS_PLACES are enough for an agent whose peer has up to 60 candidates. USERNAME and
+ * password are the long-term credentials (RFC 8489, section 9.2). An empty USERNAME: without credentials. While the
+ * socket or connection has a TURN client at this server, another one is not added: the server makes one allocation for it
+ * (RFC 8656, section 2.2).
  *
  * IS_ICE_OK. IS_ICE_BAD_ADDRESS: an unknown family, or a protocol other than IS_ICE_UDP and IS_ICE_TCP. IS_ICE_NOT_UTF8.
- * IS_ICE_CREDENTIALS_TOO_LONG: the user name is longer than 508 bytes, or the password longer than 763.
+ * IS_ICE_CREDENTIALS_TOO_LONG: USERNAME is longer than 508 bytes, or the password longer than 763.
  * IS_ICE_OUT_OF_MEMORY. */
 enum { IS_ICE_SERVERS_PLACES = 64 };
 IS_ICE_CALL int32_t is_ice_servers_add_turn(
@@ -1514,7 +1515,7 @@ IS_ICE_CALL int32_t is_ice_servers_receive(
  * each error the buffer and *packet are unchanged. IS_ICE_TOO_FEW_RANDOM_BYTES: fewer than 12. IS_ICE_BAD_ADDRESS: an
  * unknown family. IS_ICE_BUFFER_TOO_SHORT, IS_ICE_MESSAGE_TOO_LONG (longer than 65535 bytes, or than one message holds): the
  * peer is permitted all the same. */
-enum { IS_ICE_SERVERS_RANDOM = 12, IS_ICE_WRAPPING_LENGTH = 52 };
+enum { IS_ICE_SERVERS_RANDOM = 12, IS_ICE_WRAPPING_LENGTH = 56 };
 IS_ICE_CALL int32_t is_ice_servers_outgoing(
     is_ice_servers *servers, uint64_t now, const is_ice_address *source, const is_ice_address *destination,
     const uint8_t *bytes, size_t length, const uint8_t *random, size_t random_length, uint8_t *buffer, size_t size,
@@ -1560,8 +1561,8 @@ IS_ICE_CALL int32_t is_ice_servers_handle_timeout(
 IS_ICE_CALL int32_t is_ice_servers_poll_timeout(is_ice_servers *servers, uint64_t *at);
 
 /* is_ice_servers_poll_transmit - returns the next packet of a client and removes it. Its bytes are at the start of the buffer,
- * whose rest is unchanged. *packet has their length, the client's socket or connection as source, its server as destination,
- * and the protocol: over IS_ICE_UDP it is a datagram, over IS_ICE_TCP put it into the stream.
+ * whose rest is unchanged. *packet has their length and the protocol, the client's socket or connection as source, and its
+ * server as destination. Over IS_ICE_UDP the packet is a datagram, over IS_ICE_TCP put it into the stream.
  *
  * IS_ICE_OK: a packet. IS_ICE_NOTHING: there is none. IS_ICE_BUFFER_TOO_SHORT: the packet stays the next one;
  * IS_ICE_SERVERS_PACKET_LENGTH bytes are long enough for any. After these two the buffer and *packet are unchanged. */
