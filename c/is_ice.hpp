@@ -1,4 +1,4 @@
-/* The calls of is_ice.h for C++17: an agent that frees itself, texts as std::string_view and std::string, events as a
+/* The calls of is_ice.h for C++17: agents and servers that free themselves, texts as std::string_view and std::string, events as a
  * std::variant, and errors as exceptions. Each function makes the call whose name it has, with the prefix is_ice_,
  * whose comment in is_ice.h says what it does. What may be absent is a std::optional: IS_ICE_NOTHING is std::nullopt or
  * false. In C++20 a datagram may be a std::span, in place of a pointer and a length.
@@ -58,11 +58,15 @@ using stun_transaction = is_ice_stun_transaction;
 using stun_result = is_ice_stun_result;
 using stun_message = is_ice_stun_message;
 using stun_texts = is_ice_stun_texts;
+using datagram = is_ice_datagram;
+using server_event = is_ice_server_event;
+using server_url = is_ice_server_url;
 
 /* Since an origin that the caller chooses; or a duration. */
 using nanoseconds = std::chrono::nanoseconds;
 using timeout_random = std::array<uint8_t, IS_ICE_TIMEOUT_RANDOM>;
 using credentials_random = std::array<uint8_t, IS_ICE_CREDENTIALS_RANDOM>;
+using servers_random = std::array<uint8_t, IS_ICE_SERVERS_RANDOM>;
 
 #ifdef __cpp_lib_span
 /* A datagram or a STUN message, for the functions that take a pointer and a length, too. */
@@ -181,6 +185,11 @@ struct packet {
     address destination;
     std::vector<uint8_t> contents;
 };
+
+/* How a packet goes out: see is_ice_servers_outgoing. As a packet it goes through a TURN server. */
+struct as_it_is {};
+struct no_relay {};
+using outgoing = std::variant<as_it_is, no_relay, packet>;
 
 /* What became of a datagram, and of a remote candidate. */
 enum class handled : int32_t { accepted = IS_ICE_OK, other_agent = IS_ICE_NOTHING, unparsed = IS_ICE_UNPARSED };
@@ -778,6 +787,132 @@ private:
         return detail::filled<Struct>([&](Struct *result) { return call(at(), result); });
     }
 };
+
+/* ---- STUN and TURN servers */
+
+/* The clients of STUN and TURN servers, which free themselves. */
+class servers {
+public:
+    servers() : held_(new is_ice_servers{}) { checked(is_ice_servers_new(at())); }
+
+    /* For is_ice_gather.h. */
+    is_ice_servers *get() const noexcept { return held_.get(); }
+
+    void add_stun(nanoseconds now, const address &local, const address &server)
+    {
+        checked(is_ice_servers_add_stun(at(), detail::count(now), &local, &server));
+    }
+    /* Family 0: the server's default. Without a user name: without credentials. */
+    void add_turn(
+        nanoseconds now, uint8_t protocol, const address &local, const address &server, uint8_t family, size_t places,
+        std::string_view username, std::string_view password)
+    {
+        checked(is_ice_servers_add_turn(
+            at(), detail::count(now), protocol, &local, &server, family, places, detail::at(username), username.size(),
+            detail::at(password), password.size()));
+    }
+    /* What is for the agent, or media: a part of the bytes. None: it was for a client. */
+    std::optional<datagram> receive(
+        nanoseconds now, uint8_t protocol, const address &source, const address &destination, const void *data, size_t length)
+    {
+        return detail::filled<datagram>([&](datagram *part) {
+            return is_ice_servers_receive(
+                at(), detail::count(now), protocol, &source, &destination, detail::at(data), length, part);
+        });
+    }
+    is_ice::outgoing outgoing(
+        nanoseconds now, const address &source, const address &destination, const void *data, size_t length,
+        const servers_random &random)
+    {
+        std::vector<uint8_t> buffer(length + IS_ICE_WRAPPING_LENGTH);
+        is_ice_packet header{};
+        int32_t code = checked(is_ice_servers_outgoing(
+            at(), detail::count(now), &source, &destination, detail::at(data), length, random.data(), random.size(),
+            buffer.data(), buffer.size(), &header));
+        if (code == IS_ICE_NOTHING) return as_it_is{};
+        if (code == IS_ICE_NO_RELAY) return no_relay{};
+        buffer.resize(header.length);
+        return packet{header.protocol, header.source, header.destination, std::move(buffer)};
+    }
+#ifdef __cpp_lib_span
+    std::optional<datagram> receive(
+        nanoseconds now, uint8_t protocol, const address &source, const address &destination, bytes data)
+    {
+        return receive(now, protocol, source, destination, data.data(), data.size());
+    }
+    is_ice::outgoing outgoing(
+        nanoseconds now, const address &source, const address &destination, bytes data, const servers_random &random)
+    {
+        return outgoing(now, source, destination, data.data(), data.size(), random);
+    }
+#endif
+    void permit(nanoseconds now, const address &peer) { checked(is_ice_servers_permit(at(), detail::count(now), &peer)); }
+    void probe(nanoseconds now) { checked(is_ice_servers_probe(at(), detail::count(now))); }
+    void close(nanoseconds now) { checked(is_ice_servers_close(at(), detail::count(now))); }
+    void lose(uint8_t protocol, const address &local) { checked(is_ice_servers_lose(at(), protocol, &local)); }
+    void handle_timeout(nanoseconds now, const servers_random &random)
+    {
+        checked(is_ice_servers_handle_timeout(at(), detail::count(now), random.data(), random.size()));
+    }
+    std::optional<nanoseconds> poll_timeout() const
+    {
+        uint64_t time = 0;
+        if (!detail::done(is_ice_servers_poll_timeout(at(), &time))) return std::nullopt;
+        return duration(time);
+    }
+    std::optional<packet> poll_transmit()
+    {
+        std::vector<uint8_t> buffer(IS_ICE_SERVERS_PACKET_LENGTH);
+        is_ice_packet header{};
+        if (!detail::done(is_ice_servers_poll_transmit(at(), buffer.data(), buffer.size(), &header))) return std::nullopt;
+        buffer.resize(header.length);
+        return packet{header.protocol, header.source, header.destination, std::move(buffer)};
+    }
+    std::optional<server_event> poll_event()
+    {
+        return detail::filled<server_event>([&](server_event *it) { return is_ice_servers_poll_event(at(), it); });
+    }
+    bool gathering() const { return detail::done(is_ice_servers_gathering(at())); }
+
+private:
+    struct release {
+        void operator()(is_ice_servers *servers) const
+        {
+            is_ice_servers_free(servers);
+            delete servers;
+        }
+    };
+    std::unique_ptr<is_ice_servers, release> held_;
+
+    is_ice_servers *at() const
+    {
+        if (!held_) throw error(IS_ICE_NO_SERVERS);
+        return held_.get();
+    }
+};
+
+/* The line of a log. */
+inline std::string servers_event_line(const server_event &it)
+{
+    return *detail::text([&](uint8_t *buffer, size_t size, size_t *length) {
+        return is_ice_servers_event_line(&it, buffer, size, length);
+    });
+}
+
+inline server_url server_url_of(std::string_view text)
+{
+    return *detail::filled<server_url>([&](server_url *url) { return is_ice_server_url_of(detail::at(text), text.size(), url); });
+}
+
+/* None: fewer than four bytes are there. */
+inline std::optional<size_t> frame_length(const void *data, size_t length)
+{
+    return detail::filled<size_t>([&](size_t *frame) { return is_ice_frame_length(detail::at(data), length, frame); });
+}
+
+#ifdef __cpp_lib_span
+inline std::optional<size_t> frame_length(bytes data) { return frame_length(data.data(), data.size()); }
+#endif
 
 /* ---- STUN messages. A message that is not one throws IS_ICE_UNPARSED. */
 

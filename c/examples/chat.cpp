@@ -66,7 +66,8 @@ static void gathered(is_ice::agent &agent) // what the servers say; a candidate 
     signal_by = 0;
 }
 
-static void take(is_ice::agent &agent, uint8_t protocol, const is_ice::address &from, const is_ice::address &to, uint8_t *bytes, size_t length)
+static void take(
+    is_ice::agent &agent, uint8_t protocol, const is_ice::address &from, const is_ice::address &to, uint8_t *bytes, size_t length)
 {
     is_ice_datagram media;
     int32_t code = is_ice_gather_packet(&relays.gather, net_now(), protocol, &from, &to, bytes, length, &media);
@@ -95,7 +96,7 @@ static bool take_line(is_ice::agent &agent) // false: it was the last one
     is_ice_packet packet;
     if (!net_line(bytes, sizeof bytes)) return false;
     std::string_view line = bytes;
-    auto random = randomized<std::array<uint8_t, IS_ICE_SERVERS_RANDOM>>();
+    auto random = randomized<is_ice::servers_random>();
     auto text = reinterpret_cast<const uint8_t *>(bytes);
     if (line == "/quit") return false;
     if (line.rfind("signal ", 0) == 0) ok(signal_take(&relays.gather, &bytes[7])); // makes a restart if the peer did
@@ -110,7 +111,7 @@ static void send_all(is_ice::agent &agent)
 {
     std::array<uint8_t, IS_ICE_GATHER_BUFFER> buffer;
     is_ice_packet packet;
-    auto random = [] { return randomized<std::array<uint8_t, IS_ICE_SERVERS_RANDOM>>(); };
+    auto random = [] { return randomized<is_ice::servers_random>(); };
     while (ok(is_ice_gather_transmit(&relays.gather, net_now(), random().data(), buffer.data(), buffer.size(), &packet)))
         if (!net_send_packet(&sockets, &packet, buffer.data()))
             agent.send_failed(packet.protocol, packet.source, packet.destination, static_cast<uint32_t>(sockets.lost_why));

@@ -1,5 +1,5 @@
-// Tests is_ice.hpp: an agent that is moved and freed, errors as exceptions, what may be absent, events, texts and STUN messages; as C++20
-// also datagrams as spans.
+// Tests is_ice.hpp: agents and servers that are moved and freed, errors as exceptions, what may be absent, events, texts and STUN messages;
+// as C++20 also datagrams as spans.
 // The status is 0, or the program names the first value that is not as expected.
 #include "is_ice.hpp"
 #include <algorithm>
@@ -237,6 +237,47 @@ static void has_stun_messages()
     HOLD(number.is_set && number.value == 258);
 }
 
+/* A STUN client gets its response; what is not a client's is for the agent. */
+static void has_servers()
+{
+    static_assert(!std::is_copy_constructible_v<is_ice::servers> && std::is_nothrow_move_constructible_v<is_ice::servers>);
+    is_ice::servers first, servers = std::move(first);
+    HOLD(thrown([&] { first.probe(1s); }).code() == IS_ICE_NO_SERVERS);
+    const auto local = host(1).address, server = is_ice::ipv4({192, 0, 2, 1}, 3478), mapped = is_ice::ipv4({203, 0, 113, 7}, 61000);
+    HOLD(!servers.poll_timeout() && !servers.poll_transmit() && !servers.poll_event() && !servers.gathering());
+    servers.add_stun(1s, local, server);
+    HOLD(servers.gathering() && servers.poll_timeout() == 1s);
+    servers.handle_timeout(1s, {1, 2, 3});
+    auto request = servers.poll_transmit();
+    HOLD(request && request->protocol == IS_ICE_UDP && request->destination.port == 3478 && request->source.port == 5000);
+    auto answer = is_ice::stun_read(request->contents.data(), request->contents.size());
+    answer.cls = IS_ICE_STUN_SUCCESS, answer.mapped = mapped;
+    auto response = is_ice::stun_write(answer, {}, "", "");
+    HOLD(!servers.receive(1s, IS_ICE_UDP, server, local, response.data(), response.size()));
+    auto event = servers.poll_event();
+    HOLD(event && event->kind == IS_ICE_SERVER_MAPPED && event->mapped.port == 61000 && !servers.poll_event() && !servers.gathering());
+    HOLD(is_ice::servers_event_line(*event).find("203.0.113.7:61000") != std::string::npos);
+    auto media = servers.receive(1s, IS_ICE_UDP, host(2).address, local, "media", 5);
+    HOLD(media && media->offset == 0 && media->length == 5 && media->source.bytes[3] == 2);
+    HOLD(std::holds_alternative<is_ice::as_it_is>(servers.outgoing(1s, local, server, "media", 5, {})));
+    servers.add_turn(1s, IS_ICE_TCP, local, server, 0, IS_ICE_SERVERS_PLACES, "user", "password");
+    HOLD(thrown([&] { servers.add_turn(1s, IS_ICE_TLS, local, server, 0, 1, "", ""); }).code() == IS_ICE_BAD_ADDRESS);
+    servers.permit(1s, host(2).address);
+    servers.lose(IS_ICE_TCP, local);
+    HOLD(servers.poll_event()->why == IS_ICE_ENDED_FAILED);
+    servers.close(1s);
+    HOLD(servers.poll_event()->kind == IS_ICE_SERVER_ENDED && !servers.poll_timeout());
+}
+
+static void reads_urls_and_frames()
+{
+    auto url = is_ice::server_url_of("turn:[2001:db8::1]?transport=tcp");
+    HOLD(url.scheme == IS_ICE_TURN && url.protocol == IS_ICE_TCP && url.port == 3478 && url.host_start == 6 && url.host_length == 11);
+    HOLD(thrown([] { is_ice::server_url_of("http://192.0.2.1"); }).code() == IS_ICE_BAD_URL);
+    HOLD(is_ice::frame_length("\x40\0\0\5", 4) == 12 && !is_ice::frame_length("\x40\0", 2));
+    HOLD(thrown([] { is_ice::frame_length("\xff\xff\0\0", 4); }).code() == IS_ICE_UNPARSED);
+}
+
 static void passes_codes_on()
 {
     HOLD(thrown([] { is_ice::checked(IS_ICE_NO_AGENT); }).code() == IS_ICE_NO_AGENT && is_ice::checked(IS_ICE_NOTHING) == IS_ICE_NOTHING);
@@ -283,6 +324,8 @@ int main()
     says_why_a_datagram_is_rejected();
     says_why_a_pair_was_removed();
     has_stun_messages();
+    has_servers();
+    reads_urls_and_frames();
     passes_codes_on();
 #if __cplusplus >= 202002L
     takes_spans();
