@@ -49,26 +49,32 @@ static void begin(struct story *s)
     HOLD(is_ice_servers_new(&s->servers) == IS_ICE_OK);
 }
 
-/* Passes the time on, and polls the packet that is then sent. False: none is. */
+/* Passes the time on until a packet is sent, and polls it. False: none is. */
 static bool sends(struct story *s)
 {
     uint64_t at = 0;
     uint8_t random[IS_ICE_SERVERS_RANDOM];
-    if (is_ice_servers_poll_timeout(&s->servers, &at) != IS_ICE_OK) return false;
-    if (at > s->now) s->now = at;
-    for (size_t i = 0; i < sizeof random; i++) random[i] = (uint8_t)rand();
-    HOLD(is_ice_servers_handle_timeout(&s->servers, s->now, random, sizeof random) == IS_ICE_OK);
-    if (is_ice_servers_poll_transmit(&s->servers, s->sent, sizeof s->sent, &s->packet) != IS_ICE_OK) return false;
-    HOLD(is_ice_stun_read(s->sent, s->packet.length, &s->message) == IS_ICE_OK);
-    return true;
+    for (int tries = 0; tries < 9; tries++) { /* a call may only find that it comes before the next packet's turn */
+        if (is_ice_servers_poll_timeout(&s->servers, &at) != IS_ICE_OK) return false;
+        if (at > s->now) s->now = at;
+        for (size_t i = 0; i < sizeof random; i++) random[i] = (uint8_t)rand();
+        HOLD(is_ice_servers_handle_timeout(&s->servers, s->now, random, sizeof random) == IS_ICE_OK);
+        if (is_ice_servers_poll_transmit(&s->servers, s->sent, sizeof s->sent, &s->packet) != IS_ICE_OK) continue;
+        HOLD(is_ice_stun_read(s->sent, s->packet.length, &s->message) == IS_ICE_OK);
+        return true;
+    }
+    return false;
 }
 
 /* It sends a request of this method, over this protocol, to the server. */
-static void sends_request(struct story *s, uint16_t method, uint8_t protocol)
+static void sends_request_at(int line, struct story *s, uint16_t method, uint8_t protocol)
 {
-    HOLD(sends(s) && s->message.method == method && s->message.cls == IS_ICE_STUN_REQUEST && s->packet.protocol == protocol);
+    hold(line, "sends a packet", sends(s));
+    hold(line, "of this method", s->message.method == method && s->message.cls == IS_ICE_STUN_REQUEST);
+    hold(line, "over this protocol", s->packet.protocol == protocol);
     HOLD(is_ice_same_address(&s->packet.source, &local) && is_ice_same_address(&s->packet.destination, &server));
 }
+#define sends_request(s, method, protocol) sends_request_at(__LINE__, s, method, protocol)
 
 /* Writes the response to the last request: a success response, or an error response with this code; signed or not. Returns its length. */
 static size_t response(const struct story *s, uint64_t code, bool is_signed, uint8_t *bytes, size_t size)
