@@ -122,6 +122,16 @@ static inline int32_t is_ice_gather_remote(
     return code;
 }
 
+/* is_ice_log_server_event - a line for an event of a server. `log` may be null. */
+static inline void is_ice_log_server_event(const struct is_ice_log *log, const is_ice_server_event *event)
+{
+    char line[IS_ICE_LINE];
+    size_t length = 0;
+    if (!log || !log->line) return;
+    int32_t code = is_ice_servers_event_line(event, (uint8_t *)line, sizeof line - 1, &length);
+    is_ice_log_line(log, code, line, length);
+}
+
 /* What happened to a client of a server, and the candidates that the agent has by it. */
 typedef struct is_ice_gathered {
     is_ice_server_event event;
@@ -190,14 +200,11 @@ static inline int32_t is_ice_gather_event(struct is_ice_gather *gather, uint64_t
 {
     is_ice_server_event *event = &gathered->event;
     is_ice_candidate mapped;
-    char line[IS_ICE_LINE];
-    size_t length = 0;
     memset(event, 0, sizeof *event);
     gathered->count = 0, gathered->failed = IS_ICE_OK;
     int32_t code = is_ice_servers_poll_event(gather->servers, event);
     if (code != IS_ICE_OK) return code;
-    if (gather->log && gather->log->line)
-        is_ice_log_line(gather->log, is_ice_servers_event_line(event, (uint8_t *)line, sizeof line - 1, &length), line, length);
+    is_ice_log_server_event(gather->log, event);
     if (event->kind == IS_ICE_SERVER_ALLOCATED) is_ice_gather_allocated(gather, now, gathered);
     if (event->kind == IS_ICE_SERVER_ENDED) is_ice_gather_ended(gather, event);
     if (event->kind != IS_ICE_SERVER_MAPPED && !(event->kind == IS_ICE_SERVER_ALLOCATED && event->has_mapped)) return IS_ICE_OK;

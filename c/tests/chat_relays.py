@@ -36,7 +36,10 @@ import servers
 SERVER = f"{servers.ADDRESS}:{servers.PORT}"
 UDP, TCP = f"turn:{SERVER}", f"turn:{SERVER}?transport=tcp"
 USER, PASSWORD = servers.USER.split(":")
-NO_UDP = "table ip blocked { chain forward { type filter hook forward priority -1; ip protocol udp drop; } }"
+NO_UDP = """
+    table ip blocked {
+      chain forward { type filter hook forward priority -1; ip protocol udp drop; }
+    }"""
 
 
 def chats(network, *urls):
