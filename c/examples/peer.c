@@ -21,7 +21,7 @@
 #include <string.h>
 #include <unistd.h>
 
-enum { INPUT = 16384, SENT = INPUT + 100, BURST = 64, LONGEST = 86400 };
+enum { ROOM = 16384, SENT = ROOM + 100, BURST = 64, LONGEST = 86400 };
 
 struct options {
     const char *addresses[NET_SOCKETS], *urls[SERVERS], *username, *password, *message, *capture;
@@ -40,7 +40,7 @@ struct session {
     bool has_heard, is_over, is_late;
     struct is_ice_log log;
     is_ice_counts counts;
-    char input[INPUT];
+    char input[ROOM];
     size_t input_length;
     bool input_is_over, input_is_too_long;
 };
@@ -285,7 +285,7 @@ static void take_lines(struct session *s)
     }
     s->input_length -= (size_t)(begin - s->input);
     memmove(s->input, begin, s->input_length);
-    if (s->input_length < INPUT - 1) return;
+    if (s->input_length < ROOM - 1) return;
     if (!s->input_is_too_long) fprintf(stderr, "peer: a line is too long\n");
     s->input_is_too_long = true;
     s->input_length = 0;
@@ -293,7 +293,7 @@ static void take_lines(struct session *s)
 
 static void read_input(struct session *s)
 {
-    ssize_t got = net_input(s->input + s->input_length, INPUT - 1 - s->input_length);
+    ssize_t got = net_input(s->input + s->input_length, ROOM - 1 - s->input_length);
     if (got < 0) return;
     if (got > 0) {
         s->input_length += (size_t)got;
