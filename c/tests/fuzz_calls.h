@@ -90,7 +90,9 @@ struct view {
 /* A code as the number of a bit: the reasons of is_ice_rejection have one. */
 static unsigned bit_of(int32_t code)
 {
-    if (code > IS_ICE_UNSERVED_LOCAL || code < IS_ICE_LITE_STAYS_CONTROLLED) stop("there is no such code");
+    if (code > IS_ICE_NO_RELAY || code < IS_ICE_HAS_SERVERS) stop("there is no such code");
+    if (code == IS_ICE_HAS_SERVERS) return 2;
+    if (code == IS_ICE_NO_RELAY || code < IS_ICE_LITE_STAYS_CONTROLLED) return code > 0 ? 28 : 10 + (unsigned)-code;
     if (code >= IS_ICE_UNSERVED_EARLY) return 27;
     if (code >= IS_ICE_REJECTED_METHOD) return 22;
     return code > IS_ICE_OK ? 18 + (unsigned)code : (unsigned)-code;
@@ -147,7 +149,7 @@ enum {
     OK = 1u << 0,
     NOTHING = 1u << 19,
     OTHER = 1u << 20 | 1u << 21, /* of another component, or of another username fragment */
-    HAS_AGENT = 1u << 2,
+    HAS_AGENT = 1u << 2, /* or servers */
     NOT_UTF8 = 1u << 3,
     BAD_ADDRESS = 1u << 4,
     UNPARSED = 1u << 5,
@@ -168,6 +170,9 @@ enum {
     QUERY = 1u << 24, /* nor change the agent */
     MOVES = 1u << 25, /* IS_ICE_BUFFER_TOO_SHORT takes the packet out of those for which is_ice_poll_timeout returns an early time */
     UNSERVED = 1u << 27,
+    RELAY = 1u << 28,       /* IS_ICE_NO_RELAY */
+    BAD_URL = 1u << 29,
+    NO_SERVERS = 1u << 30,
     LISTS = 1u << 26  /* it lists the pairs that it removes, and leaves one out if that allocation fails */
 };
 
