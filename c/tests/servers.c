@@ -274,6 +274,24 @@ static void allocates_with_credentials(void)
     is_ice_servers_free(&s.servers);
 }
 
+/* The server responds 401 to the signed request, too: nobody signed that, so it is a hint for the log. */
+static void says_that_the_password_is_wrong(void)
+{
+    struct story s;
+    is_ice_server_event event;
+    begin(&s);
+    HOLD(is_ice_servers_add_turn(&s.servers, s.now, IS_ICE_UDP, &local, &server, 0, 9, TEXT("user"), TEXT("other")) == IS_ICE_OK);
+    sends_request(&s, IS_ICE_STUN_ALLOCATE, IS_ICE_UDP);
+    responds(&s, 401, false);
+    sends_request(&s, IS_ICE_STUN_ALLOCATE, IS_ICE_UDP);
+    HOLD(is_ice_stun_verify(s.sent, s.packet.length, key, sizeof key) == IS_ICE_NOTHING);
+    responds(&s, 401, false);
+    while (is_ice_servers_gathering(&s.servers) == IS_ICE_OK && s.now < 100 * SECOND && sends(&s)) responds(&s, 401, false);
+    event = event_of(&s);
+    HOLD(event.kind == IS_ICE_SERVER_ENDED && event.why == IS_ICE_ENDED_FAILED && event.code == 0 && event.unverified == 401);
+    is_ice_servers_free(&s.servers);
+}
+
 static void requests_a_family(void)
 {
     struct story s;
@@ -616,6 +634,7 @@ int main(void)
     maps_a_socket();
     fails_with_the_code_of_the_server();
     allocates_with_credentials();
+    says_that_the_password_is_wrong();
     requests_a_family();
     relays_both_ways();
     takes_data_of_permitted_peers_only();
