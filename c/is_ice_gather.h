@@ -2,9 +2,10 @@
  * the candidates that the servers bring. C99 and C++11, static inline functions only. It has no rule of ICE and reads no bytes: agent
  * and servers decide, and this header passes on what they say. The caller has the sockets, resolves names, and opens connections:
  *
- *     struct is_ice_gather gather = {&agent, &servers, NULL, NULL, {0}};     after is_ice_agent_new and is_ice_servers_new
- *     is_ice_gather_socket(&gather, now, &local, list, count);               for each UDP socket; connections: is_ice_gather_add
- *     is_ice_gather_timeout(&gather, now, random);                           starts the session
+ *     struct is_ice_gather gather = {0};                            after is_ice_agent_new and is_ice_servers_new
+ *     gather.agent = &agent, gather.servers = &servers;
+ *     is_ice_gather_socket(&gather, now, &local, list, count);      for each UDP socket; connections: is_ice_gather_add
+ *     is_ice_gather_timeout(&gather, now, random);                  starts the session
  *     for (;;) {
  *         while (is_ice_gather_transmit(&gather, now, random, buffer, sizeof buffer, &packet) == IS_ICE_OK)
  *             send buffer[0 .. packet.length] from packet.source to packet.destination, over packet.protocol;
@@ -20,7 +21,9 @@
  *
  * Media goes out by is_ice_gather_media. It comes in by is_ice_gather_packet, which returns IS_ICE_UNPARSED for it.
  *
- * An is_ice_servers that holds none does no harm: all goes as it is. The agent has `modern` of is_ice_set_settings. */
+ * Other calls on agent and servers are made as ever. What the servers brought is reported once: let is_ice_restart keep the local
+ * candidates. If a socket or connection is gone, call is_ice_servers_lose. An is_ice_servers that holds none does no harm: all goes as
+ * it is. The agent has `modern` of is_ice_set_settings, as a new one has. */
 #ifndef IS_ICE_GATHER_H
 #define IS_ICE_GATHER_H
 
@@ -44,7 +47,7 @@ struct is_ice_gather_relay {
 
 enum { IS_ICE_GATHER_RELAYS = 64 };
 
-/* An agent and its servers. Fill in the first four, and let the rest be zero. */
+/* An agent and its servers. The program sets the first two, and the next two if it likes; the rest is zero at first. */
 struct is_ice_gather {
     is_ice_agent *agent;
     is_ice_servers *servers;

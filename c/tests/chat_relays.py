@@ -11,6 +11,7 @@ coturn, and nothing else leads from one to the other. It needs root, iproute2, n
   mixed     one over UDP, the other one over TCP
   blocked   the network of one lets no UDP out: it takes the server over TCP of two that it is given
   restarts  ICE restarts of both, with lines under way: all arrive
+  moved     one machine gets another address: with new signals they find a path again
   lost      the server is started again: both find out, and with a new signal they find a path again
 
 Prints a line for each. The status is 0 if none failed, or if they cannot be played here, as it says.
@@ -123,6 +124,20 @@ def case_restarts(network):
             side.says("path ")
         lines.say()
         lines.arrive()
+    end(a, b)
+
+
+def case_moved(network):
+    a, b = met(network, UDP, TCP)
+    moved = network.namespaces[0]
+    for command in ("ip addr del 10.0.1.2/24 dev e0", "ip addr add 10.0.1.3/24 dev e0", "ip route add default via 10.0.1.1"):
+        network.spaces.on(moved, command)
+    said = a.says("signal ")
+    if " 10.0.1.3 " not in said or said.count(" typ relay") != 2:
+        raise Failed(said)
+    b.hears("signal " + said)
+    a.hears("signal " + b.says("signal "))
+    through_the_server(a, b)
     end(a, b)
 
 
