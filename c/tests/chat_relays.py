@@ -16,16 +16,14 @@ coturn, and nothing else leads from one to the other. It needs root, iproute2, n
 
 Prints a line for each. The status is 0 if none failed, or if they cannot be played here, as it says.
 """
-import concurrent.futures
 import pathlib
 import shutil
-import subprocess
 import sys
 import time
 
 import chat_lines
 import connect
-from chat import end, meet
+from chat import end
 from connect import ROLES, Failed, Peer, introduce
 
 sys.dont_write_bytecode = True
