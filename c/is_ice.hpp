@@ -1,4 +1,4 @@
-/* The calls of is_ice.h for C++17: agents and servers that free themselves, texts as std::string_view and std::string, events as a
+/* The calls of is_ice.h for C++17: an agent that frees itself, texts as std::string_view and std::string, events as a
  * std::variant, and errors as exceptions. Each function makes the call whose name it has, with the prefix is_ice_,
  * whose comment in is_ice.h says what it does. What may be absent is a std::optional: IS_ICE_NOTHING is std::nullopt or
  * false. In C++20 a datagram may be a std::span, in place of a pointer and a length.
@@ -58,9 +58,6 @@ using stun_transaction = is_ice_stun_transaction;
 using stun_result = is_ice_stun_result;
 using stun_message = is_ice_stun_message;
 using stun_texts = is_ice_stun_texts;
-using datagram = is_ice_datagram;
-using server_event = is_ice_server_event;
-using server_url = is_ice_server_url;
 
 /* Since an origin that the caller chooses; or a duration. */
 using nanoseconds = std::chrono::nanoseconds;
@@ -186,11 +183,6 @@ struct packet {
     std::vector<uint8_t> contents;
 };
 
-/* How a packet goes out: see is_ice_servers_outgoing. As a packet it goes through a TURN server. */
-struct as_it_is {};
-struct no_relay {};
-using outgoing = std::variant<as_it_is, no_relay, packet>;
-
 /* What became of a datagram, and of a remote candidate. */
 enum class handled : int32_t { accepted = IS_ICE_OK, other_agent = IS_ICE_NOTHING, unparsed = IS_ICE_UNPARSED };
 enum class added : int32_t {
@@ -198,6 +190,52 @@ enum class added : int32_t {
     known = IS_ICE_NOTHING,
     other_component = IS_ICE_OTHER_COMPONENT,
     other_ufrag = IS_ICE_OTHER_UFRAG
+};
+
+/* What arrived, as the agent takes it: a part of the bytes that were passed to servers::receive. */
+struct arrival {
+    address source;
+    address destination;
+    const uint8_t *data;
+    size_t length;
+};
+
+/* What becomes of a packet that is no packet for a server: see is_ice_servers_outgoing. */
+struct as_it_is {};
+struct no_relay {};
+using outgoing = std::variant<as_it_is, packet, no_relay>;
+
+/* What happened to the client of a server: see is_ice_server_event. No code: none came. */
+enum class ending : int32_t { failed = IS_ICE_ENDED_FAILED, lost = IS_ICE_ENDED_LOST, closed = IS_ICE_ENDED_CLOSED };
+struct mapped {
+    is_ice::address address;
+};
+struct allocated {
+    address relayed;
+    std::optional<address> mapped;
+};
+struct not_permitted {
+    address peer;
+    std::optional<uint16_t> code;
+};
+struct ended {
+    ending why;
+    std::optional<uint16_t> code;
+    std::optional<uint16_t> unverified;
+};
+struct server_event {
+    uint8_t protocol;
+    address local;
+    address server;
+    std::variant<mapped, allocated, not_permitted, ended> what;
+};
+
+/* What the URL of a server says. */
+struct server_url {
+    uint8_t scheme;
+    uint8_t protocol;
+    std::string host;
+    uint16_t port;
 };
 
 /* The text of a candidate with its fields. */
@@ -240,6 +278,43 @@ inline is_ice_event event_of(const event &of)
     if (auto on = std::get_if<silent>(&of)) path(IS_ICE_SILENT, *on);
     if (auto on = std::get_if<heard>(&of)) path(IS_ICE_HEARD, *on);
     return it;
+}
+
+/* The struct of C with the fields of an event of a client, and back. 0 is no code. */
+inline is_ice_server_event server_event_of(const server_event &of)
+{
+    is_ice_server_event it{};
+    it.protocol = of.protocol, it.local = of.local, it.server = of.server;
+    if (auto on = std::get_if<mapped>(&of.what)) it.kind = IS_ICE_SERVER_MAPPED, it.mapped = on->address;
+    if (auto on = std::get_if<allocated>(&of.what)) {
+        it.kind = IS_ICE_SERVER_ALLOCATED, it.relayed = on->relayed, it.has_mapped = on->mapped.has_value();
+        if (on->mapped) it.mapped = *on->mapped;
+    }
+    if (auto on = std::get_if<not_permitted>(&of.what))
+        it.kind = IS_ICE_SERVER_NOT_PERMITTED, it.peer = on->peer, it.code = on->code.value_or(0);
+    if (auto on = std::get_if<ended>(&of.what)) {
+        it.kind = IS_ICE_SERVER_ENDED, it.why = static_cast<int32_t>(on->why);
+        it.code = on->code.value_or(0), it.unverified = on->unverified.value_or(0);
+    }
+    return it;
+}
+
+inline std::optional<uint16_t> code_of(uint16_t number) { return number ? std::optional(number) : std::nullopt; }
+
+inline server_event server_event_from(const is_ice_server_event &it)
+{
+    server_event of{it.protocol, it.local, it.server, mapped{it.mapped}};
+    switch (it.kind) {
+    case IS_ICE_SERVER_MAPPED: return of;
+    case IS_ICE_SERVER_ALLOCATED:
+        of.what = allocated{it.relayed, it.has_mapped ? std::optional(it.mapped) : std::nullopt};
+        return of;
+    case IS_ICE_SERVER_NOT_PERMITTED: of.what = not_permitted{it.peer, code_of(it.code)}; return of;
+    case IS_ICE_SERVER_ENDED:
+        of.what = ended{static_cast<ending>(it.why), code_of(it.code), code_of(it.unverified)};
+        return of;
+    default: throw std::logic_error("an event of an unknown kind");
+    }
 }
 
 /* What a call writes to a buffer, which grows until it is long enough. */
@@ -790,52 +865,58 @@ private:
 
 /* ---- STUN and TURN servers */
 
-/* The clients of STUN and TURN servers, which free themselves. */
+/* The clients of servers. They are freed with this object, which may be moved, not copied; a call on one that was moved from
+ * throws IS_ICE_NO_SERVERS. */
 class servers {
 public:
-    servers() : held_(new is_ice_servers{}) { checked(is_ice_servers_new(at())); }
+    servers() : held_(new is_ice_servers{})
+    {
+        if (is_ice_version() != IS_ICE_VERSION) throw std::runtime_error("is_ice.h belongs to another library");
+        checked(is_ice_servers_new(at()));
+    }
 
-    /* For is_ice_gather.h. */
+    /* For calls of is_ice.h that are not here. */
     is_ice_servers *get() const noexcept { return held_.get(); }
 
     void add_stun(nanoseconds now, const address &local, const address &server)
     {
-        checked(is_ice_servers_add_stun(at(), detail::count(now), &local, &server));
+        done(is_ice_servers_add_stun(at(), detail::count(now), &local, &server));
     }
-    /* Family 0: the server's default. Without a user name: without credentials. */
+    /* An empty USERNAME: without credentials. `family` 0: the server's default. */
     void add_turn(
-        nanoseconds now, uint8_t protocol, const address &local, const address &server, uint8_t family, size_t places,
-        std::string_view username, std::string_view password)
+        nanoseconds now, uint8_t protocol, const address &local, const address &server, std::string_view username,
+        std::string_view password, uint8_t family = 0, size_t places = IS_ICE_SERVERS_PLACES)
     {
-        checked(is_ice_servers_add_turn(
+        done(is_ice_servers_add_turn(
             at(), detail::count(now), protocol, &local, &server, family, places, detail::at(username), username.size(),
             detail::at(password), password.size()));
     }
-    /* What is for the agent, or media: a part of the bytes. None: it was for a client. */
-    std::optional<datagram> receive(
-        nanoseconds now, uint8_t protocol, const address &source, const address &destination, const void *data, size_t length)
+    /* None: it was for a client. */
+    std::optional<arrival> receive(
+        nanoseconds now, uint8_t protocol, const address &source, const address &destination, const void *data,
+        size_t length)
     {
-        return detail::filled<datagram>([&](datagram *part) {
-            return is_ice_servers_receive(
-                at(), detail::count(now), protocol, &source, &destination, detail::at(data), length, part);
-        });
+        is_ice_datagram it{};
+        const uint8_t *first = detail::at(data);
+        if (!done(is_ice_servers_receive(at(), detail::count(now), protocol, &source, &destination, first, length, &it)))
+            return std::nullopt;
+        return arrival{it.source, it.destination, first + it.offset, it.length};
     }
     is_ice::outgoing outgoing(
         nanoseconds now, const address &source, const address &destination, const void *data, size_t length,
         const servers_random &random)
     {
+        is_ice_packet it{};
         std::vector<uint8_t> buffer(length + IS_ICE_WRAPPING_LENGTH);
-        is_ice_packet header{};
         int32_t code = checked(is_ice_servers_outgoing(
             at(), detail::count(now), &source, &destination, detail::at(data), length, random.data(), random.size(),
-            buffer.data(), buffer.size(), &header));
-        if (code == IS_ICE_NOTHING) return as_it_is{};
+            buffer.data(), buffer.size(), &it));
         if (code == IS_ICE_NO_RELAY) return no_relay{};
-        buffer.resize(header.length);
-        return packet{header.protocol, header.source, header.destination, std::move(buffer)};
+        if (code != IS_ICE_OK) return as_it_is{};
+        return sent(it, std::move(buffer));
     }
 #ifdef __cpp_lib_span
-    std::optional<datagram> receive(
+    std::optional<arrival> receive(
         nanoseconds now, uint8_t protocol, const address &source, const address &destination, bytes data)
     {
         return receive(now, protocol, source, destination, data.data(), data.size());
@@ -846,54 +927,61 @@ public:
         return outgoing(now, source, destination, data.data(), data.size(), random);
     }
 #endif
-    void permit(nanoseconds now, const address &peer) { checked(is_ice_servers_permit(at(), detail::count(now), &peer)); }
-    void probe(nanoseconds now) { checked(is_ice_servers_probe(at(), detail::count(now))); }
-    void close(nanoseconds now) { checked(is_ice_servers_close(at(), detail::count(now))); }
-    void lose(uint8_t protocol, const address &local) { checked(is_ice_servers_lose(at(), protocol, &local)); }
+    void permit(nanoseconds now, const address &peer) { done(is_ice_servers_permit(at(), detail::count(now), &peer)); }
+    void probe(nanoseconds now) { done(is_ice_servers_probe(at(), detail::count(now))); }
+    void close(nanoseconds now) { done(is_ice_servers_close(at(), detail::count(now))); }
+    void lose(uint8_t protocol, const address &local) { done(is_ice_servers_lose(at(), protocol, &local)); }
     void handle_timeout(nanoseconds now, const servers_random &random)
     {
-        checked(is_ice_servers_handle_timeout(at(), detail::count(now), random.data(), random.size()));
+        done(is_ice_servers_handle_timeout(at(), detail::count(now), random.data(), random.size()));
     }
     std::optional<nanoseconds> poll_timeout() const
     {
         uint64_t time = 0;
-        if (!detail::done(is_ice_servers_poll_timeout(at(), &time))) return std::nullopt;
+        if (!done(is_ice_servers_poll_timeout(at(), &time))) return std::nullopt;
         return duration(time);
     }
     std::optional<packet> poll_transmit()
     {
+        is_ice_packet it{};
         std::vector<uint8_t> buffer(IS_ICE_SERVERS_PACKET_LENGTH);
-        is_ice_packet header{};
-        if (!detail::done(is_ice_servers_poll_transmit(at(), buffer.data(), buffer.size(), &header))) return std::nullopt;
-        buffer.resize(header.length);
-        return packet{header.protocol, header.source, header.destination, std::move(buffer)};
+        if (!done(is_ice_servers_poll_transmit(at(), buffer.data(), buffer.size(), &it))) return std::nullopt;
+        return sent(it, std::move(buffer));
     }
     std::optional<server_event> poll_event()
     {
-        return detail::filled<server_event>([&](server_event *it) { return is_ice_servers_poll_event(at(), it); });
+        is_ice_server_event it{};
+        if (!done(is_ice_servers_poll_event(at(), &it))) return std::nullopt;
+        return detail::server_event_from(it);
     }
-    bool gathering() const { return detail::done(is_ice_servers_gathering(at())); }
+    bool gathering() const { return done(is_ice_servers_gathering(at())); }
 
 private:
     struct release {
-        void operator()(is_ice_servers *servers) const
+        void operator()(is_ice_servers *held) const
         {
-            is_ice_servers_free(servers);
-            delete servers;
+            is_ice_servers_free(held);
+            delete held;
         }
     };
-    std::unique_ptr<is_ice_servers, release> held_;
+    std::unique_ptr<is_ice_servers, release> held_; /* the struct of C is never copied, so it has a place of its own */
 
     is_ice_servers *at() const
     {
         if (!held_) throw error(IS_ICE_NO_SERVERS);
         return held_.get();
     }
+    static bool done(int32_t code) { return detail::done(code); }
+    static packet sent(const is_ice_packet &it, std::vector<uint8_t> &&buffer)
+    {
+        buffer.resize(it.length);
+        return packet{it.protocol, it.source, it.destination, std::move(buffer)};
+    }
 };
 
-/* The line of a log. */
-inline std::string servers_event_line(const server_event &it)
+inline std::string servers_event_line(const server_event &of)
 {
+    is_ice_server_event it = detail::server_event_of(of);
     return *detail::text([&](uint8_t *buffer, size_t size, size_t *length) {
         return is_ice_servers_event_line(&it, buffer, size, length);
     });
@@ -901,18 +989,16 @@ inline std::string servers_event_line(const server_event &it)
 
 inline server_url server_url_of(std::string_view text)
 {
-    return *detail::filled<server_url>([&](server_url *url) { return is_ice_server_url_of(detail::at(text), text.size(), url); });
+    is_ice_server_url it{};
+    checked(is_ice_server_url_of(detail::at(text), text.size(), &it));
+    return server_url{it.scheme, it.protocol, std::string(text.substr(it.host_start, it.host_length)), it.port};
 }
 
-/* None: fewer than four bytes are there. */
+/* The length of the frame that begins a stream; none: fewer than four bytes are there. */
 inline std::optional<size_t> frame_length(const void *data, size_t length)
 {
     return detail::filled<size_t>([&](size_t *frame) { return is_ice_frame_length(detail::at(data), length, frame); });
 }
-
-#ifdef __cpp_lib_span
-inline std::optional<size_t> frame_length(bytes data) { return frame_length(data.data(), data.size()); }
-#endif
 
 /* ---- STUN messages. A message that is not one throws IS_ICE_UNPARSED. */
 
@@ -1005,6 +1091,7 @@ inline stun_message stun_read(bytes data) { return stun_read(data.data(), data.s
 inline stun_message stun_read_strict(bytes data) { return stun_read_strict(data.data(), data.size()); }
 inline std::optional<username> stun_username(bytes data) { return stun_username(data.data(), data.size()); }
 inline bool stun_verify(bytes data, std::string_view key) { return stun_verify(data.data(), data.size(), key); }
+inline std::optional<size_t> frame_length(bytes data) { return frame_length(data.data(), data.size()); }
 #endif
 
 } // namespace is_ice

@@ -3,7 +3,7 @@
  * An input is a list of calls. A byte chooses the call, and the bytes after it its arguments: random ones, or what an honest
  * program would pass, which is then changed in some bytes. That is, candidates as texts and as JSON, packets of the other
  * agent, and messages that is_ice_stun_write writes with the right username and password. Two agents know each other, and a
- * third one has strange credentials or does not exist. Clients of servers get responses, too (fuzz_servers.h).
+ * third one has strange credentials or does not exist.
  *
  * The library is not instrumented. So arguments and the library's memory are between pages without access (fences.h), and
  * codes, events, states and pairs count as coverage. After each call:
@@ -12,8 +12,9 @@
  * - a call that the header says not to allocate did not;
  * - an agent is as before if the code is not IS_ICE_OK, and after each query;
  * - buffers and results have changed as the header says, and texts are UTF-8.
- * No block is left when agents and servers are freed. */
+ * No block is left when the agents are freed. */
 #define _GNU_SOURCE
+#include "fuzz_arguments.h"
 #include "fuzz_servers.h"
 
 int LLVMFuzzerTestOneInput(const uint8_t *data, size_t size);
@@ -838,8 +839,7 @@ static void (*const steps[])(void) = {
     credentials, stun_read, stun_write, stun_text, stun_username, stun_response, stun_request, set_bool, set_number, set_limit, set_mtu,
     set_preference, set_settings, set_credentials, restart, recreate, create, destroy, make_credentials, fail_next, version,
     fields_line, line_with_fields, json_fields, times, grammar, host_address, role, username_parts, hmac, alike, send_failed, log_lines, add_local_line,
-    servers_create, servers_destroy, servers_add, servers_add, servers_receive, servers_answer, servers_answer, servers_timeout,
-    servers_timeout, servers_event, servers_outgoing, servers_others, server_texts};
+    servers, servers, servers};
 
 /* Two agents that know each other's credentials and candidates. */
 static void introduce(void)
@@ -891,7 +891,8 @@ int LLVMFuzzerTestOneInput(const uint8_t *data, size_t size)
         memset(agents[i], 0, sizeof(is_ice_agent));
         is_held[i] = false;
     }
-    begin_servers();
+    if (!servers_held) servers_held = (is_ice_servers *)(void *)(fenced_pages(1) + PAGE - sizeof *servers_held);
+    memset(servers_held, 0, sizeof *servers_held), has_servers = false, memset(&request, 0, sizeof request);
     if (!one_in(8)) introduce();
     while (at < end) {
         uint8_t choice = take();
@@ -901,7 +902,7 @@ int LLVMFuzzerTestOneInput(const uint8_t *data, size_t size)
     left = -1;
     look();
     for (size_t i = 0; i < AGENTS; i++) is_ice_agent_free(agents[i]);
-    is_ice_servers_free(servers);
-    if (live != 0) stop("memory is left after agents and servers are freed");
+    is_ice_servers_free(servers_held);
+    if (live != 0) stop("memory is left after all agents are freed");
     return 0;
 }

@@ -91,8 +91,8 @@ struct view {
 static unsigned bit_of(int32_t code)
 {
     if (code > IS_ICE_NO_RELAY || code < IS_ICE_HAS_SERVERS) stop("there is no such code");
-    if (code == IS_ICE_HAS_SERVERS) return 2;
-    if (code == IS_ICE_NO_RELAY || code < IS_ICE_LITE_STAYS_CONTROLLED) return code > 0 ? 28 : 10 + (unsigned)-code;
+    if (code == IS_ICE_NO_RELAY) return 28;
+    if (code <= IS_ICE_BAD_URL) return 29 + (unsigned)(IS_ICE_BAD_URL - code);
     if (code >= IS_ICE_UNSERVED_EARLY) return 27;
     if (code >= IS_ICE_REJECTED_METHOD) return 22;
     return code > IS_ICE_OK ? 18 + (unsigned)code : (unsigned)-code;
@@ -149,7 +149,7 @@ enum {
     OK = 1u << 0,
     NOTHING = 1u << 19,
     OTHER = 1u << 20 | 1u << 21, /* of another component, or of another username fragment */
-    HAS_AGENT = 1u << 2, /* or servers */
+    HAS_AGENT = 1u << 2,
     NOT_UTF8 = 1u << 3,
     BAD_ADDRESS = 1u << 4,
     UNPARSED = 1u << 5,
@@ -170,11 +170,14 @@ enum {
     QUERY = 1u << 24, /* nor change the agent */
     MOVES = 1u << 25, /* IS_ICE_BUFFER_TOO_SHORT takes the packet out of those for which is_ice_poll_timeout returns an early time */
     UNSERVED = 1u << 27,
-    RELAY = 1u << 28,       /* IS_ICE_NO_RELAY */
+    NO_RELAY = 1u << 28,
     BAD_URL = 1u << 29,
     NO_SERVERS = 1u << 30,
     LISTS = 1u << 26  /* it lists the pairs that it removes, and leaves one out if that allocation fails */
 };
+
+/* No int holds it. */
+#define HAS_SERVERS (1u << 31)
 
 static struct view before;
 static long asked_before;

@@ -1,208 +1,176 @@
-/* The calls of fuzz.c on the clients of STUN and TURN servers: honest ones, with responses that are then changed, and random ones. */
+/* The part of fuzz.c that calls the clients of STUN and TURN servers: any calls in any order, with responses of their servers among them. */
 #ifndef FUZZ_SERVERS_H
 #define FUZZ_SERVERS_H
 
 #include "fuzz_arguments.h"
 
-static is_ice_servers *servers; /* before a page without access */
+static is_ice_servers *servers_held; /* before a page without access */
 static bool has_servers;
-
-/* The last packet of a client. */
 static struct {
     uint8_t bytes[IS_ICE_SERVERS_PACKET_LENGTH];
     is_ice_packet packet;
-    bool is_set;
-} last_sent;
+} request; /* the last packet of a client */
 
-static is_ice_address last_relayed;
+/* A call on clients: without them it returns IS_ICE_NO_SERVERS, and nothing else. */
+#define SERVERS(allowed, call) CALL(has_servers ? (allowed) : NO_SERVERS | QUIET, call)
 
-/* The codes that a call on servers may return. */
-static unsigned with_servers(unsigned allowed)
+static uint8_t transport(void)
 {
-    on = AGENTS;
-    return has_servers ? allowed : NO_SERVERS | QUIET;
+    return one_in(8) ? take() : (uint8_t)below(2);
 }
 
-static uint8_t protocol(void)
+static void servers_new(void)
 {
-    return one_in(16) ? take() : (uint8_t)below(2);
+    int32_t code = CALL(has_servers ? HAS_SERVERS | QUIET : OK, is_ice_servers_new(servers_held));
+    has_servers = has_servers || code == IS_ICE_OK;
 }
 
-static void servers_create(void)
+static void servers_free(void)
 {
-    on = AGENTS;
-    int32_t code = CALL(has_servers ? HAS_AGENT | QUIET : OK, is_ice_servers_new(servers));
-    has_servers |= code == IS_ICE_OK;
-}
-
-static void servers_destroy(void)
-{
-    is_ice_servers_free(servers);
-    has_servers = last_sent.is_set = false;
-    CALL(with_servers(0), is_ice_servers_gathering(servers));
+    is_ice_servers_free(servers_held);
+    has_servers = false;
 }
 
 static void servers_add(void)
 {
-    static const char *const names[] = {"user", "", "another user"};
     const is_ice_address *local = address_argument(), *server = address_argument();
-    CALL(with_servers(OK | BAD_ADDRESS), is_ice_servers_add_stun(servers, now, local, server));
-    struct bytes name = secret(names), password = one_in(4) ? raw() : argument_of("pass", 4);
-    uint8_t family = one_in(8) ? take() : (uint8_t)(2 * below(4));
-    CALL(with_servers(OK | BAD_ADDRESS | NOT_UTF8 | CREDENTIALS),
-         is_ice_servers_add_turn(servers, now, protocol(), local, server, family, one_in(8) ? below(300) : 9, name.bytes, name.length,
-                                 password.bytes, password.length));
+    if (one_in(2)) {
+        SERVERS(OK | BAD_ADDRESS, is_ice_servers_add_stun(servers_held, now, local, server));
+        return;
+    }
+    struct bytes username = one_in(2) ? argument_of("", 0) : secret(ufrags), password = secret(passwords);
+    uint8_t protocol = transport(), family = (uint8_t)(one_in(8) ? take() : below(4) * 2);
+    SERVERS(OK | BAD_ADDRESS | NOT_UTF8 | CREDENTIALS, is_ice_servers_add_turn(servers_held, now, protocol, local, server, family, below(20),
+        username.bytes, username.length, password.bytes, password.length));
 }
 
-static void servers_take(uint8_t over, const is_ice_address *source, const is_ice_address *destination, struct bytes m)
+/* A response to the last request, or any message. */
+static struct bytes arriving(void)
 {
-    is_ice_datagram *part = argument(sizeof *part);
-    int32_t code = CALL(with_servers(OK | NOTHING | BAD_ADDRESS | QUIET),
-                        is_ice_servers_receive(servers, now, over, source, destination, m.bytes, m.length, part));
-    filled(code, part, sizeof *part);
-    if (code == IS_ICE_OK && (part->offset > m.length || part->length > m.length - part->offset)) stop("a datagram is no part of its bytes");
+    uint8_t bytes[700];
+    is_ice_stun_message m, asked_for;
+    const is_ice_stun_texts none = {0};
+    size_t length = 0;
+    if (one_in(3) || is_ice_stun_read(request.bytes, request.packet.length, &asked_for) != IS_ICE_OK) return one_in(2) ? message() : raw();
+    m = fields();
+    m.method = asked_for.method, m.cls = one_in(3) ? IS_ICE_STUN_FAILURE : IS_ICE_STUN_SUCCESS, m.id = asked_for.id;
+    if (is_ice_stun_write(&m, &none, TEXT(""), TEXT(""), bytes, sizeof bytes, &length) != IS_ICE_OK) length = 0;
+    return argument_of(bytes, length);
 }
 
 static void servers_receive(void)
 {
+    struct bytes m = arriving();
     const is_ice_address *source = address_argument(), *destination = address_argument();
-    servers_take(protocol(), source, destination, one_in(2) ? message() : raw());
+    uint8_t protocol = transport();
+    if (!one_in(4)) {
+        protocol = request.packet.protocol;
+        memcpy((void *)(uintptr_t)source, &request.packet.destination, sizeof *source);
+        memcpy((void *)(uintptr_t)destination, &request.packet.source, sizeof *destination);
+    }
+    is_ice_datagram *part = argument(sizeof *part);
+    int32_t code = SERVERS(OK | NOTHING | BAD_ADDRESS | QUIET,
+        is_ice_servers_receive(servers_held, now, protocol, source, destination, m.bytes, m.length, part));
+    filled(code, part, sizeof *part);
+    if (code == IS_ICE_OK && (part->offset > m.length || part->length > m.length - part->offset)) stop("it is no part of the datagram");
 }
 
-/* The server responds to the last request. */
-static void servers_answer(void)
+/* The packet that a call wrote, if it returned IS_ICE_OK; else it wrote nothing. */
+static void packet_out(int32_t code, const uint8_t *bytes, size_t size, const is_ice_packet *packet)
 {
-    static const uint8_t key[16] = {0x84, 0x93, 0xfb, 0xc5, 0x3b, 0xa5, 0x82, 0xfb, 0x4c, 0x04, 0x4c, 0x45, 0x6b, 0xdc, 0x40, 0xeb};
-    static const uint16_t codes[] = {300, 400, 401, 403, 437, 438, 441, 486, 508};
-    static uint8_t bytes[1500];
-    is_ice_stun_message asked_for, m;
-    is_ice_stun_texts texts;
-    size_t length = 0;
-    if (!last_sent.is_set || is_ice_stun_read(last_sent.bytes, last_sent.packet.length, &asked_for) != IS_ICE_OK) return;
-    memset(&m, 0, sizeof m), memset(&texts, 0, sizeof texts);
-    bool is_good = asked_for.has_integrity || asked_for.method == IS_ICE_STUN_BINDING ? !one_in(8) : one_in(4);
-    m.id = asked_for.id, m.method = asked_for.method, m.cls = is_good ? IS_ICE_STUN_SUCCESS : IS_ICE_STUN_FAILURE;
-    m.has_integrity = one_in(8) ? !asked_for.has_integrity : asked_for.has_integrity;
-    m.error_code.is_set = !is_good, m.error_code.value = asked_for.has_integrity ? codes[below(COUNT(codes))] : 401;
-    m.lifetime.is_set = !one_in(8), m.lifetime.value = one_in(4) ? number() & UINT32_MAX : 600;
-    m.mapped = address(), m.relayed = last_relayed = address();
-    texts.realm.length = 5, texts.realm.is_set = true;
-    texts.nonce.start = 5, texts.nonce.length = below(6), texts.nonce.is_set = !one_in(8);
-    if (is_ice_stun_write(&m, &texts, TEXT("realmnonce"), key, sizeof key, bytes, sizeof bytes, &length) != IS_ICE_OK) return;
-    const is_ice_packet *p = &last_sent.packet;
-    struct bytes given = argument_of(bytes, length);
-    change(given.bytes, given.length);
-    const void *from = argument_of(&p->destination, sizeof p->destination).bytes, *to = argument_of(&p->source, sizeof p->source).bytes;
-    servers_take(p->protocol, from, to, given);
+    size_t kept = code == IS_ICE_OK ? packet->length : 0;
+    if (kept > size) stop("a packet is longer than its buffer");
+    filled(code, packet, sizeof *packet);
+    if (code != IS_ICE_OK) all_are(bytes, size, FRESH, "a buffer was written without a packet");
+    all_are(bytes + kept, size - kept, FRESH, "a buffer was written past the packet");
 }
 
-static void servers_timeout(void)
+static void servers_outgoing(void)
 {
-    uint64_t *when = argument(sizeof *when);
-    int32_t code = CALL(with_servers(OK | NOTHING | QUIET), is_ice_servers_poll_timeout(servers, when));
-    filled(code, when, sizeof *when);
-    if (code == IS_ICE_OK && *when > now && *when - now < 3600 * SECOND && !one_in(8)) now = *when;
-    size_t length = one_in(8) ? below(40) : 12;
-    uint8_t *random = argument(length);
-    for (size_t i = 0; i < length; i++) random[i] = (uint8_t)((now >> (i % 8 * 8)) + i);
-    CALL(with_servers((length < IS_ICE_SERVERS_RANDOM ? FEW_RANDOM : OK) | QUIET),
-         is_ice_servers_handle_timeout(servers, now, random, length));
-    struct bytes o = {argument(one_in(8) ? below(200) : sizeof last_sent.bytes), 0};
-    o.length = used[next_argument - 1];
+    static is_ice_address relayed[4];
+    struct bytes m = one_in(2) ? message() : raw(), random = {argument(12), 12};
+    const is_ice_address *source = address_argument(), *destination = address_argument();
+    if (one_in(4)) memcpy(&relayed[below(4)], source, sizeof *source);
+    size_t size = one_in(4) ? below(60) : m.length + IS_ICE_WRAPPING_LENGTH, few = one_in(16) ? below(12) : 12;
+    uint8_t *buffer = argument(size);
     is_ice_packet *packet = argument(sizeof *packet);
-    code = CALL(with_servers(OK | NOTHING | TOO_SHORT | QUIET), is_ice_servers_poll_transmit(servers, o.bytes, o.length, packet));
-    filled(code, packet, sizeof *packet), filled(code, o.bytes, o.length);
-    if (code != IS_ICE_OK) return;
-    all_are(o.bytes + packet->length, o.length - packet->length, FRESH, "a buffer was written past the packet");
-    memcpy(last_sent.bytes, o.bytes, packet->length);
-    last_sent.packet = *packet, last_sent.is_set = true;
+    int32_t code = SERVERS((few < 12 ? FEW_RANDOM : OK | NOTHING | NO_RELAY | BAD_ADDRESS | TOO_SHORT | TOO_LONG) | QUIET,
+        is_ice_servers_outgoing(servers_held, now, source, destination, m.bytes, m.length, random.bytes, few, buffer, size, packet));
+    packet_out(code, buffer, size, packet);
+    if (code == IS_ICE_BUFFER_TOO_SHORT && size >= m.length + IS_ICE_WRAPPING_LENGTH) stop("the buffer is long enough");
+}
+
+static void servers_transmit(void)
+{
+    size_t size = one_in(4) ? below(60) : IS_ICE_SERVERS_PACKET_LENGTH;
+    uint8_t *buffer = argument(size);
+    is_ice_packet *packet = argument(sizeof *packet);
+    int32_t code = SERVERS(OK | NOTHING | TOO_SHORT | QUIET, is_ice_servers_poll_transmit(servers_held, buffer, size, packet));
+    packet_out(code, buffer, size, packet);
+    if (code == IS_ICE_BUFFER_TOO_SHORT && size == IS_ICE_SERVERS_PACKET_LENGTH) stop("a packet is too long");
+    if (code == IS_ICE_OK) memcpy(request.bytes, buffer, packet->length), memcpy(&request.packet, packet, sizeof *packet);
 }
 
 static void servers_event(void)
 {
     is_ice_server_event *event = argument(sizeof *event);
-    int32_t code = CALL(with_servers(OK | NOTHING | QUIET), is_ice_servers_poll_event(servers, event));
+    int32_t code = SERVERS(OK | NOTHING | QUIET, is_ice_servers_poll_event(servers_held, event));
     filled(code, event, sizeof *event);
-    if (code == IS_ICE_OK && (event->kind < IS_ICE_SERVER_MAPPED || event->kind > IS_ICE_SERVER_ENDED)) stop("there is no such event");
-    if (code == IS_ICE_OK && event->kind == IS_ICE_SERVER_ALLOCATED) last_relayed = event->relayed;
-    if (code != IS_ICE_OK) {
-        memset(event, 0, sizeof *event);
-        event->kind = (int32_t)below(6), event->why = (int32_t)below(4), event->protocol = protocol(), event->has_mapped = one_in(2);
-        event->local = address(), event->server = address(), event->relayed = address(), event->mapped = address(), event->peer = address();
-    }
+    if (one_in(8)) event->kind = (int32_t)below(6), event->why = (int32_t)below(4), event->protocol = take(), event->has_mapped = one_in(2);
+    else if (code != IS_ICE_OK) return;
+    is_ice_server_event *given = (is_ice_server_event *)(void *)argument_of(event, sizeof *event).bytes;
     struct out o = out();
-    on = AGENTS;
-    int32_t of_line = CALL(OK | BAD_ADDRESS | TOO_SHORT, is_ice_servers_event_line(event, o.bytes, o.size, o.length));
-    written(of_line, o, true);
-    if (code == IS_ICE_OK && of_line == IS_ICE_BAD_ADDRESS) stop("an event has no line");
+    written(CALL((code == IS_ICE_OK ? 0 : BAD_ADDRESS) | OK | BAD_ADDRESS | TOO_SHORT,
+        is_ice_servers_event_line(given, o.bytes, o.size, o.length)), o, true);
 }
 
-static void servers_outgoing(void)
+static void servers_time(void)
 {
-    is_ice_address relayed = one_in(4) ? address() : last_relayed;
-    const void *source = argument_of(&relayed, sizeof relayed).bytes;
-    const is_ice_address *destination = address_argument();
-    struct bytes given = raw();
-    size_t length = one_in(8) ? below(13) : 12, size = one_in(4) ? below(200) : given.length + IS_ICE_WRAPPING_LENGTH;
-    uint8_t *random = argument(length), *buffer = argument(size);
-    is_ice_packet *packet = argument(sizeof *packet);
-    int32_t code = CALL(with_servers(OK | NOTHING | RELAY | FEW_RANDOM | BAD_ADDRESS | TOO_SHORT | TOO_LONG | QUIET),
-                        is_ice_servers_outgoing(servers, now, source, destination, given.bytes, given.length, random, length, buffer, size,
-                                                packet));
-    filled(code, packet, sizeof *packet), filled(code, buffer, size);
-    if (code == IS_ICE_BUFFER_TOO_SHORT && size >= given.length + IS_ICE_WRAPPING_LENGTH) stop("the buffer is long enough");
-    if (code != IS_ICE_OK) return;
-    all_are(buffer + packet->length, size - packet->length, FRESH, "a buffer was written past the packet");
+    uint64_t *due = argument(sizeof *due);
+    int32_t code = SERVERS(OK | NOTHING | QUIET, is_ice_servers_poll_timeout(servers_held, due));
+    filled(code, due, sizeof *due);
+    if (code == IS_ICE_OK && one_in(2)) now = *due;
+    size_t length = one_in(16) ? below(12) : 12;
+    uint8_t *random = argument(length);
+    for (size_t i = 0; i < length; i++) random[i] = (uint8_t)((now >> (i % 8 * 8)) + i);
+    SERVERS((length < IS_ICE_SERVERS_RANDOM ? FEW_RANDOM : OK) | QUIET, is_ice_servers_handle_timeout(servers_held, now, random, length));
 }
 
-static void servers_others(void)
+static void servers_all(void)
 {
-    const is_ice_address *one = address_argument();
-    switch (below(6)) {
-    case 0: CALL(with_servers(OK | QUIET), is_ice_servers_probe(servers, now)); break;
-    case 1: CALL(with_servers(OK | BAD_ADDRESS | QUIET), is_ice_servers_lose(servers, protocol(), one)); break;
-    case 2: if (one_in(4)) CALL(with_servers(OK | QUIET), is_ice_servers_close(servers, now)); break;
-    case 3: CALL(with_servers(OK | NOTHING | QUIET), is_ice_servers_gathering(servers)); break;
-    default: CALL(with_servers(OK | BAD_ADDRESS | QUIET), is_ice_servers_permit(servers, now, one)); break;
+    const is_ice_address *some = address_argument();
+    uint8_t protocol = transport();
+    SERVERS(OK | NOTHING | QUIET, is_ice_servers_gathering(servers_held));
+    switch (below(8)) {
+    case 0: SERVERS(OK | QUIET, is_ice_servers_close(servers_held, now)); return;
+    case 1: SERVERS(OK | QUIET, is_ice_servers_probe(servers_held, now)); return;
+    case 2: SERVERS(OK | BAD_ADDRESS | QUIET, is_ice_servers_lose(servers_held, protocol, some)); return;
+    default: SERVERS(OK | BAD_ADDRESS | QUIET, is_ice_servers_permit(servers_held, now, some));
     }
 }
 
-static void add_url(char *text, size_t *length)
+static void urls_and_frames(void)
 {
-    static const char *const schemes[] = {"turn:", "turns:", "stun:", "stuns:", "http:", "turn://", "TURN:"};
-    static const char *const hosts[] = {"192.0.2.1", "[2001:db8::1]", "turn.example.org", "[::", "", "a%20b", "\xc3\xa9.example"};
-    static const char *const ports[] = {"", ":3478", ":0", ":65536", ":", ":x", ":00001"};
-    static const char *const queries[] = {"", "?transport=udp", "?transport=tcp", "?transport=", "?x", "?transport=tcp&x"};
-    add(text, length, schemes[below(COUNT(schemes))]);
-    add(text, length, hosts[below(COUNT(hosts))]);
-    add(text, length, ports[below(COUNT(ports))]);
-    add(text, length, queries[below(COUNT(queries))]);
-}
-
-static void server_texts(void)
-{
-    struct bytes text = text_of(add_url), stream = raw();
+    static const char *const known[] = {"turn:[2001:db8::1]:3478?transport=tcp", "stuns:turn.example.org", "turns:10.0.0.9:443"};
+    struct bytes text = secret(known);
     is_ice_server_url *url = argument(sizeof *url);
     size_t *frame = argument(sizeof *frame);
-    on = AGENTS;
-    int32_t code = CALL(OK | NOT_UTF8 | BAD_URL | QUIET, is_ice_server_url_of(text.bytes, text.length, url));
-    filled(code, url, sizeof *url);
-    if (code == IS_ICE_OK && (url->host_start > text.length || url->host_length > text.length - url->host_start)) stop("no part of the URL");
-    code = CALL(OK | NOTHING | UNPARSED | QUIET, is_ice_frame_length(stream.bytes, stream.length, frame));
+    int32_t code = CALL(OK | BAD_URL | NOT_UTF8 | QUIET, is_ice_server_url_of(text.bytes, text.length, url));
+    if (code != IS_ICE_OK) all_are((const uint8_t *)url, sizeof *url, FRESH, "a URL was written after an error");
+    else if (url->host_start > text.length || url->host_length > text.length - url->host_start) stop("the host is no part of the text");
+    code = CALL(OK | NOTHING | UNPARSED | QUIET, is_ice_frame_length(text.bytes, text.length, frame));
     filled(code, frame, sizeof *frame);
-    if (code == IS_ICE_OK && *frame > IS_ICE_FRAME_LENGTH) stop("a frame is longer than any");
-    if ((code == IS_ICE_NOTHING) != (stream.length < 4)) stop("four bytes say how long a frame is");
+    if (code == IS_ICE_OK && *frame > IS_ICE_FRAME_LENGTH) stop("a frame is too long");
 }
 
-/* Before a run, and after it. */
-static void begin_servers(void)
+static void servers(void)
 {
-    if (!servers) servers = (is_ice_servers *)(void *)(fenced_pages(1) + PAGE - sizeof(is_ice_servers));
-    memset(servers, 0, sizeof *servers);
-    has_servers = last_sent.is_set = false;
-    memset(&last_relayed, 0, sizeof last_relayed);
-    if (is_ice_servers_new(servers) != IS_ICE_OK) stop("no servers");
-    has_servers = true;
+    static void (*const calls[])(void) = {servers_add, servers_add, servers_time, servers_time, servers_transmit, servers_transmit,
+        servers_receive, servers_receive, servers_outgoing, servers_event, servers_all, urls_and_frames, servers_new, servers_new};
+    on = AGENTS;
+    size_t chosen = below(COUNT(calls) * 4 + 1);
+    if (chosen == COUNT(calls) * 4) servers_free();
+    else calls[chosen % COUNT(calls)]();
 }
 
 #endif

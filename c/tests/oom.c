@@ -1,6 +1,6 @@
-/* Makes each allocation fail in turn, while two agents connect, restart and lose candidates, and clients ask servers. The call that needed the memory
- * returns IS_ICE_OUT_OF_MEMORY and succeeds when it is repeated; or it only does not list a pair that it removed. All later packets,
- * events and statistics are the same as without a failure, and no memory leaks.
+/* Makes each allocation fail in turn, while two agents connect, restart and lose candidates, and clients of servers are made and
+ * end. The call that needed the memory returns IS_ICE_OUT_OF_MEMORY and succeeds when it is repeated; or it only does not list a pair
+ * that it removed. All later packets, events and statistics are the same as without a failure, and no memory leaks.
  *
  * Link with -Wl,--wrap=malloc,--wrap=realloc,--wrap=free. */
 #include "is_ice.h"
@@ -240,48 +240,6 @@ static void write_messages(void)
     QUIET(IS_ICE_OK, is_ice_retransmit_delay(250000000, UINT64_C(3000000000), 9, 1, &time));
 }
 
-/* Clients of servers: what makes and adds them allocates, and the line of an event. All else is quiet. */
-static void ask_servers(struct story *s)
-{
-    static const is_ice_address *const local = &host_a.address, *const server = &host_b.address;
-    static const uint8_t random[IS_ICE_SERVERS_RANDOM] = {1, 2, 3};
-    is_ice_servers servers = {0};
-    is_ice_server_event event = {0};
-    is_ice_packet packet;
-    is_ice_datagram datagram;
-    is_ice_stun_message message;
-    is_ice_stun_texts texts;
-    is_ice_server_url url;
-    uint8_t bytes[IS_ICE_SERVERS_PACKET_LENGTH], line[256];
-    size_t length = 0;
-    uint64_t at = 0;
-    memset(&texts, 0, sizeof texts);
-    CALL(s, IS_ICE_OK, is_ice_servers_new(&servers));
-    CALL(s, IS_ICE_OK, is_ice_servers_add_stun(&servers, 1, local, server));
-    CALL(s, IS_ICE_OK, is_ice_servers_add_turn(&servers, 1, IS_ICE_TCP, local, server, 0, 9, TEXT("user"), TEXT("pass")));
-    QUIET(IS_ICE_OK, is_ice_servers_gathering(&servers));
-    QUIET(IS_ICE_OK, is_ice_servers_poll_timeout(&servers, &at));
-    QUIET(IS_ICE_OK, is_ice_servers_handle_timeout(&servers, at, random, sizeof random));
-    QUIET(IS_ICE_OK, is_ice_servers_poll_transmit(&servers, bytes, sizeof bytes, &packet));
-    add(s, bytes, packet.length);
-    QUIET(IS_ICE_OK, is_ice_stun_read(bytes, packet.length, &message));
-    message.cls = IS_ICE_STUN_SUCCESS, message.mapped = host_b.address;
-    QUIET(IS_ICE_OK, is_ice_stun_write(&message, &texts, TEXT(""), TEXT(""), bytes, sizeof bytes, &length));
-    QUIET(IS_ICE_NOTHING, is_ice_servers_receive(&servers, at, IS_ICE_UDP, server, local, bytes, length, &datagram));
-    QUIET(IS_ICE_OK, is_ice_servers_poll_event(&servers, &event));
-    CALL(s, IS_ICE_OK, is_ice_servers_event_line(&event, line, sizeof line, &length));
-    add(s, line, length);
-    QUIET(IS_ICE_NOTHING, is_ice_servers_outgoing(
-        &servers, at, local, server, TEXT("media"), random, sizeof random, bytes, sizeof bytes, &packet));
-    QUIET(IS_ICE_OK, is_ice_servers_permit(&servers, at, server));
-    QUIET(IS_ICE_OK, is_ice_servers_probe(&servers, at));
-    QUIET(IS_ICE_OK, is_ice_servers_lose(&servers, IS_ICE_TCP, local));
-    QUIET(IS_ICE_OK, is_ice_servers_close(&servers, at));
-    QUIET(IS_ICE_OK, is_ice_server_url_of(TEXT("turn:192.0.2.1"), &url));
-    QUIET(IS_ICE_OK, is_ice_frame_length(TEXT("\0\1\0\0"), &length));
-    is_ice_servers_free(&servers);
-}
-
 static int32_t next_packet(is_ice_agent *from, uint8_t *bytes, size_t size, is_ice_packet *packet)
 {
     const long before = asked;
@@ -419,6 +377,8 @@ static void end(struct story *s)
     is_ice_agent_free(&s->b);
 }
 
+#include "oom_servers.h"
+
 static struct story played(long refused)
 {
     struct story s;
@@ -429,9 +389,9 @@ static struct story played(long refused)
     write_texts(&s);
     read_texts(&s);
     write_messages();
-    ask_servers(&s);
     connect(&s);
     list_candidates(&s);
+    have_servers(&s);
     end(&s);
     left = -1;
     return s;

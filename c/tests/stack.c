@@ -14,7 +14,7 @@ enum {
     SMALL = 64 * 1024,
     MOST = 32 * 1024,
     HOSTS = 10,       /* of each agent: 100 pairs, the limit of a new agent */
-    NAMES = 160,
+    NAMES = 128,
     ANY = -100,       /* a call may return any code */
     NESTED = 100000   /* levels of JSON */
 };
@@ -387,67 +387,7 @@ static void messages(struct story *s)
     CALL(IS_ICE_OK, is_ice_stun_response(&id, longest, length, &result));
 }
 
-/* The server responds to a request: one of TURN has to be signed. */
-static void answer(is_ice_servers *servers, const is_ice_packet *p, const uint8_t *request, uint64_t now)
-{
-    /* The key of "user", "realm" and "pass" (RFC 5389, section 15.4) */
-    static const uint8_t key[16] = {0x84, 0x93, 0xfb, 0xc5, 0x3b, 0xa5, 0x82, 0xfb, 0x4c, 0x04, 0x4c, 0x45, 0x6b, 0xdc, 0x40, 0xeb};
-    is_ice_stun_message m;
-    is_ice_stun_texts texts;
-    is_ice_datagram datagram;
-    uint8_t bytes[512];
-    size_t length;
-    memset(&texts, 0, sizeof texts);
-    texts.realm.length = 5, texts.realm.is_set = true, texts.nonce.length = 5, texts.nonce.is_set = true;
-    CALL(IS_ICE_OK, is_ice_stun_read(request, p->length, &m));
-    const is_ice_stun_transaction id = m.id;
-    const uint16_t method = m.method;
-    const bool is_signed = m.has_integrity, is_good = is_signed || method == IS_ICE_STUN_BINDING;
-    memset(&m, 0, sizeof m);
-    m.id = id, m.method = method, m.cls = is_good ? IS_ICE_STUN_SUCCESS : IS_ICE_STUN_FAILURE, m.has_integrity = is_signed;
-    m.error_code.value = 401, m.error_code.is_set = !is_good, m.lifetime.value = 600, m.lifetime.is_set = true;
-    m.mapped = m.relayed = p->source;
-    CALL(IS_ICE_OK, is_ice_stun_write(&m, &texts, TEXT("realm"), key, sizeof key, bytes, sizeof bytes, &length));
-    CALL(ANY, is_ice_servers_receive(servers, now, p->protocol, &p->destination, &p->source, bytes, length, &datagram));
-}
-
-static void ask_servers(void)
-{
-    static const is_ice_address local = {4, {10, 0, 0, 1}, 1000, 0, 0}, server = {4, {192, 0, 2, 1}, 3478, 0, 0};
-    static uint8_t bytes[IS_ICE_SERVERS_PACKET_LENGTH], wrapped[2048], line[512];
-    is_ice_servers servers = {0};
-    is_ice_server_event event = {0};
-    is_ice_server_url url;
-    is_ice_packet p;
-    is_ice_datagram datagram;
-    size_t length;
-    uint64_t at = SECOND;
-    uint8_t random[IS_ICE_SERVERS_RANDOM] = {1};
-    CALL(IS_ICE_OK, is_ice_servers_new(&servers));
-    CALL(IS_ICE_OK, is_ice_servers_add_stun(&servers, at, &local, &server));
-    for (uint8_t protocol = IS_ICE_UDP; protocol <= IS_ICE_TCP; protocol++)
-        CALL(IS_ICE_OK, is_ice_servers_add_turn(&servers, at, protocol, &local, &server, 0, 9, TEXT("user"), TEXT("pass")));
-    for (int turn = 0; turn < 60; turn++, random[0]++) {
-        CALL(ANY, is_ice_servers_gathering(&servers));
-        CALL(ANY, is_ice_servers_poll_timeout(&servers, &at));
-        CALL(IS_ICE_OK, is_ice_servers_handle_timeout(&servers, at, random, sizeof random));
-        while (CALL(ANY, is_ice_servers_poll_transmit(&servers, bytes, sizeof bytes, &p)) == IS_ICE_OK) answer(&servers, &p, bytes, at);
-        while (CALL(ANY, is_ice_servers_poll_event(&servers, &event)) == IS_ICE_OK)
-            CALL(ANY, is_ice_servers_event_line(&event, line, sizeof line, &length));
-        CALL(IS_ICE_OK, is_ice_servers_permit(&servers, at, &server));
-        CALL(ANY, is_ice_servers_outgoing(
-            &servers, at, &event.local, &server, bytes, 1200, random, sizeof random, wrapped, sizeof wrapped, &p));
-        CALL(ANY, is_ice_servers_receive(&servers, at, IS_ICE_UDP, &server, &local, wrapped, 1200, &datagram));
-        if (turn == 40) CALL(IS_ICE_OK, is_ice_servers_probe(&servers, at));
-        if (turn == 50) CALL(IS_ICE_OK, is_ice_servers_lose(&servers, IS_ICE_TCP, &local));
-        if (turn == 55) CALL(IS_ICE_OK, is_ice_servers_close(&servers, at));
-    }
-    CALL(IS_ICE_OK, is_ice_server_url_of(TEXT("turns:[2001:db8::1]:5349?transport=tcp"), &url));
-    CALL(IS_ICE_OK, is_ice_frame_length(TEXT("\100\1\1\1"), &length));
-    paint();
-    is_ice_servers_free(&servers);
-    note("is_ice_servers_free(&servers)", IS_ICE_OK, IS_ICE_OK);
-}
+#include "stack_servers.h"
 
 static void *tell(void *told)
 {
@@ -461,8 +401,9 @@ static void *tell(void *told)
     ask(s);
     candidates();
     messages(s);
-    ask_servers();
     json_without_nesting();
+    have_servers();
+    read_servers();
     change(s);
     static const size_t levels[] = {1, 3, 5, 6, 7, 8, 9, 126, 127, 128, NESTED};
     for (size_t i = 0; i < sizeof levels / sizeof *levels; i++)

@@ -1,5 +1,5 @@
-// Tests is_ice.hpp: agents and servers that are moved and freed, errors as exceptions, what may be absent, events, texts and STUN messages;
-// as C++20 also datagrams as spans.
+// Tests is_ice.hpp: an agent that is moved and freed, errors as exceptions, what may be absent, events, texts and STUN messages; as C++20
+// also datagrams as spans.
 // The status is 0, or the program names the first value that is not as expected.
 #include "is_ice.hpp"
 #include <algorithm>
@@ -237,47 +237,6 @@ static void has_stun_messages()
     HOLD(number.is_set && number.value == 258);
 }
 
-/* A STUN client gets its response; what is not a client's is for the agent. */
-static void has_servers()
-{
-    static_assert(!std::is_copy_constructible_v<is_ice::servers> && std::is_nothrow_move_constructible_v<is_ice::servers>);
-    is_ice::servers first, servers = std::move(first);
-    HOLD(thrown([&] { first.probe(1s); }).code() == IS_ICE_NO_SERVERS);
-    const auto local = host(1).address, server = is_ice::ipv4({192, 0, 2, 1}, 3478), mapped = is_ice::ipv4({203, 0, 113, 7}, 61000);
-    HOLD(!servers.poll_timeout() && !servers.poll_transmit() && !servers.poll_event() && !servers.gathering());
-    servers.add_stun(1s, local, server);
-    HOLD(servers.gathering() && servers.poll_timeout() == 1s);
-    servers.handle_timeout(1s, {1, 2, 3});
-    auto request = servers.poll_transmit();
-    HOLD(request && request->protocol == IS_ICE_UDP && request->destination.port == 3478 && request->source.port == 5000);
-    auto answer = is_ice::stun_read(request->contents.data(), request->contents.size());
-    answer.cls = IS_ICE_STUN_SUCCESS, answer.mapped = mapped;
-    auto response = is_ice::stun_write(answer, {}, "", "");
-    HOLD(!servers.receive(1s, IS_ICE_UDP, server, local, response.data(), response.size()));
-    auto event = servers.poll_event();
-    HOLD(event && event->kind == IS_ICE_SERVER_MAPPED && event->mapped.port == 61000 && !servers.poll_event() && !servers.gathering());
-    HOLD(is_ice::servers_event_line(*event).find("203.0.113.7:61000") != std::string::npos);
-    auto media = servers.receive(1s, IS_ICE_UDP, host(2).address, local, "media", 5);
-    HOLD(media && media->offset == 0 && media->length == 5 && media->source.bytes[3] == 2);
-    HOLD(std::holds_alternative<is_ice::as_it_is>(servers.outgoing(1s, local, server, "media", 5, {})));
-    servers.add_turn(1s, IS_ICE_TCP, local, server, 0, IS_ICE_SERVERS_PLACES, "user", "password");
-    HOLD(thrown([&] { servers.add_turn(1s, IS_ICE_TLS, local, server, 0, 1, "", ""); }).code() == IS_ICE_BAD_ADDRESS);
-    servers.permit(1s, host(2).address);
-    servers.lose(IS_ICE_TCP, local);
-    HOLD(servers.poll_event()->why == IS_ICE_ENDED_FAILED);
-    servers.close(1s);
-    HOLD(servers.poll_event()->kind == IS_ICE_SERVER_ENDED && !servers.poll_timeout());
-}
-
-static void reads_urls_and_frames()
-{
-    auto url = is_ice::server_url_of("turn:[2001:db8::1]?transport=tcp");
-    HOLD(url.scheme == IS_ICE_TURN && url.protocol == IS_ICE_TCP && url.port == 3478 && url.host_start == 6 && url.host_length == 11);
-    HOLD(thrown([] { is_ice::server_url_of("http://192.0.2.1"); }).code() == IS_ICE_BAD_URL);
-    HOLD(is_ice::frame_length("\x40\0\0\5", 4) == 12 && !is_ice::frame_length("\x40\0", 2));
-    HOLD(thrown([] { is_ice::frame_length("\xff\xff\0\0", 4); }).code() == IS_ICE_UNPARSED);
-}
-
 static void passes_codes_on()
 {
     HOLD(thrown([] { is_ice::checked(IS_ICE_NO_AGENT); }).code() == IS_ICE_NO_AGENT && is_ice::checked(IS_ICE_NOTHING) == IS_ICE_NOTHING);
@@ -313,6 +272,83 @@ static void takes_spans()
 }
 #endif
 
+static is_ice::address at(uint8_t last, uint16_t port) { return is_ice::ipv4({10, 0, 0, last}, port); }
+
+/* A STUN client of 10.0.0.1:1000 at 10.0.0.9:3478 learns its mapped address. */
+static void has_a_stun_server()
+{
+    is_ice::servers servers;
+    HOLD(!servers.gathering() && !servers.poll_timeout() && !servers.poll_event() && !servers.poll_transmit());
+    servers.add_stun(0ns, at(1, 1000), at(9, 3478));
+    HOLD(servers.gathering() && servers.poll_timeout() == 0ns);
+    servers.handle_timeout(0ns, {});
+    auto request = servers.poll_transmit();
+    HOLD(request && request->contents.size() == IS_ICE_STUN_REQUEST_LENGTH && request->destination.port == 3478);
+    is_ice::stun_message response{};
+    response.method = IS_ICE_STUN_BINDING, response.cls = IS_ICE_STUN_SUCCESS, response.mapped = at(77, 7);
+    auto data = is_ice::stun_write(response, {}, "", "");
+    HOLD(!servers.receive(1ms, IS_ICE_UDP, at(9, 3478), at(1, 1000), data.data(), data.size()));
+    auto event = servers.poll_event();
+    HOLD(event && event->local.port == 1000 && std::get<is_ice::mapped>(event->what).address.port == 7);
+    HOLD(is_ice::servers_event_line(*event) == "server 10.0.0.9:3478 udp 10.0.0.1:1000: mapped 10.0.0.77:7");
+    servers.lose(IS_ICE_UDP, at(1, 1000));
+    auto gone = servers.poll_event();
+    HOLD(std::get<is_ice::ended>(gone->what).why == is_ice::ending::lost && !std::get<is_ice::ended>(gone->what).code);
+}
+
+/* A TURN client without credentials gets the relayed address 10.0.0.9:5000, and a peer its data. */
+static void has_a_turn_server()
+{
+    is_ice::servers servers;
+    servers.add_turn(0ns, IS_ICE_UDP, at(1, 1000), at(9, 3478), "", "");
+    servers.handle_timeout(0ns, {});
+    HOLD(servers.poll_transmit().has_value());
+    is_ice::stun_message response{};
+    response.method = IS_ICE_STUN_ALLOCATE, response.cls = IS_ICE_STUN_SUCCESS;
+    response.lifetime = {600, true}, response.relayed = at(9, 5000), response.mapped = at(77, 7);
+    auto data = is_ice::stun_write(response, {}, "", "");
+    HOLD(!servers.receive(1ms, IS_ICE_UDP, at(9, 3478), at(1, 1000), data.data(), data.size()));
+    auto event = servers.poll_event();
+    auto made = std::get<is_ice::allocated>(event->what);
+    HOLD(made.relayed.port == 5000 && made.mapped->port == 7);
+    HOLD(is_ice::servers_event_line(*event).find(": allocated 10.0.0.9:5000, mapped 10.0.0.77:7") != std::string::npos);
+    servers.permit(2ms, at(2, 2000));
+    auto wrapped = servers.outgoing(3ms, at(9, 5000), at(2, 2000), "\x80", 1, {});
+    HOLD(std::get<is_ice::packet>(wrapped).destination.port == 3478 && std::get<is_ice::packet>(wrapped).contents.size() == 48);
+    HOLD(std::holds_alternative<is_ice::as_it_is>(servers.outgoing(3ms, at(1, 1000), at(2, 2000), "\x80", 1, {})));
+    auto direct = servers.receive(4ms, IS_ICE_UDP, at(2, 2000), at(1, 1000), "\x80x", 2);
+    HOLD(direct && direct->length == 2 && direct->data[1] == 'x' && direct->source.port == 2000);
+    servers.probe(5ms);
+    servers.close(6ms);
+    HOLD(servers.poll_timeout().has_value());
+    servers.lose(IS_ICE_UDP, at(1, 1000));
+    auto dropped = servers.outgoing(7ms, at(9, 5000), at(2, 2000), "\x80", 1, {});
+    HOLD(std::holds_alternative<is_ice::no_relay>(dropped));
+}
+
+static void owns_its_servers()
+{
+    is_ice::servers first;
+    is_ice::servers second = std::move(first);
+    HOLD(thrown([&] { first.gathering(); }).code() == IS_ICE_NO_SERVERS);
+    HOLD(thrown([&] { second.add_stun(0ns, {}, at(9, 1)); }).code() == IS_ICE_BAD_ADDRESS);
+    std::string many(509, 'u');
+    auto turn = [&](std::string_view name) { second.add_turn(0ns, IS_ICE_TCP, at(1, 1), at(9, 1), name, "pass", 4); };
+    HOLD(thrown([&] { turn(many); }).code() == IS_ICE_CREDENTIALS_TOO_LONG);
+    turn("user");
+    HOLD(second.gathering());
+}
+
+static void reads_urls_and_frames()
+{
+    auto url = is_ice::server_url_of("turns:turn.example.org:443");
+    HOLD(url.host == "turn.example.org" && url.port == 443 && url.scheme == IS_ICE_TURN && url.protocol == IS_ICE_TLS);
+    HOLD(is_ice::server_url_of("stun:[2001:db8::1]").host == "2001:db8::1");
+    HOLD(thrown([] { is_ice::server_url_of("http://turn.example.org"); }).code() == IS_ICE_BAD_URL);
+    HOLD(is_ice::frame_length("\x40\0\0\x05", 4) == 12 && !is_ice::frame_length("\x40", 1));
+    HOLD(thrown([] { (void)is_ice::frame_length("\xff\0\0\0", 4); }).code() == IS_ICE_UNPARSED);
+}
+
 int main()
 {
     owns_an_agent();
@@ -324,9 +360,11 @@ int main()
     says_why_a_datagram_is_rejected();
     says_why_a_pair_was_removed();
     has_stun_messages();
-    has_servers();
-    reads_urls_and_frames();
     passes_codes_on();
+    has_a_stun_server();
+    has_a_turn_server();
+    owns_its_servers();
+    reads_urls_and_frames();
 #if __cplusplus >= 202002L
     takes_spans();
 #endif

@@ -30,3 +30,12 @@ pub mod LogLines
 pub mod Unserved
 pub mod ServersHandles
 pub mod ServersBorrowing
+pub mod ServersHeld
+pub mod ServersFreeing
+pub mod ServersAdding
+pub mod ServersPackets
+pub mod ServersCalls
+pub mod ServersEvents
+pub mod ServersLines
+pub mod ServerStreams
+pub mod ServerUrls

@@ -4,6 +4,7 @@
 
 pub(crate) mod adding;
 pub(crate) mod calls;
+mod ends;
 pub(crate) mod events;
 mod handle;
 mod home;
@@ -13,11 +14,12 @@ pub(crate) mod packets;
 mod places;
 mod slot;
 pub(crate) mod streams;
-mod transport;
 pub(crate) mod urls;
 
+pub use ends::Ends;
 pub use events::Event;
 pub use home::ServersHome;
+pub use lines::{Line, Said};
 pub use packets::Arrival;
 pub use slot::ServersSlot;
 pub use urls::Url;

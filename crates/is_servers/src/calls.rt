@@ -1,19 +1,24 @@
 //! What arrives at the clients of servers, and what they send and report.
 
+ghost use Rattle.std.specs.Prelude.{◌≡◌};
+ghost use Rattle.std.specs.Option.{option_map};
+ghost use Rattle.is_turn.specs.OneRelay.{arrived_view};
+ghost use Rattle.is_servers.specs.Calls.{Receives, Sends, is_first, TimesOut, PollsNext, ReportsRelays, ReportsNext};
+
 use crate::events::{ServerEvent, turn_happened};
-use crate::packets::{
-    ServerOutgoing, ServerPacket, outgoing_over, packet_over, with_padding, without_padding,
-};
+use crate::packets::{ServerOutgoing, ServerPacket, poll_over, send_padded, sent_over};
 use crate::servers::Servers;
 use crate::transport::Transport;
 use is_proto::{Instant, Sha1HmacProvider, StunError};
 use is_stun::stun::TransId;
-use is_turn::{Datagram, Outgoing, Relays};
+use is_turn::{Datagram, Relays};
 use rand_core::Rng;
 use std::net::SocketAddr;
 
 /// Whether the first time is there, and not later than the other.
-fn is_first(time: Option<Instant>, other: Option<Instant>) -> bool {
+fn is_first(time: Option<Instant>, other: Option<Instant>) -> bool
+    ensures { result ≡ is_first time other }
+{
     match (time, other) {
         (Some(time), Some(other)) => time <= other,
         (Some(_), None) => true,
@@ -21,48 +26,26 @@ fn is_first(time: Option<Instant>, other: Option<Instant>) -> bool {
     }
 }
 
-/// Writes a packet of a relayed address to the front of the buffer, with padding (RFC 8656, section 12.5).
-fn padded_outgoing<H: Sha1HmacProvider>(
-    relays: &mut Relays<H>,
-    now: Instant,
-    source: SocketAddr,
-    destination: SocketAddr,
-    contents: &[u8],
-    id: &TransId,
-    buf: &mut [u8],
-) -> Result<Outgoing, StunError> {
-    let room = without_padding(buf)?;
-    let sent = relays.outgoing(now, source, destination, contents, id, room)?;
-    Ok(with_padding(sent, buf))
-}
-
-/// Polls the next packet of the clients over this transport.
-fn polled_over<H: Sha1HmacProvider>(
-    relays: &mut Relays<H>,
-    transport: Transport,
-    buf: &mut [u8],
-) -> Result<Option<ServerPacket>, StunError> {
-    match relays.poll_transmit(buf) {
-        Ok(Some(sent)) => Ok(Some(packet_over(transport, sent))),
-        Ok(None) => Ok(None),
-        Err(error) => Err(error),
-    }
-}
-
 /// Polls the next event of the clients over this transport.
-fn reported_over<H: Sha1HmacProvider>(
+fn report_over<H: Sha1HmacProvider>(
     relays: &mut Relays<H>,
     transport: Transport,
-) -> Option<ServerEvent> {
-    let place = relays.next_to_report()?;
-    let (local, server) = relays.ends(place)?;
-    let (_, event) = relays.poll_event()?;
-    Some(ServerEvent {
-        transport,
-        local,
-        server,
-        what: turn_happened(event),
-    })
+) -> Option<ServerEvent>
+    ensures { ReportsRelays transport relays.old.relays.items result relays.new.relays.items }
+{
+    let ends = match relays.next_to_report() {
+        Some(place) => relays.ends(place),
+        None => None,
+    };
+    match (ends, relays.poll_event()) {
+        (Some((local, server)), Some((_, event))) => Some(ServerEvent {
+            transport,
+            local,
+            server,
+            what: turn_happened(event),
+        }),
+        _ => None,
+    }
 }
 
 impl<H: Sha1HmacProvider> Servers<H> {
@@ -77,20 +60,23 @@ impl<H: Sha1HmacProvider> Servers<H> {
         local: SocketAddr,
         source: SocketAddr,
         bytes: &'a [u8],
-    ) -> Option<Datagram<'a>> {
+    ) -> Option<Datagram<'a>>
+        ensures { Receives transport (λ p. H.mac p) now local source bytes.now self.old (option_map arrived_view result) self.new }
+    {
         match transport {
             Transport::Udp => {
                 if self.mappings.receive(now, local, source, bytes) {
-                    return None;
+                    None
+                } else {
+                    self.udp.receive(now, local, source, bytes)
                 }
-                self.udp.receive(now, local, source, bytes)
             }
             Transport::Tcp => self.tcp.receive(now, local, source, bytes),
         }
     }
 
     /// Says where a packet goes: one of the agent, or media. If its source is a relayed address, it is written to the front of the buffer as
-    /// it goes to the server, over TCP with padding; any other goes as it is. A buffer of 48 bytes more than the contents suffices. The
+    /// it goes to the server, over TCP with padding; any other goes as it is. A buffer of 54 bytes more than the contents suffices. The
     /// transaction ID is that of a Send indication: take 12 new random bytes for each call.
     pub fn outgoing(
         &mut self,
@@ -100,15 +86,17 @@ impl<H: Sha1HmacProvider> Servers<H> {
         contents: &[u8],
         id: &TransId,
         buf: &mut [u8],
-    ) -> Result<ServerOutgoing, StunError> {
+    ) -> Result<ServerOutgoing, StunError>
+        ensures { Sends now source destination contents.now id.now buf.old buf.new self.old result self.new }
+    {
         if self.udp.relays_from(source) {
             let sent = self
                 .udp
-                .outgoing(now, source, destination, contents, id, buf)?;
-            Ok(outgoing_over(Transport::Udp, sent))
+                .outgoing(now, source, destination, contents, id, buf);
+            sent_over(Transport::Udp, sent)
         } else if self.tcp.relays_from(source) {
-            let sent = padded_outgoing(&mut self.tcp, now, source, destination, contents, id, buf)?;
-            Ok(outgoing_over(Transport::Tcp, sent))
+            let sent = send_padded(&mut self.tcp, now, source, destination, contents, id, buf);
+            sent_over(Transport::Tcp, sent)
         } else {
             Ok(ServerOutgoing::AsItIs)
         }
@@ -118,7 +106,9 @@ impl<H: Sha1HmacProvider> Servers<H> {
 
     /// Does what is due of the client whose time comes first: at most one packet, and at most 12 random bytes. If another client is due
     /// too, `poll_timeout` says so.
-    pub fn handle_timeout<R: Rng>(&mut self, now: Instant, rng: &mut R) {
+    pub fn handle_timeout<R: Rng>(&mut self, now: Instant, rng: &mut R)
+        ensures { TimesOut now (R.stream rng.old) (R.stream rng.new) self.old self.new }
+    {
         let mapping = self.mappings.poll_timeout();
         let udp = self.udp.poll_timeout();
         let tcp = self.tcp.poll_timeout();
@@ -133,24 +123,28 @@ impl<H: Sha1HmacProvider> Servers<H> {
 
     /// Writes the next packet of a client to the front of the buffer, and says from which socket or connection to which server it goes.
     /// `BufferTooShort`: it does not fit; nothing is changed, and it can be polled again.
-    pub fn poll_transmit(&mut self, buf: &mut [u8]) -> Result<Option<ServerPacket>, StunError> {
+    pub fn poll_transmit(&mut self, buf: &mut [u8]) -> Result<Option<ServerPacket>, StunError>
+        ensures { PollsNext (λ p. H.mac p) buf.old buf.new self.old result self.new }
+    {
         if self.mappings.has_packet() {
             self.mappings.poll_transmit(buf)
         } else if self.udp.has_packet() {
-            polled_over(&mut self.udp, Transport::Udp, buf)
+            poll_over(&mut self.udp, Transport::Udp, buf)
         } else {
-            polled_over(&mut self.tcp, Transport::Tcp, buf)
+            poll_over(&mut self.tcp, Transport::Tcp, buf)
         }
     }
 
     /// Returns what happened to a client.
-    pub fn poll_event(&mut self) -> Option<ServerEvent> {
+    pub fn poll_event(&mut self) -> Option<ServerEvent>
+        ensures { ReportsNext self.old result self.new }
+    {
         if self.mappings.has_event() {
-            return self.mappings.poll_event();
-        }
-        match reported_over(&mut self.udp, Transport::Udp) {
-            Some(event) => Some(event),
-            None => reported_over(&mut self.tcp, Transport::Tcp),
+            self.mappings.poll_event()
+        } else if self.udp.next_to_report().is_some() {
+            report_over(&mut self.udp, Transport::Udp)
+        } else {
+            report_over(&mut self.tcp, Transport::Tcp)
         }
     }
 }

@@ -1,5 +1,8 @@
 //! What happens to a client of a server.
 
+ghost use Rattle.std.specs.Prelude.{◌≡◌};
+ghost use Rattle.is_servers.specs.Events.{ending_of, stun_happened, turn_happened};
+
 use crate::transport::Transport;
 use is_turn::{Allocation, Ending, StunEvent, TurnEvent, Why};
 use std::net::{IpAddr, SocketAddr};
@@ -28,7 +31,9 @@ pub struct ServerEvent {
 }
 
 /// Returns the end of a STUN client.
-pub(crate) fn ending_of(why: Why, code: Option<u16>) -> Ending {
+pub(crate) fn ending_of(why: Why, code: Option<u16>) -> Ending
+    ensures { result ≡ ending_of why code }
+{
     Ending {
         why,
         code,
@@ -37,7 +42,9 @@ pub(crate) fn ending_of(why: Why, code: Option<u16>) -> Ending {
 }
 
 /// Returns what an event of a STUN client says.
-pub(crate) fn stun_happened(event: StunEvent) -> Happened {
+pub(crate) fn stun_happened(event: StunEvent) -> Happened
+    ensures { result ≡ stun_happened event }
+{
     match event {
         StunEvent::Mapped(mapped) => Happened::Mapped(mapped),
         StunEvent::Failed(code) => Happened::Ended(ending_of(Why::Failed, code)),
@@ -45,7 +52,9 @@ pub(crate) fn stun_happened(event: StunEvent) -> Happened {
 }
 
 /// Returns what an event of a TURN client says.
-pub(crate) fn turn_happened(event: TurnEvent) -> Happened {
+pub(crate) fn turn_happened(event: TurnEvent) -> Happened
+    ensures { result ≡ turn_happened event }
+{
     match event {
         TurnEvent::Allocated(allocation) => Happened::Allocated(allocation),
         TurnEvent::NotPermitted(ip, code) => Happened::NotPermitted(ip, code),

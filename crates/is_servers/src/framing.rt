@@ -1,5 +1,8 @@
 //! Where a message ends in a stream (RFC 8489, section 6.2.2; RFC 8656, section 12.5).
 
+ghost use Rattle.std.specs.Prelude.{◌≡◌, ◌<◌, ◌^◌};
+ghost use Rattle.is_servers.specs.Frames.{padded, frame_length};
+
 /// How long the message is that begins so.
 #[derive(Clone, Copy, Debug, PartialEq, Eq)]
 pub enum Frame {
@@ -20,25 +23,30 @@ const CHANNEL_HEADER: usize = 4;
 /// The first byte of ChannelData is at least this: the number of a channel is at least 0x4000.
 const FIRST_CHANNEL: u8 = 0x40;
 
-/// The first byte of ChannelData is at most this: the number of a channel is at most 0x4FFF.
-const LAST_CHANNEL: u8 = 0x4F;
+/// The first byte of ChannelData is below this: the number of a channel is at most 0x4FFF.
+const AFTER_CHANNELS: u8 = 0x50;
 
 /// Returns the length, rounded up to a multiple of four.
 pub(crate) fn padded(len: usize) -> usize
     requires { len < 2 ^ 63 }
+    ensures { result ≡ padded len }
 {
     (len + 3) / 4 * 4
 }
 
 /// Returns the length of the message with which the bytes of a stream begin: its first four are enough.
-pub fn frame_length(start: &[u8]) -> Frame {
+pub fn frame_length(start: &[u8]) -> Frame
+    ensures { result ≡ frame_length start.now }
+{
     let [first, _, l0, l1, ..] = start else {
         return Frame::TooShort;
     };
     let len = u16::from_be_bytes([*l0, *l1]) as usize;
-    match *first {
-        0..FIRST_CHANNEL => Frame::Of(STUN_HEADER + len),
-        FIRST_CHANNEL..=LAST_CHANNEL => Frame::Of(CHANNEL_HEADER + padded(len)),
-        _ => Frame::Neither,
+    if *first < FIRST_CHANNEL {
+        Frame::Of(STUN_HEADER + len)
+    } else if *first < AFTER_CHANNELS {
+        Frame::Of(CHANNEL_HEADER + padded(len))
+    } else {
+        Frame::Neither
     }
 }

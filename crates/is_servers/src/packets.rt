@@ -1,9 +1,15 @@
 //! What goes to a server.
 
+ghost use Rattle.std.specs.Prelude.{◌≡◌, ◌≤◌, ◌+◌, length, nat_le};
+ghost use Rattle.is_servers.specs.Frames.{padded};
+ghost use Rattle.is_servers.specs.Packets.{packet_over, outgoing_over, sent_over, padded_at};
+ghost use Rattle.is_servers.specs.Calls.{PollsRelays, SendsIfRoom};
+
 use crate::framing::padded;
 use crate::transport::Transport;
-use is_proto::StunError;
-use is_turn::{Outbound, Outgoing};
+use is_proto::{Instant, Sha1HmacProvider, StunError};
+use is_stun::stun::TransId;
+use is_turn::{Outbound, Outgoing, Relays};
 use std::net::SocketAddr;
 
 /// A packet at the front of the caller's buffer: a datagram, or what goes into a stream.
@@ -28,10 +34,12 @@ pub enum ServerOutgoing {
 }
 
 /// The most bytes of padding after ChannelData.
-pub(crate) const LONGEST_PADDING: usize = 3;
+const LONGEST_PADDING: usize = 3;
 
 /// Returns a packet over this transport.
-pub(crate) fn packet_over(transport: Transport, sent: Outbound) -> ServerPacket {
+fn packet_over(transport: Transport, sent: Outbound) -> ServerPacket
+    ensures { result ≡ packet_over transport sent }
+{
     ServerPacket {
         transport,
         local: sent.local,
@@ -40,8 +48,9 @@ pub(crate) fn packet_over(transport: Transport, sent: Outbound) -> ServerPacket 
     }
 }
 
-/// Returns where a packet goes, over this transport.
-pub(crate) fn outgoing_over(transport: Transport, sent: Outgoing) -> ServerOutgoing {
+fn outgoing_over(transport: Transport, sent: Outgoing) -> ServerOutgoing
+    ensures { result ≡ outgoing_over transport sent }
+{
     match sent {
         Outgoing::AsItIs => ServerOutgoing::AsItIs,
         Outgoing::Through(sent) => ServerOutgoing::Through(packet_over(transport, sent)),
@@ -49,32 +58,69 @@ pub(crate) fn outgoing_over(transport: Transport, sent: Outgoing) -> ServerOutgo
     }
 }
 
-/// Writes zeros after what stands at the front of the buffer, up to a multiple of four bytes, and returns the length with them.
-pub(crate) fn pad(len: usize, buf: &mut [u8]) -> usize {
-    if len + LONGEST_PADDING > buf.len() {
-        return len;
+/// Returns where a packet goes, over this transport.
+pub(crate) fn sent_over(
+    transport: Transport,
+    sent: Result<Outgoing, StunError>,
+) -> Result<ServerOutgoing, StunError>
+    ensures { result ≡ sent_over transport sent }
+{
+    match sent {
+        Ok(sent) => Ok(outgoing_over(transport, sent)),
+        Err(error) => Err(error),
     }
+}
+
+/// Polls the next packet of the clients over this transport.
+pub(crate) fn poll_over<H: Sha1HmacProvider>(
+    relays: &mut Relays<H>,
+    transport: Transport,
+    buf: &mut [u8],
+) -> Result<Option<ServerPacket>, StunError>
+    ensures { PollsRelays transport (λ p. H.mac p) buf.old buf.new relays.old.relays.items result relays.new.relays.items }
+{
+    match relays.poll_transmit(buf) {
+        Ok(Some(sent)) => Ok(Some(packet_over(transport, sent))),
+        Ok(None) => Ok(None),
+        Err(error) => Err(error),
+    }
+}
+
+// ---- padding
+
+/// Writes zeros after what stands at the front of the buffer, up to a multiple of four bytes, and returns the length with them.
+fn pad(len: usize, buf: &mut [u8]) -> usize
+    requires { len + 3 ≤ length buf.old }
+    ensures len { result ≡ padded len }
+    ensures bytes { buf.new ≡ padded_at len buf.old }
+{
     let end = padded(len);
     buf[len..end].fill(0);
     end
 }
 
-/// Pads what goes through a server.
-pub(crate) fn with_padding(sent: Outgoing, buf: &mut [u8]) -> Outgoing {
-    match sent {
-        Outgoing::Through(sent) => Outgoing::Through(Outbound {
-            len: pad(sent.len, buf),
-            ..sent
-        }),
-        other => other,
-    }
-}
-
-/// Returns the part of the buffer after which the padding has room.
-pub(crate) fn without_padding(buf: &mut [u8]) -> Result<&mut [u8], StunError> {
+/// Writes a packet of a relayed address to the front of the buffer, with padding (RFC 8656, section 12.5).
+pub(crate) fn send_padded<H: Sha1HmacProvider>(
+    relays: &mut Relays<H>,
+    now: Instant,
+    source: SocketAddr,
+    destination: SocketAddr,
+    contents: &[u8],
+    id: &TransId,
+    buf: &mut [u8],
+) -> Result<Outgoing, StunError>
+    ensures { SendsIfRoom (nat_le 3 (length buf.old)) now source destination contents.now id.now buf.old buf.new
+        relays.old.relays.items result relays.new.relays.items }
+{
     if buf.len() < LONGEST_PADDING {
         return Err(StunError::BufferTooShort);
     }
     let room = buf.len() - LONGEST_PADDING;
-    Ok(&mut buf[..room])
+    match relays.outgoing(now, source, destination, contents, id, &mut buf[..room]) {
+        Ok(Outgoing::Through(sent)) => {
+            let len = pad(sent.len, buf);
+            Ok(Outgoing::Through(Outbound { len, ..sent }))
+        }
+        other => other,
+    }
 }

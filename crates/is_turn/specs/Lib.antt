@@ -26,3 +26,4 @@ pub mod Peers
 pub mod Worlds
 pub mod OneRelay
 pub mod Relays
+pub mod AllRelays

@@ -41,7 +41,7 @@ pub(crate) struct Lease {
 }
 
 /// Whether two addresses are equal in every part.
-pub(crate) fn same_address(a: SocketAddr, b: SocketAddr) -> bool
+pub fn same_address(a: SocketAddr, b: SocketAddr) -> bool
     ensures { result ≡ same_address a b }
 {
     a == b

@@ -35,6 +35,7 @@ mod verdict;
 pub use crate::client::{Received, StunClient, StunEvent};
 pub use crate::credentials::{Credentials, long_term_key};
 pub use crate::incoming::{Incoming, read_incoming};
+pub use crate::lease::same_address;
 pub use crate::outcome::Reason;
 pub use crate::relay::{Datagram, Outbound, Outgoing};
 pub use crate::relays::Relays;

@@ -4,7 +4,8 @@ ghost use Rattle.std.specs.Prelude.{◌≡◌};
 ghost use Rattle.std.specs.Option.{option_map};
 ghost use Rattle.is_turn.specs.Receipts.{received_view};
 ghost use Rattle.is_turn.specs.OneRelay.{is_at, is_of, has_event, has_packet, is_due_at, is_over, is_asking, started_relay, arrived_view, passed, relayed_after, polled_as, sent_as};
-ghost use Rattle.is_turn.specs.OneRelay.{TakesDatagram, TakesPacket, PollsRelay, RelayTimesOut, ReportsEvent, PermitsPeer, Probes, Closes, Loses};
+ghost use Rattle.is_turn.specs.OneRelay.{TakesDatagram, TakesPacket, PollsRelay, RelayTimesOut, ReportsEvent, PermitsPeer, Probes, Closes};
+ghost use Rattle.is_turn.specs.AllRelays.{is_serving, LosesAt};
 
 use crate::lease::same_address;
 use crate::session::{Allocation, Phase};
@@ -155,6 +156,13 @@ impl<H: Sha1HmacProvider> Relay<H> {
         self.client.session.phase == Phase::Ended && !self.has_event()
     }
 
+    /// Whether it has this socket and server, and is not over.
+    pub(crate) fn is_serving(&self, local: SocketAddr, server: SocketAddr) -> bool
+        ensures { result ≡ is_serving local server self.now }
+    {
+        self.is_at(local, server) && !self.is_over()
+    }
+
     /// Whether it waits for its first answer, or what that said was not reported yet.
     pub(crate) fn is_asking(&self) -> bool
         ensures { result ≡ is_asking self.now }
@@ -240,9 +248,12 @@ impl<H: Sha1HmacProvider> Relay<H> {
         self.client.close(now);
     }
 
-    pub(crate) fn lose(&mut self)
-        ensures { Loses self.old self.new }
+    /// A socket is gone: the client ends if it is the client's.
+    pub(crate) fn lose_of(&mut self, local: SocketAddr)
+        ensures { LosesAt local self.old self.new }
     {
-        self.client.lose();
+        if same_address(self.local, local) {
+            self.client.lose();
+        }
     }
 }

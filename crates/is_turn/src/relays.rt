@@ -53,21 +53,21 @@ impl<H: Sha1HmacProvider> Relays<H> {
             .position(|relay| relay.is_at(local, source))
     }
 
-    fn place_of(&self, source: SocketAddr) -> Option<usize>
+    pub(crate) fn place_of(&self, source: SocketAddr) -> Option<usize>
         ensures place { result ≡ position (is_of source) self.now.relays.items }
         ensures within { IfSome result (λ place. place < vec_len self.now.relays) }
     {
         self.relays.iter().position(|relay| relay.is_of(source))
     }
 
-    fn packet_place(&self) -> Option<usize>
+    pub(crate) fn packet_place(&self) -> Option<usize>
         ensures place { result ≡ position has_packet self.now.relays.items }
         ensures within { IfSome result (λ place. place < vec_len self.now.relays) }
     {
         self.relays.iter().position(|relay| relay.has_packet())
     }
 
-    fn event_place(&self) -> Option<usize>
+    pub(crate) fn event_place(&self) -> Option<usize>
         ensures place { result ≡ position has_event self.now.relays.items }
         ensures within { IfSome result (λ place. place < vec_len self.now.relays) }
     {
@@ -140,7 +140,7 @@ impl<H: Sha1HmacProvider> Relays<H> {
         }
     }
 
-    fn permit_at(&mut self, now: Instant, place: usize, peer: SocketAddr) -> bool
+    pub(crate) fn permit_at(&mut self, now: Instant, place: usize, peer: SocketAddr) -> bool
         requires { place < vec_len self.old.relays }
         ensures { ChangesAt place (PermitsPeer now peer result) self.old.relays.items self.new.relays.items }
     {
@@ -156,7 +156,7 @@ impl<H: Sha1HmacProvider> Relays<H> {
         }
     }
 
-    fn probe_at(&mut self, now: Instant, place: usize)
+    pub(crate) fn probe_at(&mut self, now: Instant, place: usize)
         requires { place < vec_len self.old.relays }
         ensures { ChangesAt place (Probes now) self.old.relays.items self.new.relays.items }
     {
@@ -172,7 +172,7 @@ impl<H: Sha1HmacProvider> Relays<H> {
         }
     }
 
-    fn close_at(&mut self, now: Instant, place: usize)
+    pub(crate) fn close_at(&mut self, now: Instant, place: usize)
         requires { place < vec_len self.old.relays }
         ensures { ChangesAt place (Closes now) self.old.relays.items self.new.relays.items }
     {

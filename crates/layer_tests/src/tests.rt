@@ -3,5 +3,6 @@
 mod candidates;
 mod pairs;
 mod proto;
+mod servers;
 mod stun;
 mod turn;

@@ -1,14 +1,32 @@
 //! What the caller says to all clients of servers, the clock, and questions.
 
+ghost use Rattle.std.specs.Prelude.{◌≡◌, None};
+ghost use Rattle.is_c.specs.ServersHeld.{AtClients, With, clients_held, clients_of, end_of};
+ghost use Rattle.is_c.specs.ServersCalls.{PermitsAt, ProbesAt, ClosesAt, LosesEnd, TimesOutAt, ReturnsNextTime, ReturnsGathering};
+ghost use Rattle.is_c_calls.specs.Addresses.{socket_of};
+
 use crate::address::socket_of;
 use crate::codes;
 use crate::random::Given;
+use crate::servers::ends::end_of;
+use crate::servers::home::ServersHome;
 use crate::servers::packets::NEEDED;
 use crate::servers::slot::ServersSlot;
-use crate::servers::transport::transport_of;
 use is_c_calls::Address;
 use is_proto::Instant;
+use is_servers::Transport;
 use std::alloc::Global;
+use std::net::SocketAddr;
+
+fn permit(home: &mut ServersHome, now: u64, peer: Option<SocketAddr>) -> i32
+    ensures { With peer (PermitsAt now) (clients_of home.old) result (clients_of home.new) }
+{
+    let Some(peer) = peer else {
+        return codes::BAD_ADDRESS;
+    };
+    home.servers.permit(Instant(now), peer);
+    codes::OK
+}
 
 /// Requests the permission of a peer at each TURN client.
 #[unsafe(no_mangle)]
@@ -17,36 +35,58 @@ pub extern "C" fn is_ice_servers_permit(
     slot: &mut ServersSlot,
     now: u64,
     peer: &Address,
-) -> i32 {
+) -> i32
+    ensures { AtClients (With (socket_of peer.now) (PermitsAt now)) (clients_held slot.old) result (clients_held slot.new) }
+{
     let Some(home) = slot.home() else {
         return codes::NO_SERVERS;
     };
-    match socket_of(peer) {
-        Some(peer) => {
-            home.servers.permit(Instant(now), peer);
-            codes::OK
-        }
-        None => codes::BAD_ADDRESS,
-    }
+    permit(home, now, socket_of(peer))
+}
+
+fn probe(home: &mut ServersHome, now: u64) -> i32
+    ensures { ProbesAt now (clients_of home.old) result (clients_of home.new) }
+{
+    home.servers.probe(Instant(now));
+    codes::OK
 }
 
 /// Each TURN client asks its server now whether it has the allocation.
 #[unsafe(no_mangle)]
-pub extern "C" fn is_ice_servers_probe(alloc: Global, slot: &mut ServersSlot, now: u64) -> i32 {
+pub extern "C" fn is_ice_servers_probe(alloc: Global, slot: &mut ServersSlot, now: u64) -> i32
+    ensures { AtClients (ProbesAt now) (clients_held slot.old) result (clients_held slot.new) }
+{
     let Some(home) = slot.home() else {
         return codes::NO_SERVERS;
     };
-    home.servers.probe(Instant(now));
+    probe(home, now)
+}
+
+fn close(home: &mut ServersHome, now: u64) -> i32
+    ensures { ClosesAt now (clients_of home.old) result (clients_of home.new) }
+{
+    home.servers.close(Instant(now));
     codes::OK
 }
 
 /// Each client ends: a TURN client frees its allocation.
 #[unsafe(no_mangle)]
-pub extern "C" fn is_ice_servers_close(alloc: Global, slot: &mut ServersSlot, now: u64) -> i32 {
+pub extern "C" fn is_ice_servers_close(alloc: Global, slot: &mut ServersSlot, now: u64) -> i32
+    ensures { AtClients (ClosesAt now) (clients_held slot.old) result (clients_held slot.new) }
+{
     let Some(home) = slot.home() else {
         return codes::NO_SERVERS;
     };
-    home.servers.close(Instant(now));
+    close(home, now)
+}
+
+fn lose(home: &mut ServersHome, end: Option<(Transport, SocketAddr)>) -> i32
+    ensures { With end LosesEnd (clients_of home.old) result (clients_of home.new) }
+{
+    let Some((transport, local)) = end else {
+        return codes::BAD_ADDRESS;
+    };
+    home.servers.lose(transport, local);
     codes::OK
 }
 
@@ -57,17 +97,26 @@ pub extern "C" fn is_ice_servers_lose(
     slot: &mut ServersSlot,
     protocol: u8,
     local: &Address,
-) -> i32 {
+) -> i32
+    ensures { AtClients (With (end_of protocol local.now) LosesEnd) (clients_held slot.old) result (clients_held slot.new) }
+{
     let Some(home) = slot.home() else {
         return codes::NO_SERVERS;
     };
-    match (transport_of(protocol), socket_of(local)) {
-        (Some(transport), Some(local)) => {
-            home.servers.lose(transport, local);
-            codes::OK
-        }
-        _ => codes::BAD_ADDRESS,
+    lose(home, end_of(protocol, local))
+}
+
+// ---- the clock
+
+fn time_out(home: &mut ServersHome, now: u64, random: &[u8]) -> i32
+    ensures { TimesOutAt now random.now (clients_of home.old) result (clients_of home.new) }
+{
+    if random.len() < NEEDED {
+        return codes::TOO_FEW_RANDOM_BYTES;
     }
+    let mut given = Given { rest: random };
+    home.servers.handle_timeout(Instant(now), &mut given);
+    codes::OK
 }
 
 /// Does what is due of the client whose time comes first.
@@ -77,28 +126,20 @@ pub extern "C" fn is_ice_servers_handle_timeout(
     slot: &mut ServersSlot,
     now: u64,
     random: &[u8],
-) -> i32 {
+) -> i32
+    ensures { AtClients (TimesOutAt now random.now) (clients_held slot.old) result (clients_held slot.new) }
+{
     let Some(home) = slot.home() else {
         return codes::NO_SERVERS;
     };
-    if random.len() < NEEDED {
-        return codes::TOO_FEW_RANDOM_BYTES;
-    }
-    let mut given = Given { rest: random };
-    home.servers.handle_timeout(Instant(now), &mut given);
-    codes::OK
+    time_out(home, now, random)
 }
 
-/// The time of the next `is_ice_servers_handle_timeout` call.
-#[unsafe(no_mangle)]
-pub extern "C" fn is_ice_servers_poll_timeout(
-    alloc: Global,
-    slot: &mut ServersSlot,
-    at: &mut u64,
-) -> i32 {
-    let Some(home) = slot.home() else {
-        return codes::NO_SERVERS;
-    };
+// ---- questions
+
+fn put_next_time(home: &mut ServersHome, at: &mut u64) -> i32
+    ensures { ReturnsNextTime at.old at.new (clients_of home.old) result (clients_of home.new) }
+{
     match home.servers.poll_timeout() {
         Some(time) => {
             *at = time.0;
@@ -108,11 +149,35 @@ pub extern "C" fn is_ice_servers_poll_timeout(
     }
 }
 
-/// Whether a client waits for its first answer.
+/// The time of the next `is_ice_servers_handle_timeout` call.
 #[unsafe(no_mangle)]
-pub extern "C" fn is_ice_servers_gathering(alloc: Global, slot: &mut ServersSlot) -> i32 {
+pub extern "C" fn is_ice_servers_poll_timeout(
+    alloc: Global,
+    slot: &mut ServersSlot,
+    at: &mut u64,
+) -> i32
+    ensures polled { AtClients (ReturnsNextTime at.old at.new) (clients_held slot.old) result (clients_held slot.new) }
+    ensures without { clients_held slot.old ≡ None → at.new ≡ at.old }
+{
     let Some(home) = slot.home() else {
         return codes::NO_SERVERS;
     };
+    put_next_time(home, at)
+}
+
+fn gathering(home: &mut ServersHome) -> i32
+    ensures { ReturnsGathering (clients_of home.old) result (clients_of home.new) }
+{
     codes::found_code(home.servers.is_gathering())
+}
+
+/// Whether a client waits for its first answer.
+#[unsafe(no_mangle)]
+pub extern "C" fn is_ice_servers_gathering(alloc: Global, slot: &mut ServersSlot) -> i32
+    ensures { AtClients ReturnsGathering (clients_held slot.old) result (clients_held slot.new) }
+{
+    let Some(home) = slot.home() else {
+        return codes::NO_SERVERS;
+    };
+    gathering(home)
 }

@@ -1,15 +1,21 @@
 //! Datagrams and packets of the clients of servers.
 
-use crate::address::{address_of, socket_of};
+ghost use Rattle.std.specs.Prelude.{◌≡◌, ◌≤◌, None, length};
+ghost use Rattle.std.specs.Option.{option_map};
+ghost use Rattle.is_turn.specs.OneRelay.{arrived_view};
+ghost use Rattle.is_c.specs.ServersHeld.{AtClients, clients_held, clients_of, ends_of, pair_of};
+ghost use Rattle.is_c.specs.ServersPackets.{IsArrival, PutsArrival, TakesArrival, TakesWith, IsSent, PutsOutgoing, id_in, GoesOut, GoesOutWith, GoesOutAt, PutsPolled, GivesNext};
+
+use crate::address::address_of;
 use crate::codes;
+use crate::servers::ends::{Ends, ends_of, number_of, pair_of};
 use crate::servers::home::ServersHome;
-use crate::servers::places::place_from;
+use crate::servers::places::offset_of;
 use crate::servers::slot::ServersSlot;
-use crate::servers::transport::{number_of, transport_of};
 use crate::stun_write::write_code;
 use is_c_calls::{Address, Packet};
-use is_proto::Instant;
-use is_servers::{Datagram, ServerOutgoing, ServerPacket, Transport};
+use is_proto::{DefaultSha1HmacProvider, Instant, Sha1HmacProvider, StunError};
+use is_servers::{Datagram, ServerOutgoing, ServerPacket};
 use is_stun::stun::TransId;
 use std::alloc::Global;
 use std::net::SocketAddr;
@@ -27,31 +33,66 @@ pub struct Arrival {
     pub length: usize,
 }
 
-/// How many bytes come before the part. Of an empty part: none.
-fn offset_of(bytes: &[u8], part: &[u8]) -> Option<usize> {
-    if part.is_empty() {
-        Some(0)
-    } else {
-        place_from(bytes, part, 0)
+fn arrival_at(datagram: &Datagram<'_>, offset: usize) -> Arrival
+    ensures { IsArrival (arrived_view datagram.now) offset result }
+{
+    Arrival {
+        source: address_of(datagram.source),
+        destination: address_of(datagram.destination),
+        offset,
+        length: datagram.contents.len(),
     }
 }
 
 /// Writes what arrived, if something did.
-fn put_arrival(arrived: Option<Datagram<'_>>, bytes: &[u8], arrival: &mut Arrival) -> i32 {
+fn put_arrival(bytes: &[u8], arrived: Option<Datagram<'_>>, arrival: &mut Arrival) -> i32
+    ensures { PutsArrival bytes.now (option_map arrived_view arrived.entry) arrival.old arrival.new result }
+{
     let Some(datagram) = arrived else {
         return codes::NOTHING;
     };
     match offset_of(bytes, datagram.contents) {
         Some(offset) => {
-            *arrival = Arrival {
-                source: address_of(datagram.source),
-                destination: address_of(datagram.destination),
-                offset,
-                length: datagram.contents.len(),
-            };
+            *arrival = arrival_at(&datagram, offset);
             codes::OK
         }
         None => codes::NOTHING,
+    }
+}
+
+fn take_arrival(
+    home: &mut ServersHome,
+    now: u64,
+    ends: Ends,
+    bytes: &[u8],
+    arrival: &mut Arrival,
+) -> i32
+    ensures { TakesArrival ⟦<DefaultSha1HmacProvider as Sha1HmacProvider>⟧.mac now bytes.now arrival.old arrival.new ends (clients_of home.old)
+        result (clients_of home.new) }
+{
+    let arrived = home.servers.receive(
+        Instant(now),
+        ends.transport,
+        ends.local,
+        ends.remote,
+        bytes,
+    );
+    put_arrival(bytes, arrived, arrival)
+}
+
+fn take_with(
+    home: &mut ServersHome,
+    now: u64,
+    ends: Option<Ends>,
+    bytes: &[u8],
+    arrival: &mut Arrival,
+) -> i32
+    ensures { TakesWith ⟦<DefaultSha1HmacProvider as Sha1HmacProvider>⟧.mac now ends bytes.now arrival.old arrival.new (clients_of home.old)
+        result (clients_of home.new) }
+{
+    match ends {
+        Some(ends) => take_arrival(home, now, ends, bytes, arrival),
+        None => codes::BAD_ADDRESS,
     }
 }
 
@@ -66,21 +107,21 @@ pub extern "C" fn is_ice_servers_receive(
     destination: &Address,
     bytes: &[u8],
     arrival: &mut Arrival,
-) -> i32 {
+) -> i32
+    ensures taken { AtClients (TakesWith ⟦<DefaultSha1HmacProvider as Sha1HmacProvider>⟧.mac now (ends_of protocol destination.now source.now)
+        bytes.now arrival.old arrival.new) (clients_held slot.old) result (clients_held slot.new) }
+    ensures without { clients_held slot.old ≡ None → arrival.new ≡ arrival.old }
+{
     let Some(home) = slot.home() else {
         return codes::NO_SERVERS;
     };
-    let (Some(transport), Some(source), Some(local)) = (
-        transport_of(protocol),
-        socket_of(source),
-        socket_of(destination),
-    ) else {
-        return codes::BAD_ADDRESS;
-    };
-    let arrived = home
-        .servers
-        .receive(Instant(now), transport, local, source, bytes);
-    put_arrival(arrived, bytes, arrival)
+    take_with(
+        home,
+        now,
+        ends_of(protocol, destination, source),
+        bytes,
+        arrival,
+    )
 }
 
 // ---- packets to send
@@ -88,7 +129,9 @@ pub extern "C" fn is_ice_servers_receive(
 /// How many random bytes a call uses at most: a transaction ID.
 pub(crate) const NEEDED: usize = 12;
 
-fn reported(sent: ServerPacket) -> Packet {
+fn reported(sent: &ServerPacket) -> Packet
+    ensures { IsSent sent.now result }
+{
     Packet {
         source: address_of(sent.local),
         destination: address_of(sent.server),
@@ -100,33 +143,63 @@ fn reported(sent: ServerPacket) -> Packet {
 /// The first twelve bytes as a transaction ID.
 fn id_in(random: &[u8]) -> TransId
     requires { 12 ≤ length random.now }
+    ensures { result ≡ id_in random.now }
 {
-    let mut id = [0; 12];
+    let mut id = [0; NEEDED];
     id.copy_from_slice(&random[..NEEDED]);
     TransId(id)
 }
 
-fn send_from(
-    home: &mut ServersHome,
-    now: u64,
-    source: SocketAddr,
-    destination: SocketAddr,
-    bytes: &[u8],
-    id: &TransId,
-    buffer: &mut [u8],
-    packet: &mut Packet,
-) -> i32 {
-    match home
-        .servers
-        .outgoing(Instant(now), source, destination, bytes, id, buffer)
-    {
+fn put_outgoing(outcome: Result<ServerOutgoing, StunError>, packet: &mut Packet) -> i32
+    ensures { PutsOutgoing outcome packet.old packet.new result }
+{
+    match outcome {
         Ok(ServerOutgoing::AsItIs) => codes::NOTHING,
         Ok(ServerOutgoing::Nowhere) => codes::NO_RELAY,
         Ok(ServerOutgoing::Through(sent)) => {
-            *packet = reported(sent);
+            *packet = reported(&sent);
             codes::OK
         }
         Err(error) => write_code(error),
+    }
+}
+
+fn go_out(
+    home: &mut ServersHome,
+    now: u64,
+    pair: (SocketAddr, SocketAddr),
+    bytes: &[u8],
+    random: &[u8],
+    buffer: &mut [u8],
+    packet: &mut Packet,
+) -> i32
+    requires { 12 ≤ length random.now }
+    ensures { GoesOut now bytes.now random.now buffer.old buffer.new packet.old packet.new pair (clients_of home.old) result (clients_of home.new) }
+{
+    let id = id_in(random);
+    let outcome = home
+        .servers
+        .outgoing(Instant(now), pair.0, pair.1, bytes, &id, buffer);
+    put_outgoing(outcome, packet)
+}
+
+fn go_out_with(
+    home: &mut ServersHome,
+    now: u64,
+    pair: Option<(SocketAddr, SocketAddr)>,
+    bytes: &[u8],
+    random: &[u8],
+    buffer: &mut [u8],
+    packet: &mut Packet,
+) -> i32
+    ensures { GoesOutAt now pair bytes.now random.now buffer.old buffer.new packet.old packet.new (clients_of home.old) result (clients_of home.new) }
+{
+    if random.len() < NEEDED {
+        return codes::TOO_FEW_RANDOM_BYTES;
+    }
+    match pair {
+        Some(pair) => go_out(home, now, pair, bytes, random, buffer, packet),
+        None => codes::BAD_ADDRESS,
     }
 }
 
@@ -142,27 +215,43 @@ pub extern "C" fn is_ice_servers_outgoing(
     random: &[u8],
     buffer: &mut [u8],
     packet: &mut Packet,
-) -> i32 {
+) -> i32
+    ensures sent { AtClients (GoesOutAt now (pair_of source.now destination.now) bytes.now random.now buffer.old buffer.new packet.old packet.new)
+        (clients_held slot.old) result (clients_held slot.new) }
+    ensures without { clients_held slot.old ≡ None → (buffer.new ≡ buffer.old) × (packet.new ≡ packet.old) }
+{
     let Some(home) = slot.home() else {
         return codes::NO_SERVERS;
     };
-    if random.len() < NEEDED {
-        return codes::TOO_FEW_RANDOM_BYTES;
+    go_out_with(
+        home,
+        now,
+        pair_of(source, destination),
+        bytes,
+        random,
+        buffer,
+        packet,
+    )
+}
+
+fn put_polled(outcome: Result<Option<ServerPacket>, StunError>, packet: &mut Packet) -> i32
+    ensures { PutsPolled outcome packet.old packet.new result }
+{
+    match outcome {
+        Ok(Some(sent)) => {
+            *packet = reported(&sent);
+            codes::OK
+        }
+        Ok(None) => codes::NOTHING,
+        Err(error) => write_code(error),
     }
-    let id = id_in(random);
-    match (socket_of(source), socket_of(destination)) {
-        (Some(source), Some(destination)) => send_from(
-            home,
-            now,
-            source,
-            destination,
-            bytes,
-            &id,
-            buffer,
-            packet,
-        ),
-        _ => codes::BAD_ADDRESS,
-    }
+}
+
+fn give_next(home: &mut ServersHome, buffer: &mut [u8], packet: &mut Packet) -> i32
+    ensures { GivesNext ⟦<DefaultSha1HmacProvider as Sha1HmacProvider>⟧.mac buffer.old buffer.new packet.old packet.new (clients_of home.old) result
+        (clients_of home.new) }
+{
+    put_polled(home.servers.poll_transmit(buffer), packet)
 }
 
 /// The next packet of a client: its bytes are written to the front of the buffer. One that is longer than the buffer stays.
@@ -172,16 +261,13 @@ pub extern "C" fn is_ice_servers_poll_transmit(
     slot: &mut ServersSlot,
     buffer: &mut [u8],
     packet: &mut Packet,
-) -> i32 {
+) -> i32
+    ensures polled { AtClients (GivesNext ⟦<DefaultSha1HmacProvider as Sha1HmacProvider>⟧.mac buffer.old buffer.new packet.old packet.new)
+        (clients_held slot.old) result (clients_held slot.new) }
+    ensures without { clients_held slot.old ≡ None → (buffer.new ≡ buffer.old) × (packet.new ≡ packet.old) }
+{
     let Some(home) = slot.home() else {
         return codes::NO_SERVERS;
     };
-    match home.servers.poll_transmit(buffer) {
-        Ok(Some(sent)) => {
-            *packet = reported(sent);
-            codes::OK
-        }
-        Ok(None) => codes::NOTHING,
-        Err(error) => write_code(error),
-    }
+    give_next(home, buffer, packet)
 }

@@ -1,11 +1,16 @@
-//! Where the frames of a stream end (RFC 8656, section 12.5).
+//! The ends of the frames of a stream (RFC 8656, section 12.5).
+
+ghost use Rattle.is_servers.specs.Frames.{frame_length};
+ghost use Rattle.is_c.specs.ServerStreams.{PutsFrame};
 
 use crate::codes;
 use is_servers::{Frame, frame_length};
 
 /// Writes the length of the frame that begins a stream. NOTHING: more bytes have to come. UNPARSED: it is none.
 #[unsafe(no_mangle)]
-pub extern "C" fn is_ice_frame_length(bytes: &[u8], frame: &mut usize) -> i32 {
+pub extern "C" fn is_ice_frame_length(bytes: &[u8], frame: &mut usize) -> i32
+    ensures { PutsFrame (frame_length bytes.now) frame.old result frame.new }
+{
     match frame_length(bytes) {
         Frame::Of(length) => {
             *frame = length;

@@ -1,0 +1,91 @@
+-- `empty` makes a handle of its parameters, which owns nothing.
+use mathlib.Core.Path.{refl, sym, subst}
+use Rattle.std.specs.Prelude.{None}
+use mathlib.Core.List.{List, [], ◌∷◌, ◌++◌}
+use Rattle.std.proofs.Common.{◌<◌, ◌^◌, arith}
+use seplogic.Ra.Ura.{Ura}
+use lib.Dec.{T}
+use mir.Syntax.{ty_ptr}
+use mir.Val.{Val, vstruct, vcons, vnil, has_ty, WT}
+use base.Logic.{SProp, ent, emp}
+use base.Fml.{ftrue}
+use prog.Memory.{Memory}
+use prog.Routine.{Routine}
+use prog.Wp.{WpFn, Tables}
+use types.Logic.{Logic}
+use contract.Monad.{Fun}
+use contract.Running.{tables, tables_of}
+use sound.WpLaws.{WpFn-mono}
+use types.Kit.{Item, ‵, raw, ◌⊛◌, ◌$◌, ◌∵◌, !, qed, by, move, drop, join, split, fsplit, fjoin, fpack, feq_i, feq_l, suffices, done}
+use types.Part.{agg}
+use types.Run.{no_more, and_then, returns, enter}
+use types.ByLocal.{alloc_all, pass_all, free_all, look_at, get, sets}
+use denote.RattleType.{Valss, owns}
+use denote.Exit.{yes}
+use denote.Builtin.{RawPtr}
+use denote.RawPtr.{Ptr, ptr_val, block_ptr, null_ptr}
+use denote.Signature.{plain}
+use denote.Steps.{nothing}
+use denote.Struct.Struct.{within}
+use denote.Struct.Owning.{shape}
+use denote.Triple.Spec.{triple_of}
+use denote.Triple.Table.{entered}
+use denote.Triple.Walked.{says, Stays, stay_dropped, walk_of, ends_at, Goes-dropped, walk_Meets}
+use Rattle.core.proofs.alloc.Calls.{α, Fits, handle_tells}
+use Rattle.std_alloc.proofs.BoxSteps.Form.{box_ty, box_typed}
+use Rattle.std_alloc.proofs.ResultValues.{and_tt}
+use Rattle.std_heap.specs.contracts.Global as Heap
+use Rattle.is_c.proofs.ServersAsBox.{E}
+use Rattle.is_c.specs.contracts.servers.handle.ServersHandle as ServersHandle
+use Rattle.is_c.specs.contracts.servers.handle.ServersHandle.empty as F
+use Rattle.is_c.specs.contracts.servers.handle.ServersHandle.empty.Key.{name as #self}
+use Rattle.is_c.proofs.servers.handle.ServersHandle.empty.Statement as stated
+use Rattle.is_c.proofs.servers.handle.ServersHandle.empty.Code as code
+
+abbrev stayed : Stays (F.ended).signature.params (F.ended).kept
+stayed = (stay_dropped (plain (λ _. Heap.the_row)) yes, (stay_dropped (plain (λ _. RawPtr)) yes, tt))
+
+abbrev word_of : Ptr → Val → Val
+word_of p hv = vstruct (vcons (ptr_val p) (vcons hv vnil))
+
+zero_fits : 0 < 2 ^ 64
+zero_fits = omega arith
+
+ptr_typed : (p : Ptr) → T (has_ty ty_ptr (ptr_val p)) × WT (ptr_val p)
+ptr_typed (block_ptr b o) = (tt, tt)
+ptr_typed null_ptr = (tt, record { fits = zero_fits })
+
+word_typed : (p : Ptr) (hv : Val) → Fits E.al hv → T (has_ty (box_ty E) (word_of p hv)) × WT (word_of p hv)
+word_typed (block_ptr b o) hv fa = box_typed E hv b o fa
+word_typed null_ptr hv fa = (and_tt (has_ty (α E.al) hv) fa.0, (record { fits = zero_fits }, (fa.1, tt)))
+
+module _ {M : Type 1} {𝓤 : Ura M} (𝓛 : Logic 𝓤) (at_mem : Memory → SProp 𝓤) (run : Routine → Fun 𝓤) (𝓣 : Tables 𝓤 𝓛.H) where
+  open 𝓛 use {H}
+
+  walk : (z : (walk_of 𝓛 F.ended stayed (F.clauses 𝓛 at_mem run)).Ghost)
+      → ent 𝓤 ((walk_of 𝓛 F.ended stayed (F.clauses 𝓛 at_mem run)).pre z) (WpFn 𝓤 H 𝓣.C 𝓣.Λ code.function (z.0.4.0 ++ (z.0.4.1.0 ++ [])) ((walk_of 𝓛 F.ended stayed (F.clauses 𝓛 at_mem run)).post z))
+  walk z =
+      let Post = (walk_of 𝓛 F.ended stayed (F.clauses 𝓛 at_mem run)).post z in
+      let a = z.0.3.0 in let p : Ptr = z.0.3.1.0 in
+      let To = ServersHandle.the_row in
+      let made : To.Denot = record { ptr = p; alloc = a; home = None } in
+      qed 𝓛 ((‵ ftrue ⊛ ‵ (owns (Heap.the_row ∷ RawPtr ∷ []) (a, (p, tt)) (z.0.4.0, (z.0.4.1.0, tt)))) ∷ raw (emp 𝓤) ∷ []) ∵ split ! $ drop ! $ fsplit ! $
+      handle_tells E.al ! a z.0.4.0 (λ hv ea fa. move ! (1 ∷ []) $ fsplit ! $ feq_l ! (λ ev. drop ! $ move ! (1 ∷ []) $ drop ! $
+      let w : Val = word_of p hv in
+      let Γ : List (Item 𝓤) = ‵ (Heap.the_row.own_val a (hv ∷ [])) ∷ [] in
+      by ! (subst (λ (us : List Val). ent 𝓤 (types.Kit.⋆ 𝓛 Γ) (WpFn 𝓤 H 𝓣.C 𝓣.Λ code.function (us ++ (z.0.4.1.0 ++ [])) Post)) (sym ea)
+      (subst (λ (us : List Val). ent 𝓤 (types.Kit.⋆ 𝓛 Γ) (WpFn 𝓤 H 𝓣.C 𝓣.Λ code.function (hv ∷ (us ++ [])) Post)) (sym ev)
+      (qed 𝓛 Γ ∵ enter ! 𝓣.C 𝓣.Λ code.function (hv ∷ ptr_val p ∷ []) _ $ alloc_all ! (λ ls. pass_all ! refl (fa, (ptr_typed p, tt)) $
+      sets ! (agg ! (and_then ! (get ! refl) (and_then ! (get ! refl) (no_more !)))) refl (word_typed p hv fa) $ returns ! (look_at ! 0 refl) $ free_all ! refl $
+      nothing ! $ nothing ! $ move ! (2 ∷ 0 ∷ []) $ fjoin ! $ feq_i ! (List Val) (ptr_val p ∷ []) (ptr_val p ∷ []) refl $ fjoin ! $ feq_i ! (List Val) (w ∷ []) (w ∷ []) refl $ fjoin ! $
+      fpack ! (Valss (RawPtr ∷ (Heap.the_field).row ∷ [])) (within (shape ServersHandle.the_type) (p, (((a.memory.seal, tt), tt), tt)) (w ∷ [])) (ptr_val p ∷ [], (hv ∷ [], tt)) $ fjoin ! $
+      suffices ! _ (ends_at 𝓛 F.ended stayed (F.clauses 𝓛 at_mem run) z w made (tt, (tt, tt)) (tt, (tt, tt))) $ says ! refl $
+      nothing ! $ nothing ! $ fjoin ! $ nothing ! $ fjoin ! $ join ! $ nothing ! $ join ! $ done !))))))
+
+pub empty_spec : {M : Type 1} → stated.statement M
+unfolding tables_of
+empty_spec 𝓤 𝓛 𝓜 𝓡 wired =
+    let 𝓣 : Tables 𝓤 𝓛.H = tables_of 𝓤 𝓛.H 𝓜 (tables 𝓤 𝓛.H 𝓜 𝓡 𝓡.env) in
+    entered 𝓤 𝓛.H (triple_of 𝓛 F.signature (F.spec 𝓛 𝓜.mem 𝓡.returns)) 𝓣.C 𝓣.Λ #self code.function (code.unfolded 𝓤 𝓛.H 𝓜 𝓡 wired)
+    (walk_Meets 𝓛 F.ended stayed (Goes-dropped 𝓛 0 (plain (λ _. Heap.the_row)) yes (λ κs x f. refl), (Goes-dropped 𝓛 0 (plain (λ _. RawPtr)) yes (λ κs x f. refl), tt)) (F.clauses 𝓛 𝓜.mem 𝓡.returns) (WpFn 𝓤 𝓛.H 𝓣.C 𝓣.Λ code.function) (WpFn-mono 𝓤 𝓛.H 𝓛.laws 𝓣 code.function)
+    (walk 𝓛 𝓜.mem 𝓡.returns 𝓣))

@@ -1,0 +1,10 @@
+use Rattle.std.proofs.Common.{◌≡◌, length}
+use Rattle.is_turn.specs.AllRelays.{ChangesFirst, LosesAt}
+use Rattle.is_turn.proofs.relays.Relays.lose.Given as goal
+
+-- the clients before this place are changed
+abbrev pub invariant-loop-place : goal.invariant-loop-place
+invariant-loop-place g l = record {
+  done : ChangesFirst l.place (LosesAt l.local) l.fn.self.relays.items l.self.relays.items;
+  len : length l.self.relays.items ≡ length l.fn.self.relays.items;
+}
