@@ -168,7 +168,7 @@ def for_c(libraries, soname, number, when, deb=None):
     headers = ("../" if deb else "") + "../include"
     page = manual.is_ice(number, time.strftime("%Y-%m-%d", time.gmtime(when)))
     places = {**documents.carried(docs), **documents.placed("c", docs, "README.md", "examples/*"),
-              **documents.placed("c", f"{root}include", "is_ice.h", "is_ice.hpp", "is_ice_kit.h")}
+              **documents.placed("c", f"{root}include", "is_ice.h", "is_ice.hpp", "is_ice_kit.h", "is_ice_gather.h")}
     if deb:
         del places["CHANGELOG.md"]  # Debian's name of it is changelog.gz
     return {

@@ -46,7 +46,7 @@ def windows(library, number, when, _):
         raise Failed(f"{dll}: calls and exports differ: {sorted(exported(dll) ^ declared())}")
     docs = "share/doc/is_ice"
     places = {**documents.carried(docs), **documents.placed("c", docs, "README.md", "examples/*"),
-              **documents.placed("c", "include", "is_ice.h", "is_ice.hpp", "is_ice_kit.h")}
+              **documents.placed("c", "include", "is_ice.h", "is_ice.hpp", "is_ice_kit.h", "is_ice_gather.h")}
     package = {**documents.documents(places), **documents.others(places), **below(docs, licenses()),
                "bin/is_ice.dll": dll.read_bytes(), **below("lib", contents(folder, "libis_ice.dll.a", "is_ice.def")),
                "README.md": filled("windows.md", INTERFACE=interface())}

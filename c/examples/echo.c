@@ -42,12 +42,15 @@ static void end(struct server_session *session)
 static void begin(char *signal)
 {
     struct server_session *session = sessions;
+    is_ice_servers none = {0};
     while (session < sessions + MOST && session->user) session++;
     if (session == sessions + MOST) return;
+    struct is_ice_gather gather = {0};
+    gather.agent = &session->agent, gather.servers = &none;
     int32_t code = signal_begin(&session->agent);
     if (code == IS_ICE_OK) code = signal_add_hosts(&session->agent, &net);
     if (code == IS_ICE_OK) code = signal_print(&session->agent);
-    if (code >= 0) code = signal_take(&session->agent, signal);
+    if (code >= 0) code = signal_take(&gather, signal);
     if (code >= 0 && server_add(&server, session, net_now())) {
         session->user = &server;
         return;

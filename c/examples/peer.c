@@ -1,8 +1,8 @@
 /* Connects to another peer over UDP, and lets both users chat: a complete program around the agent. `peer -h` explains its
  * options.
  *
- * It binds a socket at each address of the machine's interfaces and queries the STUN server, if there is one. It prints its
- * signal as one line, and each later candidate as a line of its own: the other peer reads this standard output as its
+ * It binds a socket at each address of the machine's interfaces, and asks the STUN and TURN servers, if there are any. It prints
+ * its signal as one line, and each later candidate as a line of its own: the other peer reads this standard output as its
  * standard input. It reports what happens on standard error. From standard input it reads:
  *
  *     signal UFRAG PASSWORD CANDIDATE,CANDIDATE,..   the other peer's signal
@@ -21,11 +21,11 @@
 #include <string.h>
 #include <unistd.h>
 
-enum { INPUT = 16384, BURST = 64, LONGEST = 86400 };
+enum { ROOM = 16384, SENT = ROOM + 100, BURST = 64, LONGEST = 86400 };
 
 struct options {
-    const char *addresses[NET_SOCKETS], *server, *message, *capture;
-    size_t address_count;
+    const char *addresses[NET_SOCKETS], *urls[SERVERS], *username, *password, *message, *capture;
+    size_t address_count, url_count;
     bool loopback, lite, renomination, controlling;
     uint64_t patience, pacing;
 };
@@ -33,14 +33,14 @@ struct options {
 struct session {
     is_ice_agent agent;
     struct net net;
-    struct stun stun;
+    struct servers servers;
     const char *message;
     uint64_t end, next_message, timeout, not_before;
     int32_t state;
     bool has_heard, is_over, is_late;
     struct is_ice_log log;
     is_ice_counts counts;
-    char input[INPUT];
+    char input[ROOM];
     size_t input_length;
     bool input_is_over, input_is_too_long;
 };
@@ -70,20 +70,25 @@ static void stop_option(char option, const char *value, const char *why)
     exit(2);
 }
 
-/* ---- timeouts, packets and events of the agent */
+/* ---- timeouts, packets and events of the agent, and of the servers */
 
 static uint64_t least(uint64_t a, uint64_t b)
 {
     return a < b ? a : b;
 }
 
-/* Passes the current time to the agent, if it is due. If the call fails, it is repeated a little later. */
+static void draw(uint8_t *random, size_t length)
+{
+    if (!net_random(random, length)) stop("no random bytes", NULL);
+}
+
+/* Passes the current time on, if it is due. If the call fails, it is repeated a little later. */
 static void handle_timeout(struct session *s, uint64_t now)
 {
-    uint8_t random[IS_ICE_TIMEOUT_RANDOM];
+    uint8_t random[IS_ICE_GATHER_RANDOM];
     if (now < s->timeout) return;
-    if (!net_random(random, sizeof random)) stop("no random bytes", NULL);
-    int32_t code = warn("timeout", is_ice_handle_timeout(&s->agent, now, random, sizeof random));
+    draw(random, sizeof random);
+    int32_t code = warn("timeout", is_ice_gather_timeout(&s->servers.gather, now, random));
     s->not_before = code < 0 ? now + 50 * MILLISECOND : 0;
     s->timeout = code < 0 ? s->not_before : UINT64_MAX;
 }
@@ -92,19 +97,34 @@ static void handle_timeout(struct session *s, uint64_t now)
 static uint64_t next_timeout(struct session *s)
 {
     uint64_t at;
-    if (warn("next timeout", is_ice_poll_timeout(&s->agent, &at)) == IS_ICE_OK) s->timeout = at > s->not_before ? at : s->not_before;
+    int32_t code = warn("next timeout", is_ice_gather_poll_timeout(&s->servers.gather, &at));
+    if (code == IS_ICE_OK) s->timeout = at > s->not_before ? at : s->not_before;
     return s->timeout;
 }
 
 static void send_all(struct session *s)
 {
-    uint8_t buffer[1500];
+    uint8_t buffer[IS_ICE_GATHER_BUFFER], random[IS_ICE_SERVERS_RANDOM];
     is_ice_packet packet;
-    while (warn("transmit", is_ice_poll_transmit(&s->agent, buffer, sizeof buffer, &packet)) == IS_ICE_OK)
-        if (!net_send(&s->net, &packet.source, &packet.destination, buffer, packet.length)) {
-            uint32_t why = (uint32_t)s->net.lost_why;
-            warn("failed send", is_ice_send_failed(&s->agent, packet.protocol, &packet.source, &packet.destination, why));
-        }
+    for (;;) {
+        draw(random, sizeof random);
+        int32_t code = is_ice_gather_transmit(&s->servers.gather, net_now(), random, buffer, sizeof buffer, &packet);
+        if (warn("transmit", code) != IS_ICE_OK) return;
+        if (net_send_packet(&s->net, &packet, buffer)) continue;
+        uint32_t why = (uint32_t)s->net.lost_why;
+        warn("failed send", is_ice_send_failed(&s->agent, packet.protocol, &packet.source, &packet.destination, why));
+    }
+}
+
+/* Prints the candidates that the servers bring: they are found after the signal was printed. */
+static void gathered(struct session *s)
+{
+    is_ice_gathered got;
+    while (warn("servers", is_ice_gather_event(&s->servers.gather, net_now(), &got)) == IS_ICE_OK) {
+        warn("candidate of a server", got.failed);
+        for (size_t i = 0; i < got.count; i++) puts(got.lines[i]);
+        fflush(stdout);
+    }
 }
 
 static void note_all(struct session *s)
@@ -145,46 +165,39 @@ static void hear(struct session *s, const is_ice_address *from, uint8_t *bytes, 
     s->has_heard = true;
 }
 
-/* Adds the address at which the STUN server saw the socket: a candidate that is found after the signal was printed. */
-static void gathered(struct session *s, size_t index, const is_ice_address *mapped)
+static void take(struct session *s, uint8_t protocol, const is_ice_address *from, const is_ice_address *to, uint8_t *bytes, size_t length)
 {
-    size_t added;
-    is_ice_candidate candidate = {0};
-    candidate.kind = IS_ICE_SERVER_REFLEXIVE;
-    candidate.protocol = IS_ICE_UDP;
-    candidate.address = *mapped;
-    candidate.base = s->net.addresses[index];
-    if (warn("server-reflexive candidate", is_ice_add_local(&s->agent, &candidate, &added)) != IS_ICE_OK) return;
-    warn("candidate", signal_print_candidate(&s->agent, added));
+    is_ice_datagram media;
+    int32_t code = is_ice_gather_packet(&s->servers.gather, net_now(), protocol, from, to, bytes, length, &media);
+    if (code == IS_ICE_OK) note_all(s);
+    else if (code == IS_ICE_UNPARSED) hear(s, &media.source, bytes + media.offset, media.length);
+    else warn("packet", code);
+}
+
+static void take_from_stream(void *session, const is_ice_address *from, const is_ice_address *to, uint8_t *bytes, size_t length)
+{
+    take((struct session *)session, IS_ICE_TCP, from, to, bytes, length);
 }
 
 static void receive(struct session *s, size_t index)
 {
     uint8_t bytes[2048];
-    is_ice_address from, mapped;
+    is_ice_address from;
     ssize_t got;
-    for (int i = 0; i < BURST && (got = net_receive(&s->net, index, bytes, sizeof bytes, &from)) >= 0; i++) {
-        size_t length = (size_t)got;
-        if (stun_take(&s->stun, index, &from, bytes, length, &mapped)) {
-            gathered(s, index, &mapped);
-            continue;
-        }
-        const is_ice_address *to = &s->net.addresses[index];
-        is_ice_log_packet(&s->log, &s->counts, &s->agent, IS_ICE_UDP, &from, to, bytes, length);
-        int32_t code = is_ice_handle_packet(&s->agent, net_now(), IS_ICE_UDP, &from, to, bytes, length);
-        if (code == IS_ICE_OK) note_all(s);
-        else if (code == IS_ICE_UNPARSED) hear(s, &from, bytes, length);
-        else warn("packet", code);
-    }
+    for (int i = 0; i < BURST && (got = net_receive(&s->net, index, bytes, sizeof bytes, &from)) >= 0; i++)
+        take(s, IS_ICE_UDP, &from, &s->net.addresses[index], bytes, (size_t)got);
 }
 
 /* ---- lines from standard input */
 
 static void say(struct session *s, const char *text)
 {
-    is_ice_media_path path;
-    if (warn("path", is_ice_path_for_media(&s->agent, net_now(), &path)) == IS_ICE_OK)
-        net_send(&s->net, &path.source, &path.destination, text, strlen(text));
+    uint8_t buffer[SENT], random[IS_ICE_SERVERS_RANDOM];
+    is_ice_packet packet;
+    const uint8_t *bytes = (const uint8_t *)text;
+    draw(random, sizeof random);
+    int32_t code = is_ice_gather_media(&s->servers.gather, net_now(), random, bytes, strlen(text), buffer, sizeof buffer, &packet);
+    if (warn("chat", code) == IS_ICE_OK) net_send_packet(&s->net, &packet, buffer);
     else fprintf(stderr, "peer: there is no path yet: not sent\n");
 }
 
@@ -237,7 +250,7 @@ static void take_command(struct session *s, const char *line)
     if (strcmp(line, "/quit") == 0) s->is_over = true;
     else if (strcmp(line, "/stats") == 0) print_stats(s);
     else if (strcmp(line, "/pairs") == 0) print_pairs(s), is_ice_log_removed(&s->log, &s->agent, 0);
-    else if (strcmp(line, "/restart") == 0) warn("restart", signal_restart(&s->agent, NULL));
+    else if (strcmp(line, "/restart") == 0) warn("restart", signal_restart(&s->agent));
     else fprintf(stderr, "peer: %s: unknown command; there are /restart, /stats, /pairs and /quit\n", line);
 }
 
@@ -252,9 +265,9 @@ static bool begins_with_word(const char *line, const char *word)
 static void take_line(struct session *s, char *line)
 {
     line[strcspn(line, "\r")] = '\0';
-    if (begins_with_word(line, "signal")) warn("signal", signal_take(&s->agent, line + 6));
+    if (begins_with_word(line, "signal")) warn("signal", signal_take(&s->servers.gather, line + 6));
     else if (strncmp(line, "candidate:", 10) == 0 || begins_with_word(line, "candidate"))
-        warn("candidate", signal_take_candidate(&s->agent, line));
+        warn("candidate", signal_take_candidate(&s->servers.gather, line));
     else if (strncmp(line, "a=", 2) == 0) fprintf(stderr, "peer: %s: not sent; candidates begin with candidate:, without a=\n", line);
     else if (*line == '/') take_command(s, line);
     else if (*line) say(s, line);
@@ -272,7 +285,7 @@ static void take_lines(struct session *s)
     }
     s->input_length -= (size_t)(begin - s->input);
     memmove(s->input, begin, s->input_length);
-    if (s->input_length < INPUT - 1) return;
+    if (s->input_length < ROOM - 1) return;
     if (!s->input_is_too_long) fprintf(stderr, "peer: a line is too long\n");
     s->input_is_too_long = true;
     s->input_length = 0;
@@ -280,7 +293,7 @@ static void take_lines(struct session *s)
 
 static void read_input(struct session *s)
 {
-    ssize_t got = net_input(s->input + s->input_length, INPUT - 1 - s->input_length);
+    ssize_t got = net_input(s->input + s->input_length, ROOM - 1 - s->input_length);
     if (got < 0) return;
     if (got > 0) {
         s->input_length += (size_t)got;
@@ -310,6 +323,7 @@ static void wait_until(struct session *s, uint64_t until)
     if (!net_wait(&s->net, !s->input_is_over, until, ready)) stop("poll", net_error_text(net_error()));
     for (size_t i = 0; i < s->net.count; i++)
         if (ready[i]) receive(s, i);
+    servers_read(&s->servers, take_from_stream, s);
     if (ready[s->net.count]) read_input(s);
 }
 
@@ -318,12 +332,11 @@ static void run(struct session *s)
     while (!s->is_over) {
         uint64_t now = net_now();
         handle_timeout(s, now);
-        unsigned closed = stun_send(&s->stun, &s->net, now);
-        if (closed > 0) fprintf(stderr, "peer: the STUN server did not respond to %u socket%s\n", closed, closed == 1 ? "" : "s");
+        gathered(s);
         send_all(s);
         note_all(s);
         say_message(s, now);
-        uint64_t until = least(least(next_timeout(s), s->end), stun_due(&s->stun));
+        uint64_t until = least(next_timeout(s), s->end);
         wait_until(s, s->message && has_path(s) ? least(until, s->next_message) : until);
         if (net_now() < s->end) continue;
         s->is_over = true;
@@ -333,6 +346,16 @@ static void run(struct session *s)
 
 /* ---- starting */
 
+/* Without a scheme it is a STUN server. */
+static void add_server(struct session *s, const char *url)
+{
+    char text[512];
+    const char *why = "too long";
+    bool has_scheme = strncmp(url, "stun", 4) == 0 || strncmp(url, "turn", 4) == 0;
+    int length = snprintf(text, sizeof text, "%s%s", has_scheme ? "" : "stun:", url);
+    if (length >= (int)sizeof text || !servers_add(&s->servers, text, &why)) stop_option('s', url, why);
+}
+
 static void begin_sockets(struct session *s, const struct options *o)
 {
     const char *why;
@@ -341,12 +364,7 @@ static void begin_sockets(struct session *s, const struct options *o)
         if (!net_bind(&s->net, o->addresses[i], &why)) stop_option('a', o->addresses[i], why);
     if (o->address_count == 0) net_bind_all(&s->net, o->loopback);
     if (s->net.count == 0) stop("no interface has an address (-l also takes loopback addresses)", NULL);
-    if (o->server) {
-        is_ice_address servers[2];
-        size_t count = net_resolve(o->server, "3478", servers, &why);
-        if (count == 0) stop_option('s', o->server, why);
-        if (!stun_begin(&s->stun, &s->net, servers, count, net_now())) stop("no random bytes", NULL);
-    }
+    for (size_t i = 0; i < o->url_count; i++) add_server(s, o->urls[i]);
 }
 
 static void begin_agent(struct session *s, const struct options *o)
@@ -359,11 +377,16 @@ static void begin_agent(struct session *s, const struct options *o)
     if (code == IS_ICE_OK && o->pacing) code = is_ice_set_timing_advance(&s->agent, o->pacing);
     if (code == IS_ICE_OK) code = signal_add_hosts(&s->agent, &s->net);
     if (code == IS_ICE_OK) code = signal_print(&s->agent);
+    s->servers.username = o->username, s->servers.password = o->password;
+    s->servers.gather.log = &s->log, s->servers.gather.counts = &s->counts;
+    if (code >= 0) code = servers_begin(&s->servers, &s->agent, &s->net);
+    if (code == IS_ICE_OK) code = servers_bind(&s->servers, &s->net);
     if (code < 0) stop("agent", is_ice_code_text(code));
 }
 
 static const char usage[] =
-    "peer [-h] [-l] [-a ADDRESS].. [-s SERVER[:PORT]] [-L] [-r] [-p MILLISECONDS] [-m TEXT] [-t SECONDS] [-w FILE] controlling|controlled";
+    "peer [-h] [-l] [-a ADDRESS].. [-s URL].. [-u USER] [-k PASSWORD] [-L] [-r] [-p MILLISECONDS] [-m TEXT] [-t SECONDS] [-w FILE]"
+    " controlling|controlled";
 
 static const char help[] =
     "Connects to another peer over UDP, and lets both users chat.\n"
@@ -375,13 +398,16 @@ static const char help[] =
     "  -a ADDRESS          binds a socket at this IP address of the machine, at most %d times;\n"
     "                      without -a: at each address of its interfaces\n"
     "  -l                  without -a: at loopback addresses too\n"
-    "  -s SERVER[:PORT]    queries this STUN server for the sockets' public addresses; port 3478\n"
+    "  -s URL              asks a STUN server for the sockets' public addresses, or a TURN server for relayed ones, as\n"
+    "                      stun:stun.example.org, turn:192.0.2.1:3478?transport=tcp; at most %d servers\n"
+    "  -u USER             the user name for TURN servers\n"
+    "  -k PASSWORD         the password for it\n"
     "  -L                  runs as a lite agent, which has to be controlled\n"
     "  -r                  lets each nomination replace the ones before, if the other peer has it too\n"
     "  -p MILLISECONDS     the pacing interval Ta: one check in this time, or sooner after a packet; without -p: 50\n"
     "  -m TEXT             sends TEXT until chat was received, and ends a second later\n"
     "  -t SECONDS          ends with status 1 after this time, at most %d\n"
-    "  -w FILE             writes what is sent and received as a capture for Wireshark (pcap)\n"
+    "  -w FILE             writes what is sent and received over UDP as a capture for Wireshark (pcap)\n"
     "  -h                  prints this text\n"
     "\n"
     "Standard output is for the other peer's standard input. Standard input takes these lines:\n"
@@ -417,15 +443,20 @@ static void read_options(struct options *o, int count, char **words)
 {
     int option;
     o->patience = UINT64_MAX;
-    while ((option = getopt(count, words, "hla:s:Lrp:m:t:w:")) != -1) {
+    while ((option = getopt(count, words, "hla:s:u:k:Lrp:m:t:w:")) != -1) {
         switch (option) {
-        case 'h': printf(help, usage, (int)NET_SOCKETS, (int)LONGEST); exit(0);
+        case 'h': printf(help, usage, (int)NET_SOCKETS, (int)SERVERS, (int)LONGEST); exit(0);
         case 'l': o->loopback = true; break;
         case 'a':
             if (o->address_count == NET_SOCKETS) stop_option('a', optarg, "too many addresses");
             o->addresses[o->address_count++] = optarg;
             break;
-        case 's': o->server = optarg; break;
+        case 's':
+            if (o->url_count == SERVERS) stop_option('s', optarg, "too many servers");
+            o->urls[o->url_count++] = optarg;
+            break;
+        case 'u': o->username = optarg; break;
+        case 'k': o->password = optarg; break;
         case 'L': o->lite = true; break;
         case 'r': o->renomination = true; break;
         case 'p': o->pacing = pacing(optarg); break;
@@ -447,16 +478,17 @@ int main(int count, char **words)
     struct options options = {0};
     if (is_ice_version() != IS_ICE_VERSION) stop("is_ice.h belongs to another library", NULL);
     read_options(&options, count, words);
+    session.log.line = print_line;
     begin_sockets(&session, &options);
     begin_agent(&session, &options);
     session.message = options.message;
-    session.log.line = print_line;
     session.end = options.patience == UINT64_MAX ? UINT64_MAX : net_now() + options.patience;
     run(&session);
     if (session.net.lost > 0)
-        fprintf(stderr, "peer: %llu datagrams could not be sent: %s\n", (unsigned long long)session.net.lost,
+        fprintf(stderr, "peer: %llu packets could not be sent: %s\n", (unsigned long long)session.net.lost,
                 net_error_text(session.net.lost_why));
     if (!pcap_close(&session.net.pcap)) fprintf(stderr, "peer: -w %s: not all could be written\n", options.capture);
+    servers_end(&session.servers, &session.net);
     is_ice_agent_free(&session.agent);
     net_close(&session.net);
     return session.is_late ? 1 : 0;

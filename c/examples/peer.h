@@ -2,7 +2,7 @@
 #ifndef PEER_H
 #define PEER_H
 
-#include "is_ice_kit.h"
+#include "is_ice_gather.h"
 #include <stdio.h>
 #include <sys/types.h>
 
@@ -27,17 +27,29 @@ bool pcap_close(struct pcap *pcap);
 
 /* ---- peer_net.c: clock, random bytes, sockets, addresses and standard input of the machine */
 
-enum { NET_SOCKETS = 16 };
+enum { NET_SOCKETS = 16, NET_STREAMS = 16, NET_ALL = NET_SOCKETS + NET_STREAMS };
+
+/* A TCP connection to a TURN server. All zero: there is none. */
+struct stream {
+    intptr_t socket;
+    is_ice_address local, server;
+    uint8_t *in, *out;         /* what came and what is to be sent, of STREAM_ROOM bytes each */
+    size_t in_start, in_end, out_end;
+    bool is_open, is_broken;
+};
+
+enum { STREAM_ROOM = 2 * IS_ICE_FRAME_LENGTH };
 
 /* The sockets, one at each local address. */
 struct net {
     size_t count;
     intptr_t sockets[NET_SOCKETS];
     is_ice_address addresses[NET_SOCKETS];
-    uint64_t lost; /* datagrams that could not be sent */
+    struct stream *streams; /* NET_STREAMS connections, or null: there are none */
+    uint64_t lost; /* packets that could not be sent */
     int lost_why;  /* the error of the last one */
     uint64_t look; /* when net_move looks at the machine's addresses next */
-    struct pcap pcap; /* what was sent and received, if it is captured */
+    struct pcap pcap; /* what was sent and received over UDP, if it is captured */
 };
 
 /* The current time, of the system's monotonic clock. */
@@ -62,8 +74,8 @@ void net_close(struct net *net);
  * seconds: at those of the interfaces, or only at this address, unless it is NULL. */
 bool net_move(struct net *net, uint64_t now, const char *only);
 
-/* Waits until this time for a datagram, and for standard input if `input` is true. ready[i]: the socket i may have something to read;
- * ready[net->count]: standard input has. Returns false, with an error, if waiting fails. */
+/* Waits until this time for a datagram, for the connections, and for standard input if `input` is true. ready[i]: the socket i may have
+ * something to read; ready[net->count]: standard input has. Returns false, with an error, if waiting fails. */
 bool net_wait(const struct net *net, bool input, uint64_t until, bool ready[NET_SOCKETS + 1]);
 
 /* Reads what standard input has, and waits if it has nothing. Returns the length, 0 at its end, or -1 to try again. Programs that call
@@ -73,12 +85,23 @@ ssize_t net_input(void *bytes, size_t size);
 /* Reads the next line by it, and cuts one that is too long. Returns false if there is none. */
 bool net_line(char *line, size_t size);
 
-/* Resolves a server, as "stun.example.org:3478", "192.0.2.1" or "[2001:db8::1]:3478", to at most one address of each IP
- * version. Returns their number; if it is 0, *why is a text that says why. */
-size_t net_resolve(const char *server, const char *port, is_ice_address found[2], const char **why);
+/* Resolves a name or an IP address to at most one address of each IP version. Returns their number; if it is 0, *why is a text that
+ * says why. */
+size_t net_resolve(const char *host, uint16_t port, is_ice_address found[2], const char **why);
 
 /* Sends a datagram from the socket at this address. False: it could not be sent, and counts as lost. */
 bool net_send(struct net *net, const is_ice_address *from, const is_ice_address *to, const void *bytes, size_t length);
+
+/* Sends a packet: over UDP by that, over TCP by the connection that it names, in its turn. */
+bool net_send_packet(struct net *net, const is_ice_packet *packet, const void *bytes);
+
+/* Opens a connection from this local IP address to a server. Returns it before it is connected, or null, with an error. */
+struct stream *net_connect(struct net *net, const is_ice_address *local, const is_ice_address *server);
+void net_disconnect(struct stream *stream);
+
+/* Reads from a connection. Returns the next frame, which is there until the next call, and its length; or null: none is whole yet. If the
+ * connection is broken, is_broken is true afterwards. */
+uint8_t *net_frame(struct stream *stream, size_t *length);
 
 /* Reads a datagram from a socket. Returns its length, or -1 if there is none. */
 ssize_t net_receive(struct net *net, size_t index, void *bytes, size_t size, is_ice_address *from);
@@ -86,33 +109,40 @@ ssize_t net_receive(struct net *net, size_t index, void *bytes, size_t size, is_
 /* Replaces control characters, for a terminal, and returns the bytes. */
 const char *net_printable(uint8_t *bytes, size_t length);
 
-/* ---- peer_stun.c: a STUN client (RFC 8489) that finds the public addresses of the sockets */
+/* ---- peer_servers.c: STUN and TURN servers, for each socket, and over TCP */
 
-/* A transaction of one socket with the server of its IP version. */
-struct stun_transaction {
-    bool is_open;
-    is_ice_stun_transaction id;
-    unsigned sent;
-    uint64_t due;
-    is_ice_address server;
+enum { SERVERS = 32 };
+
+/* All zero at first. */
+struct servers {
+    struct is_ice_gather gather;
+    is_ice_servers clients;
+    is_ice_server list[SERVERS];
+    size_t count;
+    const char *username, *password; /* those of all TURN servers; null: none */
+    is_ice_address sockets[NET_SOCKETS]; /* those that have clients */
+    size_t socket_count;
+    struct stream streams[NET_STREAMS];
 };
 
-struct stun {
-    struct stun_transaction transactions[NET_SOCKETS];
-};
+/* Adds the server of a URL, as "stun:stun.example.org" or "turn:192.0.2.1:3478?transport=tcp", and resolves its name. Returns false if
+ * that fails; *why is a text that says why. */
+bool servers_add(struct servers *servers, const char *url, const char **why);
 
-/* Opens a transaction for each socket whose IP version a server has. Returns false if the system has no random bytes. */
-bool stun_begin(struct stun *stun, const struct net *net, const is_ice_address *servers, size_t count, uint64_t now);
+/* Makes the clients of an agent, and lets the program wait for the connections, too. */
+int32_t servers_begin(struct servers *servers, is_ice_agent *agent, struct net *net);
 
-/* Sends the requests that are due, and closes the transactions that got no response. Returns how many it closed. */
-unsigned stun_send(struct stun *stun, struct net *net, uint64_t now);
+/* Adds clients for each socket, and opens the connections, in place of those of the sockets before. */
+int32_t servers_bind(struct servers *servers, struct net *net);
 
-/* The time at which to call stun_send next, or UINT64_MAX if no transaction is open. */
-uint64_t stun_due(const struct stun *stun);
+/* Takes frames of a connection. */
+typedef void take_frame(void *user, const is_ice_address *from, const is_ice_address *to, uint8_t *bytes, size_t length);
 
-/* Takes a datagram that this socket received. If it is the response to the socket's open transaction, closes that, writes
- * the address that the server saw to *mapped, and returns true. */
-bool stun_take(struct stun *stun, size_t index, const is_ice_address *from, const uint8_t *bytes, size_t length, is_ice_address *mapped);
+/* Reads all connections. What is broken is closed, and its client ends. */
+void servers_read(struct servers *servers, take_frame *take, void *user);
+
+/* Frees the allocations at the servers, for half a second at most, and then the clients. */
+void servers_end(struct servers *servers, struct net *net);
 
 /* ---- peer_signal.c: signaling, one line for each message */
 
@@ -128,16 +158,18 @@ int32_t signal_begin(is_ice_agent *agent);
 /* Adds the address of each socket as a host candidate. */
 int32_t signal_add_hosts(is_ice_agent *agent, const struct net *net);
 
-/* Makes an ICE restart with new credentials, and prints the signal. With `net` its sockets become the only candidates; if it is
- * NULL the candidates stay. */
-int32_t signal_restart(is_ice_agent *agent, const struct net *net);
+/* Makes an ICE restart with new credentials. With `net` its sockets become the only candidates; if it is NULL the candidates stay. */
+int32_t signal_renew(is_ice_agent *agent, const struct net *net);
+
+/* The same, whose candidates stay, and prints the signal. */
+int32_t signal_restart(is_ice_agent *agent);
 
 /* Takes the other peer's signal: the text after the word "signal". New credentials mean an ICE restart of the other peer;
  * then this one restarts too, and prints its new signal. A malformed signal is reported on standard error. */
-int32_t signal_take(is_ice_agent *agent, char *text);
+int32_t signal_take(struct is_ice_gather *gather, char *text);
 
 /* Takes one candidate of the other peer. A malformed one is reported on standard error and left out. So is one with an mDNS
  * name instead of an address: its address is discovered from the other peer's checks. */
-int32_t signal_take_candidate(is_ice_agent *agent, const char *line);
+int32_t signal_take_candidate(struct is_ice_gather *gather, const char *line);
 
 #endif

@@ -36,48 +36,21 @@ const char *net_printable(uint8_t *bytes, size_t length)
     return (const char *)bytes;
 }
 
-/* A port from 1 to 65535, in decimal digits. getaddrinfo would cut a greater one. */
-static bool is_port(const char *text)
+size_t net_resolve(const char *host, uint16_t port, is_ice_address found[2], const char **why)
 {
-    size_t length = strlen(text);
-    return length >= 1 && length <= 5 && strspn(text, "0123456789") == length && atoi(text) >= 1 && atoi(text) <= 65535;
-}
-
-/* Splits "HOST", "HOST:PORT", "[IPV6]" or "[IPV6]:PORT". An IPv6 address without brackets is a host. */
-static bool split_server(const char *server, char *host, size_t size, const char **port, const char **why)
-{
-    const char *end = strchr(server, ':');
-    if (server[0] == '[') {
-        end = strchr(server++, ']');
-        *why = "not [IPV6] or [IPV6]:PORT";
-        if (!end || (end[1] && end[1] != ':')) return false;
-    } else if (!end || strchr(end + 1, ':')) {
-        end = server + strlen(server);
-    }
-    size_t length = (size_t)(end - server);
-    *why = "the name is empty or too long";
-    if (length == 0 || length >= size) return false;
-    memcpy(host, server, length);
-    host[length] = '\0';
-    if (*end == ']') end++;
-    if (*end == ':') *port = end + 1;
-    *why = "the port is not a number from 1 to 65535";
-    return is_port(*port);
-}
-
-size_t net_resolve(const char *server, const char *port, is_ice_address found[2], const char **why)
-{
-    char host[256];
-    if (!split_server(server, host, sizeof host, &port, why)) return 0;
-
     struct addrinfo hints = {0}, *list = NULL;
     hints.ai_socktype = SOCK_DGRAM;
-    int error = getaddrinfo(host, port, &hints, &list);
+    *why = "this system has no sockets";
+    if (!sockets_begin()) return 0;
+    int error = getaddrinfo(host, NULL, &hints, &list);
     *why = gai_strerror(error);
     if (error != 0) return 0;
     size_t count = 0;
-    for (const struct addrinfo *at = list; at && count < 2; at = at->ai_next)
-        if (is_ice_from_sockaddr(at->ai_addr, &found[count]) && (count == 0 || found[0].family != found[1].family)) count++;
+    for (const struct addrinfo *at = list; at && count < 2; at = at->ai_next) {
+        bool is_one = is_ice_from_sockaddr(at->ai_addr, &found[count]) && (count == 0 || found[0].family != found[1].family);
+        found[count].port = port;
+        if (is_one) count++;
+    }
     freeaddrinfo(list);
     *why = "it has neither an IPv4 nor an IPv6 address";
     return count;
@@ -85,23 +58,28 @@ size_t net_resolve(const char *server, const char *port, is_ice_address found[2]
 
 /* ---- sockets */
 
-/* Binds a socket at this address; the system chooses the port. */
-static bool bind_at(struct net *net, const is_ice_address *address)
+/* A socket of this type at this IP address; the system chooses the port. *bound is its address. Below 0: there is none. */
+static intptr_t open_at(const is_ice_address *address, int type, is_ice_address *bound)
 {
     struct sockaddr_storage own;
     socklen_t size = is_ice_to_sockaddr(address, &own);
     const int on = 1;
-    if (net->count == NET_SOCKETS) return false;
-    intptr_t s = socket_open(own.ss_family);
-    if (s < 0) return false;
+    intptr_t s = socket_open(own.ss_family, type);
+    if (s < 0) return s;
     bool ok = own.ss_family != AF_INET6 || setsockopt(s, IPPROTO_IPV6, IPV6_V6ONLY, (const char *)&on, sizeof on) == 0;
     ok = ok && bind(s, (struct sockaddr *)&own, size) == 0 && getsockname(s, (struct sockaddr *)&own, &size) == 0;
-    if (!ok || !is_ice_from_sockaddr((struct sockaddr *)&own, &net->addresses[net->count])) {
-        socket_close(s);
-        return false;
-    }
-    net->sockets[net->count++] = s;
-    return true;
+    if (ok && is_ice_from_sockaddr((struct sockaddr *)&own, bound)) return s;
+    socket_close(s);
+    return -1;
+}
+
+/* Binds a socket at this address; the system chooses the port. */
+static bool bind_at(struct net *net, const is_ice_address *address)
+{
+    if (net->count == NET_SOCKETS) return false;
+    intptr_t s = open_at(address, SOCK_DGRAM, &net->addresses[net->count]);
+    if (s >= 0) net->sockets[net->count++] = s;
+    return s >= 0;
 }
 
 /* 0.0.0.0 or ::, which stands for all addresses and so is none that the other peer can reach. */
@@ -179,7 +157,19 @@ bool net_move(struct net *net, uint64_t now, const char *only)
 bool net_wait(const struct net *net, bool input, uint64_t until, bool ready[NET_SOCKETS + 1])
 {
     uint64_t now = net_now(), left = until > now ? (until - now + MILLISECOND - 1) / MILLISECOND : 0;
-    return system_wait(net->sockets, net->count, input, left < INT_MAX ? (int)left : INT_MAX, ready);
+    intptr_t all[NET_ALL];
+    bool writes[NET_ALL] = {false}, some[NET_ALL + 1];
+    size_t count = net->count;
+    memcpy(all, net->sockets, sizeof net->sockets);
+    for (size_t i = 0; net->streams && i < NET_STREAMS; i++) {
+        if (!net->streams[i].is_open) continue;
+        writes[count] = net->streams[i].out_end > 0;
+        all[count++] = net->streams[i].socket;
+    }
+    if (!system_wait(all, writes, count, input, left < INT_MAX ? (int)left : INT_MAX, some)) return false;
+    memcpy(ready, some, net->count);
+    ready[net->count] = some[count];
+    return true;
 }
 
 ssize_t net_input(void *bytes, size_t size)
@@ -219,4 +209,76 @@ ssize_t net_receive(struct net *net, size_t index, void *bytes, size_t size, is_
     if (got < 0 || !is_ice_from_sockaddr((struct sockaddr *)&name, from)) return -1;
     pcap_write(&net->pcap, from, &net->addresses[index], bytes, (size_t)got);
     return got;
+}
+
+/* ---- connections */
+
+struct stream *net_connect(struct net *net, const is_ice_address *local, const is_ice_address *server)
+{
+    struct stream *stream = net->streams;
+    struct sockaddr_storage name;
+    socklen_t size = is_ice_to_sockaddr(server, &name);
+    is_ice_address own = *local;
+    while (stream < net->streams + NET_STREAMS && stream->is_open) stream++;
+    if (stream == net->streams + NET_STREAMS) return NULL;
+    own.port = 0;
+    memset(stream, 0, sizeof *stream);
+    stream->socket = open_at(&own, SOCK_STREAM, &stream->local);
+    if (stream->socket < 0) return NULL;
+    stream->is_open = true;
+    stream->server = *server;
+    stream->in = (uint8_t *)malloc(STREAM_ROOM), stream->out = (uint8_t *)malloc(STREAM_ROOM);
+    if (stream->in && stream->out && (connect(stream->socket, (struct sockaddr *)&name, size) == 0 || socket_waits())) return stream;
+    net_disconnect(stream);
+    return NULL;
+}
+
+void net_disconnect(struct stream *stream)
+{
+    if (stream->is_open) socket_close(stream->socket);
+    free(stream->in), free(stream->out);
+    memset(stream, 0, sizeof *stream);
+}
+
+/* Sends what the connection takes now. */
+static void flush(struct stream *stream)
+{
+    if (stream->out_end == 0) return;
+    ssize_t sent = send(stream->socket, (const char *)stream->out, stream->out_end, NO_SIGNAL);
+    if (sent < 0 && !socket_waits()) stream->is_broken = true;
+    if (sent <= 0) return;
+    stream->out_end -= (size_t)sent;
+    memmove(stream->out, stream->out + sent, stream->out_end);
+}
+
+bool net_send_packet(struct net *net, const is_ice_packet *packet, const void *bytes)
+{
+    if (packet->protocol == IS_ICE_UDP) return net_send(net, &packet->source, &packet->destination, bytes, packet->length);
+    struct stream *stream = net->streams, *end = net->streams ? net->streams + NET_STREAMS : NULL;
+    while (stream < end && !(stream->is_open && is_ice_same_address(&stream->local, &packet->source))) stream++;
+    if (stream == end || stream->out_end + packet->length > STREAM_ROOM) return net->lost++, false; /* as a full buffer over UDP */
+    if (!is_ice_same_address(&stream->server, &packet->destination)) return stream->is_broken = true, false; /* another server */
+    memcpy(stream->out + stream->out_end, bytes, packet->length);
+    stream->out_end += packet->length;
+    flush(stream);
+    return true;
+}
+
+uint8_t *net_frame(struct stream *stream, size_t *length)
+{
+    flush(stream);
+    for (;;) {
+        uint8_t *start = stream->in + stream->in_start;
+        size_t there = stream->in_end - stream->in_start;
+        int32_t code = is_ice_frame_length(start, there, length);
+        if (code == IS_ICE_UNPARSED) stream->is_broken = true;
+        if (stream->is_broken) return NULL;
+        if (code == IS_ICE_OK && *length <= there) return stream->in_start += *length, start;
+        memmove(stream->in, start, there);
+        stream->in_start = 0, stream->in_end = there;
+        ssize_t got = recv(stream->socket, (char *)stream->in + there, STREAM_ROOM - there, 0);
+        if (got == 0 || (got < 0 && !socket_waits())) stream->is_broken = true;
+        if (got <= 0) return NULL;
+        stream->in_end += (size_t)got;
+    }
 }

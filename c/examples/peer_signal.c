@@ -42,13 +42,18 @@ int32_t signal_add_hosts(is_ice_agent *agent, const struct net *net)
     return code < 0 ? code : IS_ICE_OK;
 }
 
-int32_t signal_restart(is_ice_agent *agent, const struct net *net)
+int32_t signal_renew(is_ice_agent *agent, const struct net *net)
 {
     struct creds creds;
     int32_t code = draw(&creds);
     if (code != IS_ICE_OK) return code;
     code = is_ice_restart(agent, creds.ufrag, sizeof creds.ufrag, creds.pass, sizeof creds.pass, net == NULL);
-    if (code == IS_ICE_OK && net) code = signal_add_hosts(agent, net);
+    return code == IS_ICE_OK && net ? signal_add_hosts(agent, net) : code;
+}
+
+int32_t signal_restart(is_ice_agent *agent)
+{
+    int32_t code = signal_renew(agent, NULL);
     return code == IS_ICE_OK ? signal_print(agent) : code;
 }
 
@@ -92,7 +97,7 @@ static char *word(char **rest, const char *ends)
     return begin;
 }
 
-int32_t signal_take_candidate(is_ice_agent *agent, const char *line)
+int32_t signal_take_candidate(struct is_ice_gather *gather, const char *line)
 {
     uint8_t name[LINE], why[LINE];
     size_t length, added;
@@ -101,7 +106,7 @@ int32_t signal_take_candidate(is_ice_agent *agent, const char *line)
         fprintf(stderr, "peer: left out a candidate with an mDNS name: %s\n", line);
         return IS_ICE_NOTHING;
     }
-    int32_t code = is_ice_add_remote(agent, text, strlen(line), &added);
+    int32_t code = is_ice_gather_remote(gather, net_now(), text, strlen(line), &added);
     if (code == IS_ICE_BAD_CANDIDATE && is_ice_line_refusal(text, strlen(line), why, sizeof why, &length) == IS_ICE_OK)
         fprintf(stderr, "peer: %.*s\n", (int)length, (const char *)why);
     else if (code == IS_ICE_BAD_CANDIDATE || code == IS_ICE_NOT_UTF8)
@@ -122,17 +127,18 @@ static int32_t known(is_ice_agent *agent, const char *ufrag)
     return length == strlen(ufrag) && memcmp(before, ufrag, length) == 0 ? IS_ICE_OK : IS_ICE_HAS_AGENT;
 }
 
-int32_t signal_take(is_ice_agent *agent, char *text)
+int32_t signal_take(struct is_ice_gather *gather, char *text)
 {
+    is_ice_agent *agent = gather->agent;
     const char *ufrag = word(&text, " \t"), *pass = ufrag ? word(&text, " \t") : NULL, *line;
     if (!pass) {
         fprintf(stderr, "peer: malformed signal; it is: signal UFRAG PASSWORD CANDIDATE,CANDIDATE,..\n");
         return IS_ICE_NOTHING;
     }
     int32_t code = known(agent, ufrag);
-    if (code == IS_ICE_HAS_AGENT) code = signal_restart(agent, NULL);
+    if (code == IS_ICE_HAS_AGENT) code = signal_restart(agent);
     if (code == IS_ICE_NOTHING)
         code = is_ice_set_remote_credentials(agent, (const uint8_t *)ufrag, strlen(ufrag), (const uint8_t *)pass, strlen(pass));
-    while (code >= 0 && (line = word(&text, ",")) != NULL) code = signal_take_candidate(agent, line);
+    while (code >= 0 && (line = word(&text, ",")) != NULL) code = signal_take_candidate(gather, line);
     return code;
 }

@@ -1,5 +1,5 @@
-/* What peer_net.c needs of the system: a clock, random bytes, UDP sockets that do not block, the addresses of the interfaces, and to wait
- * for datagrams and for standard input. First for POSIX, then the same for Windows. A socket is a number; -1 is none. */
+/* What peer_net.c needs of the system: a clock, random bytes, sockets that do not block, the addresses of the interfaces, and to wait
+ * for datagrams, connections and standard input. First for POSIX, then the same for Windows. A socket is a number; -1 is none. */
 #ifndef SOCKETS_H
 #define SOCKETS_H
 
@@ -61,13 +61,25 @@ static void socket_close(intptr_t s)
     errno = why;
 }
 
-static intptr_t socket_open(int family)
+static intptr_t socket_open(int family, int type)
 {
-    int s = socket(family, SOCK_DGRAM, 0);
+    int s = socket(family, type, 0);
     if (s < 0 || (fcntl(s, F_SETFD, FD_CLOEXEC) == 0 && fcntl(s, F_SETFL, O_NONBLOCK) == 0)) return s;
     socket_close(s);
     return -1;
 }
+
+/* Whether the last error only says that the socket is not ready: not connected yet, or its buffer is full or empty. */
+static bool socket_waits(void)
+{
+    return errno == EAGAIN || errno == EWOULDBLOCK || errno == EINPROGRESS || errno == ENOTCONN || errno == EINTR;
+}
+
+#ifdef MSG_NOSIGNAL
+enum { NO_SIGNAL = MSG_NOSIGNAL };
+#else
+enum { NO_SIGNAL = 0 };
+#endif
 
 static bool each_address(struct net *net, take_address *take)
 {
@@ -79,15 +91,15 @@ static bool each_address(struct net *net, take_address *take)
     return true;
 }
 
-/* Waits for a datagram, and for standard input if `input` is true, at most so long. ready[i]: this socket may have one; ready[count]:
- * standard input has something to read. */
-static bool system_wait(const intptr_t *sockets, size_t count, bool input, int milliseconds, bool ready[NET_SOCKETS + 1])
+/* Waits for these sockets, at most NET_ALL, and for standard input if `input` is true, at most so long. ready[i]: this socket may have
+ * something to read, or room if `writes` is true of it; ready[count]: standard input has something to read. */
+static bool system_wait(const intptr_t *sockets, const bool *writes, size_t count, bool input, int milliseconds, bool *ready)
 {
-    struct pollfd waits[NET_SOCKETS + 1];
+    struct pollfd waits[NET_ALL + 1];
     memset(waits, 0, sizeof waits);
     for (size_t i = 0; i <= count; i++) {
         waits[i].fd = i < count ? (int)sockets[i] : input ? STDIN_FILENO : -1;
-        waits[i].events = POLLIN;
+        waits[i].events = i < count && writes[i] ? POLLIN | POLLOUT : POLLIN;
     }
     int found = poll(waits, (nfds_t)count + 1, milliseconds);
     for (size_t i = 0; i <= count; i++) ready[i] = found > 0 && waits[i].revents != 0;
@@ -137,16 +149,17 @@ static const char *system_error_text(int error)
     return length > 0 ? text : "an error without a text";
 }
 
-static HANDLE datagrams; /* an event: a socket got a datagram */
+static HANDLE arrived; /* an event: a socket got something, or has room again */
+enum { NO_SIGNAL = 0 };
 
 static bool sockets_begin(void)
 {
     WSADATA data;
-    if (datagrams) return true;
+    if (arrived) return true;
     int error = WSAStartup(MAKEWORD(2, 2), &data);
-    if (error == 0) datagrams = CreateEvent(NULL, TRUE, FALSE, NULL);
+    if (error == 0) arrived = CreateEvent(NULL, TRUE, FALSE, NULL);
     else WSASetLastError(error);
-    return datagrams != NULL;
+    return arrived != NULL;
 }
 
 static void socket_close(intptr_t s)
@@ -156,16 +169,22 @@ static void socket_close(intptr_t s)
     WSASetLastError(why);
 }
 
-static intptr_t socket_open(int family)
+static intptr_t socket_open(int family, int type)
 {
     BOOL reports = FALSE; /* that nobody received a datagram: it would make a later recvfrom fail */
     DWORD size;
-    SOCKET s = socket(family, SOCK_DGRAM, 0);
+    SOCKET s = socket(family, type, 0);
     if (s == INVALID_SOCKET) return -1;
-    WSAIoctl(s, SIO_UDP_CONNRESET, &reports, sizeof reports, NULL, 0, &size, NULL, NULL);
-    if (WSAEventSelect(s, datagrams, FD_READ) == 0) return (intptr_t)s; /* from now on it does not block */
+    if (type == SOCK_DGRAM) WSAIoctl(s, SIO_UDP_CONNRESET, &reports, sizeof reports, NULL, 0, &size, NULL, NULL);
+    if (WSAEventSelect(s, arrived, FD_READ | FD_WRITE | FD_CONNECT | FD_CLOSE) == 0) return (intptr_t)s; /* it blocks no longer */
     socket_close((intptr_t)s);
     return -1;
+}
+
+static bool socket_waits(void)
+{
+    int error = WSAGetLastError();
+    return error == WSAEWOULDBLOCK || error == WSAEINPROGRESS || error == WSAENOTCONN || error == WSAEINTR;
 }
 
 static bool each_address(struct net *net, take_address *take)
@@ -215,14 +234,14 @@ static bool input_begin(void)
     return thread && CloseHandle(thread);
 }
 
-static bool system_wait(const intptr_t *sockets, size_t count, bool input, int milliseconds, bool ready[NET_SOCKETS + 1])
+static bool system_wait(const intptr_t *sockets, const bool *writes, size_t count, bool input, int milliseconds, bool *ready)
 {
-    (void)sockets;
+    (void)sockets, (void)writes;
     bool has_input = input && input_begin();
-    const HANDLE events[2] = {datagrams, input_read.is_there};
+    const HANDLE events[2] = {arrived, input_read.is_there};
     DWORD found = WaitForMultipleObjects(has_input ? 2 : 1, events, FALSE, (DWORD)milliseconds);
-    bool some = WaitForSingleObject(datagrams, 0) == WAIT_OBJECT_0;
-    if (some) ResetEvent(datagrams); /* a socket that is read, and has another datagram, sets it again */
+    bool some = WaitForSingleObject(arrived, 0) == WAIT_OBJECT_0;
+    if (some) ResetEvent(arrived); /* a socket that is read, and has more, sets it again */
     for (size_t i = 0; i < count; i++) ready[i] = some;
     ready[count] = has_input && WaitForSingleObject(input_read.is_there, 0) == WAIT_OBJECT_0;
     return found != WAIT_FAILED;

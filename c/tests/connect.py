@@ -293,15 +293,16 @@ def replay():
     talk(a, b)
 
 
-HELP = ("-h", "-a ADDRESS", "-l", "-s SERVER[:PORT]", "-L", "-r", "-p MILLISECONDS", "-m TEXT", "-t SECONDS", "-w FILE", "controlling",
-        "controlled")
+HELP = ("-h", "-a ADDRESS", "-l", "-s URL", "-u USER", "-k PASSWORD", "-L", "-r", "-p MILLISECONDS", "-m TEXT", "-t SECONDS", "-w FILE",
+        "controlling", "controlled")
 BAD_OPTIONS = (
     ("nobody", "usage"), ("-a example controlled", "-a example: not an IP address"),
     ("-a localhost controlled", "-a localhost: not an IP address"), ("-a 0.0.0.0 controlled", "-a 0.0.0.0: the unspecified address"),
     ("-a :: controlled", "-a ::: the unspecified address"), ("-a 203.0.113.1 controlled", "-a 203.0.113.1: "),
     ("-t x controlled", "-t x: not a whole number"), ("-t 90000 controlled", "-t 90000: more than 86400"),
-    ("-a 127.0.0.1 -s [::1 controlled", "-s [::1: "), ("-a 127.0.0.1 -s 127.0.0.1:99999 controlled", "-s 127.0.0.1:99999: the port"),
-    ("-a 127.0.0.1 -s 127.0.0.1: controlled", "the port"), ("-w /dev/null/x controlled", "-w /dev/null/x: Not a directory"),
+    ("-a 127.0.0.1 -s [::1 controlled", "-s [::1: bad URL"), ("-a 127.0.0.1 -s 127.0.0.1:99999 controlled", "-s 127.0.0.1:99999: bad URL"),
+    ("-a 127.0.0.1 -s turns:127.0.0.1 controlled", "-s turns:127.0.0.1: this program has no TLS"),
+    ("-w /dev/null/x controlled", "-w /dev/null/x: Not a directory"),
     ("-p 4 controlled", "-p 4: not 5 to 1000 milliseconds"), ("-p 20x controlled", "-p 20x: not 5 to 1000 milliseconds"),
     ("-L controlling", "a lite agent has to be controlled"),
 )

@@ -6,7 +6,7 @@ import re
 import sys
 
 TOP = pathlib.Path(__file__).resolve().parent.parent.parent
-FILES = ("rust/src/**/*.rs", "python/is_ice/*.py", "c/is_ice.hpp", "js/src/*.js")
+FILES = ("rust/src/**/*.rs", "python/is_ice/*.py", "c/is_ice.hpp", "c/is_ice_*.h", "js/src/*.js")
 
 # What reads the words of a text; and where it is none of a peer: the zone of an address that the system returns, the grammar of a token.
 READERS = re.compile(r"split\w*\(|partition\(|strtok|sscanf|istringstream|getline\(|\bre\.\w+\(|"

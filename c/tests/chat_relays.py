@@ -1,0 +1,209 @@
+"""Tests that a chat program connects two machines behind symmetric NATs through a TURN server, by one pasted line each.
+
+usage: chat_relays.py [--case CASE].. PROGRAM [WORD ..]      runs `PROGRAM WORD .. controlling -t URL -u USER -w PASSWORD` and the other
+
+Each machine is a network namespace behind a NAT of Linux (nftables) that takes another port for each destination. Both reach the server,
+coturn, and nothing else leads from one to the other. It needs root, iproute2, nftables and coturn (Debian: `coturn`, `nftables`).
+
+  without   with a STUN server only, they find no path: so the other cases are of use
+  udp       both over UDP: they find a path through the server, and hear each other
+  tcp       both over TCP to the server
+  mixed     one over UDP, the other one over TCP
+  blocked   the network of one lets no UDP out: it takes the server over TCP of two that it is given
+  restarts  ICE restarts of both, with lines under way: all arrive
+  moved     one machine gets another address: with new signals they find a path again
+  lost      the server is started again: both find out, and with a new signal they find a path again
+
+Prints a line for each. The status is 0 if none failed, or if they cannot be played here, as it says.
+"""
+import pathlib
+import shutil
+import sys
+import time
+
+import chat_lines
+import connect
+from chat import end
+from connect import ROLES, Failed, Peer, introduce
+
+sys.dont_write_bytecode = True
+sys.path.append(str(pathlib.Path(__file__).resolve().parents[2] / "interwork"))
+import namespaces
+import networks
+import servers
+
+SERVER = f"{servers.ADDRESS}:{servers.PORT}"
+UDP, TCP = f"turn:{SERVER}", f"turn:{SERVER}?transport=tcp"
+USER, PASSWORD = servers.USER.split(":")
+NO_UDP = """
+    table ip blocked {
+      chain forward { type filter hook forward priority -1; ip protocol udp drop; }
+    }"""
+
+
+def chats(network, *urls):
+    """Two of them, each behind its NAT, with these URLs of servers, or the list of each."""
+    connect.PEER = "ip"
+    lists = urls if isinstance(urls[0], tuple) else (urls, urls)
+    sides = []
+    for namespace, role, each in zip(network.namespaces, ROLES, lists):
+        options = [word for url in each for word in ("-t" if url.startswith("turn") else "-s", url)]
+        words = [sys.argv[1], *sys.argv[2:], role, *options, "-u", USER, "-w", PASSWORD]
+        sides.append(Peer("netns", "exec", namespace, *words))
+    return sides
+
+
+def through_the_server(a, b):
+    """Both find a path that begins or ends at the server, and hear each other."""
+    paths = [side.says("path ").split(" -> ") for side in (a, b)]
+    if not all(any(address.startswith(servers.ADDRESS + ":") for address in path) for path in paths):
+        raise Failed(f"{paths}")
+    talk(a, b)
+
+
+def talk(a, b):
+    for one, other in ((a, b), (b, a)):
+        one.hears("good morning")
+        if other.says("heard ") != "good morning":
+            raise Failed(f"{other.told}")
+
+
+def met(network, *urls):
+    a, b = chats(network, *urls)
+    introduce(a, b)
+    through_the_server(a, b)
+    return a, b
+
+
+def case_without(network):
+    a, b = chats(network, f"stun:{SERVER}")
+    signals = [side.says("signal ") for side in (a, b)]
+    if not all(" typ srflx" in signal for signal in signals):
+        raise Failed(f"no server-reflexive candidate: {signals}")
+    a.hears("signal " + signals[1])
+    b.hears("signal " + signals[0])
+    for side in (a, b):
+        try:
+            path = side.says("path ", 5)
+        except Failed:
+            continue
+        raise Failed(f"a path without a relay: {path}")
+
+
+def case_udp(network):
+    end(*met(network, UDP))
+
+
+def case_tcp(network):
+    end(*met(network, TCP))
+
+
+def case_mixed(network):
+    end(*met(network, (UDP,), (TCP,)))
+
+
+def case_blocked(network):
+    network.spaces.rules(network.nats[0], NO_UDP)
+    end(*met(network, UDP, TCP))
+
+
+def case_restarts(network):
+    a, b = met(network, UDP)
+    lines = chat_lines.Lines(a, b)
+    for number in range(3):
+        one, other = (a, b) if number % 2 else (b, a)
+        one.hears("/restart")
+        lines.say()
+        chat_lines.carry(one, other)
+        lines.say()
+        chat_lines.carry(other, one)
+        lines.say()
+        for side in (a, b):
+            side.says("path ")
+        lines.say()
+        lines.arrive()
+    end(a, b)
+
+
+def case_moved(network):
+    a, b = met(network, UDP, TCP)
+    moved = network.namespaces[0]
+    for command in ("ip addr del 10.0.1.2/24 dev e0", "ip addr add 10.0.1.3/24 dev e0", "ip route add default via 10.0.1.1"):
+        network.spaces.on(moved, command)
+    said = a.says("signal ")
+    if " 10.0.1.3 " not in said or said.count(" typ relay") != 2:
+        raise Failed(said)
+    b.hears("signal " + said)
+    a.hears("signal " + b.says("signal "))
+    through_the_server(a, b)
+    end(a, b)
+
+
+def case_lost(network):
+    a, b = met(network, UDP)
+    network.server.kill()
+    network.server.wait()
+    time.sleep(1)
+    network.start_server()
+    for side in (a, b):
+        side.says("state Disconnected")
+    for side in (a, b):  # the library's line of the event
+        while "ended, lost" not in side.says("server "):
+            pass
+    end(a, b)
+
+
+CASES = {name.removeprefix("case_"): case for name, case in list(globals().items()) if name.startswith("case_")}
+
+
+class Nats(networks.Nats):
+    """The network, which knows the namespaces of its NATs."""
+
+    def add_host(self, index, kind):
+        host = super().add_host(index, kind)
+        self.nats = [*getattr(self, "nats", []), self.spaces.names[-1]]
+        return host
+
+
+def why_not():
+    for program, package in (("nft", "nftables"), ("turnserver", "coturn")):
+        if shutil.which(program) is None:
+            return f"needs {package}"
+    return namespaces.why_not()
+
+
+def played(name):
+    """Plays a case, and returns 1 if it failed."""
+    try:
+        with Nats("symmetric", "symmetric") as network:
+            try:
+                CASES[name](network)
+            finally:
+                for process in Peer.runs:
+                    process.kill()
+                    process.wait()
+    except Failed as why:
+        print(f"{name}: FAILED, {why}", flush=True)
+        return 1
+    print(f"{name}: ok", flush=True)
+    return 0
+
+
+def main():
+    names = []
+    while sys.argv[1:2] == ["--case"]:
+        names.append(sys.argv[2])
+        del sys.argv[1:3]
+    if len(sys.argv) < 2:
+        sys.exit(__doc__)
+    why = why_not()
+    if why:
+        print(f"skipped, {why}")
+        return 0
+    namespaces.remove_old()
+    failed = sum(played(name) for name in names or CASES)
+    return 1 if failed else 0
+
+
+if __name__ == "__main__":
+    sys.exit(main())
