@@ -18,6 +18,7 @@ HEAD = """
 //! library writes them.
 #![allow(unsafe_code)]
 #![allow(dead_code)] // the crate does not use all that the header declares
+#![allow(clippy::too_many_arguments)] // a call has those of the header
 """
 
 

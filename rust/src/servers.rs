@@ -17,12 +17,13 @@ mod framing;
 mod gathered;
 mod gatherer;
 mod known;
+mod passing;
 mod url;
 
-pub use clients::{Datagram, Family, Outgoing, ServerPacket, Servers, Transport, TurnServer};
+pub use clients::{Datagram, Family, Outgoing, PLACES, ServerPacket, Servers, Transport, TurnServer, WRAPPING_LENGTH};
 pub use event::{Allocation, Ending, Happened, ServerEvent, Why};
 pub use framing::{Frame, Frames, frame_length};
 pub use gathered::{GatherEvent, Received};
 pub use gatherer::IceGatherer;
-pub use known::{Connect, IceServer};
+pub use known::{IceServer, Server};
 pub use url::{Scheme, ServerUrl};

@@ -56,7 +56,8 @@ pub struct TurnServer<'a> {
     pub address: SocketAddr,
     /// The IP version of the relayed address. `None`: it is not requested, and the server allocates one of IPv4 (RFC 8656, section 7.2).
     pub family: Option<Family>,
-    /// How many permissions and channels there may be, together. Each peer's IP address needs a permission, and media to it a channel.
+    /// How many permissions and channels there may be, together: each IP address of a peer needs one, and each address that media goes to
+    /// another one. See [`PLACES`].
     pub places: usize,
     /// The user name. If it is empty, the client has no credentials.
     pub username: &'a str,
@@ -118,11 +119,11 @@ pub struct Servers {
     ids: TransIds,
 }
 
-/// Enough for each packet of a client: a request has a user name of 508 bytes at most, and a realm and a nonce of 763 each.
-const ROOM: usize = 4096;
+/// By how many bytes a packet through a server is longer, at most.
+pub const WRAPPING_LENGTH: usize = ffi::WRAPPING_LENGTH;
 
-/// What a packet through a server is longer by, at most: a Send indication with an IPv6 address, and DATA's padding.
-pub(crate) const WRAPPING: usize = 48;
+/// How many permissions and channels are enough for an agent whose peer has up to 60 candidates.
+pub const PLACES: usize = ffi::SERVERS_PLACES;
 
 // ---- creating
 
@@ -195,8 +196,8 @@ impl Servers {
         Some(Datagram { source: socket_of(&found.source), destination: socket_of(&found.destination), contents })
     }
 
-    /// Takes any packet of the agent, or media, with the address that it comes from. What goes through a server is written to the buffer:
-    /// the contents' length and 48 bytes suffice.
+    /// Takes any packet of the agent, or media, with the address that it comes from. What goes through a server is written to the buffer,
+    /// which is long enough if it is longer than the contents by [`WRAPPING_LENGTH`].
     ///
     /// # Errors
     ///
@@ -224,7 +225,8 @@ impl Servers {
         }
     }
 
-    /// Asks each TURN server to let in packets of this peer: of its IP address, from any port. Call it for each remote candidate.
+    /// Asks each TURN server to let in packets of this peer: of its IP address, from any port. Call it for each remote candidate, and again for
+    /// all of them after [`Happened::Allocated`](super::Happened::Allocated): a client without an allocation does nothing.
     pub fn permit(&mut self, now: Instant, peer: SocketAddr) {
         let now = self.clock.start(now);
         let code = ffi::is_ice_servers_permit(&mut self.held, now, &address_of(peer));
@@ -275,7 +277,7 @@ impl Servers {
 
     /// The next packet for a server: a datagram, or bytes for a stream.
     pub fn poll_transmit(&mut self) -> Option<Transmit> {
-        let (mut room, mut packet) = ([0; ROOM], ffi::Packet::default());
+        let (mut room, mut packet) = ([0; ffi::SERVERS_PACKET_LENGTH], ffi::Packet::default());
         let code = ffi::is_ice_servers_poll_transmit(&mut self.held, &mut room, &mut packet);
         debug_assert!(matches!(code, ffi::OK | ffi::NOTHING), "{}", ffi::text_of(code));
         (code == ffi::OK).then(|| transmit_of(&packet_of(&packet), room[..packet.length].to_vec()))

@@ -22,31 +22,27 @@ pub enum Received<'a> {
 /// Something that happened in a gatherer.
 #[derive(Clone, Debug, PartialEq, Eq)]
 pub enum GatherEvent {
-    /// A client found a candidate, and the agent has it: signal it to the peer (trickle).
+    /// A client found a candidate, and the agent has it: signal it to the peer.
     LocalCandidate(Candidate),
     /// What a client reported, for a log: as that a server refuses the password.
     Server(ServerEvent),
-    /// No client waits for its first answer any more: signal the end of candidates.
-    Gathered,
+    /// No server is waited for any more: signal the end of candidates. Another one follows if sockets or servers are added.
+    GatheringComplete,
     /// An event of the agent.
     Agent(IceAgentEvent),
 }
 
+/// A client: over what, of which socket or connection, at which server.
+pub(crate) type Client = (Transport, SocketAddr, SocketAddr);
+
 /// A candidate that a client found.
 #[derive(Clone, Debug)]
 pub(crate) struct Found {
-    transport: Transport,
-    local: SocketAddr,
-    server: SocketAddr,
+    pub(crate) of: Client,
     pub(crate) candidate: Candidate,
 }
 
 impl Found {
-    /// Whether the client of this event found it.
-    pub(crate) fn is_of(&self, event: &ServerEvent) -> bool {
-        (self.transport, self.local, self.server) == (event.transport, event.local, event.server)
-    }
-
     /// Whether both found the same.
     pub(crate) fn is_alike(&self, other: &Found) -> bool {
         let of = |found: &Found| (found.candidate.kind(), found.candidate.addr(), found.candidate.local());
@@ -54,18 +50,19 @@ impl Found {
     }
 }
 
-/// The candidates that an event says, without those that nobody may have. What a server sees of a connection is no address of a socket of
-/// the agent.
+pub(crate) fn client_of(event: &ServerEvent) -> Client {
+    (event.transport, event.local, event.server)
+}
+
+/// The candidates that an event says, without those that nobody may have.
 pub(crate) fn found_in(event: &ServerEvent) -> Vec<Found> {
-    let ServerEvent { transport, local, server, what } = *event;
-    let (relayed, mapped) = match what {
+    let (of, local) = (client_of(event), event.local);
+    let (relayed, mapped) = match event.what {
         Happened::Mapped(mapped) => (None, Some(mapped)),
         Happened::Allocated(allocation) => (Some(allocation.relayed), allocation.mapped),
         _ => (None, None),
     };
     let relayed = relayed.map(|relayed| Candidate::relayed(relayed, local, Protocol::Udp));
-    let mapped = mapped.filter(|_| transport == Transport::Udp);
     let mapped = mapped.map(|mapped| Candidate::server_reflexive(mapped, local, Protocol::Udp));
-    let all = relayed.into_iter().chain(mapped).flatten();
-    all.map(|candidate| Found { transport, local, server, candidate }).collect()
+    relayed.into_iter().chain(mapped).flatten().map(|candidate| Found { of, candidate }).collect()
 }

@@ -1,13 +1,10 @@
-//! The servers of a program, as browsers have them, and which client a socket needs at which.
+//! The servers of a program, as browsers have them.
 
-use super::clients::{Family, Transport, TurnServer};
+use super::clients::{Family, PLACES, Transport, TurnServer};
 use super::url::{Scheme, ServerUrl};
 use crate::error::CallError;
 use std::fmt;
 use std::net::{IpAddr, SocketAddr};
-
-/// How many permissions and channels a client has: for each remote candidate of an agent with its own limits, and for media to some.
-const PLACES: usize = 200;
 
 /// One of the `iceServers` of browsers.
 #[derive(Clone, Default, PartialEq, Eq, Hash)]
@@ -26,85 +23,63 @@ impl fmt::Debug for IceServer {
     }
 }
 
-/// A connection that the program is to open: to a TURN server over TCP or TLS.
-#[derive(Clone, Debug, PartialEq, Eq, Hash)]
-pub struct Connect {
-    /// The server.
-    pub server: SocketAddr,
-    /// Its host, as the URL has it: the name that a certificate is to have.
-    pub host: String,
-    /// Whether the connection is one of TLS.
+/// One URL of an [`IceServer`], with its credentials.
+#[derive(Clone, PartialEq, Eq, Hash)]
+pub struct Server {
+    /// What it is for.
+    pub scheme: Scheme,
+    /// Over TLS: the certificate is to be one for the host.
     pub is_secure: bool,
+    /// Over what.
+    pub transport: Transport,
+    /// A name or an IP address.
+    pub host: String,
+    /// Its port.
+    pub port: u16,
+    username: String,
+    credential: String,
 }
 
-/// A server of a URL, at one of its addresses.
-#[derive(Clone, Debug, PartialEq, Eq)]
-pub(crate) struct Known {
-    pub(crate) scheme: Scheme,
-    pub(crate) transport: Transport,
-    is_secure: bool,
-    host: String,
-    pub(crate) address: SocketAddr,
-    /// Which of the program's servers it is, with the credentials.
-    of: usize,
+impl fmt::Debug for Server {
+    fn fmt(&self, f: &mut fmt::Formatter<'_>) -> fmt::Result {
+        let Server { scheme, is_secure, transport, host, port, .. } = self;
+        let mut fields = f.debug_struct("Server");
+        fields.field("scheme", scheme).field("is_secure", is_secure).field("transport", transport);
+        fields.field("host", host).field("port", port).finish_non_exhaustive()
+    }
 }
 
-impl Known {
-    /// Whether a client of this server is for sockets of this IP version.
-    pub(crate) fn fits(&self, local: SocketAddr) -> bool {
-        self.address.is_ipv6() == local.is_ipv6()
+impl Server {
+    fn of(url: &str, of: &IceServer) -> Result<Server, CallError> {
+        let ServerUrl { scheme, is_secure, transport, host, port } = ServerUrl::parse(url)?;
+        let (username, credential) = (of.username.clone(), of.credential.clone());
+        Ok(Server { scheme, is_secure, transport, host: host.to_owned(), port, username, credential })
     }
 
-    pub(crate) fn connect(&self) -> Connect {
-        Connect { server: self.address, host: self.host.clone(), is_secure: self.is_secure }
+    /// Its address, if the host is one.
+    pub(crate) fn address(&self) -> Option<SocketAddr> {
+        let ip: IpAddr = self.host.parse().ok()?;
+        Some(SocketAddr::new(ip, self.port))
     }
 
     /// What a client asks for. Over IPv6 it asks for an address of IPv6, since one over IPv4 gets one of IPv4.
-    pub(crate) fn turn<'a>(&self, servers: &'a [IceServer]) -> TurnServer<'a> {
-        let (username, password) = servers.get(self.of).map_or(("", ""), |of| (&of.username, &of.credential));
-        let family = self.address.is_ipv6().then_some(Family::V6);
-        TurnServer { transport: self.transport, address: self.address, family, places: PLACES, username, password }
-    }
-
-    /// Whether both are one server, over the same.
-    fn is_at(&self, other: &Known) -> bool {
-        (self.transport, self.is_secure, self.address) == (other.transport, other.is_secure, other.address)
+    pub(crate) fn turn(&self, address: SocketAddr) -> TurnServer<'_> {
+        let family = address.is_ipv6().then_some(Family::V6);
+        let Server { transport, username, credential, .. } = self;
+        TurnServer { transport: *transport, address, family, places: PLACES, username, password: credential }
     }
 }
 
-/// The addresses of a host: the first one of each IP version.
-fn addresses_of(host: &str, resolve: &mut impl FnMut(&str) -> Vec<IpAddr>) -> Vec<IpAddr> {
-    if let Ok(ip) = host.parse() {
-        return vec![ip];
-    }
-    let all = resolve(host);
-    let first = |is_v6| all.iter().copied().find(|ip| ip.is_ipv6() == is_v6);
-    [first(false), first(true)].into_iter().flatten().collect()
-}
-
-/// Adds a server, unless it is known. A TURN server tells a mapping too, so its address needs no STUN client.
-fn add(all: &mut Vec<Known>, known: Known) {
-    match all.iter_mut().find(|other| other.is_at(&known)) {
-        Some(other) if other.scheme == Scheme::Stun => *other = known,
-        Some(_) => {}
-        None => all.push(known),
-    }
-}
-
-/// The servers of these URLs. STUN over TLS is left out: it maps a connection, and no socket of the agent.
-pub(crate) fn known_of(servers: &[IceServer], mut resolve: impl FnMut(&str) -> Vec<IpAddr>) -> Result<Vec<Known>, CallError> {
+/// The servers of all URLs. TURN servers come first: such a client tells a mapping, too. STUN over TLS is left out: it maps a connection, and
+/// no socket of the agent.
+pub(crate) fn servers_of(given: &[IceServer]) -> Result<Vec<Server>, CallError> {
     let mut all = Vec::new();
-    for (of, server) in servers.iter().enumerate() {
-        for url in &server.urls {
-            let ServerUrl { scheme, is_secure, transport, host, port } = ServerUrl::parse(url)?;
-            if scheme == Scheme::Stun && transport == Transport::Tcp {
-                continue;
-            }
-            for ip in addresses_of(host, &mut resolve) {
-                let address = SocketAddr::new(ip, port);
-                add(&mut all, Known { scheme, transport, is_secure, host: host.to_owned(), address, of });
-            }
+    for of in given {
+        for url in &of.urls {
+            all.push(Server::of(url, of)?);
         }
     }
+    all.retain(|server| (server.scheme, server.transport) != (Scheme::Stun, Transport::Tcp));
+    all.sort_by_key(|server| server.scheme == Scheme::Stun);
     Ok(all)
 }
