@@ -69,7 +69,7 @@ fn a_stream_is_cut_into_frames() {
     }
     assert_eq!(frame_length(&stream().concat()), Frame::Of(20));
     assert_eq!((frame_length(&[0, 1, 0]), frame_length(&[0x80, 0, 0, 0])), (Frame::TooShort, Frame::Neither));
-    assert_eq!(Frames::new().take(b"HTTP/1.1 400"), Err(CallError::Unparsed)); // 0x48: as ChannelData of 21584 bytes it would wait
+    assert_eq!(Frames::new().take(&[0x80, 0, 0, 0]), Err(CallError::Unparsed));
 }
 
 // ---- a STUN client

@@ -20,7 +20,7 @@ impl IceGatherer {
     pub fn add_remote_candidate(&mut self, now: Instant, candidate: Candidate) -> Result<bool, CallError> {
         let peer = candidate.addr();
         let is_added = self.agent.try_add_remote_candidate(candidate)?;
-        if is_added {
+        if is_added || self.agent.try_remote_candidates()?.iter().any(|known| known.addr() == peer) {
             self.clients.permit(now, peer);
         }
         Ok(is_added)
