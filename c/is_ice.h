@@ -1515,7 +1515,7 @@ IS_ICE_CALL int32_t is_ice_servers_receive(
  * each error the buffer and *packet are unchanged. IS_ICE_TOO_FEW_RANDOM_BYTES: fewer than 12. IS_ICE_BAD_ADDRESS: an
  * unknown family. IS_ICE_BUFFER_TOO_SHORT, IS_ICE_MESSAGE_TOO_LONG (longer than 65535 bytes, or than one message holds): the
  * peer is permitted all the same. */
-enum { IS_ICE_SERVERS_RANDOM = 12, IS_ICE_WRAPPING_LENGTH = 56 };
+enum { IS_ICE_SERVERS_RANDOM = 12, IS_ICE_WRAPPING_LENGTH = 64 };
 IS_ICE_CALL int32_t is_ice_servers_outgoing(
     is_ice_servers *servers, uint64_t now, const is_ice_address *source, const is_ice_address *destination,
     const uint8_t *bytes, size_t length, const uint8_t *random, size_t random_length, uint8_t *buffer, size_t size,

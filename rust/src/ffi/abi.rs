@@ -147,7 +147,7 @@ pub(crate) const TURN: u8 = 1;
 pub(crate) const SERVERS_PLACES: usize = 64;
 
 pub(crate) const SERVERS_RANDOM: usize = 12;
-pub(crate) const WRAPPING_LENGTH: usize = 56;
+pub(crate) const WRAPPING_LENGTH: usize = 64;
 
 pub(crate) const SERVERS_PACKET_LENGTH: usize = 2200;
 
