@@ -107,7 +107,11 @@ impl Net {
     /// Lets time pass until the fact holds.
     pub fn pass_until(&mut self, what: &str, fact: impl Fn(&mut Net) -> bool) {
         let end = self.now + Duration::from_secs(60);
-        while !fact(self) {
+        loop {
+            self.collect();
+            if fact(self) {
+                return;
+            }
             assert!(self.step(end), "{what}: not within a minute; {:?}", self.sides.each_ref().map(|side| &side.events));
         }
     }
