@@ -91,9 +91,14 @@ export class IceLoop extends EventEmitter {
 
   /** Binds a socket, adds its address as a host candidate, and returns that for signaling. Its clients at servers start. */
   async bind(address, port = 0) {
-    const line = this.#gatherer.addSocket(this.now(), await this.open(address, port));
+    return this.addSocket(await this.open(address, port));
+  }
+
+  /** The same for the local address of a socket that is open. */
+  addSocket(local) {
+    const line = this.#gatherer.addSocket(this.now(), local);
     this.#reach();
-    this.#turn();
+    setImmediate(() => this.#turn()); // after those that are added at the same time
     return line;
   }
 
@@ -200,7 +205,7 @@ export class IceLoop extends EventEmitter {
     stream.on("data", (chunk) => {
       const found = this.#made(() => frames.take(chunk));
       if (found === false) stream.destroy(); // these are no frames
-      else for (const frame of found) this.#receive(remote, local, frame, "tcp");
+      else for (const frame of found) this.#receive(remote, local, Buffer.from(frame.buffer), "tcp");
     });
     stream.on("close", () => {
       this.#streams.delete(addressText(local));
