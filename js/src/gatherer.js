@@ -8,7 +8,7 @@ import { isStun } from "./stun.js";
 
 const IP = /^[\d.]+$|:/; // a host that is an address: a name has no colon, and its last label is no number
 
-/** The servers of `iceServers`, one for each URL. TURN servers come first: such a client tells a mapping, too. STUN over TLS is left out:
+/** The servers of `iceServers`, one for each URL. TURN servers come first: such a client reports a mapping, too. STUN over TLS is left out:
  *  it maps a connection, and no socket of the agent. */
 function serversOf(iceServers) {
   const all = iceServers.flatMap(({ urls, username = "", credential = "" }) =>

@@ -54,9 +54,9 @@ export type ServerEvent =
 /** Returns the line of an event for a log. */
 export function serverEventLine(event: ServerEvent): string;
 
-/** What a TURN client asks for. */
+/** What a TURN client requests. */
 export interface TurnOptions {
-  /** Without a user name the client has no credentials. */
+  /** Without a USERNAME the client has no credentials. */
   username?: string;
   password?: string;
   /** Over what, by default `udp`. TLS is `tcp`. */
@@ -78,9 +78,9 @@ export class Servers {
   [Symbol.dispose](): void;
   /** Whether `free()` was called. */
   readonly freed: boolean;
-  /** Adds the client of a UDP socket at a STUN server. It asks for the socket's server-reflexive address, and keeps the mapping. */
+  /** Adds the client of a UDP socket at a STUN server. It requests the socket's server-reflexive address, and keeps the mapping. */
   addStun(now: number, local: SocketAddress, server: SocketAddress): void;
-  /** Adds the client of a socket or connection at a TURN server, which asks for an allocation. `CredentialsTooLong`. */
+  /** Adds the client of a socket or connection at a TURN server, which requests an allocation. `CredentialsTooLong`. */
   addTurn(now: number, local: SocketAddress, server: SocketAddress, options?: TurnOptions): void;
   /** Takes any datagram of a socket, or frame of a connection (`tcp`). Returns what is for the agent, or media: as it is, or unwrapped. */
   receive(now: number, source: SocketAddress, destination: SocketAddress, contents: Bytes, protocol?: Protocol): Datagram | null;

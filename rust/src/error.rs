@@ -43,7 +43,8 @@ impl Error for IceError {}
 #[derive(Clone, Copy, Debug, PartialEq, Eq)]
 #[non_exhaustive]
 pub enum CallError {
-    /// Both username fragments and a colon are longer than 508 bytes, so no check could be written.
+    /// Both username fragments and a colon are longer than 508 bytes, so no check could be written; or the USERNAME at a TURN server is, or
+    /// its password is longer than 763 bytes.
     CredentialsTooLong,
     /// Out of memory.
     OutOfMemory,
@@ -66,7 +67,7 @@ pub enum CallError {
     LiteStaysControlled,
     /// A text that is no URL of a STUN or TURN server, or is one of a server over DTLS.
     BadUrl,
-    /// A datagram that is too long to go through a TURN server, or a user name or password that is too long for one.
+    /// A datagram that is too long to go through a TURN server.
     MessageTooLong,
     /// A stream of a server with bytes that are neither a STUN message nor ChannelData.
     Unparsed,

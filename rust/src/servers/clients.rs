@@ -47,7 +47,7 @@ pub enum Family {
     V6,
 }
 
-/// A TURN server, and what a client of it asks for.
+/// A TURN server, and what a client of it requests.
 #[derive(Clone, Copy, PartialEq, Eq)]
 pub struct TurnServer<'a> {
     /// Over what.
@@ -59,7 +59,7 @@ pub struct TurnServer<'a> {
     /// How many permissions and channels there may be, together: each IP address of a peer needs one, and each address that media goes to
     /// another one. See [`PLACES`].
     pub places: usize,
-    /// The user name. If it is empty, the client has no credentials.
+    /// The USERNAME. If it is empty, the client has no credentials.
     pub username: &'a str,
     /// The password. `{:?}` does not print it.
     pub password: &'a str,
@@ -138,7 +138,7 @@ impl Servers {
         Ok(Servers { held, clock: Clock::default(), ids: TransIds::default() })
     }
 
-    /// Adds the client of a UDP socket at a STUN server. It asks for the socket's server-reflexive address, and keeps the mapping.
+    /// Adds the client of a UDP socket at a STUN server. It requests the socket's server-reflexive address, and keeps the mapping.
     ///
     /// # Errors
     ///
@@ -148,7 +148,7 @@ impl Servers {
         found(ffi::is_ice_servers_add_stun(&mut self.held, now, &address_of(local), &address_of(server))).map(drop)
     }
 
-    /// Adds the client of a socket or a connection at a TURN server, which asks for an allocation.
+    /// Adds the client of a socket or a connection at a TURN server, which requests an allocation.
     ///
     /// # Errors
     ///

@@ -56,7 +56,7 @@ pub struct Ending {
 /// Why a client ended.
 #[derive(Clone, Copy, Debug, PartialEq, Eq, Hash)]
 pub enum Why {
-    /// It never had what it asked for.
+    /// It never had a mapped or relayed address.
     Failed,
     /// The allocation is gone, or the socket or connection is.
     Lost,

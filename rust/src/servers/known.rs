@@ -11,7 +11,7 @@ use std::net::{IpAddr, SocketAddr};
 pub struct IceServer {
     /// Its URLs, as `turn:turn.example.org?transport=tcp`: see [`ServerUrl`].
     pub urls: Vec<String>,
-    /// The user name at a TURN server. Without one the client has no credentials.
+    /// The USERNAME at a TURN server. Without one the client has no credentials.
     pub username: String,
     /// The password. `{:?}` does not print it.
     pub credential: String,
@@ -62,7 +62,7 @@ impl Server {
         Some(SocketAddr::new(ip, self.port))
     }
 
-    /// What a client asks for. Over IPv6 it asks for an address of IPv6, since one over IPv4 gets one of IPv4.
+    /// What a client requests. Over IPv6 it requests an address of IPv6, since one over IPv4 gets one of IPv4.
     pub(crate) fn turn(&self, address: SocketAddr) -> TurnServer<'_> {
         let family = address.is_ipv6().then_some(Family::V6);
         let Server { transport, username, credential, .. } = self;
@@ -70,7 +70,7 @@ impl Server {
     }
 }
 
-/// The servers of all URLs. TURN servers come first: such a client tells a mapping, too. STUN over TLS is left out: it maps a connection, and
+/// The servers of all URLs. TURN servers come first: such a client reports a mapping, too. STUN over TLS is left out: it maps a connection, and
 /// no socket of the agent.
 pub(crate) fn servers_of(given: &[IceServer]) -> Result<Vec<Server>, CallError> {
     let mut all = Vec::new();
