@@ -48,7 +48,7 @@ export class IceGatherer {
   readonly toReach: Server[];
   /** Adds an address of a server over UDP, to which its name resolves. */
   addServer(now: number, server: Server, ip: string): void;
-  /** Adds a connection to a server over TCP or TLS, by its addresses at both ends. What arrives on it goes to `handlePacket` in `Frames`. */
+  /** Adds a connection to a server over TCP or TLS, by its addresses at both ends. What arrives goes to `handlePacket` by `Frames`. */
   addConnection(now: number, server: Server, local: SocketAddress, remote: SocketAddress): void;
   /** Says that no more addresses and connections of this server come. */
   reached(server: Server): void;

@@ -129,7 +129,7 @@ export class IceGatherer {
     return result;
   }
 
-  /** Takes a datagram of a socket, or a frame of a connection (tcp). Returns it if it is media, unwrapped; null: it was taken, or is for nobody. */
+  /** Takes a datagram of a socket, or a frame of a connection (tcp). Returns it if it is media, unwrapped; else null. */
   handlePacket(now, source, destination, contents, protocol = "udp") {
     const told = this.receive(now, source, destination, contents, protocol);
     if (told === null || !isStun(told.contents)) return told;

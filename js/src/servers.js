@@ -23,7 +23,7 @@ export function serverUrl(text) {
   return { scheme: SCHEMES[scheme], protocol: PROTOCOLS[protocol], host, port };
 }
 
-/** Returns how long the frame is with which a stream begins, or null if fewer than four bytes are there. IceError "Unparsed" if it is none. */
+/** Returns how long the frame is with which a stream begins, or null if fewer than four bytes are there. "Unparsed" if it is none. */
 export function frameLength(start) {
   const memory = library(), { length } = memory;
   const isKnown = done(memory.call("is_ice_frame_length", ...memory.put(bytesOf(start).subarray(0, 4)), length.arg));
