@@ -222,7 +222,7 @@ export class IceLoop extends EventEmitter {
   async leave() {
     const end = this.now() + FAREWELL;
     if (!this.#closed) this.#made(() => this.#gatherer.close(this.now()));
-    while (!this.#closed && !this.#gatherer.isOver && this.now() < end) {
+    while (!this.#closed && this.now() < end && !this.#made(() => this.#gatherer.isOver)) {
       this.#turn();
       await new Promise((done) => setTimeout(done, 10));
     }

@@ -111,8 +111,8 @@ impl IceGatherer {
     ///
     /// # Errors
     ///
-    /// [`CallError::BadCandidate`] if no candidate may have this address; as [`IceAgent::try_add_local_candidate`];
-    /// [`CallError::CredentialsTooLong`], of a server.
+    /// [`CallError::BadCandidate`] if no candidate may have this address; as [`IceAgent::try_add_local_candidate`]. Of a client:
+    /// [`CallError::CredentialsTooLong`], [`CallError::OutOfMemory`]; the socket and its candidate were added.
     pub fn add_socket(&mut self, now: Instant, local: SocketAddr) -> Result<Option<Candidate>, CallError> {
         let host = Candidate::host(local, Protocol::Udp).map_err(|_| CallError::BadCandidate)?;
         let added = self.agent.try_add_local_candidate(host)?.cloned();
