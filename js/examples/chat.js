@@ -82,9 +82,9 @@ loop.on("iceConnectionStateChange", ({ state }) => {
 async function watch() {
   const ips = isLocal ? ["127.0.0.1"] : hostAddresses();
   if (ips.length === 0 || String(ips) === String(hosts)) return;
+  agent.iceRestart(newCreds(), true); // without the sockets that go, the old session would be lost
   for (const ip of hosts) loop.unbind(ip);
   hosts = ips;
-  agent.iceRestart(newCreds(), true);
   for (const local of await Promise.all(ips.map((ip) => loop.open(ip)))) loop.addSocket(local); // "gatheringComplete" follows
   loop.begin();
 }
