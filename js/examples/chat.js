@@ -3,8 +3,10 @@
 // If the peer is lost, and it says why, if the network changes, and at /restart it makes an ICE restart: paste the new lines then.
 // /quit ends it.
 //
-// usage: node chat.js controlling|controlled [-l] [-t URL [USER PASSWORD]]     -l: at 127.0.0.1 only
-//        -t: a STUN or TURN server, as turn:turn.example.org or turns:192.0.2.1
+// usage: node chat.js controlling|controlled [-l] [-s URL].. [-t URL].. [-u USER] [-w PASSWORD]
+//   -l   at 127.0.0.1 only
+//   -s   a STUN server, as stun:stun.example.org
+//   -t   a TURN server, as turn:turn.example.org or turns:turn.example.org:443, with this username and password
 import readline from "node:readline";
 import { addressText, IceAgent, init, newCreds, serverEventLine } from "is-ice";
 import { hostAddresses, IceLoop } from "is-ice/node";
@@ -12,13 +14,13 @@ import { hostAddresses, IceLoop } from "is-ice/node";
 const SILENCE = 2; // seconds without a packet of the peer after which it says so
 const [role, ...options] = process.argv.slice(2);
 if (!["controlling", "controlled"].includes(role)) {
-  console.error("usage: node chat.js controlling|controlled [-l] [-t URL [USER PASSWORD]]");
+  console.error("usage: node chat.js controlling|controlled [-l] [-s URL].. [-t URL].. [-u USER] [-w PASSWORD]");
   process.exit(2);
 }
-const isLocal = options.includes("-l"), server = options.includes("-t") ? options.slice(options.indexOf("-t") + 1) : [];
-const [urls, username, credential] = server;
+const isLocal = options.includes("-l"), valuesOf = (option) => options.filter((_, i) => options[i - 1] === option);
+const urls = [...valuesOf("-t"), ...valuesOf("-s")], [username] = valuesOf("-u"), [credential] = valuesOf("-w");
 await init();
-const agent = new IceAgent(), loop = new IceLoop(agent, { iceServers: urls ? [{ urls, username, credential }] : [] });
+const agent = new IceAgent(), loop = new IceLoop(agent, { iceServers: [{ urls, username, credential }] });
 agent.setControlling(role === "controlling");
 agent.setSettings({ consentTimeout: 5000, strictConsent: true }); // notice a loss after 5 s, not 30:
 agent.setMaxStunRto(1000); // the path is checked each second

@@ -2,8 +2,10 @@
 //! and it says why, if the network changes, and at /restart it makes an ICE restart: paste the new lines then. /quit ends it.
 //! signaling/mod.rs has the signaling, net/mod.rs the sockets.
 //!
-//! usage: chat controlling|controlled [-l] [-t URL [USER PASSWORD]]     -l: at 127.0.0.1, not that of the default route
-//!        -t: a STUN or TURN server, as turn:turn.example.org or turn:192.0.2.1?transport=tcp
+//! usage: chat controlling|controlled [-l] [-s URL].. [-t URL].. [-u USER] [-w PASSWORD]
+//!   -l   at 127.0.0.1, not that of the default route
+//!   -s   a STUN server, as stun:stun.example.org
+//!   -t   a TURN server, as turn:turn.example.org or turn:192.0.2.1:3478?transport=tcp, with this username and password
 
 mod net;
 mod signaling;
@@ -113,14 +115,18 @@ fn agent(role: &str) -> IceAgent {
     agent
 }
 
+/// The servers of the command line.
+fn servers(words: &[String]) -> IceServer {
+    let values = |option| words.windows(2).filter(move |pair| pair[0] == option).map(|pair| pair[1].clone());
+    let last = |option| values(option).last().unwrap_or_default();
+    IceServer { urls: values("-t").chain(values("-s")).collect(), username: last("-u"), credential: last("-w") }
+}
+
 fn main() -> Result<()> {
     let words: Vec<String> = std::env::args().collect();
-    let role = words.get(1).ok_or("usage: chat controlling|controlled [-l] [-t URL [USER PASSWORD]]")?;
+    let role = words.get(1).ok_or("usage: chat controlling|controlled [-l] [-s URL].. [-t URL].. [-u USER] [-w PASSWORD]")?;
     let host = if words.iter().any(|word| word == "-l") { "127.0.0.1" } else { "192.0.2.1" };
-    let server = words.iter().skip_while(|word| *word != "-t").skip(1).cloned().collect::<Vec<_>>();
-    let word = |place: usize| server.get(place).cloned().unwrap_or_default();
-    let servers = server.first().map(|url| IceServer { urls: vec![url.clone()], username: word(1), credential: word(2) });
-    let mut gatherer = IceGatherer::new(agent(role), servers.as_slice())?;
+    let mut gatherer = IceGatherer::new(agent(role), &[servers(&words)])?;
     let (mut net, lines) = (Net::new(UdpSocket::bind("0.0.0.0:0")?), typed());
     gatherer.handle_timeout(Instant::now())?; // the session begins
     net.reach(&mut gatherer)?;
