@@ -77,6 +77,7 @@ loop.on("iceConnectionStateChange", ({ state }) => {
   console.log(`state ${state[0].toUpperCase()}${state.slice(1)}: ${bindSuccessRecv} of ${bindRequestSent} checks answered`);
   if (state !== "disconnected") return;
   for (const pair of agent.removedPairs()) console.log("removed", String(pair)); // those since the last restart
+  loop.gatherer.probe(loop.now()); // do the servers still have the relayed addresses?
   if (nominationSendCount > 0) restart(); // before the first path the peer may not have this side's line yet
 });
 

@@ -52,7 +52,7 @@ export class IceGatherer {
   addConnection(now: number, server: Server, local: SocketAddress, remote: SocketAddress): void;
   /** Says that no more addresses and connections of this server come. */
   reached(server: Server): void;
-  /** Says that a connection broke: its client ends, and its candidate is invalidated. */
+  /** Says that a connection broke: its client ends, and its candidate is invalidated. Its server is in `toReach` again. */
   loseConnection(now: number, local: SocketAddress): void;
 
   /** Adds a candidate of the peer, as `IceAgent.addRemoteCandidate`, and has the TURN servers let in its packets. */
@@ -80,6 +80,8 @@ export class IceGatherer {
   pollGatheringEvent(): GatheringEvent | null;
   /** Whether a server is waited for. */
   readonly isGathering: boolean;
+  /** Has each client ask its server whether it still has the allocation: after sleep, or if a path is lost. */
+  probe(now: number): void;
   /** Has each client free its allocation. Go on with the loop until `isOver`, for a second at most. */
   close(now: number): void;
   /** Whether each client has ended. */

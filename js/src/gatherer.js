@@ -34,6 +34,7 @@ export class IceGatherer {
   #sockets = [];
   #atUdp = []; // the servers over UDP whose address is known: { server, address }
   #toReach = [];
+  #connections = new Map(); // the servers of connections
   #started = new Set(); // clients and their schemes
   #found = []; // the candidates that servers brought: { client, candidate }
   #events = [];
@@ -95,6 +96,7 @@ export class IceGatherer {
   /** Adds a connection to a server over TCP or TLS, by its addresses at both ends. */
   addConnection(now, server, local, remote) {
     this.#start(now, server, local, remote);
+    this.#connections.set(addressText(local), server);
     this.#hasTold = false;
   }
 
@@ -103,9 +105,12 @@ export class IceGatherer {
     this.#toReach = this.#toReach.filter((other) => other !== server);
   }
 
-  /** A connection broke: its client ends, and its candidate is invalidated. */
+  /** A connection broke: its client ends, and its candidate is invalidated. Its server is to be reached again. */
   loseConnection(now, local) {
+    const name = addressText(local), server = this.#connections.get(name);
     this.#clients.lose(local, "tcp");
+    if (this.#connections.delete(name)) this.#toReach.push(server);
+    this.#hasTold = false;
     this.#takeEvents(now);
   }
 
@@ -209,6 +214,11 @@ export class IceGatherer {
   }
 
   // ---- the end
+
+  /** Has each client ask its server whether it still has the allocation. */
+  probe(now) {
+    this.#clients?.probe(now);
+  }
 
   /** Has each client free its allocation. Go on with the loop until isOver, for a second at most. */
   close(now) {

@@ -59,7 +59,7 @@ export class IceLoop extends EventEmitter {
   bind(address: string, port?: number): Promise<string | null>;
   /** Adds the local address of an open socket as a host candidate, and returns that for signaling, or null if it is redundant. */
   addSocket(local: SocketAddress): string | null;
-  /** Closes the sockets at a local IP address, with their candidates. */
+  /** Closes the sockets at a local IP address, with their candidates, and the connections from it. */
   unbind(address: string): void;
   /** Adds a candidate of the peer, as `IceAgent.addRemoteCandidate`, and has the TURN servers let in its packets. */
   addRemoteCandidate(line: string): AddResult;

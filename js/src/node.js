@@ -12,6 +12,7 @@ import { isHostAddress } from "./timing.js";
 
 const IDLE = 1000; // milliseconds until the agent is asked again, if it names no time
 const AGAIN = 50; // milliseconds until handleTimeout is called again if it failed
+const RECONNECT = 2000; // milliseconds until a connection that was closed is opened again, once
 const FAREWELL = 1000; // milliseconds in which relayed addresses are freed at the end
 
 /** The IP addresses of this machine's interfaces that host candidates should have. */
@@ -102,7 +103,7 @@ export class IceLoop extends EventEmitter {
     return line;
   }
 
-  /** Closes the sockets at a local IP address, with their candidates and clients. */
+  /** Closes the sockets at a local IP address, with their candidates and clients, and the connections from it. */
   unbind(address) {
     for (const [name, socket] of [...this.#sockets]) {
       const local = { address, port: socket.address().port };
@@ -110,6 +111,10 @@ export class IceLoop extends EventEmitter {
       this.#made(() => this.#gatherer.removeSocket(this.now(), local));
       this.#sockets.delete(name);
       socket.close();
+    }
+    for (const stream of [...this.#streams.values()].filter(({ localAddress }) => localAddress === address)) {
+      this.#lose(localOf(stream));
+      stream.destroy();
     }
     this.#turn();
   }
@@ -178,12 +183,13 @@ export class IceLoop extends EventEmitter {
 
   // ---- servers
 
-  /** Resolves the names of servers, and opens connections: for each server once. */
+  /** Resolves the names of servers, and opens connections. */
   #reach() {
     for (const server of this.#gatherer.toReach) {
       if (this.#reaching.has(server)) continue;
       this.#reaching.add(server);
       this.#reached(server).catch((error) => !this.#closed && this.emit("serverUnreached", error, server)).finally(() => {
+        this.#reaching.delete(server);
         if (this.#closed) return;
         this.#gatherer.reached(server);
         this.#turn();
@@ -208,12 +214,17 @@ export class IceLoop extends EventEmitter {
       else for (const frame of found) this.#receive(remote, local, Buffer.from(frame.buffer), "tcp");
     });
     stream.on("close", () => {
-      this.#streams.delete(addressText(local));
-      if (this.#closed) return;
-      this.#made(() => this.#gatherer.loseConnection(this.now(), local));
+      if (this.#closed || !this.#streams.has(addressText(local))) return;
+      this.#lose(local);
       this.#turn();
+      setTimeout(() => !this.#closed && this.#reach(), RECONNECT).unref();
     });
     this.#gatherer.addConnection(this.now(), server, local, remote);
+  }
+
+  #lose(local) {
+    this.#streams.delete(addressText(local));
+    this.#made(() => this.#gatherer.loseConnection(this.now(), local));
   }
 
   // ---- the end

@@ -33,6 +33,7 @@ fn report(gatherer: &mut IceGatherer, event: IceAgentEvent) -> Result<()> {
         lost.for_each(|pair| println!("removed {pair}")); // those since the last restart
         // Before the first path the peer may not have this side's line yet.
         if state.is_disconnected() && stats.nomination_send_count > 0 {
+            gatherer.probe(Instant::now()); // do the servers still have the relayed addresses?
             restart(gatherer)?;
         }
     }
@@ -55,17 +56,15 @@ fn poll(gatherer: &mut IceGatherer, net: &mut Net) -> Result<()> {
     Ok(())
 }
 
-/// Opens a socket at another address, if the network changed.
+/// Opens a socket at another address, if the network changed, and reaches servers.
 fn look(gatherer: &mut IceGatherer, net: &mut Net, host: &str) -> Result<()> {
     let local = net.socket.local_addr()?;
     if let Some(ip) = address(host).ok().filter(|ip| *ip != local.ip()) {
         let socket = UdpSocket::bind((ip, 0))?;
-        gatherer.remove_socket(Instant::now(), local)?;
         gatherer.agent_mut().try_ice_restart(IceCreds::new(), true)?;
-        gatherer.add_socket(Instant::now(), socket.local_addr()?)?; // GatheringComplete follows
-        net.socket = socket;
+        net.moved(gatherer, socket)?; // GatheringComplete follows
     }
-    Ok(())
+    net.reach(gatherer)
 }
 
 /// One iteration of the loop. It ends ten times a second, for lines to be read.
@@ -118,7 +117,7 @@ fn agent(role: &str) -> IceAgent {
 /// The servers of the command line.
 fn servers(words: &[String]) -> IceServer {
     let values = |option| words.windows(2).filter(move |pair| pair[0] == option).map(|pair| pair[1].clone());
-    let last = |option| values(option).last().unwrap_or_default();
+    let last = |option| values(option).next_back().unwrap_or_default();
     IceServer { urls: values("-t").chain(values("-s")).collect(), username: last("-u"), credential: last("-w") }
 }
 
@@ -129,7 +128,6 @@ fn main() -> Result<()> {
     let mut gatherer = IceGatherer::new(agent(role), &[servers(&words)])?;
     let (mut net, lines) = (Net::new(UdpSocket::bind("0.0.0.0:0")?), typed());
     gatherer.handle_timeout(Instant::now())?; // the session begins
-    net.reach(&mut gatherer)?;
     look(&mut gatherer, &mut net, host)?;
     turn(&mut gatherer, &mut net)?; // before a line is read: a signal that waits is for this session
     loop {

@@ -56,6 +56,18 @@ impl Net {
         Ok(())
     }
 
+    /// Another socket takes the place of the one before. The connections from its address are gone, too.
+    pub fn moved(&mut self, gatherer: &mut IceGatherer, socket: UdpSocket) -> Result<()> {
+        let (now, old) = (Instant::now(), self.socket.local_addr()?);
+        gatherer.remove_socket(now, old)?;
+        for connection in self.connections.drain(..) {
+            gatherer.lose_connection(now, connection.local)?;
+        }
+        gatherer.add_socket(now, socket.local_addr()?)?;
+        self.socket = socket;
+        Ok(())
+    }
+
     /// Sends a packet. A datagram that the system does not send is lost, as on the network. The agent lists it, and the first one is an error.
     pub fn send(&mut self, gatherer: &mut IceGatherer, packet: &Transmit) -> Result<()> {
         let connection = self.connections.iter_mut().find(|it| packet.proto == Protocol::Tcp && it.local == packet.source);

@@ -42,6 +42,7 @@ pub struct IceGatherer {
     /// The servers over UDP whose address is known.
     at_udp: Vec<(Server, SocketAddr)>,
     to_reach: Vec<Server>,
+    connections: Vec<(SocketAddr, Server)>,
     started: Vec<(Client, Scheme)>,
     found: Vec<Found>,
     events: VecDeque<GatherEvent>,
@@ -74,6 +75,7 @@ impl IceGatherer {
             sockets: Vec::new(),
             at_udp,
             to_reach,
+            connections: Vec::new(),
             started: Vec::new(),
             found: Vec::new(),
             events: VecDeque::new(),
@@ -172,6 +174,7 @@ impl IceGatherer {
     /// [`CallError::CredentialsTooLong`], [`CallError::OutOfMemory`].
     pub fn add_connection(&mut self, now: Instant, server: &Server, local: SocketAddr, remote: SocketAddr) -> Result<(), CallError> {
         self.start(now, server, local, remote)?;
+        self.connections.push((local, server.clone()));
         self.has_told = false;
         Ok(())
     }
@@ -181,13 +184,17 @@ impl IceGatherer {
         self.to_reach.retain(|other| other != server);
     }
 
-    /// Says that a connection broke: its client ends, and its candidate is invalidated.
+    /// Says that a connection broke: its client ends, and its candidate is invalidated. Its server is [`to_reach`](Self::to_reach) again.
     ///
     /// # Errors
     ///
     /// [`CallError::OutOfMemory`].
     pub fn lose_connection(&mut self, now: Instant, local: SocketAddr) -> Result<(), CallError> {
         self.clients.lose(Transport::Tcp, local);
+        let (gone, kept): (Vec<_>, Vec<_>) = self.connections.drain(..).partition(|(of, _)| *of == local);
+        self.connections = kept;
+        self.to_reach.extend(gone.into_iter().map(|(_, server)| server));
+        self.has_told = false;
         self.take_events(now)
     }
 
@@ -248,6 +255,11 @@ impl IceGatherer {
     /// Whether a server is waited for.
     pub fn is_gathering(&mut self) -> bool {
         !self.to_reach.is_empty() || self.clients.is_gathering()
+    }
+
+    /// Has each client ask its server now whether it still has the allocation: after sleep, or if a path is lost.
+    pub fn probe(&mut self, now: Instant) {
+        self.clients.probe(now);
     }
 
     /// Has each client free its allocation. Go on with the loop until [`is_over`](Self::is_over), for a second at most.
