@@ -14,10 +14,11 @@ HEAD = """
 //!
 //! Why these are safe: a pointer to bytes and its length are those of one slice, and another pointer is that of a reference. Slices and
 //! references are not null, they live as long as the call, and the library keeps no pointer to them. What the library writes is borrowed
-//! mutably, so it overlaps no other argument. The fields of an [`Agent`] and of [`Servers`] are private, and neither is `Clone`, so only the
+//! mutably, so it overlaps no other argument. The fields of an [`Agent`] and of [`Servers`] are private, and neither is `Clone`: only the
 //! library writes them.
 #![allow(unsafe_code)]
 #![allow(dead_code)] // the crate does not use all that the header declares
+#![allow(clippy::too_many_arguments)] // a call has those of the header
 """
 
 

@@ -3,31 +3,41 @@
 // If the peer is lost, and it says why, if the network changes, and at /restart it makes an ICE restart: paste the new lines then.
 // /quit ends it.
 //
-// usage: node chat.js controlling|controlled [-l]     -l: at 127.0.0.1 only
+// usage: node chat.js controlling|controlled [-l] [-s URL].. [-t URL].. [-u USER] [-w PASSWORD]
+//   -l   at 127.0.0.1 only
+//   -s   a STUN server, as stun:stun.example.org
+//   -t   a TURN server, as turn:turn.example.org or turns:turn.example.org:443, with this username and password
 import readline from "node:readline";
-import { addressText, Candidate, IceAgent, init, newCreds } from "is-ice";
+import { addressText, IceAgent, init, newCreds, serverEventLine } from "is-ice";
 import { hostAddresses, IceLoop } from "is-ice/node";
 
 const SILENCE = 2; // seconds without a packet of the peer after which it says so
-const [role, option] = process.argv.slice(2);
+const [role, ...options] = process.argv.slice(2);
 if (!["controlling", "controlled"].includes(role)) {
-  console.error("usage: node chat.js controlling|controlled [-l]");
+  console.error("usage: node chat.js controlling|controlled [-l] [-s URL].. [-t URL].. [-u USER] [-w PASSWORD]");
   process.exit(2);
 }
+const isLocal = options.includes("-l"), valuesOf = (option) => options.filter((_, i) => options[i - 1] === option);
+const urls = [...valuesOf("-t"), ...valuesOf("-s")], [username] = valuesOf("-u"), [credential] = valuesOf("-w");
 await init();
-const agent = new IceAgent(), loop = new IceLoop(agent);
+const agent = new IceAgent(), loop = new IceLoop(agent, { iceServers: [{ urls, username, credential }] });
 agent.setControlling(role === "controlling");
 agent.setSettings({ consentTimeout: 5000, strictConsent: true }); // notice a loss after 5 s, not 30:
 agent.setMaxStunRto(1000); // the path is checked each second
 agent.setSilence(SILENCE * 1000);
-let hosts = []; // the sockets' addresses
+let hosts = []; // the IP addresses of sockets
 
-/** Begins a session: prints new credentials and the candidates, for the peer. */
+/** Prints credentials and candidates, for the peer: of the sockets, and what servers brought. */
+function announce() {
+  const { ufrag, pass } = agent.localCredentials;
+  const lines = agent.localFields().filter(({ kind }) => kind !== "prflx").map(({ text }) => text);
+  console.log("signal", ufrag, pass, lines.join(","));
+}
+
+/** Begins a session with new credentials. Relayed addresses stay. If servers are waited for, "gatheringComplete" announces it. */
 function restart() {
-  const creds = newCreds();
-  agent.iceRestart(creds, false);
-  const lines = hosts.map((host) => agent.addLocalCandidate(Candidate.host(host)));
-  console.log("signal", creds.ufrag, creds.pass, lines.join(","));
+  agent.iceRestart(newCreds(), true);
+  if (!loop.gatherer.isGathering) announce();
 }
 
 /** Takes the peer's signal, /restart or chat. */
@@ -38,7 +48,7 @@ function take(line) {
     const known = agent.remoteCredentials;
     if (known && known.ufrag !== ufrag) restart(); // the peer did
     agent.setRemoteCredentials({ ufrag, pass });
-    for (const candidate of lines.split(",")) agent.addRemoteCandidate(candidate);
+    for (const candidate of lines.split(",")) loop.addRemoteCandidate(candidate);
   } else if (line === "/restart") {
     restart();
   } else if (!loop.send(line)) {
@@ -53,6 +63,11 @@ loop.on("media", (data, source) => {
 loop.on("nominatedSend", ({ source, destination }) => console.log("path", addressText(source), "->", addressText(destination)));
 loop.on("silent", () => console.log(`silent no packet for ${SILENCE} s`));
 loop.on("heard", () => console.log("again a packet came"));
+loop.on("gatheringComplete", announce);
+for (const name of ["serverMapped", "serverAllocated", "serverNotPermitted", "serverEnded"]) {
+  loop.on(name, (event) => console.log(serverEventLine(event)));
+}
+loop.on("serverUnreached", (error, { url }) => console.log(`error ${url}: ${error.message}`));
 loop.on("sendFailed", (error, source, destination) => {
   const failed = agent.failedSends.find(({ path }) => addressText(path.destination) === addressText(destination));
   if (failed?.times === 1) console.log(`error not sent to ${addressText(destination)}: ${error.message}`);
@@ -62,15 +77,18 @@ loop.on("iceConnectionStateChange", ({ state }) => {
   console.log(`state ${state[0].toUpperCase()}${state.slice(1)}: ${bindSuccessRecv} of ${bindRequestSent} checks answered`);
   if (state !== "disconnected") return;
   for (const pair of agent.removedPairs()) console.log("removed", String(pair)); // those since the last restart
+  loop.gatherer.probe(loop.now()); // do the servers still have the relayed addresses?
   if (nominationSendCount > 0) restart(); // before the first path the peer may not have this side's line yet
 });
 
 /** Looks at the machine's addresses, and opens sockets if there are others. */
 async function watch() {
-  const ips = option === "-l" ? ["127.0.0.1"] : hostAddresses();
-  if (ips.length === 0 || String(ips) === String(hosts.map((host) => host.address))) return;
-  hosts = await Promise.all(ips.map((ip) => loop.open(ip)));
-  restart();
+  const ips = isLocal ? ["127.0.0.1"] : hostAddresses();
+  if (ips.length === 0 || String(ips) === String(hosts)) return;
+  agent.iceRestart(newCreds(), true); // without the sockets that go, the old session would be lost
+  for (const ip of hosts) loop.unbind(ip);
+  hosts = ips;
+  for (const local of await Promise.all(ips.map((ip) => loop.open(ip)))) loop.addSocket(local); // "gatheringComplete" follows
   loop.begin();
 }
 
@@ -85,6 +103,6 @@ for await (const line of readline.createInterface({ input: process.stdin })) {
   }
 }
 clearInterval(watching);
-loop.close();
+await loop.leave();
 agent.close();
 process.stdin.destroy();

@@ -10,4 +10,4 @@ export class IceError extends Error {
 export type IceErrorCode =
   | "NoAgent" | "NotUtf8" | "BadAddress" | "Unparsed" | "OutOfMemory" | "BadCandidate" | "PairIdsExhausted" | "MtuTooSmall"
   | "CredentialsTooLong" | "PriorityTooHigh" | "BadLimit" | "TooFewRandomBytes" | "BadMessage" | "MessageTooLong" | "TooManyCandidates"
-  | "LiteStaysControlled" | "Trapped";
+  | "LiteStaysControlled" | "BadUrl" | "NoServers" | "Trapped";

@@ -1,18 +1,18 @@
-// An agent in the module's memory: made, called, and freed once.
+// What is on the heap of the module, an agent or the clients of servers: made, called, and freed once.
 import { STRUCTS } from "./abi.js";
 import { checkedCreds, newCreds, random } from "./credentials.js";
 import { done, IceError } from "./errors.js";
 import { library } from "./module.js";
 import { whole } from "./numbers.js";
 
-const [SLOT_SIZE] = STRUCTS.Agent;
-
-/** What agents and their settings use of a handle: the memory, the is_ice_agent in it, a call, and a call with credentials. */
+/** What agents, their settings and clients use of a handle: the memory, the struct in it that refers to them, a call, a call with
+ *  credentials, the end, and whether that came. */
 export const MEMORY = Symbol("memory"), SLOT = Symbol("slot"), CALL = Symbol("call"), WITH_CREDS = Symbol("with credentials");
+export const FREE = Symbol("free"), FREED = Symbol("freed");
 
-function release({ memory, slot }) {
+function release({ memory, slot, free }) {
   if (memory.trap) return; // the memory is lost as a whole
-  memory.call("is_ice_agent_free", slot);
+  memory.call(free, slot);
   memory.free(slot);
 }
 
@@ -24,15 +24,17 @@ const registry = new FinalizationRegistry((held) => {
   }
 });
 
-export class Handle {
-  #held = null; // the memory, and where the is_ice_agent is in it
+export class Held {
+  #held = null; // the memory, where the struct is in it, and the call that frees what it refers to
+  #none; // the error of each call after that
 
-  constructor(creds = newCreds(), tieBreaker = new DataView(random(8).buffer).getBigUint64(0)) {
-    const tie = whole(tieBreaker, "a tie-breaker"), checked = checkedCreds(creds), memory = library();
-    const held = { memory, slot: memory.place(SLOT_SIZE).arg };
+  /** `make` calls what fills the struct of this kind. */
+  constructor(kind, make, free, none) {
+    const memory = library(), held = { memory, slot: memory.place(STRUCTS[kind][0]).arg, free };
     this.#held = held;
+    this.#none = none;
     try {
-      this[WITH_CREDS]("is_ice_agent_new", checked, tie);
+      make(this);
     } catch (error) {
       this.#held = null;
       release(held);
@@ -41,8 +43,7 @@ export class Handle {
     registry.register(this, held, this);
   }
 
-  /** Frees the agent. Every later call throws "NoAgent", except for another close(). */
-  close() {
+  [FREE]() {
     const held = this.#held;
     if (!held) return;
     this.#held = null;
@@ -50,24 +51,40 @@ export class Handle {
     release(held);
   }
 
-  /** Whether close() was called. */
-  get closed() {
+  get [FREED]() {
     return this.#held === null;
   }
 
   get [MEMORY]() {
-    if (!this.#held) throw new IceError("NoAgent");
+    if (!this.#held) throw new IceError(this.#none);
     return this.#held.memory;
   }
 
   get [SLOT]() {
-    if (!this.#held) throw new IceError("NoAgent");
+    if (!this.#held) throw new IceError(this.#none);
     return this.#held.slot;
   }
 
-  /** Makes a call on the agent. Returns true for OK, and false for another code that is no error. */
+  /** Makes a call. Returns true for OK, and false for another code that is no error. */
   [CALL](name, ...values) {
     return done(this[MEMORY].call(name, this[SLOT], ...values));
+  }
+}
+
+export class Handle extends Held {
+  constructor(creds = newCreds(), tieBreaker = new DataView(random(8).buffer).getBigUint64(0)) {
+    const tie = whole(tieBreaker, "a tie-breaker"), checked = checkedCreds(creds);
+    super("Agent", (made) => made[WITH_CREDS]("is_ice_agent_new", checked, tie), "is_ice_agent_free", "NoAgent");
+  }
+
+  /** Frees the agent. Every later call throws "NoAgent", except for another close(). */
+  close() {
+    this[FREE]();
+  }
+
+  /** Whether close() was called. */
+  get closed() {
+    return this[FREED];
   }
 
   [WITH_CREDS](name, { ufrag, pass }, ...more) {

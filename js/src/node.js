@@ -1,15 +1,19 @@
-// The agent over UDP sockets of Node: its sockets, its timer, and its events as those of an EventEmitter.
+// The agent over sockets of Node: its sockets, its connections to servers, its timers, and its events as those of an EventEmitter.
 import dgram from "node:dgram";
 import { EventEmitter } from "node:events";
 import os from "node:os";
 import { addressText } from "./address.js";
-import { Candidate } from "./candidate.js";
 import { IceError } from "./errors.js";
+import { IceGatherer } from "./gatherer.js";
+import { addressesOf, connected, localOf, remoteOf } from "./reaching.js";
+import { Frames } from "./servers.js";
 import { isStun } from "./stun.js";
 import { isHostAddress } from "./timing.js";
 
 const IDLE = 1000; // milliseconds until the agent is asked again, if it names no time
 const AGAIN = 50; // milliseconds until handleTimeout is called again if it failed
+const RECONNECT = 2000; // milliseconds until a connection that was closed is opened again, once
+const FAREWELL = 1000; // milliseconds in which relayed addresses are freed at the end
 
 /** The IP addresses of this machine's interfaces that host candidates should have. */
 export function hostAddresses() {
@@ -31,29 +35,42 @@ function bound(address, port) {
 }
 
 /**
- * An agent, its sockets and its timer.
+ * An agent, its sockets and its timers. With `iceServers` as browsers have them, candidates of STUN and TURN servers, too.
  *
  * Emits the agent's events by their type: "iceRestart", "iceConnectionStateChange", "discoveredRecv", "nominatedSend", "silent" and
- * "heard", each with the event. And "media" (data, source, local) for datagrams that are not STUN messages; "stun" (data, source, local)
- * for STUN messages that are not for the agent, as responses of STUN servers; "sendFailed" (error, source, destination) for each datagram
- * that the system did not send; and "error" if the module stopped, which ends the loop.
+ * "heard", each with the event. Those of gathering likewise: "localCandidate", "gatheringComplete", "serverMapped" and so on. And "media"
+ * (data, source, local) for datagrams that are not STUN messages; "stun" (data, source, local) for STUN messages that are not for the
+ * agent; "sendFailed" (error, source, destination) for each datagram that the system did not send; "serverUnreached" (error, server) for a
+ * name that is not resolved, or a connection that is not opened; and "error" if the module stopped, which ends the loop.
  */
 export class IceLoop extends EventEmitter {
   #agent;
+  #gatherer;
+  #tls; // options of tls.connect
   #sockets = new Map();
+  #streams = new Map(); // the connections to servers
+  #reaching = new Set();
   #start = performance.now();
   #timer = null;
+  #clientsTimer = null;
   #due = null; // what the timer is set to
   #began = false;
   #closed = false;
 
-  constructor(agent) {
+  constructor(agent, { iceServers = [], tls = {} } = {}) {
     super();
     this.#agent = agent;
+    this.#gatherer = new IceGatherer(agent, iceServers);
+    this.#tls = tls;
   }
 
   get agent() {
     return this.#agent;
+  }
+
+  /** What gathers candidates from servers. */
+  get gatherer() {
+    return this.#gatherer;
   }
 
   /** The current time for the agent, in milliseconds. */
@@ -73,9 +90,40 @@ export class IceLoop extends EventEmitter {
     return local;
   }
 
-  /** Binds a socket, adds its address as a host candidate, and returns that for signaling. */
+  /** Binds a socket, adds its address as a host candidate, and returns that for signaling. Its clients at servers start. */
   async bind(address, port = 0) {
-    return this.#agent.addLocalCandidate(Candidate.host(await this.open(address, port)));
+    return this.addSocket(await this.open(address, port));
+  }
+
+  /** The same for the local address of a socket that is open. */
+  addSocket(local) {
+    const line = this.#gatherer.addSocket(this.now(), local);
+    this.#reach();
+    setImmediate(() => this.#turn()); // after those that are added at the same time
+    return line;
+  }
+
+  /** Closes the sockets at a local IP address, with their candidates and clients, and the connections from it. */
+  unbind(address) {
+    for (const [name, socket] of [...this.#sockets]) {
+      const local = { address, port: socket.address().port };
+      if (name !== addressText(local)) continue;
+      this.#made(() => this.#gatherer.removeSocket(this.now(), local));
+      this.#sockets.delete(name);
+      socket.close();
+    }
+    for (const stream of [...this.#streams.values()].filter(({ localAddress }) => localAddress === address)) {
+      this.#lose(localOf(stream));
+      stream.destroy();
+    }
+    this.#turn();
+  }
+
+  /** Adds a candidate of the peer, and has the TURN servers let in its packets. */
+  addRemoteCandidate(line) {
+    const result = this.#gatherer.addRemoteCandidate(this.now(), line);
+    this.#turn();
+    return result;
   }
 
   /** Starts the session: calls handleTimeout now, and whenever the agent says. */
@@ -95,10 +143,18 @@ export class IceLoop extends EventEmitter {
     return path !== null && this.sendFrom(path.source, path.destination, data);
   }
 
-  /** Sends a datagram from the socket at a local address. Returns false if there is no such socket. */
+  /** Sends a datagram from the socket at a local address, or from a relayed address. Returns false if there is neither. */
   sendFrom(source, destination, data) {
-    const socket = this.#sockets.get(addressText(source));
-    socket?.send(data, destination.port, destination.address, (error) => error && this.#failed(error, source, destination));
+    const bytes = typeof data === "string" ? Buffer.from(data) : data;
+    const packet = this.#made(() => this.#gatherer.outgoing(this.now(), source, destination, bytes));
+    return packet ? this.#transmit(packet) : false;
+  }
+
+  /** Sends a packet as it goes out: a datagram, or into the connection that it comes from. */
+  #transmit({ protocol, source, destination, contents }) {
+    const socket = (protocol === "udp" ? this.#sockets : this.#streams).get(addressText(source));
+    if (protocol !== "udp") socket?.write(contents);
+    else socket?.send(contents, destination.port, destination.address, (error) => error && this.#failed(error, source, destination));
     return socket !== undefined;
   }
 
@@ -111,19 +167,92 @@ export class IceLoop extends EventEmitter {
 
   /** Takes a datagram that arrived at a local address. The loop's own sockets call it themselves. */
   receive(source, local, data) {
-    if (this.#closed) return;
-    if (!isStun(data)) this.emit("media", data, source, local);
-    else if (this.#made(() => this.#agent.handlePacket(this.now(), source, local, data))) this.#turn();
-    else if (!this.#closed) this.emit("stun", data, source, local);
+    this.#receive(source, local, data, "udp");
   }
 
-  /** Closes the sockets and stops the timer. The agent stays. */
+  /** Takes a datagram, or a frame of a connection. */
+  #receive(from, to, bytes, protocol) {
+    if (this.#closed) return;
+    const told = this.#made(() => this.#gatherer.receive(this.now(), from, to, bytes, protocol));
+    if (!told) return this.#turn(); // it was a client's
+    const { source, destination, contents } = told;
+    if (!isStun(contents)) this.emit("media", contents, source, destination);
+    else if (this.#made(() => this.#agent.handlePacket(this.now(), source, destination, contents))) this.#turn();
+    else if (!this.#closed) this.emit("stun", contents, source, destination);
+  }
+
+  // ---- servers
+
+  /** Resolves the names of servers, and opens connections. */
+  #reach() {
+    for (const server of this.#gatherer.toReach) {
+      if (this.#reaching.has(server)) continue;
+      this.#reaching.add(server);
+      this.#reached(server).catch((error) => !this.#closed && this.emit("serverUnreached", error, server)).finally(() => {
+        this.#reaching.delete(server);
+        if (this.#closed) return;
+        this.#gatherer.reached(server);
+        this.#turn();
+      });
+    }
+  }
+
+  async #reached(server) {
+    if (server.protocol !== "udp") return this.#connected(server, await connected(server, this.#tls));
+    const all = await addressesOf(server.host);
+    for (const ip of this.#closed ? [] : all) this.#gatherer.addServer(this.now(), server, ip);
+  }
+
+  #connected(server, stream) {
+    const local = localOf(stream), remote = remoteOf(stream), frames = new Frames();
+    stream.on("error", () => {}); // "close" follows
+    if (this.#closed) return void stream.destroy();
+    this.#streams.set(addressText(local), stream);
+    stream.on("data", (chunk) => {
+      const found = this.#made(() => frames.take(chunk));
+      if (found === false) stream.destroy(); // these are no frames
+      else for (const frame of found) this.#receive(remote, local, Buffer.from(frame.buffer), "tcp");
+    });
+    stream.on("close", () => {
+      if (this.#closed || !this.#streams.has(addressText(local))) return;
+      this.#lose(local);
+      this.#turn();
+      setTimeout(() => !this.#closed && this.#reach(), RECONNECT).unref();
+    });
+    this.#gatherer.addConnection(this.now(), server, local, remote);
+  }
+
+  #lose(local) {
+    this.#streams.delete(addressText(local));
+    this.#made(() => this.#gatherer.loseConnection(this.now(), local));
+  }
+
+  // ---- the end
+
+  /** Frees relayed addresses, which takes a round trip, and closes the loop. */
+  async leave() {
+    const end = this.now() + FAREWELL;
+    if (!this.#closed) this.#made(() => this.#gatherer.close(this.now()));
+    while (!this.#closed && this.now() < end && !this.#made(() => this.#gatherer.isOver)) {
+      this.#turn();
+      await new Promise((done) => setTimeout(done, 10));
+    }
+    this.close();
+  }
+
+  /** Closes the sockets and stops the timers. The agent stays. */
   close() {
     [this.#began, this.#closed] = [false, true];
     clearTimeout(this.#timer);
+    clearTimeout(this.#clientsTimer);
     for (const socket of this.#sockets.values()) socket.close();
+    for (const stream of this.#streams.values()) stream.end();
     this.#sockets.clear();
+    this.#streams.clear();
+    this.#gatherer.clients?.free();
   }
+
+  // ---- time
 
   #timedOut() {
     const due = this.#due;
@@ -158,9 +287,22 @@ export class IceLoop extends EventEmitter {
   #turn() {
     const agent = this.#agent, polled = (call) => !this.#closed && this.#made(call); // a handler may close the loop, and the agent
     if (this.#began) this.#setTimer(polled(() => agent.pollTimeout())); // with Original the time is sooner before packets are polled
-    for (let it; (it = polled(() => agent.pollTransmit())); ) this.sendFrom(it.source, it.destination, it.contents);
+    for (let it; (it = polled(() => this.#gatherer.pollTransmit(this.now()))); ) this.#transmit(it);
+    for (let it; (it = polled(() => this.#gatherer.pollGatheringEvent())); ) this.emit(it.type, it);
     for (let it; this.#began && (it = polled(() => agent.pollEvent())); ) this.emit(it.type, it);
     if (this.#began) this.#setTimer(polled(() => agent.pollTimeout()));
+    if (this.#gatherer.clients) this.#setClientsTimer(polled(() => this.#gatherer.clients.pollTimeout()));
+  }
+
+  /** Sets the timer of the clients, which have times of their own. */
+  #setClientsTimer(due) {
+    clearTimeout(this.#clientsTimer);
+    if (typeof due !== "number") return;
+    this.#clientsTimer = setTimeout(() => {
+      const served = this.#made(() => (this.#gatherer.handleClientsTimeout(this.now()), true));
+      if (served) this.#turn();
+      else if (!this.#closed) this.#setClientsTimer(this.now() + AGAIN);
+    }, Math.max(0, Math.ceil(due - this.now())));
   }
 
   /**

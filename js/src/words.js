@@ -11,6 +11,10 @@ export const GRAMMARS = ["ufrag", "pass", "foundation"];
 export const CLASSES = ["request", "indication", "success", "failure"];
 export const METHODS = ["other", "binding", "", "allocate", "refresh", "", "send", "data", "create-permission", "channel-bind"];
 
+export const SCHEMES = ["stun", "turn"];
+export const ENDINGS = ["failed", "lost", "closed"];
+export const SERVER_EVENTS = ["", "serverMapped", "serverAllocated", "serverNotPermitted", "serverEnded"];
+
 /** The types of events, which are JavaScript's own words. */
 export const EVENTS = ["", "iceRestart", "iceConnectionStateChange", "discoveredRecv", "nominatedSend", "silent", "heard"];
 

@@ -6,5 +6,5 @@ import { allMade, recorded } from "./surface.js";
 
 await init();
 recorded();
-for (const name of ["agent", "candidates", "stun", "loading", "loop", "memory"]) await import(`./${name}.js`);
+for (const name of ["agent", "candidates", "stun", "servers", "loading", "loop", "server_loop", "memory"]) await import(`./${name}.js`);
 allMade();

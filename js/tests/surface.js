@@ -47,16 +47,19 @@ test("the types name each export, and nothing else", () => {
   assert.deepEqual(values.filter((name) => name !== "Settings").sort(), Object.keys(ice).sort());
 });
 
-test("the types name each method and property of an agent", () => {
-  const classes = ["agent.d.ts", "settings.d.ts"].map(textOf);
-  const typed = classes.map((text) => text.slice(text.indexOf("\nexport class "))).join("");
-  const names = [...typed.matchAll(/^ {2}(?:readonly )?(\w+)[(:]/gm)].map((it) => it[1]);
-  const found = new Set();
-  for (let it = ice.IceAgent.prototype; it !== Object.prototype; it = Object.getPrototypeOf(it)) {
-    Object.getOwnPropertyNames(it).forEach((name) => found.add(name));
-  }
-  assert.deepEqual([...new Set(names)].sort(), [...found].sort());
-});
+const CLASSES = { IceAgent: ["agent.d.ts", "settings.d.ts"], Servers: ["servers.d.ts"], IceGatherer: ["gatherer.d.ts"] };
+
+for (const [kind, files] of Object.entries(CLASSES)) {
+  test(`the types name each method and property of ${kind}`, () => {
+    const classes = files.map(textOf).map((text) => text.slice(text.lastIndexOf("\nexport class ")));
+    const names = [...classes.join("").matchAll(/^ {2}(?:readonly )?(\w+)[(:]/gm)].map((it) => it[1]);
+    const found = new Set();
+    for (let it = ice[kind].prototype; it !== Object.prototype; it = Object.getPrototypeOf(it)) {
+      Object.getOwnPropertyNames(it).forEach((name) => found.add(name));
+    }
+    assert.deepEqual([...new Set(names)].sort(), [...found].sort());
+  });
+}
 
 test("the blocks of README.md are JavaScript", () => {
   const Async = (async () => {}).constructor, blocks = [...textOf("../README.md").matchAll(/^```js\n(.*?)^```$/gms)];

@@ -1,9 +1,9 @@
 // Compiles under `tsc --strict`: the types fit a caller's program.
 import {
-  addressText, bindingRequest, bindingResponse, Candidate, IceAgent, IceError, init, lineFields, modernSettings, newTransaction, readMessage,
-  writeMessage,
-  type AgentSettings, type CandidatePair, type FailedSend, type IceAgentEvent, type IceConnectionState, type MediaPath, type SocketAddress,
-  type Transmit,
+  addressText, bindingRequest, bindingResponse, Candidate, Frames, IceAgent, IceError, IceGatherer, init, lineFields, modernSettings,
+  newTransaction, readMessage, serverEventLine, Servers, serverUrl, writeMessage,
+  type AgentSettings, type CandidatePair, type Datagram, type FailedSend, type GatheringEvent, type IceAgentEvent,
+  type IceConnectionState, type IceServer, type MediaPath, type Server, type ServerEvent, type SocketAddress, type Transmit,
 } from "is-ice";
 import { IceLoop } from "is-ice/node";
 
@@ -45,3 +45,18 @@ console.log(path?.source.port, taken, agent.failedSends.map(({ reason }: FailedS
 loop.on("nominatedSend", ({ source }) => console.log(source.port)).on("media", (data) => console.log(data.length));
 const bound: string | null = await loop.bind("127.0.0.1");
 console.log(bound, loop.send("hello"));
+
+const iceServers: IceServer[] = [{ urls: ["turn:turn.example.org", "turns:turn.example.org"], username: "user", credential: "pass" }];
+const gatherer = new IceGatherer(agent, iceServers), at0: SocketAddress = { address: "10.0.0.1", port: 5000 };
+const fromBrowser: RTCIceServer[] = [{ urls: "stun:stun.example.org" }]; // those of browsers fit
+new IceLoop(agent, { iceServers: fromBrowser, tls: { ca: "" } }).on("localCandidate", ({ line }) => console.log(line));
+console.log(gatherer.addSocket(0, at0), gatherer.toReach.map(({ host, protocol }: Server) => `${host} ${protocol}`));
+for (let it: IceAgentEvent | GatheringEvent | null; (it = gatherer.pollEvent()); ) {
+  if (it.type === "serverAllocated") console.log(addressText(it.relayed), it.mapped?.port, serverEventLine(it));
+  if (it.type === "serverEnded") console.log(it.why, it.code?.toFixed());
+}
+const media: Datagram | null = gatherer.handlePacket(0, at0, at0, new Frames().take(new Uint8Array(20))[0] ?? new Uint8Array(), "tcp");
+const clients = new Servers(), told: ServerEvent | null = clients.pollEvent();
+clients.addTurn(0, at0, { address: "192.0.2.1", port: serverUrl("turn:192.0.2.1").port }, { username: "user", family: 6 });
+console.log(media?.contents.length, told?.local.port, clients.isGathering, clients.outgoing(0, at0, at0, new Uint8Array())?.protocol);
+clients[Symbol.dispose]();

@@ -1,6 +1,7 @@
 //! The agent.
 
 use crate::candidate::Candidate;
+use crate::clock::Clock;
 use crate::creds::IceCreds;
 use crate::error::{CallError, found, or_panic};
 use crate::event::{IceAgentEvent, IceAgentStats, IceConnectionState, MediaPath};
@@ -18,9 +19,6 @@ use std::fmt;
 use std::net::SocketAddr;
 use std::sync::{Arc, Mutex, OnceLock, PoisonError};
 use std::time::{Duration, Instant};
-
-/// The first instant that is passed, on the agent's clock: late enough for earlier ones that are passed later.
-const BEGINNING: Duration = Duration::from_secs(60);
 
 /// One side of a connection: a state machine without sockets, threads or clocks.
 ///
@@ -48,7 +46,7 @@ const BEGINNING: Duration = Duration::from_secs(60);
 pub struct IceAgent {
     /// Queries take `&self`, although each call of the library borrows the agent mutably: so there is one at a time.
     held: Mutex<Box<ffi::Agent>>,
-    first: Option<Instant>,
+    clock: Clock,
     /// The library has the credentials: these are what `local_credentials` and `remote_credentials` returned references to. Most programs
     /// call at most one of the two.
     pub(crate) local: OnceLock<Box<IceCreds>>,
@@ -60,10 +58,6 @@ pub struct IceAgent {
     pub(crate) silence: Option<SilenceEvent>,
     /// The library calls no function of the program, so this one is called before a candidate is added.
     pub(crate) preference: Option<Arc<dyn LocalPreference>>,
-}
-
-pub(crate) fn nanoseconds(duration: Duration) -> u64 {
-    u64::try_from(duration.as_nanos()).unwrap_or(u64::MAX)
 }
 
 // ---- creating
@@ -96,7 +90,7 @@ impl IceAgent {
         let agent = ffi::Agent::new(&local_credentials.ufrag, &local_credentials.pass, tie_breaker).map_err(CallError::of)?;
         Ok(IceAgent {
             held: Mutex::new(agent),
-            first: None,
+            clock: Clock::default(),
             local: OnceLock::new(),
             remote: OnceLock::new(),
             added: None,
@@ -564,26 +558,17 @@ impl IceAgent {
 
     /// The time on the agent's clock, which starts at one minute.
     fn time(&mut self, now: Instant) -> u64 {
-        self.first.get_or_insert(now);
-        self.time_of(now)
+        self.clock.start(now)
     }
 
     /// The same for a query, which does not start it.
     pub(crate) fn time_of(&self, now: Instant) -> u64 {
-        let first = self.first.unwrap_or(now);
-        match now.checked_duration_since(first) {
-            Some(since) => nanoseconds(BEGINNING.saturating_add(since)),
-            None => nanoseconds(BEGINNING.saturating_sub(first.duration_since(now))),
-        }
+        self.clock.time_of(now)
     }
 
     /// The time on the caller's clock, if that can represent it.
     pub(crate) fn instant(&self, at: u64) -> Option<Instant> {
-        let (first, at) = (self.first?, Duration::from_nanos(at));
-        match at.checked_sub(BEGINNING) {
-            Some(since) => first.checked_add(since),
-            None => first.checked_sub(BEGINNING.saturating_sub(at)),
-        }
+        self.clock.instant(at)
     }
 }
 

@@ -1,6 +1,7 @@
 //! All that a program may choose of an agent, in one value.
 
-use crate::agent::{IceAgent, nanoseconds};
+use crate::agent::IceAgent;
+use crate::clock::nanoseconds;
 use crate::error::{CallError, or_panic};
 use crate::ffi;
 use std::time::Duration;

@@ -43,7 +43,8 @@ impl Error for IceError {}
 #[derive(Clone, Copy, Debug, PartialEq, Eq)]
 #[non_exhaustive]
 pub enum CallError {
-    /// Both username fragments and a colon are longer than 508 bytes, so no check could be written.
+    /// Both username fragments and a colon are longer than 508 bytes, so no check could be written; or the USERNAME at a TURN server is, or
+    /// its password is longer than 763 bytes.
     CredentialsTooLong,
     /// Out of memory.
     OutOfMemory,
@@ -64,12 +65,18 @@ pub enum CallError {
     TooManyCandidates,
     /// A lite agent with [`Profile::Modern`](crate::Profile::Modern) was to be controlling.
     LiteStaysControlled,
+    /// A text that is no URL of a STUN or TURN server, or is one of a server over DTLS.
+    BadUrl,
+    /// A datagram that is too long to go through a TURN server.
+    MessageTooLong,
+    /// A stream of a server with bytes that are neither a STUN message nor ChannelData.
+    Unparsed,
     /// Another code of `c/is_ice.h`, which no call of this crate returns.
     Other(i32),
 }
 
 impl CallError {
-    const CODES: [(i32, CallError); 9] = [
+    const CODES: [(i32, CallError); 12] = [
         (ffi::CREDENTIALS_TOO_LONG, CallError::CredentialsTooLong),
         (ffi::OUT_OF_MEMORY, CallError::OutOfMemory),
         (ffi::PAIR_IDS_EXHAUSTED, CallError::PairIdsExhausted),
@@ -79,6 +86,9 @@ impl CallError {
         (ffi::BAD_LIMIT, CallError::BadLimit),
         (ffi::TOO_MANY_CANDIDATES, CallError::TooManyCandidates),
         (ffi::LITE_STAYS_CONTROLLED, CallError::LiteStaysControlled),
+        (ffi::BAD_URL, CallError::BadUrl),
+        (ffi::MESSAGE_TOO_LONG, CallError::MessageTooLong),
+        (ffi::UNPARSED, CallError::Unparsed),
     ];
 
     pub(crate) fn of(code: i32) -> CallError {
@@ -160,7 +170,7 @@ mod tests {
 
     #[test]
     fn each_code_keeps_its_text() {
-        for code in -18..0 {
+        for code in -21..0 {
             assert_eq!((CallError::of(code).to_string().as_str(), found(code)), (ffi::text_of(code), Err(CallError::of(code))));
         }
         assert_eq!((found(ffi::OK), found(ffi::NOTHING), found(3)), (Ok(true), Ok(false), Ok(false)));

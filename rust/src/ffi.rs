@@ -2,7 +2,8 @@
 //! `unsafe`. Here is what the header does not say: how an agent is created, moved and freed, and how the buffers that a call writes become a
 //! `Vec` or a `String`.
 //!
-//! - An `Agent` is created zeroed, in a box that it never leaves. So it is never copied, and only the library writes it.
+//! - An `Agent` is created zeroed, in a box that it never leaves. So it is never copied, and only the library writes it. The same holds of
+//!   `Servers`.
 //! - A call borrows an `Agent` mutably, so there is one call at a time. An `Agent` is `Send`, for the reason at its impl. It has a
 //!   raw pointer, so it is not `Sync`: an `IceAgent` has it in a `Mutex`.
 
@@ -58,6 +59,26 @@ impl Agent {
             let code = raw::is_ice_poll_transmit(self, room.as_mut_ptr().cast(), ROOM, packet);
             (code == OK).then(|| slice::from_raw_parts(room.as_ptr().cast(), packet.length).to_vec())
         }
+    }
+}
+
+#[allow(unsafe_code)]
+// SAFETY: as of an agent: the header allows them on any thread, one call at a time, and each call borrows them mutably.
+unsafe impl Send for Servers {}
+
+impl Servers {
+    /// Creates the clients of a program, of which there are none yet.
+    pub(crate) fn new() -> Result<Box<Servers>, i32> {
+        assert_eq!(is_ice_version(), VERSION, "is_ice.h belongs to another library");
+        let mut servers = Box::new(Servers { is_held: false, at: ptr::null_mut() });
+        let code = is_ice_servers_new(&mut servers);
+        if code == OK { Ok(servers) } else { Err(code) }
+    }
+}
+
+impl Drop for Servers {
+    fn drop(&mut self) {
+        is_ice_servers_free(self);
     }
 }
 

@@ -29,6 +29,11 @@ impl TransIds {
         self.drawn.get(usize::from(self.left)).copied()
     }
 
+    /// The next call returns the last ID once more, which nobody saw.
+    pub(crate) fn keep(&mut self) {
+        self.left += 1;
+    }
+
     fn draw(&mut self) -> Option<()> {
         let bytes: [u8; LENGTH * DRAWN] = ffi::random()?;
         for (id, drawn) in self.drawn.iter_mut().zip(bytes.chunks_exact(LENGTH)) {
@@ -43,6 +48,16 @@ impl TransIds {
 mod tests {
     use super::{DRAWN, TransIds};
     use std::collections::HashSet;
+
+    #[test]
+    fn an_id_that_nobody_saw_comes_again() {
+        let mut ids = TransIds::default();
+        for _ in 0..3 * DRAWN {
+            let id = ids.next().unwrap();
+            ids.keep();
+            assert_eq!(ids.next(), Some(id));
+        }
+    }
 
     #[test]
     fn no_id_is_returned_twice() {

@@ -25,6 +25,7 @@ mod agent;
 mod all_settings;
 mod builder;
 mod candidate;
+mod clock;
 mod creds;
 mod error;
 mod event;
@@ -41,6 +42,7 @@ mod rejection_counts;
 mod removed;
 #[cfg(any(feature = "serde", str0m_types))]
 mod serde;
+pub mod servers;
 mod session_log;
 mod settings;
 pub mod stun;

@@ -1,7 +1,8 @@
 //! Media, for the program: where it goes and from where it comes, also during an ICE restart; whether the path is silent; and datagrams
 //! that the system did not send.
 
-use crate::agent::{IceAgent, nanoseconds};
+use crate::agent::IceAgent;
+use crate::clock::nanoseconds;
 use crate::error::{CallError, or_panic};
 use crate::event::MediaPath;
 use crate::ffi;

@@ -1,7 +1,8 @@
 //! The settings of an agent.
 
-use crate::agent::{IceAgent, nanoseconds};
+use crate::agent::IceAgent;
 use crate::all_settings::limit_of;
+use crate::clock::nanoseconds;
 use crate::creds::IceCreds;
 use crate::error::{CallError, or_panic};
 use crate::ffi;

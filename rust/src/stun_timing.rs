@@ -1,6 +1,6 @@
 //! The times of retransmissions, as a value.
 
-use crate::agent::nanoseconds;
+use crate::clock::nanoseconds;
 use crate::error::{CallError, found, or_panic};
 use crate::ffi;
 use std::time::Duration;

@@ -1,8 +1,10 @@
 //! Signaling for two people, who paste one line each into the other's program; and the address of this machine.
 
-use is::{Candidate, IceAgent, IceCreds, Protocol};
+use is::servers::IceGatherer;
+use is::{Candidate, CandidateKind, IceCreds};
 use std::net::{IpAddr, UdpSocket};
 use std::sync::mpsc::{Receiver, channel};
+use std::time::Instant;
 
 pub type Result<T> = std::result::Result<T, Box<dyn std::error::Error>>;
 
@@ -21,27 +23,33 @@ pub fn typed() -> Receiver<String> {
     lines
 }
 
-/// Makes an ICE restart: prints new credentials and the socket's candidate, for the peer.
-pub fn restart(agent: &mut IceAgent, socket: &UdpSocket) -> Result<()> {
-    let creds = IceCreds::new();
-    agent.try_ice_restart(creds.clone(), false)?;
-    let host = Candidate::host(socket.local_addr()?, Protocol::Udp)?;
-    let line = agent.try_add_local_candidate(host)?.ok_or("redundant candidate")?.to_sdp_string();
-    println!("signal {} {} {line}", creds.ufrag, creds.pass);
+/// Prints credentials and candidates, for the peer: of the socket, and what servers brought.
+pub fn announce(gatherer: &mut IceGatherer) -> Result<()> {
+    let mut candidates = gatherer.agent().try_local_candidates()?;
+    candidates.retain(|candidate| candidate.kind() != CandidateKind::PeerReflexive);
+    let lines: Vec<String> = candidates.iter().map(Candidate::to_sdp_string).collect();
+    let creds = gatherer.agent().local_credentials();
+    println!("signal {} {} {}", creds.ufrag, creds.pass, lines.join(","));
     Ok(())
 }
 
+/// Makes an ICE restart, with new credentials. Relayed addresses stay. If servers are waited for, `GatheringComplete` announces it.
+pub fn restart(gatherer: &mut IceGatherer) -> Result<()> {
+    gatherer.agent_mut().try_ice_restart(IceCreds::new(), true)?;
+    if gatherer.is_gathering() { Ok(()) } else { announce(gatherer) }
+}
+
 /// Takes the peer's credentials and candidates. Other credentials than before: the peer made an ICE restart, and so does this side.
-pub fn take(agent: &mut IceAgent, socket: &UdpSocket, signal: &str) -> Result<()> {
+pub fn take(gatherer: &mut IceGatherer, signal: &str) -> Result<()> {
     let [ufrag, pass, lines] = signal.splitn(3, ' ').collect::<Vec<_>>()[..] else {
         return Err("not a signal: it has credentials and candidates".into());
     };
-    if agent.remote_credentials().is_some_and(|known| known.ufrag != ufrag) {
-        restart(agent, socket)?;
+    if gatherer.agent().remote_credentials().is_some_and(|known| known.ufrag != ufrag) {
+        restart(gatherer)?;
     }
-    agent.try_set_remote_credentials(IceCreds { ufrag: ufrag.into(), pass: pass.into() })?;
+    gatherer.agent_mut().try_set_remote_credentials(IceCreds { ufrag: ufrag.into(), pass: pass.into() })?;
     for line in lines.split(',') {
-        agent.try_add_remote_candidate(Candidate::from_sdp_string(line)?)?;
+        gatherer.add_remote_candidate(Instant::now(), Candidate::from_sdp_string(line)?)?;
     }
     Ok(())
 }
