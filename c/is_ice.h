@@ -19,13 +19,14 @@
  * Return codes. A call returns IS_ICE_OK; or a code above 0 if there was nothing to do or to return, as IS_ICE_NOTHING;
  * or an error below 0. A call that fails leaves the agent unchanged and can be repeated, also after
  * IS_ICE_OUT_OF_MEMORY (is_ice_poll_transmit names an exception). Any call on an agent returns IS_ICE_NO_AGENT, and
- * writes nothing, if the is_ice_agent holds none; the comments below do not repeat this.
+ * writes nothing, if the is_ice_agent holds none, and any call on servers IS_ICE_NO_SERVERS; the comments below do not
+ * repeat this.
  *
  * Ownership. An agent is on the heap. An is_ice_agent refers to it, and the caller stores the is_ice_agent anywhere: in
  * a local variable, a struct or an array. Zero it before is_ice_agent_new, as by `is_ice_agent agent = {0};`.
  * is_ice_agent_free frees the agent; the is_ice_agent may then be passed to is_ice_agent_new again. A call reads the
  * texts, datagrams and structs that are passed to it only during the call and keeps no pointer. It writes its results
- * to the caller's memory. An agent is the only thing to free.
+ * to the caller's memory. All of this holds of is_ice_servers, too. Agents and servers are the only things to free.
  *
  * Texts are UTF-8, a pointer and a length, without a terminating zero byte. A call that returns a text writes it to the
  * start of the caller's buffer, leaves the rest of the buffer unchanged and writes the text's length to *length. If the
@@ -44,14 +45,15 @@
  *
  * Threads. An agent may move between threads: any thread may use an is_ice_agent, one call at a time. The caller orders
  * the calls, by a lock, by the start or the join of a thread, or by a sequentially consistent atomic. Agents share no
- * data, so threads may use different agents at the same time. A call without an agent may be made on any thread at any
- * time.
+ * data, so threads may use different agents at the same time. The same is true of is_ice_servers. A call without either
+ * may be made on any thread at any time.
  *
  * The caller must keep these rules, which no call checks:
- * - No pointer is null, not even that of a text or buffer of length 0; only is_ice_agent_free takes a null one. (GCC and
- *   Clang warn about a plain NULL, and -fsanitize=nonnull-attribute stops at any.)
+ * - No pointer is null, not even that of a text or buffer of length 0; only is_ice_agent_free and is_ice_servers_free take
+ *   a null one. (GCC and Clang warn about a plain NULL, and -fsanitize=nonnull-attribute stops at any.)
  * - A length is at most the number of bytes at its pointer. A bool is 0 or 1.
- * - An is_ice_agent is zeroed once, then only passed to these calls. The caller never writes or copies it.
+ * - An is_ice_agent is zeroed once, then only passed to these calls. The caller never writes or copies it. Nor an
+ *   is_ice_servers.
  * - If a call writes one of its arguments, that argument overlaps no other one.
  * - The rules on threads above.
  * - No call is made from a signal handler, or in the forked child of a process with threads. */
@@ -95,24 +97,29 @@ enum {
     IS_ICE_UNSERVED_SENDER = 15,
     IS_ICE_UNSERVED_LIMIT = 16,
     IS_ICE_UNSERVED_LOCAL = 17,
+    IS_ICE_NO_RELAY = 18,              /* the relayed address is gone, or no packet goes from it to this peer */
     IS_ICE_NO_AGENT = -1,              /* the is_ice_agent holds no agent */
     IS_ICE_HAS_AGENT = -2,             /* the is_ice_agent holds one already */
     IS_ICE_NOT_UTF8 = -3,              /* a text is not UTF-8 */
     IS_ICE_BAD_ADDRESS = -4,           /* an unknown family, protocol, kind or TCP type, or a TCP type over UDP */
-    IS_ICE_UNPARSED = -5,              /* not a STUN message, or one without what ICE requires of it */
+    IS_ICE_UNPARSED = -5,              /* not a STUN message, or one without what the call requires of it */
     IS_ICE_BUFFER_TOO_SHORT = -6,      /* the buffer is unchanged; of a text or packet the required length was returned */
     IS_ICE_OUT_OF_MEMORY = -7,         /* malloc or realloc failed */
     IS_ICE_BAD_CANDIDATE = -8,         /* an address that no candidate may have, or a text that is not a candidate */
     IS_ICE_PAIR_IDS_EXHAUSTED = -9,    /* the call may form more pairs than there are pair numbers left */
     IS_ICE_MTU_TOO_SMALL = -10,        /* below 588 bytes, the longest connectivity check without NOMINATION */
-    IS_ICE_CREDENTIALS_TOO_LONG = -11, /* both username fragments and a colon are longer than 508 bytes */
+    IS_ICE_CREDENTIALS_TOO_LONG = -11, /* both username fragments and a colon are longer than 508 bytes; of a TURN client see
+                                        * is_ice_servers_add_turn */
     IS_ICE_PRIORITY_TOO_HIGH = -12,    /* a local candidate of priority 4294967295 */
     IS_ICE_BAD_LIMIT = -13,            /* a limit of 0 retransmits */
     IS_ICE_TOO_FEW_RANDOM_BYTES = -14, /* see the call */
     IS_ICE_BAD_MESSAGE = -15,          /* see is_ice_stun_write, for this and the next */
     IS_ICE_MESSAGE_TOO_LONG = -16,
     IS_ICE_TOO_MANY_CANDIDATES = -17,  /* as many candidates of the side are listed as is_ice_set_max_candidates allows */
-    IS_ICE_LITE_STAYS_CONTROLLED = -18 /* a lite agent was to be controlling: see is_ice_set_controlling */
+    IS_ICE_LITE_STAYS_CONTROLLED = -18, /* a lite agent was to be controlling: see is_ice_set_controlling */
+    IS_ICE_BAD_URL = -19,              /* not the URL of a STUN or TURN server, or one of TURN over DTLS */
+    IS_ICE_NO_SERVERS = -20,           /* the is_ice_servers holds none */
+    IS_ICE_HAS_SERVERS = -21           /* the is_ice_servers holds them already */
 };
 
 /* is_ice_code_text - describes a code for a message: a zero-terminated text with static lifetime. */
@@ -137,6 +144,7 @@ static inline const char *is_ice_code_text(int32_t code)
     case IS_ICE_UNSERVED_SENDER: return "request from an invalidated remote candidate";
     case IS_ICE_UNSERVED_LIMIT: return "request from an unknown address while the limit on discovered candidates is reached";
     case IS_ICE_UNSERVED_LOCAL: return "request to an invalidated local candidate";
+    case IS_ICE_NO_RELAY: return "relayed address gone, or not for this peer";
     case IS_ICE_NO_AGENT: return "no agent";
     case IS_ICE_HAS_AGENT: return "there is an agent already";
     case IS_ICE_NOT_UTF8: return "text is not UTF-8";
@@ -155,6 +163,9 @@ static inline const char *is_ice_code_text(int32_t code)
     case IS_ICE_MESSAGE_TOO_LONG: return "STUN message or one of its texts too long";
     case IS_ICE_TOO_MANY_CANDIDATES: return "too many candidates";
     case IS_ICE_LITE_STAYS_CONTROLLED: return "lite agent stays controlled";
+    case IS_ICE_BAD_URL: return "bad URL of a STUN or TURN server";
+    case IS_ICE_NO_SERVERS: return "no servers";
+    case IS_ICE_HAS_SERVERS: return "there are servers already";
     default: return "unknown code";
     }
 }
@@ -195,9 +206,9 @@ enum { IS_ICE_HOST = 0, IS_ICE_SERVER_REFLEXIVE = 1, IS_ICE_RELAYED = 2, IS_ICE_
 /* TCP types: which side opens the connection of a TCP candidate (RFC 6544, section 4.5). */
 enum { IS_ICE_TCP_UNSTATED = 0, IS_ICE_TCP_ACTIVE = 1, IS_ICE_TCP_PASSIVE = 2, IS_ICE_TCP_SO = 3 };
 
-/* A candidate that the caller gathered. Packets of a relayed candidate come out with its address as source: the caller
- * sends them through the TURN server. What the server relays goes to is_ice_handle_packet, with its address as
- * destination. docs/GUIDE.md says what to write. */
+/* A candidate that the caller gathered. Packets of a relayed candidate come out with its address as source:
+ * is_ice_servers_outgoing writes them as they go through the TURN server. What the server relays goes to
+ * is_ice_handle_packet, with the relayed address as destination: is_ice_servers_receive says so. */
 typedef struct is_ice_candidate {
     is_ice_address address; /* its transport address */
     is_ice_address base;    /* server-reflexive: of the local socket; relayed: the local address; host: not read */
@@ -1150,7 +1161,7 @@ IS_ICE_CALL int32_t is_ice_remote_pass(is_ice_agent *agent, uint8_t *buffer, siz
  * IS_ICE_SERVER_REFLEXIVE: its address is the mapped address, its base that of the socket. Send the request again after
  * 500 ms, then after twice as long each time, 7 requests in all (section 6.2.1): is_ice_retransmit_delay returns these
  * times. Check that the response came from the server, to the socket that sent the request. A FINGERPRINT is read, but
- * not verified. */
+ * not verified. The calls is_ice_servers_.. do all of this. */
 
 /* A transaction ID: 12 bytes from a source that nobody can predict. The response has that of its request. */
 typedef struct is_ice_stun_transaction {
@@ -1345,6 +1356,255 @@ IS_ICE_CALL int32_t is_ice_stun_write(
     const is_ice_stun_message *message, const is_ice_stun_texts *texts, const uint8_t *bytes, size_t bytes_length,
     const uint8_t *key, size_t key_length, uint8_t *buffer, size_t size, size_t *length);
 
+/* ---- STUN and TURN servers (RFC 8489, RFC 8656)
+ *
+ * An is_ice_servers holds all clients of a program. A STUN client asks a server at which address it sees a socket: that is a
+ * server-reflexive candidate. A TURN client has a server allocate a relayed address, for peers that no other path reaches:
+ * that is a relayed candidate. The caller resolves names, and opens sockets and connections. The clients are between
+ * these and the agent:
+ *
+ *     is_ice_servers_new(&servers);
+ *     is_ice_servers_add_stun(&servers, now, &local, &server), or is_ice_servers_add_turn: each socket at each server
+ *     for (;;) {
+ *         while (is_ice_servers_poll_transmit(&servers, buffer, sizeof buffer, &packet) == IS_ICE_OK)
+ *             send buffer[0 .. packet.length] from packet.source to packet.destination;
+ *         while (is_ice_servers_poll_event(&servers, &server_event) == IS_ICE_OK)
+ *             is_ice_add_local(&agent, ..) for what was mapped or allocated;
+ *         while (is_ice_poll_transmit(&agent, buffer, sizeof buffer, &packet) == IS_ICE_OK)
+ *             is_ice_servers_outgoing(&servers, now, &packet.source, &packet.destination, buffer, packet.length, ..)
+ *                 IS_ICE_OK: send what it wrote, as it says; IS_ICE_NOTHING: send the packet as it is;
+ *         wait for a datagram, or until the earlier time of is_ice_poll_timeout and is_ice_servers_poll_timeout;
+ *         a datagram arrived:  is_ice_servers_receive(&servers, now, IS_ICE_UDP, &from, &to, bytes, length, &datagram)
+ *                 IS_ICE_OK: is_ice_handle_packet(&agent, now, IS_ICE_UDP, &datagram.source, &datagram.destination,
+ *                                bytes + datagram.offset, datagram.length);
+ *         a time has passed:   is_ice_handle_timeout, is_ice_servers_handle_timeout;
+ *     }
+ *
+ * Media goes the same way: is_ice_servers_outgoing before it is sent, is_ice_servers_receive when it arrives.
+ *
+ * Protocols. A client reaches its server over UDP from a socket, or over a connection of its own: IS_ICE_TCP. Over TLS pass
+ * IS_ICE_TCP, too, and encrypt the stream. `local` is the address of the socket, or of the connection's end here. A relayed
+ * address is always one of UDP (RFC 8656, section 7.1): so is its candidate, and what comes through it.
+ *
+ * After is_ice_servers_new and the two calls that add, no call allocates, except is_ice_servers_event_line. */
+
+/* Refers to the clients of STUN and TURN servers. All zero: there are none. Only the library reads and writes its fields. */
+typedef struct is_ice_servers {
+    bool is_held;
+    void *at;
+} is_ice_servers;
+
+/* A datagram that arrived, as the agent takes it: a part of the caller's bytes. */
+typedef struct is_ice_datagram {
+    is_ice_address source;      /* who sent it: through a TURN server the peer */
+    is_ice_address destination; /* where it arrived: at a socket, or at a relayed address */
+    size_t offset;              /* its first byte */
+    size_t length;
+} is_ice_datagram;
+
+/* What happened to a client. */
+enum {
+    IS_ICE_SERVER_MAPPED = 1,        /* the server sees the socket at `mapped`: reported again if it changes */
+    IS_ICE_SERVER_ALLOCATED = 2,     /* the server allocated `relayed` */
+    IS_ICE_SERVER_NOT_PERMITTED = 3, /* the server lets in no packets of `peer`: its error response, or none came */
+    IS_ICE_SERVER_ENDED = 4          /* the last event of a client: `why` */
+};
+
+/* Why a client ended. */
+enum {
+    IS_ICE_ENDED_FAILED = 0, /* it never had a mapped or relayed address */
+    IS_ICE_ENDED_LOST = 1,   /* it had one, which is gone: invalidate its candidates */
+    IS_ICE_ENDED_CLOSED = 2  /* is_ice_servers_close ended it */
+};
+
+/* An event of a client. A field that the kind does not have is unchanged.
+ *
+ * MAPPED: add a candidate of kind IS_ICE_SERVER_REFLEXIVE, with address `mapped` and base `local`. ALLOCATED: add one of
+ * kind IS_ICE_RELAYED over IS_ICE_UDP, with address `relayed` and base `local`; and if `has_mapped`, a server-reflexive one
+ * as for MAPPED. */
+typedef struct is_ice_server_event {
+    is_ice_address local;   /* the client's socket or connection */
+    is_ice_address server;  /* the client's server: another one than the caller's after a redirection */
+    is_ice_address relayed; /* ALLOCATED */
+    is_ice_address mapped;  /* MAPPED; ALLOCATED if `has_mapped` */
+    is_ice_address peer;    /* NOT_PERMITTED: its IP address; port 0 */
+    int32_t kind;           /* IS_ICE_SERVER_.. */
+    int32_t why;            /* ENDED: IS_ICE_ENDED_.. */
+    uint16_t code;          /* NOT_PERMITTED, ENDED: of the server's error response; 0: none came */
+    uint16_t unverified;    /* ENDED: of a response that nobody signed, for the log; 200: a success response; 0: none came */
+    uint8_t protocol;       /* IS_ICE_UDP or IS_ICE_TCP, to the server */
+    bool has_mapped;        /* ALLOCATED over UDP, and the server said where it sees the socket */
+} is_ice_server_event;
+
+/* Schemes of URLs of servers. */
+enum { IS_ICE_STUN = 0, IS_ICE_TURN = 1 };
+
+/* What the URL of a server says. The host is a part of the text. */
+typedef struct is_ice_server_url {
+    size_t host_start;  /* of a name or an IP address, without the brackets of IPv6 */
+    size_t host_length;
+    uint16_t port;      /* without one in the text 3478, or over TLS 5349 */
+    uint8_t scheme;     /* IS_ICE_STUN or IS_ICE_TURN */
+    uint8_t protocol;   /* IS_ICE_UDP, IS_ICE_TCP or IS_ICE_TLS */
+} is_ice_server_url;
+
+/* is_ice_servers_new - makes the clients of a program: there are none yet. After IS_ICE_OK the is_ice_servers refers to
+ * heap memory, until is_ice_servers_free.
+ *
+ * IS_ICE_OK. IS_ICE_HAS_SERVERS: it refers to some, which stay. IS_ICE_OUT_OF_MEMORY. */
+IS_ICE_CALL int32_t is_ice_servers_new(is_ice_servers *servers);
+
+/* is_ice_servers_free - frees all clients, with their passwords and keys. The servers do not notice, and keep their
+ * allocations up to ten minutes: call is_ice_servers_close before, and go on until each client ended. The is_ice_servers may
+ * then be passed to is_ice_servers_new again. A null pointer: the call does nothing, as free() does. */
+void is_ice_servers_free(is_ice_servers *servers);
+
+/* is_ice_servers_add_stun - adds a STUN client of a socket, over UDP, and starts it: the next
+ * is_ice_servers_handle_timeout calls send its requests. It keeps the mapping of NATs alive by a request each 20 s.
+ *
+ * A second STUN client of the socket at this server is not added. A TURN client over UDP finds the mapped address, too, and
+ * needs no STUN client at the same server.
+ *
+ * IS_ICE_OK. IS_ICE_BAD_ADDRESS: an unknown family. IS_ICE_OUT_OF_MEMORY. */
+IS_ICE_CALL int32_t is_ice_servers_add_stun(
+    is_ice_servers *servers, uint64_t now, const is_ice_address *local, const is_ice_address *server);
+
+/* is_ice_servers_add_turn - adds a TURN client of a socket or connection, and starts it. It requests an allocation and renews
+ * it, and it requests permissions and channels of peers as they are needed (RFC 8656, sections 7 to 12).
+ *
+ * `family` is that of the relayed address: 4, 6, or 0 for the server's default, which is IPv4 (section 7.1). `places` is how
+ * many permissions and channels it has together, at most: each IP address of a peer needs one, and each address that media
+ * goes to another one. IS_ICE_SERVERS_PLACES are enough for an agent whose peer has up to 60 candidates. USERNAME and
+ * password are the long-term credentials (RFC 8489, section 9.2). An empty USERNAME: without credentials. While the
+ * socket or connection has a TURN client at this server, another one is not added: the server makes one allocation for it
+ * (RFC 8656, section 2.2).
+ *
+ * IS_ICE_OK. IS_ICE_BAD_ADDRESS: an unknown family, or a protocol other than IS_ICE_UDP and IS_ICE_TCP. IS_ICE_NOT_UTF8.
+ * IS_ICE_CREDENTIALS_TOO_LONG: USERNAME is longer than 508 bytes, or the password longer than 763.
+ * IS_ICE_OUT_OF_MEMORY. */
+enum { IS_ICE_SERVERS_PLACES = 64 };
+IS_ICE_CALL int32_t is_ice_servers_add_turn(
+    is_ice_servers *servers, uint64_t now, uint8_t protocol, const is_ice_address *local, const is_ice_address *server,
+    uint8_t family, size_t places, const uint8_t *username, size_t username_length, const uint8_t *password,
+    size_t password_length);
+
+/* is_ice_servers_receive - takes a datagram that arrived now from `source` at the socket with the address `destination`, or
+ * over TCP a frame that arrived on the connection from `source` (is_ice_frame_length says where it ends). Pass all of them,
+ * media, too, and before the agent gets them. Bytes are not copied.
+ *
+ * IS_ICE_OK: for the agent, or media: *datagram says which part of `bytes` it is, from whom and to where. It is all of them
+ * if they are not from a client's server, and else what a peer sent through it. Data of peers is not authenticated
+ * (RFC 8656, section 21.1.3).
+ * IS_ICE_NOTHING: it was for a client, or for nobody; *datagram is unchanged. IS_ICE_BAD_ADDRESS: an unknown family, or a
+ * protocol other than IS_ICE_UDP and IS_ICE_TCP. */
+IS_ICE_CALL int32_t is_ice_servers_receive(
+    is_ice_servers *servers, uint64_t now, uint8_t protocol, const is_ice_address *source,
+    const is_ice_address *destination, const uint8_t *bytes, size_t length, is_ice_datagram *datagram);
+
+/* is_ice_servers_outgoing - says how a packet of the agent, or media, goes out. Pass all of them. If `source` is the relayed
+ * address of a client, what goes to its server is written to the start of the buffer, and that peer is permitted. Media
+ * goes by ChannelData once its channel is bound, and until then, as packets of the agent, by Send indications (RFC 8656,
+ * sections 11 and 12).
+ *
+ * `random` holds IS_ICE_SERVERS_RANDOM bytes or more: the first twelve are the transaction ID of a Send indication. Draw
+ * new ones for each call. A buffer that is longer than the packet by IS_ICE_WRAPPING_LENGTH is long enough.
+ *
+ * IS_ICE_OK: send buffer[0 .. packet.length] from packet.source to packet.destination; over IS_ICE_TCP put it into the
+ * stream. IS_ICE_NOTHING: `source` is no relayed address: send the bytes as they are. IS_ICE_NO_RELAY: drop the packet, the
+ * relayed address is gone, or the server barred the peer within the last minute, or all places are taken. After these two and
+ * each error the buffer and *packet are unchanged. IS_ICE_TOO_FEW_RANDOM_BYTES: fewer than 12. IS_ICE_BAD_ADDRESS: an
+ * unknown family. IS_ICE_BUFFER_TOO_SHORT, IS_ICE_MESSAGE_TOO_LONG (longer than 65535 bytes, or than one message holds): the
+ * peer is permitted all the same. */
+enum { IS_ICE_SERVERS_RANDOM = 12, IS_ICE_WRAPPING_LENGTH = 64 };
+IS_ICE_CALL int32_t is_ice_servers_outgoing(
+    is_ice_servers *servers, uint64_t now, const is_ice_address *source, const is_ice_address *destination,
+    const uint8_t *bytes, size_t length, const uint8_t *random, size_t random_length, uint8_t *buffer, size_t size,
+    is_ice_packet *packet);
+
+/* is_ice_servers_permit - requests at each TURN client that the server lets in packets from the IP address of this peer
+ * (RFC 8656, section 9), so that its checks come in before one went out. Call it for each remote candidate, and again for
+ * all of them after ALLOCATED: a client without an allocation does nothing. A permission is renewed while it is in use:
+ * requested, sent to, or received from.
+ *
+ * IS_ICE_OK. IS_ICE_BAD_ADDRESS: an unknown family. */
+IS_ICE_CALL int32_t is_ice_servers_permit(is_ice_servers *servers, uint64_t now, const is_ice_address *peer);
+
+/* is_ice_servers_probe - has each TURN client ask its server now whether it still has the allocation: after sleep, if the
+ * network changed, or if a path through the server was lost. If it is gone, ENDED follows. IS_ICE_OK. */
+IS_ICE_QUIET_CALL int32_t is_ice_servers_probe(is_ice_servers *servers, uint64_t now);
+
+/* is_ice_servers_close - has each client end: a TURN client frees its allocation, by two requests at most. Go on with the
+ * loop until ENDED was polled of each. IS_ICE_OK. */
+IS_ICE_QUIET_CALL int32_t is_ice_servers_close(is_ice_servers *servers, uint64_t now);
+
+/* is_ice_servers_lose - says that a socket or connection is gone: its clients end at once, with LOST or FAILED. For a
+ * connection that the server closed, and before a socket is closed.
+ *
+ * IS_ICE_OK, also if it has no clients. IS_ICE_BAD_ADDRESS: an unknown family, or a protocol other than IS_ICE_UDP and
+ * IS_ICE_TCP. */
+IS_ICE_CALL int32_t is_ice_servers_lose(is_ice_servers *servers, uint8_t protocol, const is_ice_address *local);
+
+/* is_ice_servers_handle_timeout - passes the current time to the client whose time comes first, if it has come: one packet
+ * at most. If the time of another one has come, is_ice_servers_poll_timeout says so.
+ *
+ * `random` holds IS_ICE_SERVERS_RANDOM bytes or more: the first twelve are the transaction ID of a request. Draw new ones
+ * for each call, from a source that nobody can predict.
+ *
+ * IS_ICE_OK. IS_ICE_TOO_FEW_RANDOM_BYTES: fewer than 12; nothing is changed. */
+IS_ICE_CALL int32_t is_ice_servers_handle_timeout(
+    is_ice_servers *servers, uint64_t now, const uint8_t *random, size_t random_length);
+
+/* is_ice_servers_poll_timeout - returns the time at which to call is_ice_servers_handle_timeout next. It is a query: it
+ * changes nothing.
+ *
+ * IS_ICE_OK: *at is the time. IS_ICE_NOTHING: there is none, and *at is unchanged. */
+IS_ICE_CALL int32_t is_ice_servers_poll_timeout(is_ice_servers *servers, uint64_t *at);
+
+/* is_ice_servers_poll_transmit - returns the next packet of a client and removes it. Its bytes are at the start of the buffer,
+ * whose rest is unchanged. *packet has their length and the protocol, the client's socket or connection as source, and its
+ * server as destination. Over IS_ICE_UDP the packet is a datagram, over IS_ICE_TCP put it into the stream.
+ *
+ * IS_ICE_OK: a packet. IS_ICE_NOTHING: there is none. IS_ICE_BUFFER_TOO_SHORT: the packet stays the next one;
+ * IS_ICE_SERVERS_PACKET_LENGTH bytes are long enough for any. After these two the buffer and *packet are unchanged. */
+enum { IS_ICE_SERVERS_PACKET_LENGTH = 2200 };
+IS_ICE_CALL int32_t is_ice_servers_poll_transmit(
+    is_ice_servers *servers, uint8_t *buffer, size_t size, is_ice_packet *packet);
+
+/* is_ice_servers_poll_event - returns the next event of a client and removes it.
+ *
+ * IS_ICE_OK: an event. IS_ICE_NOTHING: there is none; *event is unchanged. */
+IS_ICE_CALL int32_t is_ice_servers_poll_event(is_ice_servers *servers, is_ice_server_event *event);
+
+/* is_ice_servers_gathering - returns whether a client waits for its first answer: then more candidates may come. It is a
+ * query. IS_ICE_OK: one does. IS_ICE_NOTHING: none does. */
+IS_ICE_CALL int32_t is_ice_servers_gathering(is_ice_servers *servers);
+
+/* is_ice_servers_event_line - returns the line of an event for a log, as is_ice_event_line does for those of an agent:
+ * `server 192.0.2.1:3478 udp 10.0.0.1:1000: allocated 192.0.2.1:49152, mapped 203.0.113.5:61000`, or `..: ended, lost, 437`.
+ * It has no end of line. Allocates.
+ *
+ * IS_ICE_OK. IS_ICE_BAD_ADDRESS: no event has this kind, this `why`, this protocol, or this family of an address that the
+ * kind has. IS_ICE_OUT_OF_MEMORY. After these two the buffer and *length are unchanged. IS_ICE_BUFFER_TOO_SHORT. */
+IS_ICE_CALL int32_t is_ice_servers_event_line(
+    const is_ice_server_event *event, uint8_t *buffer, size_t size, size_t *length);
+
+/* is_ice_server_url_of - reads the URL of a server: `stun:192.0.2.1`, `turn:turn.example.org:3478?transport=tcp`,
+ * `turns:[2001:db8::1]` (RFC 7064, section 3.1; RFC 7065, section 3.1). `turn` is over UDP without a `transport`, `turns` over
+ * TLS. There is no client for `stuns`. Does not allocate.
+ *
+ * IS_ICE_OK. IS_ICE_NOT_UTF8. IS_ICE_BAD_URL: not such a URL; or `turns` with the transport `udp`, which is DTLS. After these
+ * two *url is unchanged. */
+IS_ICE_CALL int32_t is_ice_server_url_of(const uint8_t *text, size_t length, is_ice_server_url *url);
+
+/* is_ice_frame_length - returns how long the frame is that begins a stream from a TURN server, with its padding: a STUN
+ * message, or ChannelData (RFC 8656, section 12.5). Once as many bytes are there, pass them to is_ice_servers_receive; what
+ * follows is the next frame. Does not allocate.
+ *
+ * IS_ICE_OK: *frame is its length, IS_ICE_FRAME_LENGTH at most, however many of its bytes are there. IS_ICE_NOTHING: fewer
+ * than four are. IS_ICE_UNPARSED: it is neither: close the connection. After these two *frame is unchanged. */
+enum { IS_ICE_FRAME_LENGTH = 65555 };
+IS_ICE_CALL int32_t is_ice_frame_length(const uint8_t *bytes, size_t length, size_t *frame);
+
 #ifdef __cplusplus
 }
 #endif
@@ -1378,6 +1638,10 @@ IS_ICE_SIZE(is_ice_stun_number, 16);
 IS_ICE_SIZE(is_ice_stun_message, 248);
 IS_ICE_SIZE(is_ice_stun_span, 24);
 IS_ICE_SIZE(is_ice_stun_texts, 144);
+IS_ICE_SIZE(is_ice_servers, 16);
+IS_ICE_SIZE(is_ice_datagram, 72);
+IS_ICE_SIZE(is_ice_server_event, 156);
+IS_ICE_SIZE(is_ice_server_url, 24);
 #undef IS_ICE_SIZE
 #endif
 

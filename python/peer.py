@@ -1,9 +1,9 @@
 """Connects to another peer over UDP, and lets both users chat.
 
-    python3 python/peer.py [-a ADDRESS ..] [-m TEXT] [-t SECONDS] controlling|controlled
+    python3 python/peer.py [-a ADDRESS ..] [-s URL ..] [-u USER] [-k PASSWORD] [-m TEXT] [-t SECONDS] controlling|controlled
 
-It prints its signal as one line: the other peer reads this standard output as its standard input. It reports what happens on
-standard error. From standard input it reads:
+It prints its signal as one line, and each candidate that a server brings as a later one: the other peer reads this standard output
+as its standard input. It reports what happens on standard error. From standard input it reads:
 
     signal UFRAG PASSWORD CANDIDATE,CANDIDATE,..   the other peer's signal
     candidate:..                                   a later candidate of the other peer
@@ -21,6 +21,7 @@ import asyncio
 import sys
 
 from is_ice import (
+    BadUrl,
     DiscoveredRecv,
     Heard,
     IceAgent,
@@ -28,22 +29,26 @@ from is_ice import (
     IceConnectionStateChange,
     IceCreds,
     IceError,
+    IceServer,
+    LocalCandidate,
     NominatedSend,
+    ServerEvent,
     Silent,
     SocketAddress,
     has_mdns_name,
     new_creds,
 )
+from is_ice.gather import LoopEvent, ServerUnreachable
 from is_ice.loop import IceLoop
 
 
 class Peer:
     """A session with its chat."""
 
-    def __init__(self, controlling: bool, message: str | None) -> None:
+    def __init__(self, controlling: bool, message: str | None, servers: list[IceServer]) -> None:
         self.agent = IceAgent()
         self.agent.set_controlling(controlling)
-        self.loop = IceLoop(self.agent, self.note, self.hear)
+        self.loop = IceLoop(self.agent, self.note, self.hear, servers=servers, on_gathering=self.gathered)
         self.message = message
         self.path: NominatedSend | None = None
         self.heard = asyncio.Event()
@@ -65,6 +70,13 @@ class Peer:
             tell(f"nominated {event.source} {event.destination}")
         elif isinstance(event, (Silent, Heard)):
             tell(f"{'silent' if isinstance(event, Silent) else 'again'} {event.source} {event.destination}")
+
+    def gathered(self, event: LoopEvent) -> None:
+        """Prints a candidate that a server brings, for the other peer, and what else happens at servers."""
+        if isinstance(event, LocalCandidate):
+            say(event.line)
+        elif isinstance(event, (ServerEvent, ServerUnreachable)):
+            tell(f"peer: {event}")
 
     def hear(self, source: SocketAddress, local: SocketAddress, data: bytes) -> None:
         """Prints chat from the far end of a path."""
@@ -122,7 +134,7 @@ class Peer:
             tell(f"peer: left out a candidate with an mDNS name: {line}")
             return
         try:
-            self.agent.add_remote_candidate(line)
+            self.loop.add_remote_candidate(line)
         except IceError as error:
             tell(f"peer: {error}")
 
@@ -149,6 +161,7 @@ class Peer:
         for ip in addresses:
             await self.loop.bind(ip)
         say(self.signal())
+        self.loop.gather()
         tasks = [asyncio.ensure_future(self.read_all())]
         if self.message:
             tasks.append(asyncio.ensure_future(self.say_until_heard(self.message)))
@@ -162,6 +175,7 @@ class Peer:
             for task in tasks:
                 task.cancel()
             self.loop.close()
+            await self.loop.wait_closed()
 
 
 async def next_line(reader: asyncio.StreamReader) -> str | None:
@@ -197,6 +211,10 @@ def main() -> int:
     parser = argparse.ArgumentParser(description="Connects to another peer over UDP, and lets both users chat.")
     parser.add_argument("-a", "--address", action="append", metavar="ADDRESS",
                         help="binds a socket at this IP address of the machine; may be repeated; without -a: 127.0.0.1")
+    parser.add_argument("-s", "--server", action="append", default=[], metavar="URL",
+                        help="asks a server for candidates: stun:stun.example.org, turn:192.0.2.1?transport=tcp; may be repeated")
+    parser.add_argument("-u", "--user", metavar="USER", help="the user name for TURN servers")
+    parser.add_argument("-k", "--password", metavar="PASSWORD", help="the password for it")
     parser.add_argument("-m", "--message", metavar="TEXT", help="sends TEXT until chat was received, and ends a second later")
     parser.add_argument("-t", "--time", type=float, metavar="SECONDS", help="ends with status 1 after this time")
     parser.add_argument("role", choices=("controlling", "controlled"), help="controlling: the side that begins, as with an offer")
@@ -204,7 +222,11 @@ def main() -> int:
 
     async def run() -> int:
         """Creates the peer inside the event loop, and runs it."""
-        peer = Peer(options.role == "controlling", options.message)
+        servers = [IceServer(options.server, options.user, options.password)]
+        try:
+            peer = Peer(options.role == "controlling", options.message, servers)
+        except BadUrl as error:
+            parser.error(f"-s: {error}")
         return await peer.run(options.address or ["127.0.0.1"], options.time)
 
     return asyncio.run(run())

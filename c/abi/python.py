@@ -20,7 +20,7 @@ def argument(kind):
 
 
 def struct(it):
-    doc = "Refers to an agent. All zero: there is none. Only the library reads and writes its fields." if it.is_opaque else f"{it.name}."
+    doc = it.comment if it.is_opaque else f"{it.name}."
     fields = [f'("{field.name}", {value(field.type)})' for field in it.fields]
     return f'\n\nclass {short(it.name)}(ctypes.Structure):\n    """{doc}"""\n\n' + wrapped("    _fields_ = [", fields, "]", WIDTH)
 

@@ -5,7 +5,7 @@ NUMBERS = {"bool": "bool", "uint8_t": "u8", "uint16_t": "u16", "uint32_t": "u32"
            "size_t": "usize", "void": "()"}
 # The types of the numbers of an enum, by its first one, where it is not i32; and of lengths, by the end of their names.
 ENUMS = {"UDP": "u8", "HOST": "u8", "TCP_UNSTATED": "u8", "TEXT_UFRAG": "u8", "STUN_USERNAME": "u16", "STUN_REQUEST": "u8",
-         "STUN_OTHER": "u16"}
+         "STUN_OTHER": "u16", "STUN": "u8", "SERVERS_PLACES": "usize"}
 LENGTHS = ("_LENGTH", "_RANDOM", "_START")
 WIDTH = 140
 
@@ -14,7 +14,8 @@ HEAD = """
 //!
 //! Why these are safe: a pointer to bytes and its length are those of one slice, and another pointer is that of a reference. Slices and
 //! references are not null, they live as long as the call, and the library keeps no pointer to them. What the library writes is borrowed
-//! mutably, so it overlaps no other argument. The fields of an [`Agent`] are private, and it is not `Clone`, so only the library writes it.
+//! mutably, so it overlaps no other argument. The fields of an [`Agent`] and of [`Servers`] are private, and neither is `Clone`, so only the
+//! library writes them.
 #![allow(unsafe_code)]
 #![allow(dead_code)] // the crate does not use all that the header declares
 """
@@ -64,7 +65,7 @@ def texts(header):
 def struct(it):
     yield ""
     if it.is_opaque:
-        yield "/// Refers to an agent of the library. All zero: there is none."
+        yield f"/// {it.comment}"
     yield "#[repr(C)]"
     if not it.is_opaque:
         yield "#[derive(Clone, Copy, Debug, Default, PartialEq, Eq, Hash)]"

@@ -166,6 +166,32 @@ static inline const char *other_layout(void)
     if (offsetof(is_ice_stun_texts, realm) != 72) return "is_ice_stun_texts.realm";
     if (offsetof(is_ice_stun_texts, nonce) != 96) return "is_ice_stun_texts.nonce";
     if (offsetof(is_ice_stun_texts, software) != 120) return "is_ice_stun_texts.software";
+    if (sizeof(is_ice_servers) != 16) return "is_ice_servers";
+    if (offsetof(is_ice_servers, is_held) != 0) return "is_ice_servers.is_held";
+    if (offsetof(is_ice_servers, at) != 8) return "is_ice_servers.at";
+    if (sizeof(is_ice_datagram) != 72) return "is_ice_datagram";
+    if (offsetof(is_ice_datagram, source) != 0) return "is_ice_datagram.source";
+    if (offsetof(is_ice_datagram, destination) != 28) return "is_ice_datagram.destination";
+    if (offsetof(is_ice_datagram, offset) != 56) return "is_ice_datagram.offset";
+    if (offsetof(is_ice_datagram, length) != 64) return "is_ice_datagram.length";
+    if (sizeof(is_ice_server_event) != 156) return "is_ice_server_event";
+    if (offsetof(is_ice_server_event, local) != 0) return "is_ice_server_event.local";
+    if (offsetof(is_ice_server_event, server) != 28) return "is_ice_server_event.server";
+    if (offsetof(is_ice_server_event, relayed) != 56) return "is_ice_server_event.relayed";
+    if (offsetof(is_ice_server_event, mapped) != 84) return "is_ice_server_event.mapped";
+    if (offsetof(is_ice_server_event, peer) != 112) return "is_ice_server_event.peer";
+    if (offsetof(is_ice_server_event, kind) != 140) return "is_ice_server_event.kind";
+    if (offsetof(is_ice_server_event, why) != 144) return "is_ice_server_event.why";
+    if (offsetof(is_ice_server_event, code) != 148) return "is_ice_server_event.code";
+    if (offsetof(is_ice_server_event, unverified) != 150) return "is_ice_server_event.unverified";
+    if (offsetof(is_ice_server_event, protocol) != 152) return "is_ice_server_event.protocol";
+    if (offsetof(is_ice_server_event, has_mapped) != 153) return "is_ice_server_event.has_mapped";
+    if (sizeof(is_ice_server_url) != 24) return "is_ice_server_url";
+    if (offsetof(is_ice_server_url, host_start) != 0) return "is_ice_server_url.host_start";
+    if (offsetof(is_ice_server_url, host_length) != 8) return "is_ice_server_url.host_length";
+    if (offsetof(is_ice_server_url, port) != 16) return "is_ice_server_url.port";
+    if (offsetof(is_ice_server_url, scheme) != 18) return "is_ice_server_url.scheme";
+    if (offsetof(is_ice_server_url, protocol) != 19) return "is_ice_server_url.protocol";
     return NULL;
 }
 
@@ -384,6 +410,38 @@ static inline bool same_stun_texts(const is_ice_stun_texts *a, const is_ice_stun
         && same_stun_span(&a->realm, &b->realm)
         && same_stun_span(&a->nonce, &b->nonce)
         && same_stun_span(&a->software, &b->software);
+}
+
+static inline bool same_datagram(const is_ice_datagram *a, const is_ice_datagram *b)
+{
+    return same_address(&a->source, &b->source)
+        && same_address(&a->destination, &b->destination)
+        && a->offset == b->offset
+        && a->length == b->length;
+}
+
+static inline bool same_server_event(const is_ice_server_event *a, const is_ice_server_event *b)
+{
+    return same_address(&a->local, &b->local)
+        && same_address(&a->server, &b->server)
+        && same_address(&a->relayed, &b->relayed)
+        && same_address(&a->mapped, &b->mapped)
+        && same_address(&a->peer, &b->peer)
+        && a->kind == b->kind
+        && a->why == b->why
+        && a->code == b->code
+        && a->unverified == b->unverified
+        && a->protocol == b->protocol
+        && a->has_mapped == b->has_mapped;
+}
+
+static inline bool same_server_url(const is_ice_server_url *a, const is_ice_server_url *b)
+{
+    return a->host_start == b->host_start
+        && a->host_length == b->host_length
+        && a->port == b->port
+        && a->scheme == b->scheme
+        && a->protocol == b->protocol;
 }
 
 #endif

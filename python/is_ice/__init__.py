@@ -15,13 +15,16 @@ from .errors import (
     BadCandidate,
     BadLimit,
     BadMessage,
+    BadUrl,
     CredentialsTooLong,
     HasAgent,
+    HasServers,
     IceError,
     LiteStaysControlled,
     MessageTooLong,
     MtuTooSmall,
     NoAgent,
+    NoServers,
     NotUtf8,
     OutOfMemory,
     PairIdsExhausted,
@@ -52,6 +55,7 @@ from .events import (
     Transmit,
     Unserved,
 )
+from .gatherer import GatheringComplete, GatheringEvent, IceGatherer, IceServer, LocalCandidate, Server, servers_of
 from .lines import (
     candidate_fields,
     candidate_line,
@@ -65,15 +69,32 @@ from .lines import (
     line_with_address,
     line_with_ufrag,
 )
+from .servers import (
+    Datagram,
+    EndedWhy,
+    Scheme,
+    ServerAllocated,
+    ServerEnded,
+    ServerEvent,
+    ServerMapped,
+    ServerNotPermitted,
+    Servers,
+    ServerUrl,
+    frame_length,
+    server_url,
+)
 from .settings import Consent, Profile, Settings
 
 __all__ = [
-    "AddResult", "BadAddress", "BadCandidate", "BadLimit", "BadMessage", "Candidate", "CandidateFields", "CandidateKind", "CandidatePair",
-    "CheckState", "Consent", "CredentialsTooLong", "DiscoveredRecv", "FailedSend", "HasAgent", "Heard", "IceAgent", "IceAgentEvent",
-    "IceAgentStats", "IceConnectionState", "IceConnectionStateChange", "IceCreds", "IceError", "IceRestart", "KindPreferences",
-    "LiteStaysControlled", "MediaPath", "MessageTooLong", "MtuTooSmall", "NoAgent", "NominatedPair", "NominatedSend", "NotUtf8",
-    "OutOfMemory", "PairIdsExhausted", "PriorityTooHigh", "Profile", "Protocol", "Rejection", "Removal", "RemovedPair", "Settings",
-    "Silent", "SocketAddress", "TcpType", "TooFewRandomBytes", "TooManyCandidates", "Transmit", "Unparsed", "Unserved", "candidate_fields",
-    "candidate_line", "default_local_preference", "has_mdns_name", "line_fields", "line_from_json", "line_name", "line_refusal",
-    "line_to_json", "line_with_address", "line_with_ufrag", "new_creds",
+    "AddResult", "BadAddress", "BadCandidate", "BadLimit", "BadMessage", "BadUrl", "Candidate", "CandidateFields", "CandidateKind",
+    "CandidatePair", "CheckState", "Consent", "CredentialsTooLong", "Datagram", "DiscoveredRecv", "EndedWhy", "FailedSend",
+    "GatheringComplete", "GatheringEvent", "HasAgent", "HasServers", "Heard", "IceAgent", "IceAgentEvent", "IceAgentStats",
+    "IceConnectionState", "IceConnectionStateChange", "IceCreds", "IceError", "IceGatherer", "IceRestart", "IceServer", "KindPreferences",
+    "LiteStaysControlled", "LocalCandidate", "MediaPath", "MessageTooLong", "MtuTooSmall", "NoAgent", "NominatedPair", "NominatedSend",
+    "NoServers", "NotUtf8", "OutOfMemory", "PairIdsExhausted", "PriorityTooHigh", "Profile", "Protocol", "Rejection", "Removal",
+    "RemovedPair", "Scheme", "Server", "ServerAllocated", "ServerEnded", "ServerEvent", "ServerMapped", "ServerNotPermitted", "Servers",
+    "ServerUrl", "Settings", "Silent", "SocketAddress", "TcpType", "TooFewRandomBytes", "TooManyCandidates", "Transmit", "Unparsed",
+    "Unserved", "candidate_fields", "candidate_line", "default_local_preference", "frame_length", "has_mdns_name", "line_fields",
+    "line_from_json", "line_name", "line_refusal", "line_to_json", "line_with_address", "line_with_ufrag", "new_creds", "server_url",
+    "servers_of",
 ]

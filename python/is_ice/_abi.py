@@ -26,6 +26,7 @@ UNSERVED_USE_CANDIDATE = 14
 UNSERVED_SENDER = 15
 UNSERVED_LIMIT = 16
 UNSERVED_LOCAL = 17
+NO_RELAY = 18
 NO_AGENT = -1
 HAS_AGENT = -2
 NOT_UTF8 = -3
@@ -44,6 +45,9 @@ BAD_MESSAGE = -15
 MESSAGE_TOO_LONG = -16
 TOO_MANY_CANDIDATES = -17
 LITE_STAYS_CONTROLLED = -18
+BAD_URL = -19
+NO_SERVERS = -20
+HAS_SERVERS = -21
 
 UDP = 0
 TCP = 1
@@ -125,6 +129,27 @@ HMAC_LENGTH = 20
 
 STUN_WRITE_LENGTH = 1252
 
+SERVER_MAPPED = 1
+SERVER_ALLOCATED = 2
+SERVER_NOT_PERMITTED = 3
+SERVER_ENDED = 4
+
+ENDED_FAILED = 0
+ENDED_LOST = 1
+ENDED_CLOSED = 2
+
+STUN = 0
+TURN = 1
+
+SERVERS_PLACES = 64
+
+SERVERS_RANDOM = 12
+WRAPPING_LENGTH = 64
+
+SERVERS_PACKET_LENGTH = 2200
+
+FRAME_LENGTH = 65555
+
 # The text of each code.
 TEXTS = {
     OK: "done",
@@ -145,6 +170,7 @@ TEXTS = {
     UNSERVED_SENDER: "request from an invalidated remote candidate",
     UNSERVED_LIMIT: "request from an unknown address while the limit on discovered candidates is reached",
     UNSERVED_LOCAL: "request to an invalidated local candidate",
+    NO_RELAY: "relayed address gone, or not for this peer",
     NO_AGENT: "no agent",
     HAS_AGENT: "there is an agent already",
     NOT_UTF8: "text is not UTF-8",
@@ -163,6 +189,9 @@ TEXTS = {
     MESSAGE_TOO_LONG: "STUN message or one of its texts too long",
     TOO_MANY_CANDIDATES: "too many candidates",
     LITE_STAYS_CONTROLLED: "lite agent stays controlled",
+    BAD_URL: "bad URL of a STUN or TURN server",
+    NO_SERVERS: "no servers",
+    HAS_SERVERS: "there are servers already",
 }
 
 
@@ -399,6 +428,42 @@ class StunTexts(ctypes.Structure):
     ]
 
 
+class Servers(ctypes.Structure):
+    """Refers to the clients of STUN and TURN servers. All zero: there are none. Only the library reads and writes its fields."""
+
+    _fields_ = [("is_held", c_bool), ("at", c_void_p)]
+
+
+class Datagram(ctypes.Structure):
+    """is_ice_datagram."""
+
+    _fields_ = [("source", Address), ("destination", Address), ("offset", c_size_t), ("length", c_size_t)]
+
+
+class ServerEvent(ctypes.Structure):
+    """is_ice_server_event."""
+
+    _fields_ = [
+        ("local", Address),
+        ("server", Address),
+        ("relayed", Address),
+        ("mapped", Address),
+        ("peer", Address),
+        ("kind", c_int32),
+        ("why", c_int32),
+        ("code", c_uint16),
+        ("unverified", c_uint16),
+        ("protocol", c_uint8),
+        ("has_mapped", c_bool),
+    ]
+
+
+class ServerUrl(ctypes.Structure):
+    """is_ice_server_url."""
+
+    _fields_ = [("host_start", c_size_t), ("host_length", c_size_t), ("port", c_uint16), ("scheme", c_uint8), ("protocol", c_uint8)]
+
+
 # The size that the header asserts of each struct.
 SIZES: dict[type[ctypes.Structure], int] = {
     Agent: 16,
@@ -423,6 +488,10 @@ SIZES: dict[type[ctypes.Structure], int] = {
     StunMessage: 248,
     StunSpan: 24,
     StunTexts: 144,
+    Servers: 16,
+    Datagram: 72,
+    ServerEvent: 156,
+    ServerUrl: 24,
 }
 
 # The arguments of each call that returns a code.
@@ -562,4 +631,54 @@ PROTOTYPES: dict[str, list[object]] = {
         c_size_t,
         POINTER(c_size_t),
     ],
+    "is_ice_servers_new": [POINTER(Servers)],
+    "is_ice_servers_add_stun": [POINTER(Servers), c_uint64, POINTER(Address), POINTER(Address)],
+    "is_ice_servers_add_turn": [
+        POINTER(Servers),
+        c_uint64,
+        c_uint8,
+        POINTER(Address),
+        POINTER(Address),
+        c_uint8,
+        c_size_t,
+        c_char_p,
+        c_size_t,
+        c_char_p,
+        c_size_t,
+    ],
+    "is_ice_servers_receive": [
+        POINTER(Servers),
+        c_uint64,
+        c_uint8,
+        POINTER(Address),
+        POINTER(Address),
+        c_char_p,
+        c_size_t,
+        POINTER(Datagram),
+    ],
+    "is_ice_servers_outgoing": [
+        POINTER(Servers),
+        c_uint64,
+        POINTER(Address),
+        POINTER(Address),
+        c_char_p,
+        c_size_t,
+        c_char_p,
+        c_size_t,
+        c_void_p,
+        c_size_t,
+        POINTER(Packet),
+    ],
+    "is_ice_servers_permit": [POINTER(Servers), c_uint64, POINTER(Address)],
+    "is_ice_servers_probe": [POINTER(Servers), c_uint64],
+    "is_ice_servers_close": [POINTER(Servers), c_uint64],
+    "is_ice_servers_lose": [POINTER(Servers), c_uint8, POINTER(Address)],
+    "is_ice_servers_handle_timeout": [POINTER(Servers), c_uint64, c_char_p, c_size_t],
+    "is_ice_servers_poll_timeout": [POINTER(Servers), POINTER(c_uint64)],
+    "is_ice_servers_poll_transmit": [POINTER(Servers), c_void_p, c_size_t, POINTER(Packet)],
+    "is_ice_servers_poll_event": [POINTER(Servers), POINTER(ServerEvent)],
+    "is_ice_servers_gathering": [POINTER(Servers)],
+    "is_ice_servers_event_line": [POINTER(ServerEvent), c_void_p, c_size_t, POINTER(c_size_t)],
+    "is_ice_server_url_of": [c_char_p, c_size_t, POINTER(ServerUrl)],
+    "is_ice_frame_length": [c_char_p, c_size_t, POINTER(c_size_t)],
 }

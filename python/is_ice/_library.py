@@ -37,6 +37,7 @@ def load(path: Path | None = None) -> ctypes.CDLL:
     if loaded.is_ice_version() != _abi.VERSION:
         raise OSError(f"{path} has version {loaded.is_ice_version()} of the interface; this module needs {_abi.VERSION}")
     loaded.is_ice_agent_free.restype, loaded.is_ice_agent_free.argtypes = None, [POINTER(_abi.Agent)]
+    loaded.is_ice_servers_free.restype, loaded.is_ice_servers_free.argtypes = None, [POINTER(_abi.Servers)]
     for name, arguments in _abi.PROTOTYPES.items():
         function = getattr(loaded, name)
         function.restype, function.argtypes = c_int32, arguments

@@ -2,10 +2,11 @@
 
 from __future__ import annotations
 
+import asyncio
 from collections.abc import Sequence
 from dataclasses import dataclass, replace
 from ipaddress import IPv4Address, IPv6Address, ip_address
-from typing import Any, Union
+from typing import Union
 
 from ._session_log import SessionLog
 from .address import SocketAddress
@@ -13,23 +14,23 @@ from .agent import IceAgent
 from .attribute import CandidateAttribute
 from .candidate import Candidate, CandidateFields, CandidateKind
 from .errors import IceError
-from .gather import Allocation, ServerAddress, TurnServer, all_of, allocate, server_reflexive_candidates
 from .loop import IceLoop
 from .mdns import Mdns
-from .stun_client import StunClient
+from .servers import Scheme
 
 IPAddress = Union[IPv4Address, IPv6Address]
+
+_PATIENCE = 5.0  # seconds for servers: what they bring later is added later
 
 _NO_ADDRESS = {4: "0.0.0.0", 6: "::"}  # in place of a related address that is hidden
 
 
 @dataclass(frozen=True)
 class Sources:
-    """Where candidates come from. `relay_only`: from servers only. `hides`: host candidates are signaled with mDNS names."""
+    """Where candidates come from, besides the servers of the loop. `relay_only`: only from these. `hides`: host candidates are signaled
+    with mDNS names."""
 
     addresses: Sequence[str]
-    stun_server: ServerAddress | None
-    turn_server: TurnServer | None
     relay_only: bool
     hides: bool
 
@@ -38,9 +39,7 @@ class LocalCandidates:
     """Gathers the local candidates of an agent, and names them for signaling."""
 
     def __init__(self, agent: IceAgent, loop: IceLoop, mdns: Mdns, log: SessionLog) -> None:
-        self.allocations: list[Allocation] = []
         self._agent, self._loop, self._mdns, self._log = agent, loop, mdns, log
-        self._stun = StunClient(loop.send)
         self._hides = self._closed = False
         self._names: dict[IPAddress, str] = {}  # mDNS names of local addresses
         self._numbers: dict[str, str] = {}  # of foundations: the agent's are hashes of addresses, which can be found by trial
@@ -48,10 +47,6 @@ class LocalCandidates:
     def close(self) -> None:
         """Ends all changes to the agent."""
         self._closed = True
-
-    def take_response(self, source: SocketAddress, local: SocketAddress, data: bytes) -> bool:
-        """Returns whether a STUN message is the response of the STUN server, and takes it."""
-        return self._stun.receive(source, local, data)
 
     def signaled(self) -> list[CandidateAttribute]:
         """Returns the candidates for signaling."""
@@ -77,21 +72,27 @@ class LocalCandidates:
             return replace(candidate, host=self._names.get(ip_address(candidate.host), candidate.host))
         return replace(candidate, related_address=_NO_ADDRESS[fields.address.version], related_port=0)
 
+    def signaled_as(self, line: str) -> CandidateAttribute | None:
+        """Returns one of the candidates for signaling, by its text in the agent."""
+        return next((self._hidden(fields) for fields in self._gathered() if fields.text == line), None)
+
     async def gather(self, sources: Sources) -> None:
         """Gathers candidates from all sources. ImportError if addresses are to be hidden and aioice is not installed."""
         self._hides = sources.hides
         bases = [base for ip in self._with_room(sources) if (base := await self._opened(ip))]
-        if not sources.relay_only:  # otherwise the sockets only serve the STUN server
+        if not sources.relay_only:  # otherwise the sockets only serve the servers
             for base in bases:
                 if self._hides:
                     self._names[ip_address(base.ip)] = await self._mdns.offer(base.ip)
-                self._add(Candidate.host(base), sources)
-        await all_of(self._gather_reflexive(bases, sources), self._gather_relayed(sources))
+                self._add(Candidate.host(base))
+        if not self._closed:
+            await asyncio.wait({self._loop.gather()}, timeout=_PATIENCE)
 
     def _with_room(self, sources: Sources) -> Sequence[str]:
-        """Returns the addresses for which the agent has places, of which one is left for the relayed candidate."""
+        """Returns the addresses for which the agent has places, of which one is left for a relayed candidate."""
         limit, found = self._agent.max_candidates, sources.addresses
-        room = len(found) if limit is None else max(0, limit - (sources.turn_server is not None))
+        has_relays = any(server.url.scheme is Scheme.TURN for server in self._loop.gatherer.servers)
+        room = len(found) if limit is None else max(0, limit - has_relays)
         if len(found) > room:
             self._log.warning("host candidates at %d of %d addresses", room, len(found))
         return found[:room]
@@ -103,33 +104,8 @@ class LocalCandidates:
             self._log.warning("no host candidate at %s: %s", ip, error)
             return None
 
-    async def _gather_reflexive(self, bases: list[SocketAddress], sources: Sources) -> None:
-        if sources.stun_server:
-            for candidate in await server_reflexive_candidates(self._stun, bases, sources.stun_server):
-                self._add(candidate, sources)
-
-    async def _gather_relayed(self, sources: Sources) -> None:
-        if not sources.turn_server:
-            return
-        try:
-            allocation = await allocate(self._loop, sources.turn_server)
-        except OSError as error:
-            self._log.warning("no relayed candidate: %s", error)
-            return
-        self.allocations.append(allocation)
-        candidate = Candidate.relayed(allocation.local, allocation.base)
-        self._add(candidate, sources)
-
-        def withdraw(_: Any) -> None:
-            if not self._closed:
-                self._log.info("the relayed candidate %s is lost", candidate.address)
-                self._agent.invalidate_candidate(candidate)
-                self._loop.wake()
-
-        allocation.freed.add_done_callback(withdraw)
-
-    def _add(self, candidate: Candidate, sources: Sources) -> None:
-        if self._closed or self._takes_the_last_place(candidate, sources):
+    def _add(self, candidate: Candidate) -> None:
+        if self._closed:
             return
         try:
             added = self._agent.add_local_candidate(candidate)
@@ -137,10 +113,3 @@ class LocalCandidates:
             self._log.warning("no candidate at %s: %s", candidate.address, error)
         else:
             self._log.info("local candidate %s %s", candidate.address, candidate.kind.name if added else "is redundant")
-
-    def _takes_the_last_place(self, candidate: Candidate, sources: Sources) -> bool:
-        """Whether the candidate would take the place that is left for the relayed one."""
-        limit = self._agent.max_candidates
-        if limit is None or sources.turn_server is None or candidate.kind is CandidateKind.RELAYED:
-            return False
-        return len(self._agent.local_candidates()) >= limit - 1

@@ -61,9 +61,8 @@ class RemoteCandidates:
             self._leave_out(error)
 
     def _add(self, fields: CandidateFields) -> None:
-        result = self._loop.agent.add_remote_candidate(_checked(fields).text)
+        result = self._loop.add_remote_candidate(_checked(fields).text)
         self._log.info("remote candidate %s %s: %s", fields.address, fields.kind.name, result.name)
-        self._loop.wake()
 
     def _leave_out(self, error: Exception) -> None:
         self._log.info("left out a candidate: %r", str(error)[:_LOGGED])

@@ -2,7 +2,7 @@
 
 from __future__ import annotations
 
-from collections.abc import Callable, Iterable, Mapping
+from collections.abc import Callable, Iterable, Mapping, Sequence
 from itertools import islice
 
 from .agent import IceAgent
@@ -29,8 +29,9 @@ def _pair_text(pair: CandidatePair, local: list[CandidateFields], remote: list[C
             f"{pair.responses} answered, {pair.requests_received} received")
 
 
-def tried(agent: IceAgent, discarded: Mapping[str, int]) -> str:
-    """Says what an agent tried and what came back. `discarded` counts the STUN messages that nobody took, by kind."""
+def tried(agent: IceAgent, discarded: Mapping[str, int], problems: Sequence[str] = ()) -> str:
+    """Says what an agent tried and what came back. `discarded` counts the STUN messages that nobody took, by kind. `problems` are those of
+    servers."""
     local, remote, pairs, stats = agent.local_fields(), agent.remote_fields(), agent.pairs, agent.stats
     removed, failed = agent.removed_pairs(), agent.failed_sends()
     return "; ".join([
@@ -41,7 +42,8 @@ def tried(agent: IceAgent, discarded: Mapping[str, int]) -> str:
         _listed("removed pairs", map(str, removed), len(removed)),
         f"{stats.bind_request_sent} checks sent, {stats.bind_success_recv} answered, {stats.bind_request_recv} received in all",
         _listed("failed sends", map(str, failed), len(failed)),
-        _listed("discarded", (f"{count} x {kind}" for kind, count in discarded.items()), len(discarded))])
+        _listed("discarded", (f"{count} x {kind}" for kind, count in discarded.items()), len(discarded)),
+        *([_listed("servers", problems, len(problems))] if problems else [])])
 
 
 def failure(why: str, what_was_tried: Callable[[], str], unknown_hosts: int, ended: bool) -> str:

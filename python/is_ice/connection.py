@@ -20,7 +20,8 @@ import asyncio
 import contextlib
 import enum
 import logging
-from collections.abc import Callable, Coroutine, Sequence
+import ssl
+from collections.abc import Callable, Coroutine, Iterable, Sequence
 from typing import Any
 
 from ._grammar import checked
@@ -30,16 +31,18 @@ from ._remote import RemoteCandidate, RemoteCandidates
 from ._report import failure
 from ._session_log import SessionLog
 from ._unique import Unique
-from .address import SocketAddress
+from .address import Protocol, SocketAddress
 from .agent import IceAgent, first_role
 from .attribute import CandidateAttribute
 from .candidate import CandidateKind
 from .errors import HasAgent, IceError, LiteStaysControlled, NoAgent
 from .events import IceAgentEvent, IceConnectionStateChange, IceCreds, NominatedSend
-from .gather import ServerAddress, TurnServer, all_of, turn_client
+from .gather import LoopEvent, ServerAddress, TurnServer, all_of
+from .gatherer import LocalCandidate, Server, ServerLike
 from .interfaces import host_addresses
 from .loop import EventHandler, IceLoop
 from .mdns import Mdns, mdns_client
+from .servers import Scheme, ServerUrl
 
 _log = logging.getLogger(__name__)
 
@@ -81,10 +84,12 @@ class Connection(Unique):
                  turn_server: ServerAddress | None = None, turn_username: str | None = None, turn_password: str | None = None,
                  turn_ssl: bool = False, turn_transport: str = "udp", use_ipv4: bool = True, use_ipv6: bool = True,
                  transport_policy: Any = TransportPolicy.ALL, addresses: Sequence[str] | None = None,
-                 hide_addresses: bool = False) -> None:
-        """`addresses`: the local IP addresses for host candidates, by default those of all interfaces.
+                 hide_addresses: bool = False, servers: Iterable[ServerLike] = (), tls: ssl.SSLContext | None = None) -> None:
+        """`servers`: STUN and TURN servers as browsers' `iceServers`, besides `stun_server` and `turn_server`. `tls` is for those over TLS;
+        by default the system's certificates count. `addresses`: the local IP addresses for host candidates, by default those of all
+        interfaces.
 
-        ImportError if there is a TURN server or addresses are hidden, and aioice is not installed. ValueError for more than one
+        ImportError if addresses are hidden, and aioice is not installed. BadUrl for the URL of a server. ValueError for more than one
         component. HasAgent if it is called again.
         """
         if hasattr(self, "agent"):
@@ -92,10 +97,6 @@ class Connection(Unique):
         if components != 1:
             raise ValueError("a connection has one component")
         self._relay_only = transport_policy.name == "RELAY"  # aioice's policy has this name too
-        if self._relay_only and stun_server is None and turn_server is None:
-            raise ValueError("the RELAY policy needs a STUN or TURN server")
-        if turn_server:
-            turn_client()
         if hide_addresses:
             mdns_client()
         self.hide_addresses = hide_addresses
@@ -106,15 +107,28 @@ class Connection(Unique):
         self.remote_username: str | None = None
         self.remote_password: str | None = None
         self._use_ipv4, self._use_ipv6, self._addresses = use_ipv4, use_ipv6, addresses
+        all_servers = [*self._own_servers(), *servers]
+        if self._relay_only and not all_servers:
+            raise ValueError("the RELAY policy needs a STUN or TURN server")
         self.agent = IceAgent()
         self.agent.set_controlling(ice_controlling)
         self._controlling, self._creds = ice_controlling, self.agent.local_credentials
         self.on_event: EventHandler | None = None  # called with each event of the agent
-        self._loop = IceLoop(self.agent, self._on_event, self._on_media, self._on_stun)
+        self.on_candidate: Callable[[CandidateAttribute], None] | None = None  # called with each candidate that a server brings
+        self._loop = IceLoop(self.agent, self._on_event, self._on_media, servers=all_servers, on_gathering=self._on_gathering, tls=tls,
+                             relay_only=self._relay_only)
         self._log, self._mdns = SessionLog(_log, self.agent), Mdns()
         self._local = LocalCandidates(self.agent, self._loop, self._mdns, self._log)
         self._remote = RemoteCandidates(self._loop, self._mdns, self._log, self._fail_if_nothing_is_left)
         self._start_state()
+
+    def _own_servers(self) -> list[Server]:
+        """The servers of the arguments that aioice has, too."""
+        own = [Server(ServerUrl(Scheme.STUN, Protocol.UDP, *self.stun_server[:2]))] if self.stun_server else []
+        if self.turn_server:
+            turn = TurnServer(self.turn_server[:2], self.turn_username, self.turn_password, self.turn_ssl, self.turn_transport)
+            own.append(turn.server())
+        return own
 
     def _start_state(self) -> None:
         self._gathering: asyncio.Task[None] | None = None
@@ -190,9 +204,8 @@ class Connection(Unique):
     # ---- gathering
 
     async def gather_candidates(self) -> None:
-        """Gathers local candidates. A server that does not respond within 5 s is left out. A second call changes nothing.
-
-        It ends when the connection is closed.
+        """Gathers local candidates. It waits for servers for 5 s. What they bring later is added then: `on_candidate` is called with it,
+        for the peer. A second call changes nothing. It ends when the connection is closed.
         """
         if self._closed:
             return
@@ -205,11 +218,8 @@ class Connection(Unique):
     async def _gather(self) -> None:
         if self._closed:  # in the turn of the loop in which the call began, so the agent is gone
             return
-        turn = None
-        if self.turn_server:
-            turn = TurnServer(self.turn_server, self.turn_username, self.turn_password, self.turn_ssl, self.turn_transport)
         addresses = host_addresses(self._use_ipv4, self._use_ipv6) if self._addresses is None else self._addresses
-        await self._local.gather(Sources(addresses, self.stun_server, turn, self._relay_only, self.hide_addresses))
+        await self._local.gather(Sources(addresses, self._relay_only, self.hide_addresses))
 
     # ---- signaling
 
@@ -242,6 +252,8 @@ class Connection(Unique):
             raise ConnectionError(self._failure("the peer has no candidates"))
         if self._connected:
             return
+        if not self._loop.gatherer.is_gathering and not self.agent.local_candidates():
+            raise ConnectionError(self._failure("there are no local candidates"))
         try:
             self.agent.set_remote_credentials(checked(IceCreds(self.remote_username, self.remote_password)))
         except (IceError, ValueError) as error:
@@ -289,8 +301,9 @@ class Connection(Unique):
         if self.on_event:
             self.on_event(event)
 
-    def _on_stun(self, source: SocketAddress, local: SocketAddress, data: bytes) -> bool:
-        return self._local.take_response(source, local, data)
+    def _on_gathering(self, event: LoopEvent) -> None:
+        if isinstance(event, LocalCandidate) and self.on_candidate and (candidate := self._local.signaled_as(event.line)):
+            self.on_candidate(candidate)
 
     def _on_media(self, source: SocketAddress, local: SocketAddress, data: bytes) -> None:
         self._inbox.put(data)
@@ -339,7 +352,7 @@ class Connection(Unique):
         for task in tasks:
             task.cancel()
         await asyncio.gather(*tasks, return_exceptions=True)
-        await all_of(self._mdns.close(), *(allocation.close() for allocation in self._local.allocations))
+        await all_of(self._mdns.close(), self._loop.wait_closed())
         await asyncio.sleep(0)  # asyncio closes the sockets
 
     async def get_event(self) -> Any:

@@ -76,7 +76,7 @@ class MtuTooSmall(IceError):
 
 
 class CredentialsTooLong(IceError):
-    """Both username fragments and a colon are longer than 508 bytes."""
+    """Both username fragments and a colon are longer than 508 bytes; or the user name of a TURN client is, or its password than 763."""
 
     code = _abi.CREDENTIALS_TOO_LONG
 
@@ -121,6 +121,24 @@ class LiteStaysControlled(IceError):
     """A lite agent with `Profile.MODERN` was to be controlling."""
 
     code = _abi.LITE_STAYS_CONTROLLED
+
+
+class BadUrl(IceError, ValueError):
+    """A text that is not the URL of a STUN or TURN server, or one of TURN over DTLS."""
+
+    code = _abi.BAD_URL
+
+
+class NoServers(IceError):
+    """The clients of the servers were freed."""
+
+    code = _abi.NO_SERVERS
+
+
+class HasServers(IceError):
+    """Clients of servers were made in the place of others."""
+
+    code = _abi.HAS_SERVERS
 
 
 _BY_CODE: dict[int, type[IceError]] = {kind.code: kind for kind in IceError.__subclasses__()}

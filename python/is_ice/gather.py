@@ -1,29 +1,27 @@
-"""Candidates from servers: server-reflexive ones from a STUN server, relayed ones by aioice's TURN client, which is optional."""
+"""The clients of STUN and TURN servers over asyncio: resolves names, opens connections over TCP and TLS, and keeps the clients' time."""
 
 from __future__ import annotations
 
 import asyncio
+import contextlib
 import logging
 import socket
-import types
-from collections import Counter
-from collections.abc import Callable, Coroutine, Generator
+import ssl
+from collections.abc import Callable, Coroutine, Iterable
 from dataclasses import dataclass, field
-from typing import Any, TypeVar
+from typing import Any, TypeVar, Union
 
-from ._aioice import aioice_part, needed_part
-from .address import SocketAddress
-from .candidate import Candidate
-from .demux import is_stun
+from .address import Protocol, SocketAddress
 from .errors import Unparsed
-from .loop import IceLoop
-from .stun import StunClass, StunMessage, StunMethod
-from .stun_client import StunClient
+from .gatherer import GatheringComplete, GatheringEvent, IceGatherer, LocalCandidate, Server
+from .servers import Datagram, EndedWhy, Scheme, ServerEnded, ServerNotPermitted, ServerUrl, frame_length
 
 _log = logging.getLogger(__name__)
 
-_CLOSING = 1.0  # seconds for a TURN server to free an allocation
-_SENDING = 1024  # datagrams that wait until a TURN server has bound the channel of a peer; later ones are lost
+_RESOLVING = 10.0  # seconds for a name, and for a connection
+_CLOSING = 1.0  # seconds for TURN servers to free allocations
+_MOST_WAITING = 1 << 18  # bytes that wait in a connection: then media is dropped
+_MOST_PROBLEMS = 16  # that are listed
 
 ServerAddress = tuple[str, int]
 T = TypeVar("T")
@@ -45,7 +43,7 @@ async def all_of(*calls: Coroutine[Any, Any, T]) -> list[T]:
 
 @dataclass(frozen=True)
 class TurnServer:
-    """A TURN server with its credentials, reached over "udp" or "tcp", or TLS over TCP if `ssl` is True."""
+    """A TURN server with its credentials, reached over "udp" or "tcp", or TLS over TCP if `ssl` is set."""
 
     address: ServerAddress
     username: str | None = None
@@ -53,166 +51,275 @@ class TurnServer:
     ssl: bool = False
     transport: str = "udp"
 
-
-def turn_client() -> Any:
-    """Returns aioice's TURN client. ImportError says what to install."""
-    return needed_part("turn", "a TURN server")
-
-
-async def server_reflexive_candidates(client: StunClient, bases: list[SocketAddress], server: ServerAddress) -> list[Candidate]:
-    """Returns a candidate for each base to which the server responded, of the IP versions that its name resolves to."""
-    loop = asyncio.get_running_loop()
-    try:
-        found = await loop.getaddrinfo(server[0], server[1], type=socket.SOCK_DGRAM)
-    except (OSError, UnicodeError):  # the second one for a name that no host can have
-        return []
-    servers = {address.version: address for address in reversed([SocketAddress(*told[:2]) for *_, told in found])}
-    reachable = [base for base in bases if base.version in servers]
-    seen = await all_of(*(client.binding(base, servers[base.version]) for base in reachable))
-    return [Candidate.server_reflexive(address, base) for address, base in zip(seen, reachable) if address]
+    def server(self) -> Server:
+        """The server as a gatherer has it. ValueError for another transport."""
+        protocols = {"udp": Protocol.UDP, "tcp": Protocol.TCP}
+        if self.transport not in protocols:
+            raise ValueError(f"the transport of a TURN server is udp or tcp, not {self.transport}")
+        protocol = Protocol.TLS if self.ssl else protocols[self.transport]
+        return Server(ServerUrl(Scheme.TURN, protocol, *self.address), self.username, self.password)
 
 
-def data_of(message: bytes) -> tuple[bytes, tuple[str, int]] | None:
-    """Returns the datagram of a Data indication and the peer that sent it (RFC 8656, section 11.4), or None for any other message."""
-    if not is_stun(message):  # media on a channel: an exception would take longer
-        return None
-    try:
-        read = StunMessage(message)
-    except Unparsed:
-        return None
-    peer, data = read.peer_address, read.value_of_data
-    if (read.method, read.class_) != (StunMethod.DATA, StunClass.INDICATION) or peer is None or data is None:
-        return None
-    return data, (peer.ip, peer.port)
+@dataclass(frozen=True)
+class ServerUnreachable:
+    """The name of a server is not known, or there is no connection to it over TCP or TLS."""
+
+    url: ServerUrl
+    why: str
+
+    def __str__(self) -> str:
+        return f"server {self.url}: {self.why}"
 
 
-class _Ended(Exception):
-    """A task was cancelled."""
+LoopEvent = Union[GatheringEvent, ServerUnreachable]
 
 
-@types.coroutine
-def _ended_by_an_exception(coroutine: Coroutine[Any, Any, Any]) -> Generator[Any, Any, Any]:
-    """Runs a coroutine that closes its socket after an Exception, but not after CancelledError: it gets `_Ended` in place of that."""
-    resume: Callable[[Any], Any] = coroutine.send
-    told: Any = None
-    try:
-        while True:
-            waited = resume(told)
-            try:
-                told = yield waited
-                resume = coroutine.send
-            except asyncio.CancelledError:
-                resume, told = coroutine.throw, _Ended()
-            except Exception as error:
-                resume, told = coroutine.throw, error
-    except StopIteration as end:
-        return end.value
-    finally:
-        coroutine.close()
+class _Stream(asyncio.Protocol):
+    """A connection to a TURN server: cuts what arrives into frames."""
 
-
-class Allocation(asyncio.DatagramProtocol):
-    """A TURN allocation: the socket of a relayed candidate. `freed` is done when the server has freed it, or is out of reach."""
-
-    def __init__(self, loop: IceLoop) -> None:
-        self._loop = loop
-        self._client: Any = None
-        self._tasks: set[asyncio.Future[None]] = set()
-        self._sending: Counter[SocketAddress] = Counter()
-        self.freed: asyncio.Future[None] = asyncio.get_running_loop().create_future()
-        self.local = self.base = SocketAddress("", 0)
+    def __init__(self, take: Callable[[_Stream, bytes], None], lost: Callable[[_Stream], None]) -> None:
+        self._take, self._lost = take, lost
+        self._kept = bytearray()
+        self.local = self.remote = SocketAddress("", 0)
+        self.transport: Any = None
 
     def connection_made(self, transport: Any) -> None:
-        """Adds the allocation to the loop."""
-        self.local = SocketAddress(*transport.get_extra_info("sockname")[:2])
-        self.base = SocketAddress(*transport.get_extra_info("related_address")[:2])
-        self._client = transport._TurnTransport__inner_protocol
-        self._take_data_indications()
-        self._loop.add_socket(self.local, self._send, self._free)
+        """Keeps the addresses of both ends."""
+        self.transport = transport
+        self.local = SocketAddress(*transport.get_extra_info("sockname"))
+        self.remote = SocketAddress(*transport.get_extra_info("peername"))
 
-    def _take_data_indications(self) -> None:
-        """Takes what comes from addresses without a channel, as behind a symmetric NAT. aioice's client ignores these messages."""
-        receive = self._client.datagram_received
+    def data_received(self, data: bytes) -> None:
+        """Passes on the frames that are whole. What is no frame ends the connection."""
+        self._kept += data
+        try:
+            while (length := frame_length(bytes(self._kept[:4]))) is not None and len(self._kept) >= length:
+                frame = bytes(self._kept[:length])
+                del self._kept[:length]
+                self._take(self, frame)
+        except Unparsed:
+            self.transport.abort()
 
-        def received(message: bytes, addr: tuple[str, int]) -> None:
-            if told := data_of(message):
-                self.datagram_received(*told)
-            else:
-                receive(message, addr)
+    def connection_lost(self, exc: Exception | None) -> None:
+        """Reports it."""
+        self._lost(self)
 
-        self._client.datagram_received = received
+    def send(self, data: bytes, is_media: bool) -> None:
+        """Writes a frame. Media is dropped while too much waits, as on a slow path."""
+        if not self.transport.is_closing() and not (is_media and self.transport.get_write_buffer_size() > _MOST_WAITING):
+            self.transport.write(data)
 
-    def _send(self, destination: SocketAddress, data: bytes) -> None:
-        if self._sending[destination] < _SENDING:
-            self._sending[destination] += 1
-            self._run(self._client.send_data(data, destination[:2])).add_done_callback(lambda _: self._sent(destination))
 
-    def _sent(self, destination: SocketAddress) -> None:
-        self._sending[destination] -= 1
+class ServerLoop:
+    """Runs the clients of a gatherer. `send` sends a datagram from a socket, `take` gets what arrived for the agent, or media.
 
-    def _free(self) -> None:
-        for task in self._tasks:
-            task.cancel()
-        self._run(self._client.delete())
+    `report` is called with each event; `changed` after the agent got or lost a candidate.
+    """
 
-    def _run(self, call: Coroutine[Any, Any, None]) -> asyncio.Future[None]:
-        task = asyncio.ensure_future(call)
-        self._tasks.add(task)
-        task.add_done_callback(self._ran)
-        return task
+    def __init__(self, gatherer: IceGatherer, now: Callable[[], int], send: Callable[[SocketAddress, SocketAddress, bytes], None],
+                 take: Callable[[Datagram], None], report: Callable[[LoopEvent], None], changed: Callable[[], None],
+                 tls: ssl.SSLContext | None) -> None:
+        self.problems: list[str] = []  # servers that brought nothing, or peers that they do not let in
+        self._gatherer, self._now, self._send, self._take = gatherer, now, send, take
+        self._report, self._changed, self._tls = report, changed, tls
+        self._streams: dict[SocketAddress, _Stream] = {}
+        self._reaching: asyncio.Task[None] | None = None
+        self._complete: asyncio.Future[None] | None = None
+        self._timer: asyncio.TimerHandle | None = None
+        self._over: asyncio.Future[None] | None = None  # it closes
+        self._when_over: Callable[[], None] = lambda: None
 
-    def _ran(self, task: asyncio.Future[None]) -> None:
-        self._tasks.discard(task)
-        if not task.cancelled() and (error := task.exception()):
-            _log.info("the TURN server: %r", error)
+    @property
+    def is_running(self) -> bool:
+        """Whether a client runs: then it gets each datagram first."""
+        return not self._gatherer.is_over
 
-    def datagram_received(self, data: bytes, addr: tuple[str, int]) -> None:
-        """Passes on what a peer sent to the relayed address."""
-        self._loop.receive(SocketAddress(*addr[:2]), self.local, data)
+    # ---- gathering
 
-    def connection_lost(self, error: Exception | None) -> None:
-        """Reports that the server freed the allocation, or that the connection to it broke."""
-        if not self.freed.done():
-            self.freed.set_result(None)
+    def gather(self, bases: Iterable[SocketAddress]) -> asyncio.Future[None]:
+        """Starts a client of each socket at each server. The result is done when gathering is complete, or closed."""
+        self._gatherer.reach_again()
+        for base in bases:
+            self._gatherer.add_socket(self._now(), base, is_host=False)
+        if self._complete is None or self._complete.done():
+            self._complete = asyncio.get_running_loop().create_future()
+        if self._over:
+            self._complete.set_result(None)
+        else:
+            self._reaching = asyncio.ensure_future(self._reach_all(self._reaching))
+            self.turn()
+        return self._complete
 
-    async def close(self) -> None:
-        """Waits, after the loop was closed, until the server has freed the allocation, for a second at most, and ends all its tasks."""
-        await asyncio.wait({self.freed}, timeout=_CLOSING)
-        tasks = set(self._tasks)
-        for task in tasks:
-            task.cancel()
+    async def _reach_all(self, before: asyncio.Task[None] | None) -> None:
+        if before:
+            await asyncio.wait({before})
+        await all_of(*(self._reach(server) for server in self._gatherer.to_reach))
+
+    async def _reach(self, server: Server) -> None:
+        """Resolves a server, and connects to it, from each socket's address."""
+        try:
+            ips = await asyncio.wait_for(_resolved(server.url), _RESOLVING)
+        except (OSError, UnicodeError, asyncio.TimeoutError) as error:
+            self._cannot_reach(server, f"the name is not resolved: {error or type(error).__name__}")
+            ips = []
+        if server.url.protocol is Protocol.UDP:
+            for ip in ips:
+                self._gatherer.add_server(self._now(), server, ip)
+        else:
+            await all_of(*(self._connect(server, base, ip) for base in self._bases() for ip in ips if (":" in base) == (":" in ip)))
+        self._gatherer.reached(server)
+        self.turn()
+
+    def _bases(self) -> list[str]:
+        return list(dict.fromkeys(local.ip for local in self._gatherer.sockets))
+
+    async def _connect(self, server: Server, base: str, ip: str) -> None:
+        if any(stream.local.ip == base and stream.remote[:2] == (ip, server.url.port) for stream in self._streams.values()):
+            return
+        try:
+            connecting = asyncio.get_running_loop().create_connection(
+                lambda: _Stream(self._framed, self._lost), ip, server.url.port, local_addr=(base, 0), **self._security(server.url))
+            _, stream = await asyncio.wait_for(connecting, _RESOLVING)
+        except (OSError, asyncio.TimeoutError, ssl.CertificateError) as error:
+            self._cannot_reach(server, f"no connection from {base}: {error or type(error).__name__}")
+            return
+        if self._over or stream.transport.is_closing():
+            stream.transport.abort()
+            return
+        self._streams[stream.local] = stream
+        self._gatherer.add_connection(self._now(), server, stream.local, stream.remote)
+        self.turn()
+
+    def _security(self, url: ServerUrl) -> dict[str, Any]:
+        if url.protocol is not Protocol.TLS:
+            return {}
+        return {"ssl": self._tls or ssl.create_default_context(), "server_hostname": url.host}
+
+    def _cannot_reach(self, server: Server, why: str) -> None:
+        self._tell(ServerUnreachable(server.url, why))
+
+    # ---- packets
+
+    def receive(self, source: SocketAddress, local: SocketAddress, data: bytes) -> Datagram | None:
+        """Takes a datagram of a socket. Returns what is for the agent, or media. None: it was a client's."""
+        told = self._gatherer.receive(self._now(), source, local, data)
+        if told is None or told.destination != local:
+            self.turn()
+        return told
+
+    def send(self, source: SocketAddress, destination: SocketAddress, data: bytes) -> None:
+        """Sends a datagram from a relayed address. It is lost if that is gone, or if the server does not let it through."""
+        packet = self._gatherer.outgoing(self._now(), source, destination, data)
+        if packet is None or packet.source == source:
+            return
+        if packet.protocol is Protocol.UDP:
+            self._send(packet.source, packet.destination, packet.contents)
+        elif stream := self._streams.get(packet.source):
+            stream.send(packet.contents, is_media=True)
+        self._set_timer()
+
+    def _framed(self, stream: _Stream, frame: bytes) -> None:
+        told = self._gatherer.receive(self._now(), stream.remote, stream.local, frame, Protocol.TCP)
+        self.turn()
+        if told:
+            self._take(told)
+
+    def _lost(self, stream: _Stream) -> None:
+        if self._streams.pop(stream.local, None):
+            self._gatherer.lose_connection(self._now(), stream.local)
+            self.turn()
+
+    # ---- time and events
+
+    def turn(self) -> None:
+        """Passes the time to the clients, sends their packets, reports their events and sets the timer."""
+        gatherer = self._gatherer
+        gatherer.handle_servers_timeout(self._now())
+        while packet := gatherer.clients.poll_transmit():
+            if packet.protocol is not Protocol.UDP:
+                if stream := self._streams.get(packet.source):
+                    stream.send(packet.contents, is_media=False)
+                continue
+            with contextlib.suppress(OSError):  # lost, as on the network: the client repeats it
+                self._send(packet.source, packet.destination, packet.contents)
+        has_changed = False
+        while event := gatherer.poll_gathering_event():
+            has_changed = has_changed or isinstance(event, (LocalCandidate, ServerEnded))
+            self._tell(event)
+        if has_changed and not self._over:
+            self._changed()
+        self._set_timer()
+        self._end_if_over()
+
+    def _tell(self, event: LoopEvent) -> None:
+        has_ended = isinstance(event, ServerEnded) and event.why is not EndedWhy.CLOSED
+        if has_ended or isinstance(event, (ServerNotPermitted, ServerUnreachable)):
+            self.problems = [*self.problems[1 - _MOST_PROBLEMS:], str(event)]
+        if isinstance(event, GatheringComplete) and self._complete and not self._complete.done():
+            self._complete.set_result(None)
+        self._report(event)
+
+    def _set_timer(self) -> None:
+        due = self._gatherer.clients.poll_timeout()
+        if self._timer:
+            self._timer.cancel()
+            self._timer = None
+        if due is not None:
+            self._timer = asyncio.get_running_loop().call_later(max(0, due - self._now()) / 1e9, self.turn)
+
+    # ---- the end
+
+    def remove_socket(self, local: SocketAddress) -> None:
+        """Removes a socket with its candidates and clients."""
+        self._gatherer.remove_socket(self._now(), local)
+        self.turn()
+
+    def close(self, when_over: Callable[[], None]) -> None:
+        """Frees the allocations, for a second at most. Then it calls `when_over`; at once if no client runs, or no event loop."""
+        if self._over:
+            return
+        self._when_over = when_over
+        if self._reaching:
+            self._reaching.cancel()
+        if self._complete and not self._complete.done():
+            self._complete.set_result(None)
+        try:
+            loop = asyncio.get_running_loop()
+        except RuntimeError:
+            self._finish()
+            return
+        self._over = loop.create_future()
+        self._gatherer.close(self._now())
+        self.turn()
+        if not self._over.done():
+            loop.call_later(_CLOSING, self._finish)
+
+    async def wait_closed(self) -> None:
+        """Waits, after `close`, until the servers have freed the allocations, for a second at most."""
+        tasks = {task for task in (self._over, self._reaching) if task}
         if tasks:
             await asyncio.wait(tasks)
-        if self._client:
-            self._client.transport.close()
+
+    def _end_if_over(self) -> None:
+        if self._over and self._gatherer.is_over:
+            self._finish()
+
+    def _finish(self) -> None:
+        if self._over and self._over.done():
+            return
+        if self._timer:
+            self._timer.cancel()
+            self._timer = None
+        streams, self._streams = self._streams, {}
+        for stream in streams.values():
+            stream.transport.close()
+        self._when_over()
+        if self._over:
+            self._over.set_result(None)
 
 
-async def allocate(loop: IceLoop, server: TurnServer) -> Allocation:
-    """Allocates a relayed address, and adds it to the loop as a socket. OSError if the server does not allocate one.
-
-    If it is cancelled, it waits for the server for a second: an allocation that is made by then is freed, if the loop is closed.
-    """
-    allocating = asyncio.ensure_future(_allocate(loop, server))
-    try:
-        return await asyncio.shield(allocating)
-    except asyncio.CancelledError:
-        await asyncio.wait({allocating}, timeout=_CLOSING)
-        allocating.cancel()
-        await asyncio.wait({allocating})
-        if not allocating.cancelled() and not allocating.exception():
-            await allocating.result().close()
-        raise
-
-
-async def _allocate(loop: IceLoop, server: TurnServer) -> Allocation:
-    client, stun = turn_client(), aioice_part("stun")
-    try:
-        _, allocation = await _ended_by_an_exception(client.create_turn_endpoint(
-            lambda: Allocation(loop), server_addr=server.address, username=server.username, password=server.password,
-            ssl=server.ssl, transport=server.transport))
-    except _Ended:
-        raise asyncio.CancelledError from None
-    except (stun.TransactionError, UnicodeError) as error:
-        raise OSError(f"the TURN server {server.address} allocates no address: {error!r}") from error
-    assert isinstance(allocation, Allocation)
-    return allocation
+async def _resolved(url: ServerUrl) -> list[str]:
+    """Returns the first address of each IP version that a name resolves to."""
+    found = await asyncio.get_running_loop().getaddrinfo(url.host, url.port, type=socket.SOCK_DGRAM)
+    ips = [str(address[0]) for *_, address in found]
+    return list({":" in ip: ip for ip in reversed(ips)}.values())

@@ -5,18 +5,22 @@ from __future__ import annotations
 import asyncio
 import logging
 import socket
+import ssl
 import time
-from collections.abc import Callable
+from collections.abc import Callable, Iterable
 
 from ._report import tried
 from ._session_log import SessionLog
 from ._unique import Unique
 from .address import SocketAddress
 from .agent import IceAgent
-from .candidate import Candidate
+from .candidate import AddResult, Candidate
 from .demux import is_stun
 from .errors import HasAgent, IceError, NoAgent, Unparsed
 from .events import IceAgentEvent, Unserved
+from .gather import LoopEvent, ServerLoop, ServerUnreachable
+from .gatherer import IceGatherer, ServerLike
+from .servers import Datagram, EndedWhy, ServerEnded, ServerEvent
 
 _log = logging.getLogger(__name__)
 
@@ -25,6 +29,7 @@ _IDLE = 1.0  # seconds until the agent is asked again, if it names no time
 _RECEIVE_BUFFER = 256 * 1024
 
 EventHandler = Callable[[IceAgentEvent], None]
+GatheringHandler = Callable[[LoopEvent], None]
 DatagramHandler = Callable[[SocketAddress, SocketAddress, bytes], None]
 StunHandler = Callable[[SocketAddress, SocketAddress, bytes], object]
 FailureHandler = Callable[[SocketAddress, SocketAddress, OSError], None]
@@ -52,28 +57,37 @@ class _Socket(asyncio.DatagramProtocol):
 
 
 class IceLoop(Unique):
-    """An agent, its sockets and its timer. It cannot be copied or pickled.
+    """An agent, its sockets, its clients at STUN and TURN servers, and its timer. It cannot be copied or pickled.
 
     Calls `on_event` with events, `on_media` with datagrams that are not STUN messages, and `on_stun` with STUN messages that are not
-    for the agent, such as responses of STUN and TURN servers. The last two get the source, the local address and the bytes; `on_stun`
-    returns True if it took the message. Calls `on_failed_send` with the source, the destination and the error of a datagram that the
-    system did not send, each time; it is lost, as on the network. If a handler raises, the event loop's exception handler gets the
-    exception, and the session goes on. A handler may close the loop and the agent.
+    for the agent or a client. The last two get the source, the local address and the bytes; `on_stun` returns True if it took the
+    message. What comes through a TURN server has the peer as its source and the relayed address as the local one. Calls
+    `on_failed_send` with the source, the destination and the error of a datagram that the system did not send, each time; it is lost,
+    as on the network. If a handler raises, the event loop's exception handler gets the exception, and the session goes on. A handler
+    may close the loop and the agent.
 
-    The logger `is_ice.loop` has a line for each event, for each pair that is removed, for the first STUN message of each kind that
-    nobody took or that got no response, and for the first datagram on each path that was not sent.
+    `servers` are those of `IceGatherer`; `gather` starts their clients. `on_gathering` is called with what happens to them, and with each
+    `LocalCandidate` for the peer. `tls` is for connections to servers over TLS; by default the system's certificates count.
+
+    The logger `is_ice.loop` has a line for each event, also of servers, for each pair that is removed, for the first STUN message of
+    each kind that nobody took or that got no response, and for the first datagram on each path that was not sent.
     """
 
     def __init__(self, agent: IceAgent, on_event: EventHandler, on_media: DatagramHandler, on_stun: StunHandler | None = None,
-                 on_failed_send: FailureHandler | None = None) -> None:
+                 on_failed_send: FailureHandler | None = None, servers: Iterable[ServerLike] = (),
+                 on_gathering: GatheringHandler | None = None, tls: ssl.SSLContext | None = None, relay_only: bool = False) -> None:
         if hasattr(self, "agent"):
             raise HasAgent
+        self.gatherer = IceGatherer(agent, servers, relay_only)
         self.agent = agent
         self.log = SessionLog(_log, agent)
         self._on_event, self._on_media, self._on_stun, self._on_failed_send = on_event, on_media, on_stun, on_failed_send
         self._start = time.monotonic_ns()
+        self._on_gathering = on_gathering
+        self._opened: list[SocketAddress] = []
         self._sends: dict[SocketAddress, Send] = {}
-        self._closes: list[Callable[[], None]] = []
+        self._closes: dict[SocketAddress, Callable[[], None]] = {}
+        self._servers = ServerLoop(self.gatherer, self.now, self._send_from_socket, self._arrived, self._gathered, self._changed, tls)
         self._timer: asyncio.TimerHandle | None = None
         self._due: int | None = None  # what the timer is set to
         self._began = self._closed = False
@@ -94,6 +108,7 @@ class IceLoop(Unique):
                 raise protocol.error
 
         self.add_socket(protocol.local, send, transport.close)
+        self._opened.append(protocol.local)
         return protocol.local
 
     async def bind(self, ip: str, port: int = 0) -> str | None:
@@ -101,7 +116,7 @@ class IceLoop(Unique):
         return self.agent.add_local_candidate(Candidate.host(await self.open(ip, port)))
 
     def add_socket(self, local: SocketAddress, send: Send, close: Callable[[], None] | None = None) -> None:
-        """Adds a socket of the caller's, such as a TURN allocation, whose local address is the relayed one.
+        """Adds a socket of the caller's, which has no clients at servers.
 
         The loop calls `send` with a destination and a datagram, and `close` when it is closed. `send` raises the OSError of a datagram that
         is not sent. Pass what arrives to `receive`.
@@ -112,7 +127,37 @@ class IceLoop(Unique):
             return
         self._sends[local] = send
         if close:
-            self._closes.append(close)
+            self._closes[local] = close
+
+    def remove_socket(self, local: SocketAddress) -> None:
+        """Closes a socket, ends its clients, and invalidates its candidates, as when the network changed."""
+        if local in self._opened:
+            self._opened.remove(local)
+        self._servers.remove_socket(local)
+        self._sends.pop(local, None)
+        self._closes.pop(local, lambda: None)()
+        self.wake()
+
+    def gather(self) -> asyncio.Future[None]:
+        """Starts a client of each open socket at each server. Call it again if sockets were opened.
+
+        What servers bring is added to the agent, and `on_gathering` is called with it. The result is done when gathering is complete:
+        await it, or go on.
+        """
+        return self._servers.gather(self._opened)
+
+    def probe(self) -> None:
+        """Has TURN clients ask whether their allocations are still there: after sleep, if the network changed, if a path was lost."""
+        self.gatherer.probe(self.now())
+        self._servers.turn()
+
+    def add_remote_candidate(self, line: str) -> AddResult:
+        """Adds a candidate of the peer to the agent, has TURN servers let in its packets, and wakes the loop."""
+        result = self.gatherer.add_remote_candidate(self.now(), line)
+        if self._servers.is_running:
+            self._servers.turn()
+        self.wake()
+        return result
 
     def begin(self) -> None:
         """Starts the session: calls `handle_timeout` now, and at each time that `poll_timeout` returns.
@@ -127,12 +172,20 @@ class IceLoop(Unique):
         self._turn()
 
     def send(self, source: SocketAddress, destination: SocketAddress, data: bytes) -> None:
-        """Sends a datagram from the socket at a local address. Without such a socket the datagram is lost."""
-        if send := self._sends.get(source):
-            try:
+        """Sends a datagram from a socket, by its local address, or from a relayed address. If there is none, the datagram is lost."""
+        try:
+            if self._closed:
+                return
+            if send := self._sends.get(source):
                 send(destination, data)
-            except OSError as error:
-                self._note_failed_send(source, destination, error)
+            elif self._servers.is_running:
+                self._servers.send(source, destination, data)
+        except OSError as error:
+            self._note_failed_send(source, destination, error)
+
+    def _send_from_socket(self, source: SocketAddress, destination: SocketAddress, data: bytes) -> None:
+        if send := self._sends.get(source):
+            send(destination, data)
 
     def _note_failed_send(self, source: SocketAddress, destination: SocketAddress, error: OSError) -> None:
         """Passes it to the agent, which lists it, to the log and to the handler."""
@@ -145,6 +198,11 @@ class IceLoop(Unique):
 
     def receive(self, source: SocketAddress, local: SocketAddress, data: bytes) -> None:
         """Takes a datagram that arrived at a local address. The loop's own sockets call it themselves."""
+        if self._servers.is_running:  # also while allocations are freed
+            told = self._servers.receive(source, local, bytes(data))
+            if told is None:
+                return
+            source, local, data = told
         if self._closed:
             return
         if is_stun(data):
@@ -152,20 +210,46 @@ class IceLoop(Unique):
         else:
             self._on_media(source, local, data)
 
+    def _arrived(self, datagram: Datagram) -> None:
+        """Takes what came through a TURN server over TCP."""
+        if self._closed:
+            return
+        if is_stun(datagram.contents):
+            self._take(*datagram)
+        else:
+            self._on_media(*datagram)
+
+    def _gathered(self, event: LoopEvent) -> None:
+        if isinstance(event, (ServerEvent, ServerUnreachable)):
+            is_bad = isinstance(event, ServerUnreachable) or isinstance(event, ServerEnded) and event.why is not EndedWhy.CLOSED
+            self.log.log(logging.WARNING if is_bad else logging.INFO, "%s", event)
+        self._report(self._on_gathering, event)
+
+    def _changed(self) -> None:
+        if not self._closed:
+            self.wake()
+
     def tried(self) -> str:
         """Says what the session tried and what came back: candidates, pairs with their checks, pairs that were removed with the reason,
-        counters, STUN messages that nobody took. NoAgent if the agent was closed.
+        counters, STUN messages that nobody took, servers that failed. NoAgent if the agent was closed.
         """
-        return tried(self.agent, self.log.discarded)
+        return tried(self.agent, self.log.discarded, self._servers.problems)
 
     def close(self) -> None:
-        """Closes the sockets and stops the timer."""
+        """Stops the timer, frees allocations of TURN servers, for a second at most, and closes the sockets. `wait_closed` waits for it."""
         self._began, self._closed = False, True
         if self._timer:
             self._timer.cancel()
+        self._servers.close(self._close_sockets)
+
+    async def wait_closed(self) -> None:
+        """Waits, after `close`, until the servers have freed the allocations, for a second at most."""
+        await self._servers.wait_closed()
+
+    def _close_sockets(self) -> None:
         self._sends.clear()
         while self._closes:
-            self._closes.pop()()
+            self._closes.popitem()[1]()
 
     def _timed_out(self) -> None:
         due, self._due = self._due, None

@@ -8,6 +8,7 @@ from typing import Any
 from unittest import mock
 
 from pairs import add_candidates, agent, aioice, close, gather, join, talk, within
+from turn_server import PASSWORD, USER, TurnServer
 
 
 def theirs(controlling: bool, **more: Any) -> Any:
@@ -42,9 +43,9 @@ class WithAioice(unittest.IsolatedAsyncioTestCase):
             await close(*sides)
 
     async def test_relayed_candidates(self) -> None:
-        from turn_server import TurnServer
         server = TurnServer()
-        more = {"turn_server": await server.start(), "transport_policy": aioice.TransportPolicy.RELAY}
+        more = {"turn_server": await server.start(), "turn_username": USER, "turn_password": PASSWORD,
+                "transport_policy": aioice.TransportPolicy.RELAY}
         a, b = agent(True, **more), theirs(False, **more)
         await within(join(a, b), 5)
         await talk(a, b)

@@ -16,8 +16,9 @@ from is_ice.attribute import CandidateAttribute
 from is_ice.connection import Connection, ConnectionClosed, TransportPolicy
 from is_ice.mdns import Mdns
 
-from pairs import HIDDEN, NOBODY, PATIENCE, add_candidates, agent, aioice, check_soon, close, gather, join, nobody, talk, within
-from test_stun_client import StunServer
+from pairs import HIDDEN, NOBODY, PATIENCE, add_candidates, agent, check_soon, close, gather, join, nobody, talk, within
+from test_stun import StunServer
+from turn_server import TurnServer
 
 
 class Sessions(unittest.IsolatedAsyncioTestCase):
@@ -348,11 +349,10 @@ class Limits(unittest.IsolatedAsyncioTestCase):
         await a.close()
         server.close()
 
-    @unittest.skipIf(aioice is None, "aioice is not installed (Debian's python3-aioice)")
     async def test_a_relayed_candidate_has_room(self) -> None:
-        from turn_server import TurnServer
         server = TurnServer()
-        a = Connection(True, addresses=["127.0.0.1", "127.0.0.2", "127.0.0.3"], turn_server=await server.start())
+        await server.start()
+        a = Connection(True, addresses=["127.0.0.1", "127.0.0.2", "127.0.0.3"], servers=[server.urls])
         a.max_candidates = 2
         await a.gather_candidates()
         self.assertEqual([candidate.type for candidate in a.local_candidates], ["host", "relay"])

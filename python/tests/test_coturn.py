@@ -1,20 +1,26 @@
-"""TURN messages that the module writes and reads, with coturn as the server: an allocation from the first request to its end."""
+"""With coturn as the server: TURN messages that the module writes and reads, and connections through relays over UDP, TCP and TLS."""
 
 from __future__ import annotations
 
+import asyncio
 import contextlib
 import hashlib
 import os
 import re
 import shutil
 import socket
+import ssl
 import subprocess
 import tempfile
 import time
 import unittest
+from typing import Any
 
 from is_ice import SocketAddress
+from is_ice.connection import Connection, TransportPolicy
+from is_ice.gather import LoopEvent
 from is_ice.stun import StunClass, StunMessage, StunMethod, StunText, write_message
+from pairs import NOBODY, PATIENCE, close, join, talk, until, within
 
 UDP = 17
 KEY = hashlib.md5(b"user:example.org:secret").digest()  # RFC 8489, section 9.2.2
@@ -29,16 +35,31 @@ def free_port(host: str) -> int:
 
 
 class Coturn:
-    """coturn on a loopback address, with the long-term credentials of `KEY`."""
+    """coturn on a loopback address, with the long-term credentials of `KEY`. Over UDP and TCP; over TLS if there is a certificate."""
 
-    def __init__(self, folder: str, host: str) -> None:
+    def __init__(self, folder: str, host: str, *more: str, certificate: str | None = None) -> None:
         self.address = host, free_port(host)
+        self.tls_port = free_port(host)
         arguments = [
-            "-n", "-L", host, "-E", host, "-p", str(self.address[1]), "--no-tls", "--no-dtls", "--no-tcp", "--no-cli", "-a", "-r",
-            "example.org", "-u", "user:secret", "--allow-loopback-peers", "--pidfile", f"{folder}/pid", "--db", f"{folder}/db",
-            "--log-file", "stdout", "--simple-log", "-m", "1"]
+            "-n", "-L", host, "-E", host, "-p", str(self.address[1]), "--no-dtls", "--no-cli", "-a", "-r", "example.org", "-u",
+            "user:secret", "--allow-loopback-peers", "--pidfile", f"{folder}/pid", "--db", f"{folder}/db", "--log-file", "stdout",
+            "--simple-log", "-m", "1"]
+        if certificate:
+            arguments += ["--tls-listening-port", str(self.tls_port), "--cert", certificate, "--pkey", certificate]
+        else:
+            arguments.append("--no-tls")
         self.log = open(f"{folder}/log", "wb")
-        self.process = subprocess.Popen(["turnserver", *arguments], stdout=self.log, stderr=self.log)
+        self.process = subprocess.Popen(["turnserver", *arguments, *more], stdout=self.log, stderr=self.log)
+
+    def url(self, scheme: str = "turn", transport: str = "udp") -> dict[str, str]:
+        """The server as a value of `iceServers`."""
+        at = SocketAddress(self.address[0], self.tls_port if scheme == "turns" else self.address[1])
+        return {"urls": f"{scheme}:{at}?transport={transport}", "username": "user", "credential": "secret"}
+
+    def is_ready(self) -> bool:
+        """Whether it accepts connections, as it does once it serves datagrams."""
+        with socket.socket(socket.AF_INET6 if ":" in self.address[0] else socket.AF_INET) as probe:
+            return probe.connect_ex(self.address) == 0
 
     def stop(self) -> None:
         """Ends the server."""
@@ -144,6 +165,109 @@ class WithCoturn(unittest.TestCase):
         client = self.client()
         self.assertEqual(client.ask(StunMethod.ALLOCATE).error_code, 400)
         self.assertEqual(client.ask(StunMethod.BINDING, None, software="is").error_code, 420)
+
+
+@unittest.skipUnless(shutil.which("turnserver"), "coturn is not installed")
+class Connections(unittest.IsolatedAsyncioTestCase):
+    """Connections that have only relayed candidates."""
+
+    async def server(self, host: str = "127.0.0.1", *more: str, certificate: str | None = None) -> Coturn:
+        """Starts a server, and waits until it serves."""
+        server = Coturn(self.enterContext(tempfile.TemporaryDirectory()), host, *more, certificate=certificate)
+        self.addCleanup(server.stop)
+        await until(server.is_ready)
+        return server
+
+    def side(self, controlling: bool, server: dict[str, str], host: str = "127.0.0.1", **more: Any) -> Connection:
+        """A connection that has only relayed candidates."""
+        return Connection(controlling, addresses=[host], transport_policy=TransportPolicy.RELAY, servers=[server], **more)
+
+    async def joined(self, *servers: dict[str, str], host: str = "127.0.0.1", **more: Any) -> tuple[Connection, Connection]:
+        """Two connections, of these servers, after a talk."""
+        a, b = self.side(True, servers[0], host, **more), self.side(False, servers[-1], host, **more)
+        await within(join(a, b), 10)
+        for side in (a, b):
+            self.assertEqual([candidate.type for candidate in side.local_candidates], ["relay"])
+        for _ in range(3):
+            await talk(a, b)  # in indications, and on a channel
+        return a, b
+
+    async def test_over_udp(self) -> None:
+        server = await self.server()
+        for turns in (1, -1):
+            a, b = await self.joined(server.url())
+            self.assertEqual((a.ice_controlling, b.ice_controlling), (True, False))
+            await close(*(a, b)[::turns])
+
+    async def test_over_tcp(self) -> None:
+        server = await self.server()
+        for servers in ([server.url("turn", "tcp")], [server.url("turn", "tcp"), server.url()], [server.url(), server.url("turn", "tcp")]):
+            a, b = await self.joined(*servers)
+            await close(a, b)
+
+    @unittest.skipUnless(shutil.which("openssl"), "openssl is not installed")
+    async def test_over_tls(self) -> None:
+        folder = self.enterContext(tempfile.TemporaryDirectory())
+        subprocess.run(["openssl", "req", "-x509", "-newkey", "rsa:2048", "-nodes", "-subj", "/CN=test", "-addext",
+                        "subjectAltName=IP:127.0.0.1", "-keyout", f"{folder}/key", "-out", f"{folder}/certificate"],
+                       check=True, capture_output=True)
+        with open(f"{folder}/both", "w") as both:
+            for name in ("certificate", "key"):
+                with open(f"{folder}/{name}") as part:
+                    both.write(part.read())
+        server = await self.server(certificate=f"{folder}/both")
+        a, b = await self.joined(server.url("turns", "tcp"), tls=ssl.create_default_context(cafile=f"{folder}/certificate"))
+        await close(a, b)
+        c = self.side(True, server.url("turns", "tcp"))  # who does not trust the certificate
+        with self.assertLogs("is_ice", "WARNING") as lines:
+            await within(c.gather_candidates(), 2)
+        self.assertRegex(lines.output[0], "server turns:127.0.0.1:.* certificate verify failed")
+        await c.close()
+
+    async def test_over_ipv6(self) -> None:
+        try:
+            server = await self.server("::1")
+        except OSError:
+            self.skipTest("there is no IPv6")
+        for transport in ("udp", "tcp"):
+            a, b = await self.joined(server.url("turn", transport), host="::1")
+            self.assertEqual(a.local_candidates[0].host, "::1")
+            await close(a, b)
+
+    async def test_a_wrong_password(self) -> None:
+        server = await self.server()
+        for transport in ("udp", "tcp"):
+            a = self.side(True, {**server.url("turn", transport), "credential": "wrong"})
+            start = time.monotonic()
+            with self.assertLogs("is_ice", "WARNING") as lines:
+                await a.gather_candidates()
+            self.assertLess(time.monotonic() - start, 2 * PATIENCE)
+            self.assertRegex(lines.output[0], "server 127.0.0.1:.*401")
+            await a.close()
+
+    async def test_a_refused_peer(self) -> None:
+        server = await self.server("127.0.0.1", "--denied-peer-ip", "127.0.0.9")
+        a = self.side(True, server.url())
+        a.agent.set_max_stun_retransmits(1)
+        told: list[LoopEvent] = []
+        a._loop._on_gathering = told.append
+        await a.gather_candidates()
+        a.remote_username, a.remote_password = "abcd", "p" * 22
+        await a.add_remote_candidate(NOBODY.replace("127.0.0.1", "127.0.0.9"))
+        await a.add_remote_candidate(None)
+        with self.assertRaisesRegex(ConnectionError, "servers: server .* 127.0.0.9.*403"):
+            await within(a.connect(), 10)
+        await a.close()
+
+    async def test_a_connection_to_the_server_that_breaks(self) -> None:
+        server = await self.server()
+        a, b = await self.joined(server.url("turn", "tcp"))
+        event = asyncio.ensure_future(a.get_event())
+        with self.assertLogs("is_ice", "WARNING") as lines:
+            server.process.kill()
+            await within(event, 2)  # without its candidate it has no path any more
+        self.assertRegex(lines.output[0], "server 127.0.0.1:.* tcp .*lost")
+        await close(a, b)
 
 
 if __name__ == "__main__":

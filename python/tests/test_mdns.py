@@ -16,7 +16,7 @@ from is_ice.connection import Connection, TransportPolicy
 from is_ice.mdns import Mdns
 
 from pairs import HIDDEN, LOOPBACK, PATIENCE, add_candidates, agent, aioice, close, gather, join, nobody, other_tasks, talk, within
-from test_stun_client import SEEN, StunServer
+from test_stun import SEEN, StunServer
 
 # Two connections over loopback in a new process. Prints the seconds from the first candidate until both connect, and the modules that were
 # imported meanwhile. Its argument is the name of a further candidate of each side, or "".

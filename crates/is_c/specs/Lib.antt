@@ -28,3 +28,5 @@ pub mod FromFields
 pub mod Roles
 pub mod LogLines
 pub mod Unserved
+pub mod ServersHandles
+pub mod ServersBorrowing

@@ -42,6 +42,8 @@ pub const UNSERVED_SENDER: i32 = 15;
 pub const UNSERVED_LIMIT: i32 = 16;
 
 pub const UNSERVED_LOCAL: i32 = 17;
+/// The relayed address is gone, or no packet goes from it to this peer.
+pub const NO_RELAY: i32 = 18;
 /// The slot holds no agent.
 pub const NO_AGENT: i32 = -1;
 /// The slot holds an agent already.
@@ -78,6 +80,12 @@ pub const MESSAGE_TOO_LONG: i32 = -16;
 pub const TOO_MANY_CANDIDATES: i32 = -17;
 /// See `IceError`.
 pub const LITE_STAYS_CONTROLLED: i32 = -18;
+/// The text is not the URL of a STUN or TURN server, or is one of TURN over DTLS.
+pub const BAD_URL: i32 = -19;
+/// The slot holds no clients of servers.
+pub const NO_SERVERS: i32 = -20;
+/// The slot holds clients of servers already.
+pub const HAS_SERVERS: i32 = -21;
 
 pub(crate) fn code_of(error: &IceError) -> i32
     ensures { result ≡ code.code_of error.now }

@@ -119,7 +119,7 @@ fn draft<'a>(message: &Message, texts: &Texts, bytes: &'a [u8]) -> Result<StunMe
     Ok(builder.build(TransId(message.id.bytes)))
 }
 
-fn write_code(error: StunError) -> i32
+pub(crate) fn write_code(error: StunError) -> i32
     ensures { result ≡ write_code error }
 {
     match error {

@@ -10,6 +10,7 @@ mod log_lines;
 mod media;
 mod removed;
 mod selected;
+mod servers;
 mod stun;
 mod texts;
 

@@ -1,5 +1,5 @@
 -- A TURN client with the socket that it is of, and what each call does to it.
-use Rattle.std.specs.Prelude.{◌≡◌, ℕ, ◌&&◌, Bool, true, false, List, nat_le, is_some, not, Option, Some, None, Result, Ok, Err}
+use Rattle.std.specs.Prelude.{◌≡◌, ℕ, ◌&&◌, ◌||◌, Bool, true, false, List, nat_le, is_some, is_none, not, Option, Some, None, Result, Ok, Err}
 use Rattle.std.specs.declared.net.socket_addr.SocketAddr.{SocketAddr}
 use Rattle.rand_core.specs.Stream.{Stream}
 use Rattle.is_proto.specs.declared.error.StunError.{StunError}
@@ -23,7 +23,7 @@ use Rattle.is_turn.specs.Receipts.{Receipt, other, own, dropped, peer_data}
 use Rattle.is_turn.specs.Receiving.{IsReceived}
 use Rattle.is_turn.specs.Relaying.{is_media, permits_peer, routed, after_route, WritesRoute, TimesOut, client_packet, PollsTurn, after_poll, leases_after_poll, client_event, next_client_time, session_after_event, leases_after_event}
 use Rattle.is_turn.specs.Relaying.{kept_leases}
-use Rattle.is_turn.specs.Session.{turn_started, turn_closed, probed}
+use Rattle.is_turn.specs.Session.{turn_started, turn_closed, turn_lost, probed}
 use Rattle.is_turn.specs.Turn.{known, key_now, kept_credentials}
 
 -- ---- one client with its socket
@@ -100,6 +100,14 @@ is_ended _ = false
 -- it ended, and that was reported: its place may be given to another client
 abbrev pub is_over : {H : Type 0} → Relay H → Bool
 is_over r = is_ended r.client.session.phase && not (has_event r)
+
+abbrev pub is_waiting : Phase → Bool
+is_waiting phases.Asking = true
+is_waiting _ = false
+
+-- it waits for its first answer, or what that said was not reported yet
+abbrev pub is_asking : {H : Type 0} → Relay H → Bool
+is_asking r = is_none r.relayed && (is_waiting r.client.session.phase || has_event r)
 
 -- a client that is added is started
 abbrev pub started_relay : {H : Type 0} → Instant → SocketAddr → TurnClient H → Relay H
@@ -198,6 +206,13 @@ pub record Probes {H : Type 0} (now : Instant) (before after : Relay H) : Type 0
 -- one client is closed
 pub record Closes {H : Type 0} (now : Instant) (before after : Relay H) : Type 0 where
   pub session : after.client.session ≡ turn_closed now (is_some before.client.credentials) before.client.session
+  pub credentials : known after.client.credentials ≡ kept_credentials after.client.session (known before.client.credentials)
+  pub leases : after.client.leases.items ≡ kept_leases after.client.session before.client.leases.items
+  pub rest : SameRelay before after
+
+-- the socket of one client is gone
+pub record Loses {H : Type 0} (before after : Relay H) : Type 0 where
+  pub session : after.client.session ≡ turn_lost before.client.session
   pub credentials : known after.client.credentials ≡ kept_credentials after.client.session (known before.client.credentials)
   pub leases : after.client.leases.items ≡ kept_leases after.client.session before.client.leases.items
   pub rest : SameRelay before after

@@ -84,10 +84,10 @@ changed_by change (Some o) s = record s { operation = Some (change o) }
 abbrev pub allocate : Session → Request
 allocate s = Allocate s.lifetime s.family
 
--- while a client closes, a request is sent at most twice
+-- while a client closes, a request is sent at most twice, and not more often than before
 abbrev pub timing_in : Phase → ClientTiming → ClientTiming
-timing_in Leaving t = record t { requests = 2 }
-timing_in Closing t = record t { requests = 2 }
+timing_in Leaving t = record t { requests = min t.requests 2 }
+timing_in Closing t = record t { requests = min t.requests 2 }
 timing_in _ t = t
 
 abbrev pub request_timing : Session → ClientTiming
@@ -155,6 +155,18 @@ closed_in _ now has_credentials s = s
 
 abbrev pub turn_closed : Instant → Bool → Session → Session
 turn_closed now has_credentials s = closed_in s.phase now has_credentials s
+
+-- the socket is gone: a client that was closed has closed, one with an allocation has lost it, any other has failed
+abbrev pub lost_in : Phase → Session → Session
+lost_in New s = ended (ending_of why.Failed None None) s
+lost_in Asking s = ended (ending_of why.Failed None None) s
+lost_in Ready s = lost None None s
+lost_in Leaving s = closed None s
+lost_in Closing s = closed None s
+lost_in Ended s = s
+
+abbrev pub turn_lost : Session → Session
+turn_lost s = lost_in s.phase s
 
 -- ---- genuine responses. Each time is counted from when the request was first sent, so the server has the allocation at least that long
 

@@ -25,6 +25,16 @@ rfc = record {
   keep_alive = record { 0 = 20 * SECOND };
 }
 
+-- over TCP and TLS (RFC 8489, section 6.2.2): once, and then Ti
+abbrev pub reliable : ClientTiming
+reliable = record {
+  rto = record { 0 = 500 * MILLISECOND };
+  longest_wait = record { 0 = MAX };
+  last_wait = record { 0 = 39500 * MILLISECOND };
+  requests = 1;
+  keep_alive = record { 0 = 20 * SECOND };
+}
+
 -- more requests, and sooner
 abbrev pub modern : ClientTiming
 modern = record {

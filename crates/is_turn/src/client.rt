@@ -1,9 +1,9 @@
 //! The client of one socket at one server.
 
-ghost use Rattle.std.specs.Prelude.{◌≡◌, ◌⊎◌, ◌<◌, ◌≤◌, Option};
+ghost use Rattle.std.specs.Prelude.{◌≡◌, ◌⊎◌, ◌<◌, ◌≤◌, Option, is_some};
 ghost use Rattle.is_turn.specs.declared.client.Received.TheVariants as results;
 ghost use Rattle.is_turn.specs.declared.answer.Answer.TheVariants as answers;
-ghost use Rattle.is_turn.specs.Client.{pending_id, new_client, after_start, next_time, first_sent, sent_again, timed_out, repeated, begun, after_timeout, Polls, request_of};
+ghost use Rattle.is_turn.specs.Client.{pending_id, new_client, after_start, next_time, first_sent, sent_again, timed_out, repeated, begun, after_timeout, to_poll, Polls, request_of};
 ghost use Rattle.is_turn.specs.Response.{received, IsEventAfter, after_answer, IsAnswerTo};
 ghost use Rattle.is_turn.specs.Answer.{answer_in};
 ghost use Rattle.is_stun.specs.MessageView.{message_view};
@@ -287,6 +287,23 @@ impl StunClient {
         ensures { result ≡ pending_id self.now }
     {
         Some(self.pending?.id)
+    }
+
+    /// Whether there is something to send.
+    pub fn has_packet(&self) -> bool
+        ensures { result ≡ is_some (to_poll self.now.pending) }
+    {
+        match self.pending {
+            Some(pending) => pending.is_waiting,
+            None => false,
+        }
+    }
+
+    /// Whether there is something to report.
+    pub fn has_event(&self) -> bool
+        ensures { result ≡ is_some self.now.event }
+    {
+        self.event.is_some()
     }
 
     /// Takes any datagram of the socket. Only the response to the pending request changes anything: it is from the server, and has

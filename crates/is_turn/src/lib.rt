@@ -2,6 +2,7 @@
 //! a socket, and keeps the mapping of the NATs between them alive; and a TURN client, with permissions and channels.
 #![tactic(auto)]
 
+mod all_relays;
 mod allocating;
 mod alternate;
 mod answer;

@@ -3,8 +3,8 @@
 ghost use Rattle.std.specs.Prelude.{◌≡◌};
 ghost use Rattle.std.specs.Option.{option_map};
 ghost use Rattle.is_turn.specs.Receipts.{received_view};
-ghost use Rattle.is_turn.specs.OneRelay.{is_at, is_of, has_event, has_packet, is_due_at, is_over, started_relay, arrived_view, passed, relayed_after, polled_as, sent_as};
-ghost use Rattle.is_turn.specs.OneRelay.{TakesDatagram, TakesPacket, PollsRelay, RelayTimesOut, ReportsEvent, PermitsPeer, Probes, Closes};
+ghost use Rattle.is_turn.specs.OneRelay.{is_at, is_of, has_event, has_packet, is_due_at, is_over, is_asking, started_relay, arrived_view, passed, relayed_after, polled_as, sent_as};
+ghost use Rattle.is_turn.specs.OneRelay.{TakesDatagram, TakesPacket, PollsRelay, RelayTimesOut, ReportsEvent, PermitsPeer, Probes, Closes, Loses};
 
 use crate::lease::same_address;
 use crate::session::{Allocation, Phase};
@@ -155,6 +155,13 @@ impl<H: Sha1HmacProvider> Relay<H> {
         self.client.session.phase == Phase::Ended && !self.has_event()
     }
 
+    /// Whether it waits for its first answer, or what that said was not reported yet.
+    pub(crate) fn is_asking(&self) -> bool
+        ensures { result ≡ is_asking self.now }
+    {
+        self.relayed.is_none() && (self.client.session.phase == Phase::Asking || self.has_event())
+    }
+
     /// Whether its time has come.
     pub(crate) fn is_due_at(&self, time: Instant) -> bool
         ensures { result ≡ is_due_at time self.now }
@@ -231,5 +238,11 @@ impl<H: Sha1HmacProvider> Relay<H> {
         ensures { Closes now self.old self.new }
     {
         self.client.close(now);
+    }
+
+    pub(crate) fn lose(&mut self)
+        ensures { Loses self.old self.new }
+    {
+        self.client.lose();
     }
 }

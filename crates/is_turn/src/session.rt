@@ -1,7 +1,7 @@
 //! What a TURN client knows of its allocation (RFC 8656, sections 6 to 8), and what its user does to it.
 
 ghost use Rattle.std.specs.Prelude.{◌≡◌};
-ghost use Rattle.is_turn.specs.Session.{new_session, request_timing, with_request, allocate, turn_started, ended, freed, may_be_made, turn_closed, left};
+ghost use Rattle.is_turn.specs.Session.{new_session, request_timing, with_request, allocate, turn_started, ended, freed, may_be_made, turn_closed, turn_lost, left};
 ghost use Rattle.is_turn.specs.Session.{probed, lease_failed, quiet_after, is_v6, is_v6_family, may_permit};
 
 use crate::operation::Operation;
@@ -137,13 +137,13 @@ impl Session {
         }
     }
 
-    /// The timing of the pending request: while a client closes, a request is sent at most twice.
+    /// The timing of the pending request: while a client closes, a request is sent at most twice, and over TCP once.
     pub(crate) fn request_timing(&self) -> ClientTiming
         ensures { result ≡ request_timing self.now }
     {
         match self.phase {
             Phase::Leaving | Phase::Closing => ClientTiming {
-                requests: CLOSING_REQUESTS,
+                requests: self.timing.requests.min(CLOSING_REQUESTS),
                 ..self.timing
             },
             _ => self.timing,
@@ -240,6 +240,23 @@ impl Session {
                 ..operation
             });
         }
+    }
+
+    /// The socket is gone: the client ends, and sends nothing more.
+    pub(crate) fn lose(&mut self)
+        ensures { self.new ≡ turn_lost self.old }
+    {
+        let why = match self.phase {
+            Phase::New | Phase::Asking => Why::Failed,
+            Phase::Ready => Why::Lost,
+            Phase::Leaving | Phase::Closing => Why::Closed,
+            Phase::Ended => return,
+        };
+        self.end(Ending {
+            why,
+            code: None,
+            unverified: None,
+        });
     }
 
     // ---- leases

@@ -1,7 +1,7 @@
 //! When a request is sent again (RFC 8489, section 6.2.1).
 
 ghost use Rattle.std.specs.Prelude.{◌≡◌};
-ghost use Rattle.is_turn.specs.Timing.{first_wait, next_wait, rfc, modern};
+ghost use Rattle.is_turn.specs.Timing.{first_wait, next_wait, rfc, modern, reliable};
 
 use is_proto::Duration;
 
@@ -48,6 +48,19 @@ impl ClientTiming {
             longest_wait: Duration(1_000_000_000),
             last_wait: Duration(1_000_000_000),
             requests: MODERN_REQUESTS,
+            keep_alive: Duration(20_000_000_000),
+        }
+    }
+
+    /// Over TCP and TLS (RFC 8489, section 6.2.2): a request is sent once, and the client waits for Ti: 39.5 s.
+    pub fn reliable() -> ClientTiming
+        ensures { result ≡ reliable }
+    {
+        ClientTiming {
+            rto: Duration(500_000_000),
+            longest_wait: Duration(u64::MAX),
+            last_wait: Duration(39_500_000_000),
+            requests: 1,
             keep_alive: Duration(20_000_000_000),
         }
     }

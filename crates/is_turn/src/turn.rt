@@ -4,7 +4,7 @@ ghost use Rattle.std.specs.Prelude.{◌≡◌, ◌<◌, IfSome, IfOk, is_some, r
 ghost use Rattle.std.specs.Option.{option_map};
 ghost use Rattle.is_turn.specs.Credentials.{credentials_of};
 ghost use Rattle.is_turn.specs.Leases.{unused};
-ghost use Rattle.is_turn.specs.Session.{new_session, turn_started, turn_closed, next_turn_time};
+ghost use Rattle.is_turn.specs.Session.{new_session, turn_started, turn_closed, turn_lost, next_turn_time};
 ghost use Rattle.is_turn.specs.Turn.{known, key_now, kept_credentials};
 ghost use Rattle.is_turn.specs.Relaying.{kept_leases, advanced_in, lease_due, sending_for, step_at, driven, TimesOut, lease_time, next_client_time};
 
@@ -169,6 +169,18 @@ impl<H: Sha1HmacProvider> TurnClient<H> {
     {
         let has_credentials = self.credentials.is_some();
         self.session.close(now, has_credentials);
+        self.forget_if_ended();
+        self.clear_if_ended();
+    }
+
+    /// The socket or connection to the server is gone: `Ended` follows, without a packet.
+    pub fn lose(&mut self)
+        ensures session { self.new.session ≡ turn_lost self.old.session }
+        ensures credentials { known self.new.credentials ≡ kept_credentials self.new.session (known self.old.credentials) }
+        ensures leases { self.new.leases.items ≡ kept_leases self.new.session self.old.leases.items }
+        ensures provider { self.new.provider ≡ self.old.provider }
+    {
+        self.session.lose();
         self.forget_if_ended();
         self.clear_if_ended();
     }

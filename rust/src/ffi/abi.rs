@@ -3,7 +3,8 @@
 //!
 //! Why these are safe: a pointer to bytes and its length are those of one slice, and another pointer is that of a reference. Slices and
 //! references are not null, they live as long as the call, and the library keeps no pointer to them. What the library writes is borrowed
-//! mutably, so it overlaps no other argument. The fields of an [`Agent`] are private, and it is not `Clone`, so only the library writes it.
+//! mutably, so it overlaps no other argument. The fields of an [`Agent`] and of [`Servers`] are private, and neither is `Clone`, so only the
+//! library writes them.
 #![allow(unsafe_code)]
 #![allow(dead_code)] // the crate does not use all that the header declares
 
@@ -27,6 +28,7 @@ pub(crate) const UNSERVED_USE_CANDIDATE: i32 = 14;
 pub(crate) const UNSERVED_SENDER: i32 = 15;
 pub(crate) const UNSERVED_LIMIT: i32 = 16;
 pub(crate) const UNSERVED_LOCAL: i32 = 17;
+pub(crate) const NO_RELAY: i32 = 18;
 pub(crate) const NO_AGENT: i32 = -1;
 pub(crate) const HAS_AGENT: i32 = -2;
 pub(crate) const NOT_UTF8: i32 = -3;
@@ -45,6 +47,9 @@ pub(crate) const BAD_MESSAGE: i32 = -15;
 pub(crate) const MESSAGE_TOO_LONG: i32 = -16;
 pub(crate) const TOO_MANY_CANDIDATES: i32 = -17;
 pub(crate) const LITE_STAYS_CONTROLLED: i32 = -18;
+pub(crate) const BAD_URL: i32 = -19;
+pub(crate) const NO_SERVERS: i32 = -20;
+pub(crate) const HAS_SERVERS: i32 = -21;
 
 pub(crate) const UDP: u8 = 0;
 pub(crate) const TCP: u8 = 1;
@@ -126,6 +131,27 @@ pub(crate) const HMAC_LENGTH: usize = 20;
 
 pub(crate) const STUN_WRITE_LENGTH: usize = 1252;
 
+pub(crate) const SERVER_MAPPED: i32 = 1;
+pub(crate) const SERVER_ALLOCATED: i32 = 2;
+pub(crate) const SERVER_NOT_PERMITTED: i32 = 3;
+pub(crate) const SERVER_ENDED: i32 = 4;
+
+pub(crate) const ENDED_FAILED: i32 = 0;
+pub(crate) const ENDED_LOST: i32 = 1;
+pub(crate) const ENDED_CLOSED: i32 = 2;
+
+pub(crate) const STUN: u8 = 0;
+pub(crate) const TURN: u8 = 1;
+
+pub(crate) const SERVERS_PLACES: usize = 64;
+
+pub(crate) const SERVERS_RANDOM: usize = 12;
+pub(crate) const WRAPPING_LENGTH: usize = 64;
+
+pub(crate) const SERVERS_PACKET_LENGTH: usize = 2200;
+
+pub(crate) const FRAME_LENGTH: usize = 65555;
+
 /// The text of each code, as in `is_ice_code_text` of the header.
 pub(crate) fn text_of(code: i32) -> &'static str {
     match code {
@@ -147,6 +173,7 @@ pub(crate) fn text_of(code: i32) -> &'static str {
         UNSERVED_SENDER => "request from an invalidated remote candidate",
         UNSERVED_LIMIT => "request from an unknown address while the limit on discovered candidates is reached",
         UNSERVED_LOCAL => "request to an invalidated local candidate",
+        NO_RELAY => "relayed address gone, or not for this peer",
         NO_AGENT => "no agent",
         HAS_AGENT => "there is an agent already",
         NOT_UTF8 => "text is not UTF-8",
@@ -165,11 +192,14 @@ pub(crate) fn text_of(code: i32) -> &'static str {
         MESSAGE_TOO_LONG => "STUN message or one of its texts too long",
         TOO_MANY_CANDIDATES => "too many candidates",
         LITE_STAYS_CONTROLLED => "lite agent stays controlled",
+        BAD_URL => "bad URL of a STUN or TURN server",
+        NO_SERVERS => "no servers",
+        HAS_SERVERS => "there are servers already",
         _ => "unknown code",
     }
 }
 
-/// Refers to an agent of the library. All zero: there is none.
+/// Refers to an agent. All zero: there is none. Only the library reads and writes its fields.
 #[repr(C)]
 pub(crate) struct Agent {
     pub(super) is_held: bool,
@@ -414,6 +444,48 @@ pub(crate) struct StunTexts {
     pub(crate) software: StunSpan,
 }
 
+/// Refers to the clients of STUN and TURN servers. All zero: there are none. Only the library reads and writes its fields.
+#[repr(C)]
+pub(crate) struct Servers {
+    pub(super) is_held: bool,
+    pub(super) at: *mut u8,
+}
+
+#[repr(C)]
+#[derive(Clone, Copy, Debug, Default, PartialEq, Eq, Hash)]
+pub(crate) struct Datagram {
+    pub(crate) source: Address,
+    pub(crate) destination: Address,
+    pub(crate) offset: usize,
+    pub(crate) length: usize,
+}
+
+#[repr(C)]
+#[derive(Clone, Copy, Debug, Default, PartialEq, Eq, Hash)]
+pub(crate) struct ServerEvent {
+    pub(crate) local: Address,
+    pub(crate) server: Address,
+    pub(crate) relayed: Address,
+    pub(crate) mapped: Address,
+    pub(crate) peer: Address,
+    pub(crate) kind: i32,
+    pub(crate) why: i32,
+    pub(crate) code: u16,
+    pub(crate) unverified: u16,
+    pub(crate) protocol: u8,
+    pub(crate) has_mapped: bool,
+}
+
+#[repr(C)]
+#[derive(Clone, Copy, Debug, Default, PartialEq, Eq, Hash)]
+pub(crate) struct ServerUrl {
+    pub(crate) host_start: usize,
+    pub(crate) host_length: usize,
+    pub(crate) port: u16,
+    pub(crate) scheme: u8,
+    pub(crate) protocol: u8,
+}
+
 #[cfg(target_pointer_width = "64")]
 const _: () = {
     use std::mem::offset_of;
@@ -574,6 +646,32 @@ const _: () = {
     assert!(offset_of!(StunTexts, realm) == 72);
     assert!(offset_of!(StunTexts, nonce) == 96);
     assert!(offset_of!(StunTexts, software) == 120);
+    assert!(size_of::<Servers>() == 16 && align_of::<Servers>() == 8);
+    assert!(offset_of!(Servers, is_held) == 0);
+    assert!(offset_of!(Servers, at) == 8);
+    assert!(size_of::<Datagram>() == 72 && align_of::<Datagram>() == 8);
+    assert!(offset_of!(Datagram, source) == 0);
+    assert!(offset_of!(Datagram, destination) == 28);
+    assert!(offset_of!(Datagram, offset) == 56);
+    assert!(offset_of!(Datagram, length) == 64);
+    assert!(size_of::<ServerEvent>() == 156 && align_of::<ServerEvent>() == 4);
+    assert!(offset_of!(ServerEvent, local) == 0);
+    assert!(offset_of!(ServerEvent, server) == 28);
+    assert!(offset_of!(ServerEvent, relayed) == 56);
+    assert!(offset_of!(ServerEvent, mapped) == 84);
+    assert!(offset_of!(ServerEvent, peer) == 112);
+    assert!(offset_of!(ServerEvent, kind) == 140);
+    assert!(offset_of!(ServerEvent, why) == 144);
+    assert!(offset_of!(ServerEvent, code) == 148);
+    assert!(offset_of!(ServerEvent, unverified) == 150);
+    assert!(offset_of!(ServerEvent, protocol) == 152);
+    assert!(offset_of!(ServerEvent, has_mapped) == 153);
+    assert!(size_of::<ServerUrl>() == 24 && align_of::<ServerUrl>() == 8);
+    assert!(offset_of!(ServerUrl, host_start) == 0);
+    assert!(offset_of!(ServerUrl, host_length) == 8);
+    assert!(offset_of!(ServerUrl, port) == 16);
+    assert!(offset_of!(ServerUrl, scheme) == 18);
+    assert!(offset_of!(ServerUrl, protocol) == 19);
 };
 
 // SAFETY: names, arguments and results are those of the header. All arguments are numbers and references.
@@ -629,6 +727,16 @@ unsafe extern "C" {
     pub(crate) safe fn is_ice_removed_count(agent: &mut Agent, count: &mut usize) -> i32;
     pub(crate) safe fn is_ice_removed_at(agent: &mut Agent, index: usize, pair: &mut RemovedPair) -> i32;
     pub(crate) safe fn is_ice_has_viable_remote(agent: &mut Agent, address: &Address) -> i32;
+    pub(crate) safe fn is_ice_servers_new(servers: &mut Servers) -> i32;
+    pub(crate) safe fn is_ice_servers_free(servers: &mut Servers);
+    pub(crate) safe fn is_ice_servers_add_stun(servers: &mut Servers, now: u64, local: &Address, server: &Address) -> i32;
+    pub(crate) safe fn is_ice_servers_permit(servers: &mut Servers, now: u64, peer: &Address) -> i32;
+    pub(crate) safe fn is_ice_servers_probe(servers: &mut Servers, now: u64) -> i32;
+    pub(crate) safe fn is_ice_servers_close(servers: &mut Servers, now: u64) -> i32;
+    pub(crate) safe fn is_ice_servers_lose(servers: &mut Servers, protocol: u8, local: &Address) -> i32;
+    pub(crate) safe fn is_ice_servers_poll_timeout(servers: &mut Servers, at: &mut u64) -> i32;
+    pub(crate) safe fn is_ice_servers_poll_event(servers: &mut Servers, event: &mut ServerEvent) -> i32;
+    pub(crate) safe fn is_ice_servers_gathering(servers: &mut Servers) -> i32;
 }
 
 /// The calls with bytes, of which there is a safe function each below.
@@ -881,6 +989,47 @@ pub(super) mod raw {
             size: usize,
             length: &mut usize,
         ) -> i32;
+        pub(crate) fn is_ice_servers_add_turn(
+            servers: &mut Servers,
+            now: u64,
+            protocol: u8,
+            local: &Address,
+            server: &Address,
+            family: u8,
+            places: usize,
+            username: *const u8,
+            username_length: usize,
+            password: *const u8,
+            password_length: usize,
+        ) -> i32;
+        pub(crate) fn is_ice_servers_receive(
+            servers: &mut Servers,
+            now: u64,
+            protocol: u8,
+            source: &Address,
+            destination: &Address,
+            bytes: *const u8,
+            length: usize,
+            datagram: &mut Datagram,
+        ) -> i32;
+        pub(crate) fn is_ice_servers_outgoing(
+            servers: &mut Servers,
+            now: u64,
+            source: &Address,
+            destination: &Address,
+            bytes: *const u8,
+            length: usize,
+            random: *const u8,
+            random_length: usize,
+            buffer: *mut u8,
+            size: usize,
+            packet: &mut Packet,
+        ) -> i32;
+        pub(crate) fn is_ice_servers_handle_timeout(servers: &mut Servers, now: u64, random: *const u8, random_length: usize) -> i32;
+        pub(crate) fn is_ice_servers_poll_transmit(servers: &mut Servers, buffer: *mut u8, size: usize, packet: &mut Packet) -> i32;
+        pub(crate) fn is_ice_servers_event_line(event: &ServerEvent, buffer: *mut u8, size: usize, length: &mut usize) -> i32;
+        pub(crate) fn is_ice_server_url_of(text: *const u8, length: usize, url: &mut ServerUrl) -> i32;
+        pub(crate) fn is_ice_frame_length(bytes: *const u8, length: usize, frame: &mut usize) -> i32;
     }
 }
 
@@ -1247,4 +1396,99 @@ pub(crate) fn is_ice_stun_write(
             length,
         )
     }
+}
+
+pub(crate) fn is_ice_servers_add_turn(
+    servers: &mut Servers,
+    now: u64,
+    protocol: u8,
+    local: &Address,
+    server: &Address,
+    family: u8,
+    places: usize,
+    username: &[u8],
+    password: &[u8],
+) -> i32 {
+    // SAFETY: as the module says.
+    unsafe {
+        raw::is_ice_servers_add_turn(
+            servers,
+            now,
+            protocol,
+            local,
+            server,
+            family,
+            places,
+            username.as_ptr(),
+            username.len(),
+            password.as_ptr(),
+            password.len(),
+        )
+    }
+}
+
+pub(crate) fn is_ice_servers_receive(
+    servers: &mut Servers,
+    now: u64,
+    protocol: u8,
+    source: &Address,
+    destination: &Address,
+    bytes: &[u8],
+    datagram: &mut Datagram,
+) -> i32 {
+    // SAFETY: as the module says.
+    unsafe { raw::is_ice_servers_receive(servers, now, protocol, source, destination, bytes.as_ptr(), bytes.len(), datagram) }
+}
+
+pub(crate) fn is_ice_servers_outgoing(
+    servers: &mut Servers,
+    now: u64,
+    source: &Address,
+    destination: &Address,
+    bytes: &[u8],
+    random: &[u8],
+    buffer: &mut [u8],
+    packet: &mut Packet,
+) -> i32 {
+    // SAFETY: as the module says.
+    unsafe {
+        raw::is_ice_servers_outgoing(
+            servers,
+            now,
+            source,
+            destination,
+            bytes.as_ptr(),
+            bytes.len(),
+            random.as_ptr(),
+            random.len(),
+            buffer.as_mut_ptr(),
+            buffer.len(),
+            packet,
+        )
+    }
+}
+
+pub(crate) fn is_ice_servers_handle_timeout(servers: &mut Servers, now: u64, random: &[u8]) -> i32 {
+    // SAFETY: as the module says.
+    unsafe { raw::is_ice_servers_handle_timeout(servers, now, random.as_ptr(), random.len()) }
+}
+
+pub(crate) fn is_ice_servers_poll_transmit(servers: &mut Servers, buffer: &mut [u8], packet: &mut Packet) -> i32 {
+    // SAFETY: as the module says.
+    unsafe { raw::is_ice_servers_poll_transmit(servers, buffer.as_mut_ptr(), buffer.len(), packet) }
+}
+
+pub(crate) fn is_ice_servers_event_line(event: &ServerEvent, buffer: &mut [u8], length: &mut usize) -> i32 {
+    // SAFETY: as the module says.
+    unsafe { raw::is_ice_servers_event_line(event, buffer.as_mut_ptr(), buffer.len(), length) }
+}
+
+pub(crate) fn is_ice_server_url_of(text: &[u8], url: &mut ServerUrl) -> i32 {
+    // SAFETY: as the module says.
+    unsafe { raw::is_ice_server_url_of(text.as_ptr(), text.len(), url) }
+}
+
+pub(crate) fn is_ice_frame_length(bytes: &[u8], frame: &mut usize) -> i32 {
+    // SAFETY: as the module says.
+    unsafe { raw::is_ice_frame_length(bytes.as_ptr(), bytes.len(), frame) }
 }

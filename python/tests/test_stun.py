@@ -1,4 +1,4 @@
-"""STUN: the samples of RFC 5769, malformed responses, the client, and a server."""
+"""STUN messages: the samples of RFC 5769, malformed responses, and a server."""
 
 from __future__ import annotations
 
@@ -7,12 +7,10 @@ import hashlib
 import hmac
 import random
 import struct
-import time
 import unittest
 import zlib
 
 from is_ice import BadAddress, BadMessage, IceAgent, MessageTooLong, SocketAddress, Unparsed
-from is_ice.loop import IceLoop
 from is_ice.stun import (
     BindingResponse,
     StunClass,
@@ -24,8 +22,6 @@ from is_ice.stun import (
     stun_username,
     write_message,
 )
-from is_ice.stun_client import StunClient
-from pairs import PATIENCE
 
 SAMPLE_V4 = bytes.fromhex(
     "0101003c2112a442b7e7a701bc34d686fa87dfae8022000b7465737420766563746f7220002000080001a147e112a643"
@@ -210,50 +206,6 @@ class Writing(unittest.TestCase):
 def mac_of(text: bytes) -> bytes:
     """HMAC-SHA1 under the password."""
     return hmac.new(PASSWORD, text, hashlib.sha1).digest()
-
-
-class Requests(unittest.IsolatedAsyncioTestCase):
-    async def test_only_the_response_to_the_request_counts(self) -> None:
-        sent: list[bytes] = []
-        client = StunClient(lambda local, server, message: sent.append(message))
-        asked = asyncio.ensure_future(client.binding(HERE, SERVER))
-        await asyncio.sleep(0.01)
-        good = response_to(sent[0])
-        other = SocketAddress("192.0.2.2", 3478)
-        for source, local, message in ((other, HERE, good), (SERVER, other, good), (SERVER, HERE, sent[0]),
-                                       (SERVER, HERE, response_to(binding_request(bytes(12))))):
-            self.assertFalse(client.receive(source, local, message))
-        self.assertTrue(client.receive(SERVER, HERE, good))
-        self.assertEqual(await asked, SEEN)
-        self.assertFalse(client.receive(SERVER, HERE, good))
-
-    async def test_an_error_response_ends_the_request(self) -> None:
-        def send(local: SocketAddress, server: SocketAddress, message: bytes) -> None:
-            asyncio.get_running_loop().call_soon(client.receive, SERVER, HERE, failure_to(message))
-
-        client = StunClient(send)
-        self.assertIsNone(await client.binding(HERE, SERVER))
-
-    async def test_requests_are_repeated_until_the_time_is_over(self) -> None:
-        sent: list[bytes] = []
-        client = StunClient(lambda local, server, message: sent.append(message))
-        start = time.monotonic()
-        self.assertIsNone(await client.binding(HERE, SERVER, patience=0.7))
-        self.assertLess(time.monotonic() - start, 2 * PATIENCE)
-        self.assertEqual(len(sent), 2)
-        self.assertEqual(sent[0], sent[1])
-
-    async def test_over_sockets(self) -> None:
-        def take(source: SocketAddress, local: SocketAddress, data: bytes) -> None:
-            client.receive(source, local, data)
-
-        loop = IceLoop(IceAgent(), lambda _: None, lambda *_: None, take)
-        client = StunClient(loop.send)
-        server = StunServer()
-        at = await server.start()
-        self.assertEqual(await client.binding(await loop.open("127.0.0.1"), at), SEEN)
-        server.close()
-        loop.close()
 
 
 class StunServer(asyncio.DatagramProtocol):

@@ -1,0 +1,90 @@
+//! How C holds the clients of servers: in sixteen bytes of its own, which contain whether there are any and their address.
+ghost use Rattle.std.specs.Prelude.{◌≡◌, None, Some, is_some, option_map};
+
+use crate::handle::Opaque;
+use crate::parts::Parts;
+use crate::servers::handle::ServersHandle;
+use crate::servers::home::ServersHome;
+use std::alloc::Global;
+
+fn nowhere() -> *mut Opaque {
+    std::ptr::null_mut()
+}
+
+/// What C holds of the clients of servers. All bytes zero: nothing.
+#[repr(C)]
+pub struct ServersSlot {
+    is_held: bool,
+    handle: ServersHandle,
+    ghost agrees: { is_held ≡ is_some handle.home },
+}
+
+impl ServersSlot {
+    ghost use Rattle.std.specs.Borrow.{sem};
+    ghost use Rattle.is_c.specs.ServersBorrowing.{BorrowsHeld};
+
+    /// Holds nothing.
+    pub(crate) fn empty(alloc: Global) -> ServersSlot
+        ensures { result.handle.home ≡ None }
+    {
+        ServersSlot {
+            is_held: false,
+            handle: ServersHandle::empty(alloc, nowhere()),
+        }
+    }
+
+    /// Holds these clients.
+    pub(crate) fn of(home: Box<ServersHome>) -> ServersSlot
+        ensures { result.handle.home ≡ Some home.value }
+    {
+        ServersSlot {
+            is_held: true,
+            handle: ServersHandle::of_parts(Parts::of(home)),
+        }
+    }
+
+    /// What is held.
+    pub(crate) fn into_home(self) -> Option<Box<ServersHome>>
+        ensures { option_map (λ home. home.value) result ≡ self.handle.home }
+    {
+        let ServersSlot { is_held, handle } = self;
+        if is_held {
+            Some(handle.into_parts().into_box())
+        } else {
+            None
+        }
+    }
+
+    /// Whether it holds clients, which may be none yet.
+    pub(crate) fn is_held(&self) -> bool
+        ensures { result ≡ is_some self.now.handle.home }
+    {
+        self.is_held
+    }
+
+    /// What is held, in its place: what the caller does to it is done to what the slot holds.
+    pub(crate) fn home(&mut self) -> Option<&mut ServersHome>
+        ensures* writes_back { sem 𝓛 (BorrowsHeld self.entry result) }
+        ensures value { option_map (λ home. home.now) result ≡ self.old.handle.home }
+    {
+        if self.is_held {
+            Some(self.handle.as_mut())
+        } else {
+            None
+        }
+    }
+
+    /// Takes what is held, and leaves nothing.
+    pub(crate) fn take(&mut self, alloc: Global) -> Option<Box<ServersHome>>
+        ensures taken { option_map (λ home. home.value) result ≡ self.old.handle.home }
+        ensures left { self.new.handle.home ≡ None }
+    {
+        std::mem::replace(self, ServersSlot::empty(alloc)).into_home()
+    }
+}
+
+impl Drop for ServersSlot {
+    fn drop(self) {
+        drop(self.into_home());
+    }
+}

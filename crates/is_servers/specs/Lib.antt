@@ -1,0 +1,1 @@
+-- The clients of STUN and TURN servers of a program.
