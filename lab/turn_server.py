@@ -20,7 +20,6 @@ from .turn_bytes import Message
 USER, PASSWORD, REALM = "user", "secret", "example.org"
 KEY = hashlib.md5(f"{USER}:{REALM}:{PASSWORD}".encode()).digest()
 UDP = 17
-FIRST_PORT = 50000
 CHANNELS = range(0x4000, 0x5000)
 GUARD = 300 * SECOND  # for so long a channel whose time is over is not bound to another peer (section 12)
 # The attributes that the server knows: a request with another one that is not optional fails with 420.
@@ -72,7 +71,7 @@ class Allocation:
 class TurnServer:
     """A server with one user. `refused` has the data that it dropped, `counts` its responses, `forbidden` the IP addresses that it bars."""
 
-    def __init__(self, address: SocketAddress, random: Random, lifetimes: Lifetimes = Lifetimes()) -> None:
+    def __init__(self, address: SocketAddress, random: Random, lifetimes: Lifetimes = Lifetimes(), first_port: int = 50000) -> None:
         self.address, self.lifetimes, self._random = address, lifetimes, random
         self.allocations: dict[SocketAddress, Allocation] = {}  # by client
         self.refused: list[Refusal] = []
@@ -80,7 +79,7 @@ class TurnServer:
         self.forbidden: set[str] = set()
         self._clients: dict[SocketAddress, SocketAddress] = {}  # by relayed address
         self._nonces: dict[bytes, int] = {}
-        self._ports = FIRST_PORT
+        self._ports = first_port
 
     # ---- what arrives
 

@@ -20,7 +20,8 @@ class Sockets:
     """The server's own socket, and one for each relayed address."""
 
     def __init__(self, host, port, lifetimes):
-        self.server = TurnServer(SocketAddress(host, port), random.SystemRandom(), lifetimes)
+        first_port = random.randrange(20000, 60000)  # another server may run at this host
+        self.server = TurnServer(SocketAddress(host, port), random.SystemRandom(), lifetimes, first_port)
         self.ready, self.own = selectors.DefaultSelector(), {}
         self.bind(self.server.address)
 

@@ -8,6 +8,7 @@ import socket
 import subprocess
 import sys
 import tempfile
+import time
 from pathlib import Path
 
 import servers
@@ -37,8 +38,22 @@ def free_port(host):
             return datagrams.getsockname()[1]
 
 
+def accepts(seconds, address):
+    """Whether a server accepts connections in time."""
+    end = time.monotonic() + seconds
+    while time.monotonic() < end:
+        try:
+            socket.create_connection(address).close()
+            return True
+        except ConnectionRefusedError:
+            time.sleep(0.1)
+    return False
+
+
 class Server:
     """A server that runs within a `with` statement. `options` are words of its command line."""
+
+    has_streams = True
 
     def __init__(self, *options, host="127.0.0.1"):
         self.host, self.options, self.port, self.process = host, options, free_port(host), None
@@ -53,7 +68,7 @@ class Server:
         quiet = subprocess.DEVNULL
         environment = {**os.environ, "HOME": self.folder.name, "ERL_CRASH_DUMP": "/dev/null"}
         self.process = subprocess.Popen(self.command(), stdin=quiet, stdout=quiet, stderr=quiet, env=environment)
-        if not servers.responds(30, self.address):
+        if not servers.responds(30, self.address) or self.has_streams and not accepts(30, self.address):
             raise RuntimeError(f"{self.command()[0]} does not respond")
 
     def stop(self):
@@ -119,6 +134,7 @@ class Strict(Server):
     """The server of the simulator, which is strict by RFC 8656, over UDP. Its lifetimes can be short."""
 
     package = "lab/turn_server.py"
+    has_streams = False
 
     def command(self):
         return [sys.executable, str(here / "strict.py"), self.host, str(self.port), *self.options]

@@ -1,4 +1,4 @@
-"""Tests the strict TURN server by the numbers of RFC 8656 and a message of RFC 5769, and sessions through it: their clients are the library's."""
+"""Tests the strict TURN server by RFC 8656 and a message of RFC 5769, and sessions through it whose clients are the library's."""
 
 import hashlib
 import unittest
