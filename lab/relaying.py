@@ -135,7 +135,7 @@ class RelayedEndpoint(Endpoint):
             self._add(event.local, Candidate.relayed(event.relayed, event.local))
             for ip in self._peers:
                 self.servers.permit(self._clock.now, SocketAddress(ip, 0))
-        if isinstance(event, (ServerAllocated, ServerMapped)) and event.mapped not in (None, event.local):
+        if isinstance(event, (ServerAllocated, ServerMapped)) and event.mapped and event.mapped != event.local:
             self._add(event.local, Candidate.server_reflexive(event.mapped, event.local))
         if isinstance(event, ServerEnded):
             self.ended.append(event)

@@ -125,7 +125,8 @@ class Session:
     def _endpoint(self, side: str) -> Endpoint:
         own = [interface for (of, _), interface in self._interfaces.items() if of == side]
         settings = self.scenario.side(side)
-        kind, servers = (RelayedEndpoint, [s.address for s in self.turn_servers]) if settings.turn else (Endpoint, self._servers)
+        kind: type[Endpoint] = RelayedEndpoint if settings.turn else Endpoint
+        servers = [server.address for server in self.turn_servers] if settings.turn else self._servers
         return kind(side, settings, own, servers, self.clock, self._channels[side], Random(self._random.getrandbits(64)), self, self.log)
 
     def _guarantee(self, side: str) -> SideGuarantees:
