@@ -107,7 +107,7 @@ def ours_in_c():
 def ours_in_python():
     run(top / "python" / "build", archive())
     library = top / "python" / "out" / "libis_ice.so"
-    try:  # aioice has the TURN client
+    try:  # aioice resolves mDNS names
         python = python_with("import aioice", "aioice")
     except Missing:
         python = sys.executable

@@ -3,10 +3,10 @@
 If the peer is lost, and it says why, if the network changes, and at /restart it makes an ICE restart: paste the new lines then.
 /quit ends it. With a TURN server it also connects two machines whose NATs let no other path through.
 
-usage: chat.py controlling|controlled [-l] [-t URL].. [-u USER] [-w PASSWORD]
+usage: chat.py controlling|controlled [-l] [-s URL].. [-t URL].. [-u USER] [-w PASSWORD]
   -l   at 127.0.0.1 only
-  -t   a TURN server, as turn:turn.example.org or turn:192.0.2.1:3478?transport=tcp, with this user name and password;
-       or a STUN server, as stun:stun.example.org
+  -s   a STUN server, as stun:stun.example.org
+  -t   a TURN server, as turn:turn.example.org or turn:192.0.2.1:3478?transport=tcp, with this username and password
 """
 import asyncio
 import getopt
@@ -26,7 +26,7 @@ PATIENCE = 5                                      # seconds for the servers; wha
 class Chat:
     def __init__(self, role, options):
         words = dict(options)
-        servers = [{"urls": url, "username": words.get("-u"), "credential": words.get("-w")} for name, url in options if name == "-t"]
+        servers = [{"urls": url, "username": words.get("-u"), "credential": words.get("-w")} for name, url in options if name in ("-s", "-t")]
         self.agent, self.is_local, self.hosts, self.has_signaled = IceAgent(), "-l" in words, {}, False
         self.agent.set_controlling(role == "controlling")
         self.agent.set_settings(replace(          # notice a loss after 5 s, and not 30: the path is checked each second
@@ -130,4 +130,4 @@ class Chat:
 
 if len(sys.argv) < 2:
     sys.exit(__doc__)
-asyncio.run(Chat(sys.argv[1], getopt.getopt(sys.argv[2:], "lt:u:w:")[0]).run())
+asyncio.run(Chat(sys.argv[1], getopt.getopt(sys.argv[2:], "ls:t:u:w:")[0]).run())

@@ -27,7 +27,7 @@ _NO_ADDRESS = {4: "0.0.0.0", 6: "::"}  # in place of a related address that is h
 
 @dataclass(frozen=True)
 class Sources:
-    """Where candidates come from, besides the servers of the loop. `relay_only`: only from these. `hides`: host candidates are signaled
+    """What candidates come from, besides the servers of the loop. `relay_only`: only from these. `hides`: host candidates are signaled
     with mDNS names."""
 
     addresses: Sequence[str]

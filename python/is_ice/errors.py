@@ -76,7 +76,7 @@ class MtuTooSmall(IceError):
 
 
 class CredentialsTooLong(IceError):
-    """Both username fragments and a colon are longer than 508 bytes; or the user name of a TURN client is, or its password than 763."""
+    """Both username fragments and a colon are longer than 508 bytes; or the USERNAME of a TURN client is, or its password than 763."""
 
     code = _abi.CREDENTIALS_TOO_LONG
 

@@ -126,6 +126,7 @@ class ServerLoop:
         self._reaching: asyncio.Task[None] | None = None
         self._complete: asyncio.Future[None] | None = None
         self._timer: asyncio.TimerHandle | None = None
+        self._due: int | None = None  # what the timer is set to
         self._over: asyncio.Future[None] | None = None  # it closes
         self._when_over: Callable[[], None] = lambda: None
 
@@ -261,11 +262,17 @@ class ServerLoop:
 
     def _set_timer(self) -> None:
         due = self._gatherer.clients.poll_timeout()
+        if due == self._due:
+            return
         if self._timer:
             self._timer.cancel()
-            self._timer = None
+        self._timer, self._due = None, due
         if due is not None:
-            self._timer = asyncio.get_running_loop().call_later(max(0, due - self._now()) / 1e9, self.turn)
+            self._timer = asyncio.get_running_loop().call_later(max(0, due - self._now()) / 1e9, self._timed_out)
+
+    def _timed_out(self) -> None:
+        self._due = None
+        self.turn()
 
     # ---- the end
 
@@ -309,7 +316,6 @@ class ServerLoop:
             return
         if self._timer:
             self._timer.cancel()
-            self._timer = None
         streams, self._streams = self._streams, {}
         for stream in streams.values():
             stream.transport.close()

@@ -24,7 +24,7 @@ _log = logging.getLogger(__name__)
 
 @dataclass(frozen=True)
 class IceServer:
-    """A server as in the `iceServers` of browsers: a URL or several, and for TURN a user name and a password."""
+    """A server as in the `iceServers` of browsers: a URL or several, and for TURN a username and a password."""
 
     urls: Union[str, Sequence[str]]
     username: str | None = None
@@ -123,7 +123,7 @@ class IceGatherer(Unique):
     def add_socket(self, now: int, local: SocketAddress, is_host: bool = True) -> str | None:
         """Adds a UDP socket, and starts its clients. Returns its host candidate for signaling, or None if that is redundant.
 
-        `is_host` False: without a host candidate, as if only relayed ones are wanted.
+        `is_host` False: without a host candidate, for only relayed ones.
         """
         line = self.agent.add_local_candidate(Candidate.host(local)) if is_host else None
         if local not in self.sockets:

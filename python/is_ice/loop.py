@@ -152,7 +152,7 @@ class IceLoop(Unique):
         self._servers.turn()
 
     def add_remote_candidate(self, line: str) -> AddResult:
-        """Adds a candidate of the peer to the agent, has TURN servers let in its packets, and wakes the loop."""
+        """Adds a candidate of the peer to the agent, has TURN servers let in its packets, and does what `wake` does."""
         result = self.gatherer.add_remote_candidate(self.now(), line)
         if self._servers.is_running:
             self._servers.turn()

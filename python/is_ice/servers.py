@@ -5,21 +5,24 @@ from __future__ import annotations
 import enum
 import os
 import threading
-from ctypes import byref, c_size_t, c_uint64, create_string_buffer, string_at
+from ctypes import byref, c_size_t, create_string_buffer, string_at
 from dataclasses import dataclass
 from typing import NamedTuple
 
 from . import _abi
 from ._library import library, text_from
-from ._locked import one_call_at_a_time
+from ._locked import holds_the_lock, one_call_at_a_time
+from ._server_calls import ServerCalls
 from ._unique import Unique
 from .address import PROTOCOLS, Protocol, SocketAddress, address_of, in_range, socket_of
 from .errors import done, utf8
 from .events import Transmit
 
+_new_tuple = tuple.__new__  # of a NamedTuple, in half the time of its constructor
+
 
 class Scheme(enum.IntEnum):
-    """What the URL of a server asks for: where it sees a socket (RFC 7064), or a relayed address (RFC 7065)."""
+    """What a URL is for: the address at which the server sees a socket (RFC 7064), or a relayed one (RFC 7065)."""
 
     STUN = _abi.STUN
     TURN = _abi.TURN
@@ -176,6 +179,7 @@ class Servers(Unique):
             self._at = byref(self._slot)
             self._lock = threading.RLock()
             self._c = library.calls
+            self._calls = ServerCalls(library.loop_calls, self._at, self._lock)
             self._size = _abi.SERVERS_PACKET_LENGTH
             self._buffer = create_string_buffer(self._size)
         with self._lock:
@@ -200,7 +204,7 @@ class Servers(Unique):
         """Adds the TURN client of a socket or connection, and starts it. `protocol` is UDP or TCP; TCP also over TLS.
 
         `family` is the IP version of the relayed address, None the server's default, which is 4. `places` is how many permissions and
-        channels there are together at most. CredentialsTooLong: the user name is longer than 508 bytes, or the password than 763.
+        channels there are together at most. CredentialsTooLong: USERNAME is longer than 508 bytes, or the password than 763.
         """
         user, secret = utf8(username or ""), utf8(password or "")
         done(self._c.is_ice_servers_add_turn(
@@ -225,19 +229,17 @@ class Servers(Unique):
 
     # ---- datagrams and packets
 
+    @holds_the_lock
     def receive(self, now: int, source: SocketAddress, destination: SocketAddress, contents: bytes,
                 protocol: Protocol = Protocol.UDP) -> Datagram | None:
         """Takes a datagram that arrived at a socket, or over TCP a frame that arrived on a connection.
 
         Returns what is for the agent, or media: the datagram itself, or what a peer sent through the server. None: it was a client's.
         """
-        told, contents = _abi.Datagram(), bytes(contents)
-        if not done(self._c.is_ice_servers_receive(self._at, _time(now), protocol, address_of(source), address_of(destination), contents,
-                                                   len(contents), byref(told))):
-            return None
-        part = contents[told.offset : told.offset + told.length]
-        return Datagram(socket_of(told.source), socket_of(told.destination), part)
+        told = self._calls.receive(now, source, destination, contents, protocol)
+        return _new_tuple(Datagram, told) if told else None
 
+    @holds_the_lock
     def outgoing(self, now: int, source: SocketAddress, destination: SocketAddress, contents: bytes,
                  random: bytes | None = None) -> Transmit | None:
         """Says how a packet of the agent, or media, goes out: as it is, or from a relayed address through its server.
@@ -245,15 +247,8 @@ class Servers(Unique):
         None: drop it, since the relayed address is gone, or the server does not let it through to this peer. `random`: 12 new bytes, by
         default the system's.
         """
-        random, contents = os.urandom(_abi.SERVERS_RANDOM) if random is None else random, bytes(contents)
-        packet, size = _abi.Packet(), len(contents) + _abi.WRAPPING_LENGTH
-        buffer = create_string_buffer(size)
-        code = self._c.is_ice_servers_outgoing(
-            self._at, _time(now), address_of(source), address_of(destination), contents, len(contents), random, len(random), buffer, size,
-            byref(packet))
-        if done(code):
-            return _transmit_of(packet, string_at(buffer, packet.length))
-        return Transmit(Protocol.UDP, source, destination, contents) if code == _abi.NOTHING else None
+        random = os.urandom(_abi.SERVERS_RANDOM) if random is None else random
+        return self._calls.outgoing(now, source, destination, contents, random)
 
     # ---- the loop
 
@@ -263,10 +258,10 @@ class Servers(Unique):
         random = os.urandom(_abi.SERVERS_RANDOM) if random is None else random
         done(self._c.is_ice_servers_handle_timeout(self._at, _time(now), random, len(random)))
 
+    @holds_the_lock
     def poll_timeout(self) -> int | None:
         """Returns the time at which to call `handle_timeout` next, or None. It changes nothing."""
-        due = c_uint64()
-        return due.value if done(self._c.is_ice_servers_poll_timeout(self._at, byref(due))) else None
+        return self._calls.poll_timeout()
 
     def poll_transmit(self) -> Transmit | None:
         """Returns the next packet of a client, or None. One over TCP goes into the stream of the connection that is its source."""

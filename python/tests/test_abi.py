@@ -10,6 +10,7 @@ from pathlib import Path
 
 from is_ice import CheckState, IceError, Rejection, Removal, TcpType, _abi
 from is_ice._loop_calls import PACKET
+from is_ice._server_calls import DATAGRAM
 from is_ice.stun import StunClass, StunMethod, StunText
 
 HEADER = Path(__file__).resolve().parents[2] / "c" / "is_ice.h"
@@ -19,7 +20,7 @@ class Declarations(unittest.TestCase):
     def test_each_struct_has_its_size(self) -> None:
         for struct, size in _abi.SIZES.items():
             self.assertEqual(ctypes.sizeof(struct), size, struct)
-        self.assertEqual(PACKET.size, ctypes.sizeof(_abi.Packet))
+        self.assertEqual((PACKET.size, DATAGRAM.size), (ctypes.sizeof(_abi.Packet), ctypes.sizeof(_abi.Datagram)))
 
     @unittest.skipUnless(HEADER.exists(), "c/is_ice.h does not exist")
     def test_the_sizes_are_those_that_the_header_asserts(self) -> None:

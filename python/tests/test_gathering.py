@@ -132,8 +132,8 @@ class FromTurnServers(unittest.IsolatedAsyncioTestCase):
         await within(join(a, b), 15)
         for count in range(100):
             await a.send(b"%d" % count)
-        await asyncio.sleep(0.2)
-        self.assertGreater(len(b._inbox._waiting), 60)
+            await asyncio.sleep(0.002)
+        await until(lambda: len(b._inbox._waiting) > 60)
         await close(a, b)
         server.close()
 

@@ -16,6 +16,7 @@ from is_ice.connection import Connection, TransportPolicy
 from is_ice.mdns import Mdns
 
 from pairs import HIDDEN, LOOPBACK, PATIENCE, add_candidates, agent, aioice, close, gather, join, nobody, other_tasks, talk, within
+from turn_server import TurnServer
 from test_stun import SEEN, StunServer
 
 # Two connections over loopback in a new process. Prints the seconds from the first candidate until both connect, and the modules that were
@@ -233,10 +234,10 @@ class Hidden(unittest.IsolatedAsyncioTestCase):
 
     @unittest.skipIf(aioice is None, "aioice is not installed (Debian's python3-aioice)")
     async def test_a_relayed_candidate(self) -> None:
-        from turn_server import TurnServer
         server = TurnServer()
+        await server.start()
         with with_client(Client(0)):
-            a = agent(True, turn_server=await server.start(), hide_addresses=True)
+            a = agent(True, servers=[server.urls], hide_addresses=True)
             await a.gather_candidates()
         relayed = a.local_candidates[-1]
         self.assertEqual((relayed.type, relayed.related_address, relayed.related_port), ("relay", "0.0.0.0", 0))

@@ -14,6 +14,7 @@ from typing import Any
 from is_ice import Candidate, IceAgent, IceCreds, SocketAddress, line_fields
 from is_ice.demux import is_stun
 from pairs import PATIENCE, within
+from turn_server import PASSWORD, USER, TurnServer
 
 PEER = Path(__file__).resolve().parent.parent / "peer.py"
 # The program of c/examples, if it was built.
@@ -27,9 +28,9 @@ except ImportError:
     aioice = None
 
 
-async def start(role: str, *program: str, seconds: float = 15) -> asyncio.subprocess.Process:
+async def start(role: str, *program: str, seconds: float = 15, more: tuple[str, ...] = ()) -> asyncio.subprocess.Process:
     pipe = asyncio.subprocess.PIPE
-    words = *(program or (sys.executable, str(PEER))), "-a", "127.0.0.1", "-m", "hello", "-t", str(int(seconds * PATIENCE)), role
+    words = *(program or (sys.executable, str(PEER))), "-a", "127.0.0.1", "-m", "hello", "-t", str(int(seconds * PATIENCE)), *more, role
     return await asyncio.create_subprocess_exec(*words, stdin=pipe, stdout=pipe, stderr=pipe)
 
 
@@ -47,6 +48,28 @@ async def two_peers(roles: tuple[str, str], *second: str, before: tuple[bytes, .
         assert peer.stdin is not None
         peer.stdin.writelines((*before, signal))
     return list(await asyncio.gather(*(end(peer) for peer in peers)))
+
+
+async def through_relays(*programs: tuple[str, ...]) -> list[tuple[int, str]]:
+    """Plays two peers that know only the relayed candidate of the other one."""
+    server = TurnServer()
+    host, port = await server.start()
+    more = ("-s", f"turn:{host}:{port}", "-u", USER, "-k", PASSWORD)
+    peers = [await start(role, *program, more=more) for role, program in zip(ROLES[0], programs)]
+    signals = []
+    for peer in peers:
+        assert peer.stdout is not None
+        signal = (await peer.stdout.readline()).split()
+        while b" typ relay " not in (line := await within(peer.stdout.readline(), 10)):
+            assert line
+        signals.append(b" ".join(signal[:3]) + b"\n" + line)
+    for peer, lines in zip(peers, reversed(signals)):
+        assert peer.stdin is not None
+        peer.stdin.write(lines)
+    told = list(await asyncio.gather(*(end(peer) for peer in peers)))
+    assert server.strict.freed == 2
+    server.close()
+    return told
 
 
 async def with_aioice(role: str, their_control: bool) -> tuple[int, bytes]:
@@ -133,6 +156,21 @@ class Peers(unittest.TestCase):
                     self.assertEqual(status, 0, told)
                     self.assertIn("heard hello", told)
                     self.assertIn("state Completed", told)
+
+    def test_through_a_turn_server(self) -> None:
+        for second in [(), (str(C_PEER),)] if C_PEER.exists() else [()]:
+            with self.subTest(second=second):
+                for status, told in asyncio.run(through_relays((), second)):
+                    self.assertEqual(status, 0, told)
+                    self.assertIn("heard hello", told)
+
+    def test_what_no_server_is(self) -> None:
+        async def play() -> tuple[int, str]:
+            return await end(await start("controlling", more=("-s", "http://example.org")))
+
+        status, told = asyncio.run(play())
+        self.assertEqual(status, 2)
+        self.assertIn("bad URL of a STUN or TURN server", told)
 
     def test_lines_that_are_not_text_or_too_long(self) -> None:
         lines = (b"/caf\xe9\n", b"signal " + b"x" * 200_000 + b"\n", b"/" + b"y" * 70_000 + b"\n", b"a=\xff\n")
