@@ -1,6 +1,7 @@
 """Runs the simulator's TURN server over UDP sockets of this machine: each relayed address is a socket of its own.
 
 usage: strict.py HOST PORT [ALLOCATION PERMISSION CHANNEL NONCE]      how long each lasts, in seconds
+       strict.py HOST PORT unsigned                                   signs no response, as a server that does not know the password
 """
 import random
 import selectors
@@ -16,12 +17,19 @@ from lab.clock import SECOND
 from lab.turn_server import Lifetimes, TurnServer
 
 
+class Unsigned(TurnServer):
+    """Challenges clients, and then allocates without a signature."""
+
+    def _success(self, message, rows, key=None):
+        return super()._success(message, rows, None)
+
+
 class Sockets:
     """The server's own socket, and one for each relayed address."""
 
-    def __init__(self, host, port, lifetimes):
+    def __init__(self, host, port, lifetimes, kind=TurnServer):
         first_port = random.randrange(20000, 60000)  # another server may run at this host
-        self.server = TurnServer(SocketAddress(host, port), random.SystemRandom(), lifetimes, first_port)
+        self.server = kind(SocketAddress(host, port), random.SystemRandom(), lifetimes, first_port)
         self.ready, self.own = selectors.DefaultSelector(), {}
         self.bind(self.server.address)
 
@@ -46,8 +54,11 @@ class Sockets:
 
 
 def main():
-    host, port, *seconds = sys.argv[1:]
-    sockets = Sockets(host, int(port), Lifetimes(*(round(float(text) * SECOND) for text in seconds)))
+    host, port, *words = sys.argv[1:]
+    if words == ["unsigned"]:
+        sockets = Sockets(host, int(port), Lifetimes(), Unsigned)
+    else:
+        sockets = Sockets(host, int(port), Lifetimes(*(round(float(word) * SECOND) for word in words)))
     while True:
         sockets.turn()
 
