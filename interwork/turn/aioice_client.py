@@ -1,6 +1,6 @@
 """A client of aioice.
 
-usage: aioice_client.py PORT lasting SECONDS    media to a peer that sends it back: prints how much came back, and the seconds without any
+usage: aioice_client.py PORT lasting SECONDS    media to a peer that sends it back: prints how much came back, and the longest time without any
        aioice_client.py PORT refused PEER       sends to a peer that the server refuses, twice: prints what becomes of each
 """
 import asyncio
@@ -36,16 +36,17 @@ class Taken(asyncio.DatagramProtocol):
 
 async def lasting(client, taken, seconds):
     transport, echo = await asyncio.get_running_loop().create_datagram_endpoint(Echo, local_addr=(HOST, 0))
-    begun, sent, silent = time.monotonic(), 0, []
+    begun, sent, since, longest = time.monotonic(), 0, 0.0, (0.0, 0.0)
     while time.monotonic() - begun < float(seconds):
         before = taken.count
         await client.send_data(b"\x80ping", transport.get_extra_info("sockname"))
         sent += 1
         await asyncio.sleep(EVERY)
-        if taken.count == before:
-            silent.append(round(time.monotonic() - begun))
-    where = f", none from {silent[0]} s to {silent[-1]} s" if silent else ""
-    print(f"sent {sent}, {echo.count} at the peer, {taken.count} back{where}", flush=True)
+        now = time.monotonic() - begun
+        if taken.count > before:
+            since = now
+        longest = max(longest, (since, now), key=lambda span: span[1] - span[0])
+    print(f"sent {sent}, {echo.count} at the peer, {taken.count} back, none from {longest[0]:.0f} s to {longest[1]:.0f} s", flush=True)
 
 
 async def refused(client, _, peer):
