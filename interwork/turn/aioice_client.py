@@ -1,6 +1,6 @@
 """A client of aioice.
 
-usage: aioice_client.py PORT lasting SECONDS    media to a peer that sends it back: prints how much came back, and the longest time without any
+usage: aioice_client.py PORT lasting SECONDS    media to a peer that sends it back: prints how much came, and the longest time without any
        aioice_client.py PORT refused PEER       sends to a peer that the server refuses, twice: prints what becomes of each
 """
 import asyncio
