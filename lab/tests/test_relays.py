@@ -6,7 +6,7 @@ from random import Random
 from struct import pack
 
 from is_ice import SocketAddress
-from lab import scenario, turn_bytes as b
+from lab import allocating, scenario, turn_bytes as b
 from lab.clock import SECOND
 from lab.guarantees import Broken
 from lab.session import Session
@@ -165,6 +165,18 @@ class ThroughRelays(unittest.TestCase):
 
     def test_media_needs_clients_of_the_library(self) -> None:
         self.assertRaises(scenario.BadScenario, scenario.load, "two_homes", ("media_s=1",))
+
+
+class Allocating(unittest.TestCase):
+    def test_without_loss_it_takes_two_round_trips(self) -> None:
+        """One for the challenge (RFC 8489, section 9.2), and one for the signed request."""
+        self.assertEqual(allocating.times(1, 0, 60), [120])
+        self.assertEqual(allocating.times(1, 0, 180), [360])
+
+    def test_with_30_percent_loss_each_way_all_allocate(self) -> None:
+        found = allocating.times(100, 0.3)
+        self.assertNotIn(None, found)
+        self.assertLess(sorted(t for t in found if t is not None)[50], 1000)
 
 
 if __name__ == "__main__":
