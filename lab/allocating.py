@@ -1,4 +1,4 @@
-"""How long the library's TURN client takes to allocate, in simulated time: one client at a strict server, over a link that loses packets."""
+"""How long the library's TURN client takes to allocate, in simulated time: a client at a strict server, over a link that loses packets."""
 
 from __future__ import annotations
 
