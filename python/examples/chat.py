@@ -26,7 +26,8 @@ PATIENCE = 5                                      # seconds for the servers; wha
 class Chat:
     def __init__(self, role, options):
         words = dict(options)
-        servers = [{"urls": url, "username": words.get("-u"), "credential": words.get("-w")} for name, url in options if name in ("-s", "-t")]
+        urls = [url for name, url in options if name in ("-s", "-t")]
+        servers = [{"urls": urls, "username": words.get("-u"), "credential": words.get("-w")}]
         self.agent, self.is_local, self.hosts, self.has_signaled = IceAgent(), "-l" in words, {}, False
         self.agent.set_controlling(role == "controlling")
         self.agent.set_settings(replace(          # notice a loss after 5 s, and not 30: the path is checked each second

@@ -1,4 +1,4 @@
-"""aioice, which is optional: its clients for TURN and mDNS."""
+"""aioice, which is optional: its mDNS client."""
 
 from __future__ import annotations
 

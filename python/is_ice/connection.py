@@ -31,18 +31,17 @@ from ._remote import RemoteCandidate, RemoteCandidates
 from ._report import failure
 from ._session_log import SessionLog
 from ._unique import Unique
-from .address import Protocol, SocketAddress
+from .address import SocketAddress
 from .agent import IceAgent, first_role
 from .attribute import CandidateAttribute
 from .candidate import CandidateKind
 from .errors import HasAgent, IceError, LiteStaysControlled, NoAgent
 from .events import IceAgentEvent, IceConnectionStateChange, IceCreds, NominatedSend
-from .gather import LoopEvent, ServerAddress, TurnServer, all_of
-from .gatherer import LocalCandidate, Server, ServerLike
+from .gather import LoopEvent, ServerAddress, all_of, stun_and_turn
+from .gatherer import LocalCandidate, ServerLike
 from .interfaces import host_addresses
 from .loop import EventHandler, IceLoop
 from .mdns import Mdns, mdns_client
-from .servers import Scheme, ServerUrl
 
 _log = logging.getLogger(__name__)
 
@@ -107,7 +106,7 @@ class Connection(Unique):
         self.remote_username: str | None = None
         self.remote_password: str | None = None
         self._use_ipv4, self._use_ipv6, self._addresses = use_ipv4, use_ipv6, addresses
-        all_servers = [*self._own_servers(), *servers]
+        all_servers = [*stun_and_turn(stun_server, turn_server, turn_username, turn_password, turn_ssl, turn_transport), *servers]
         if self._relay_only and not all_servers:
             raise ValueError("the RELAY policy needs a STUN or TURN server")
         self.agent = IceAgent()
@@ -121,14 +120,6 @@ class Connection(Unique):
         self._local = LocalCandidates(self.agent, self._loop, self._mdns, self._log)
         self._remote = RemoteCandidates(self._loop, self._mdns, self._log, self._fail_if_nothing_is_left)
         self._start_state()
-
-    def _own_servers(self) -> list[Server]:
-        """The servers of the arguments that aioice has, too."""
-        own = [Server(ServerUrl(Scheme.STUN, Protocol.UDP, *self.stun_server[:2]))] if self.stun_server else []
-        if self.turn_server:
-            turn = TurnServer(self.turn_server[:2], self.turn_username, self.turn_password, self.turn_ssl, self.turn_transport)
-            own.append(turn.server())
-        return own
 
     def _start_state(self) -> None:
         self._gathering: asyncio.Task[None] | None = None

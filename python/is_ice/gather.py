@@ -4,19 +4,17 @@ from __future__ import annotations
 
 import asyncio
 import contextlib
-import logging
+import errno
 import socket
 import ssl
 from collections.abc import Callable, Coroutine, Iterable
-from dataclasses import dataclass, field
+from dataclasses import dataclass
 from typing import Any, TypeVar, Union
 
 from .address import Protocol, SocketAddress
-from .errors import Unparsed
+from .errors import IceError, MessageTooLong, Unparsed
 from .gatherer import GatheringComplete, GatheringEvent, IceGatherer, LocalCandidate, Server
 from .servers import Datagram, EndedWhy, Scheme, ServerEnded, ServerNotPermitted, ServerUrl, frame_length
-
-_log = logging.getLogger(__name__)
 
 _RESOLVING = 10.0  # seconds for a name, and for a connection
 _CLOSING = 1.0  # seconds for TURN servers to free allocations
@@ -41,23 +39,18 @@ async def all_of(*calls: Coroutine[Any, Any, T]) -> list[T]:
     return [task.result() for task in tasks]
 
 
-@dataclass(frozen=True)
-class TurnServer:
-    """A TURN server with its credentials, reached over "udp" or "tcp", or TLS over TCP if `ssl` is set."""
-
-    address: ServerAddress
-    username: str | None = None
-    password: str | None = field(default=None, repr=False)
-    ssl: bool = False
-    transport: str = "udp"
-
-    def server(self) -> Server:
-        """The server as a gatherer has it. ValueError for another transport."""
-        protocols = {"udp": Protocol.UDP, "tcp": Protocol.TCP}
-        if self.transport not in protocols:
-            raise ValueError(f"the transport of a TURN server is udp or tcp, not {self.transport}")
-        protocol = Protocol.TLS if self.ssl else protocols[self.transport]
-        return Server(ServerUrl(Scheme.TURN, protocol, *self.address), self.username, self.password)
+def stun_and_turn(stun: ServerAddress | None, turn: ServerAddress | None, username: str | None, password: str | None, is_secure: bool,
+                  transport: str) -> list[Server]:
+    """Returns the servers of the arguments that aioice's `Connection` has: a STUN server, and a TURN server over "udp" or "tcp", or over
+    TLS if `is_secure`. ValueError for another transport."""
+    protocols = {"udp": Protocol.UDP, "tcp": Protocol.TCP}
+    if transport not in protocols:
+        raise ValueError(f"the transport of a TURN server is udp or tcp, not {transport}")
+    servers = [Server(ServerUrl(Scheme.STUN, Protocol.UDP, *stun[:2]))] if stun else []
+    if turn:
+        protocol = Protocol.TLS if is_secure else protocols[transport]
+        servers.append(Server(ServerUrl(Scheme.TURN, protocol, *turn[:2]), username, password))
+    return servers
 
 
 @dataclass(frozen=True)
@@ -163,11 +156,14 @@ class ServerLoop:
         except (OSError, UnicodeError, asyncio.TimeoutError) as error:
             self._cannot_reach(server, f"the name is not resolved: {error or type(error).__name__}")
             ips = []
-        if server.url.protocol is Protocol.UDP:
-            for ip in ips:
-                self._gatherer.add_server(self._now(), server, ip)
-        else:
-            await all_of(*(self._connect(server, base, ip) for base in self._bases() for ip in ips if (":" in base) == (":" in ip)))
+        try:
+            if server.url.protocol is Protocol.UDP:
+                for ip in ips:
+                    self._gatherer.add_server(self._now(), server, ip)
+            else:
+                await all_of(*(self._connect(server, base, ip) for base in self._bases() for ip in ips if (":" in base) == (":" in ip)))
+        except IceError as error:  # as a username that is too long
+            self._cannot_reach(server, str(error))
         self._gatherer.reached(server)
         self.turn()
 
@@ -194,7 +190,8 @@ class ServerLoop:
     def _security(self, url: ServerUrl) -> dict[str, Any]:
         if url.protocol is not Protocol.TLS:
             return {}
-        return {"ssl": self._tls or ssl.create_default_context(), "server_hostname": url.host}
+        self._tls = self._tls or ssl.create_default_context()
+        return {"ssl": self._tls, "server_hostname": url.host}
 
     def _cannot_reach(self, server: Server, why: str) -> None:
         self._tell(ServerUnreachable(server.url, why))
@@ -204,13 +201,19 @@ class ServerLoop:
     def receive(self, source: SocketAddress, local: SocketAddress, data: bytes) -> Datagram | None:
         """Takes a datagram of a socket. Returns what is for the agent, or media. None: it was a client's."""
         told = self._gatherer.receive(self._now(), source, local, data)
-        if told is None or told.destination != local:
+        if told is None:
             self.turn()
+        elif told.destination != local:
+            self._set_timer()  # what peers send may make a renewal due
         return told
 
     def send(self, source: SocketAddress, destination: SocketAddress, data: bytes) -> None:
-        """Sends a datagram from a relayed address. It is lost if that is gone, or if the server does not let it through."""
-        packet = self._gatherer.outgoing(self._now(), source, destination, data)
+        """Sends a datagram from a relayed address. It is lost if that is gone, or if the server does not let it through. OSError as of a
+        socket, also if it is longer than a message."""
+        try:
+            packet = self._gatherer.outgoing(self._now(), source, destination, data)
+        except MessageTooLong as error:
+            raise OSError(errno.EMSGSIZE, str(error)) from error
         if packet is None or packet.source == source:
             return
         if packet.protocol is Protocol.UDP:
@@ -221,8 +224,10 @@ class ServerLoop:
 
     def _framed(self, stream: _Stream, frame: bytes) -> None:
         told = self._gatherer.receive(self._now(), stream.remote, stream.local, frame, Protocol.TCP)
-        self.turn()
-        if told:
+        if told is None:
+            self.turn()
+        else:
+            self._set_timer()
             self._take(told)
 
     def _lost(self, stream: _Stream) -> None:
@@ -256,13 +261,15 @@ class ServerLoop:
         has_ended = isinstance(event, ServerEnded) and event.why is not EndedWhy.CLOSED
         if has_ended or isinstance(event, (ServerNotPermitted, ServerUnreachable)):
             self.problems = [*self.problems[1 - _MOST_PROBLEMS:], str(event)]
+        if isinstance(event, ServerEnded) and event.protocol is Protocol.TCP and (stream := self._streams.pop(event.local, None)):
+            stream.transport.close()  # a connection serves one client
         if isinstance(event, GatheringComplete) and self._complete and not self._complete.done():
             self._complete.set_result(None)
         self._report(event)
 
     def _set_timer(self) -> None:
         due = self._gatherer.clients.poll_timeout()
-        if due == self._due:
+        if due == self._due or self._over and self._over.done():
             return
         if self._timer:
             self._timer.cancel()
@@ -277,8 +284,12 @@ class ServerLoop:
     # ---- the end
 
     def remove_socket(self, local: SocketAddress) -> None:
-        """Removes a socket with its candidates and clients."""
+        """Removes a socket with its candidates and clients, and the connections from its address if it was the last one there."""
         self._gatherer.remove_socket(self._now(), local)
+        for stream in [] if local.ip in self._bases() else list(self._streams.values()):
+            if stream.local.ip == local.ip:
+                stream.transport.abort()
+                self._lost(stream)
         self.turn()
 
     def close(self, when_over: Callable[[], None]) -> None:

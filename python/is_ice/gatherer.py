@@ -92,7 +92,8 @@ class IceGatherer(Unique):
     `add_server`, connects to one over TCP or TLS and calls `add_connection`, and then calls `reached`.
 
     What servers bring is added to the agent, and is an event of `poll_event`: `LocalCandidate`. `relay_only`: of TURN servers only relayed
-    candidates are added, and not where they see a socket; do not add host candidates then. It cannot be copied or pickled.
+    candidates are added, and not where they see a socket; do not add host candidates then. Use it in one thread at a time. It cannot be
+    copied or pickled.
     """
 
     def __init__(self, agent: IceAgent, servers: Iterable[ServerLike] = (), relay_only: bool = False) -> None:
@@ -216,13 +217,13 @@ class IceGatherer(Unique):
     def receive(self, now: int, source: SocketAddress, destination: SocketAddress, contents: bytes,
                 protocol: Protocol = Protocol.UDP) -> Datagram | None:
         """The first half of `handle_packet`: what is for the agent, or media. None: it was a client's."""
-        if not self._alive:
-            return Datagram(source, destination, contents)
+        if not self._alive:  # a connection has no other frames than its client's
+            return Datagram(source, destination, contents) if protocol is Protocol.UDP else None
         told = self.clients.receive(now, source, destination, contents, protocol)
         if told is None:
             self._take_events(now)
         elif protocol is not Protocol.UDP and told.destination == destination:
-            return None  # a connection has no other frames than its client's
+            return None
         return told
 
     def outgoing(self, now: int, source: SocketAddress, destination: SocketAddress, contents: bytes) -> Transmit | None:

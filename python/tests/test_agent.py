@@ -24,7 +24,6 @@ import is_ice
 from is_ice import _abi, _library
 from is_ice._loop_calls import PACKET
 from is_ice.address import PATHS, POINTERS, address_of
-from is_ice.gather import TurnServer
 from is_ice.stun import StunClass, StunMessage, StunMethod, write_message
 from is_ice import (
     AddResult,
@@ -41,6 +40,7 @@ from is_ice import (
     IceConnectionState,
     IceCreds,
     IceRestart,
+    IceServer,
     KindPreferences,
     LiteStaysControlled,
     MediaPath,
@@ -680,7 +680,7 @@ class Values(unittest.TestCase):
         creds = IceCreds("abcd", "secret")
         agent = IceAgent(IceCreds("abcd", "secret" * 4))
         agent.handle_timeout(BEGINNING)
-        server = TurnServer(("192.0.2.1", 3478), "user", "secret")
+        server = IceServer("turn:192.0.2.1", "user", "secret")
         for value in (creds, IceRestart(creds), [IceRestart(creds)], agent, agent.poll_event(), server):
             for text in (repr(value), str(value), f"{value}", "%r" % (value,)):
                 self.assertNotIn("secret", text)

@@ -4,6 +4,7 @@ from __future__ import annotations
 
 import asyncio
 import unittest
+from collections.abc import Callable
 from typing import Any
 from unittest import mock
 
@@ -11,6 +12,7 @@ import is_ice.aiortc
 import is_ice.connection
 
 from pairs import LOOPBACK, aioice, until
+from turn_server import TurnServer
 
 try:
     import aiortc
@@ -31,13 +33,17 @@ def peer(uses_agent: bool) -> Any:
 
 
 async def session(offers: bool, answers: bool) -> tuple[Any, Any, list[str], int]:
+    """Plays two peers over the agent or aioice."""
+    return await played(peer(offers), lambda: peer(answers))
+
+
+async def played(offering: Any, other_peer: Callable[[], Any]) -> tuple[Any, Any, list[str], int]:
     """Connects, sends texts that come back and a quarter of a MiB, and closes."""
     heard: list[str] = []
     got = 0
-    offering = peer(offers)
     channel = offering.createDataChannel("talk")
     channel.on("message", heard.append)
-    answering = peer(answers)
+    answering = other_peer()
 
     def taken(other: Any) -> None:
         def message(data: Any) -> None:
@@ -103,6 +109,25 @@ class PeerConnections(unittest.IsolatedAsyncioTestCase):
         self.assertIs(aiortc.rtcicetransport.Connection.closed_event, aioice.ConnectionClosed)
         is_ice.aiortc.uninstall()
         self.assertIs(aiortc.rtcicetransport.Connection, aioice.Connection)
+
+    async def test_only_relayed_candidates(self) -> None:
+        """aiortc passes its TURN server on to the connection."""
+        def restrict(connection: is_ice.connection.Connection) -> None:
+            connection._relay_only = connection._loop.gatherer.relay_only = True
+
+        def made() -> Any:
+            is_ice.aiortc.install(restrict)
+            return aiortc.RTCPeerConnection(aiortc.RTCConfiguration(iceServers=[aiortc.RTCIceServer(**server.urls)]))
+
+        server = TurnServer()
+        await server.start()
+        offering, answering, heard, got = await played(made(), made)
+        self.assertEqual((heard, got), (["echo one", "echo two"], 16 * len(BLOCK)))
+        for side in (offering, answering):
+            self.assertNotIn("typ host", side.localDescription.sdp)
+            self.assertIn("typ relay", side.localDescription.sdp)
+        self.assertEqual(server.strict.freed, 2)
+        server.close()
 
 
 class WithoutAiortc(unittest.TestCase):

@@ -243,6 +243,7 @@ class Connections(unittest.IsolatedAsyncioTestCase):
                 await a.gather_candidates()
             self.assertLess(time.monotonic() - start, 2 * PATIENCE)
             self.assertRegex(lines.output[0], "server 127.0.0.1:.*401")
+            self.assertEqual(a._loop._servers._streams, {})
             await a.close()
 
     async def test_a_refused_peer(self) -> None:
@@ -257,6 +258,15 @@ class Connections(unittest.IsolatedAsyncioTestCase):
         await a.add_remote_candidate(None)
         with self.assertRaisesRegex(ConnectionError, "servers: server .* 127.0.0.9.*403"):
             await within(a.connect(), 10)
+        await a.close()
+
+    async def test_an_address_that_is_gone(self) -> None:
+        server = await self.server()
+        a = self.side(True, server.url("turn", "tcp"))
+        await a.gather_candidates()
+        self.assertEqual(len(a.local_candidates), 1)
+        a._loop.remove_socket(a._loop.gatherer.sockets[0])
+        self.assertEqual((a.local_candidates, a._loop._servers._streams, a._loop.gatherer.is_over), ([], {}, True))
         await a.close()
 
     async def test_a_connection_to_the_server_that_breaks(self) -> None:

@@ -33,7 +33,7 @@ class Examples(unittest.TestCase):
 
     def play_chats(self, test: str) -> None:
         command = [sys.executable, str(PLAYS_CHATS / test), sys.executable, str(EXAMPLES / "chat.py")]
-        ran = subprocess.run(command, capture_output=True, text=True, timeout=120 * PATIENCE)
+        ran = subprocess.run(command, capture_output=True, text=True, timeout=300 * PATIENCE)
         self.assertEqual(ran.returncode, 0, ran.stdout + ran.stderr)
 
     def test_chats_restart_lose_their_peer_and_move(self) -> None:
@@ -41,6 +41,11 @@ class Examples(unittest.TestCase):
 
     def test_chats_lose_no_line_to_restarts_and_report_silence(self) -> None:
         self.play_chats("chat_lines.py")
+
+    @unittest.skipUnless((PLAYS_CHATS / "chat_relays.py").exists(), "there is no c/tests/chat_relays.py")
+    def test_chats_connect_through_turn_servers(self) -> None:
+        """Behind symmetric NATs, if this machine can play them."""
+        self.play_chats("chat_relays.py")
 
     def test_calls_are_measured(self) -> None:
         self.assertEqual(len(re.findall(r": \d+ ns$", output("calls.py", "1"), re.M)), 6)
