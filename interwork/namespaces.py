@@ -1,10 +1,12 @@
 """Network namespaces, which are removed at the end. They need root, iproute2 and nftables."""
+import ctypes
 import itertools
 import os
 import re
 import shutil
 import subprocess
 
+CLONE_NEWNET = 0x40000000
 PREFIX = f"iw{os.getpid()}n"
 _numbers = itertools.count()
 
@@ -51,6 +53,13 @@ def remove_old():
     for name in existing(r"iw\d+n\d+"):
         if not os.path.exists("/proc/" + re.match(r"iw(\d+)", name)[1]):
             run("ip", "netns", "del", name)
+
+
+def enter_own():
+    """Takes this process into a network namespace of its own, with a loopback interface, if it is root's. It ends with the process and its
+    children."""
+    if os.geteuid() == 0 and ctypes.CDLL(None).unshare(CLONE_NEWNET) == 0:
+        run("ip", "link", "set", "lo", "up")
 
 
 class Namespaces:

@@ -47,11 +47,11 @@ def command(name, folder):
     return COMMANDS[name](folder)
 
 
-def responds(seconds):
-    """Queries the server until it responds. Returns whether it does in time: some listen long before."""
-    asking = socket.socket(socket.AF_INET, socket.SOCK_DGRAM)
+def responds(seconds, server=(ADDRESS, PORT)):
+    """Queries a server until it responds. Returns whether it does in time: some listen long before."""
+    asking = socket.socket(socket.AF_INET6 if ":" in server[0] else socket.AF_INET, socket.SOCK_DGRAM)
     asking.settimeout(0.1)
-    asking.connect((ADDRESS, PORT))
+    asking.connect(server)
     end = time.monotonic() + seconds
     while time.monotonic() < end:
         try:

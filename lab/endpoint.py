@@ -134,14 +134,17 @@ class Endpoint:
         interface.take = self._take
         self.sockets[socket] = interface
         self._add(socket, Candidate.host(socket))
+        self._gather(socket)
+
+    # ---- gathering
+
+    def _gather(self, socket: SocketAddress) -> None:
         for server in self._servers:
             if server.version == socket.version:
                 if self.settings.stun and socket.version == 4:
                     self._request(socket, server, False, REQUESTS)
                 if self.settings.relay:
                     self._request(socket, server, True, REQUESTS)
-
-    # ---- gathering
 
     def _request(self, socket: SocketAddress, server: SocketAddress, is_relay: bool, left: int) -> None:
         transaction = (socket, server, is_relay)
@@ -191,9 +194,12 @@ class Endpoint:
         self._channel.tell(Signal(self.generation, self.agent.local_credentials), self.late)
 
     def _signal_candidates(self) -> None:
-        if self._unsignaled and (self._trickle or not self._pending):
+        if self._unsignaled and (self._trickle or not self._is_gathering()):
             self._channel.tell(Signal(self.generation, None, tuple(self._unsignaled)))
             self._unsignaled.clear()
+
+    def _is_gathering(self) -> bool:
+        return bool(self._pending)
 
     def take_signal(self, signal: Signal) -> None:
         """Takes a message of the peer's signaling."""
@@ -211,11 +217,13 @@ class Endpoint:
     def _take_candidate(self, line: str) -> None:
         self.agent.add_remote_candidate(line)
         self._report()
-        ip = line_fields(line).address.ip
-        if ip not in self._peers:
-            self._peers.add(ip)
+        self._let_in(line_fields(line).address)
+
+    def _let_in(self, peer: SocketAddress) -> None:
+        if peer.ip not in self._peers:
+            self._peers.add(peer.ip)
             for relay in self.relays:
-                self._permit(relay, ip)
+                self._permit(relay, peer.ip)
 
     # ---- the loop
 
@@ -249,6 +257,10 @@ class Endpoint:
     def _send(self, source: SocketAddress, destination: SocketAddress, contents: bytes) -> None:
         datagram = Datagram(0, self.side, self._clock.now, source, destination, contents)
         self._watch.sent(self.side, datagram)
+        self._carry(datagram)
+
+    def _carry(self, datagram: Datagram) -> None:
+        source, destination, contents = datagram.source, datagram.destination, datagram.contents
         socket, server = self.relays.get(source, (source, None))
         interface = self.sockets.get(socket)
         if interface is None:

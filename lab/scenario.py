@@ -53,6 +53,7 @@ class AgentSettings:
     shuffled: bool = False  # gathers from its interfaces in random order
     stun: bool = True  # gathers server-reflexive candidates
     relay: bool = False  # gathers relayed candidates
+    turn: bool = False  # its clients of the servers are the library's: their messages are bytes, and the server is strict by RFC 8656
     interface: tuple[InterfaceSettings, ...] = ()
 
 
@@ -98,6 +99,9 @@ class Scenario:
     seconds: float = 40.0  # the longest duration of a session
     settle_s: float = 4.0  # the session ends this long after the last selected pair and the last event, if both have a path
     coverage_s: float = 12.0  # the same in `lab/run coverage`, if that is longer: so that rounds have time to end
+    media_s: float = 0.0  # for so long both sides send media once both have a path, if both have `turn`; then nothing may be lost
+    media_ms: float = 200.0  # how often
+    media_loss: float = 0.0  # the part of the media that may be lost
     begin_s: float = 0.0  # side B starts with the first signal, or at this time if that is later
     symmetric: bool = True  # the last paths of both sides must be the reverse of each other
     connects: str = "always"  # always, sometimes or never
@@ -182,6 +186,8 @@ def _test(scenario: Scenario) -> None:
             raise BadScenario(f"{scenario.name}: side {event.side} has no interface {event.interface!r}")
     if any(scenario.side(side).profile not in ("modern", "original") for side in SIDES):
         raise BadScenario(f"{scenario.name}: profile is modern or original")
+    if scenario.media_s and not (scenario.a.turn and scenario.b.turn):
+        raise BadScenario(f"{scenario.name}: media needs turn on both sides")
     if scenario.connects not in ("always", "sometimes", "never"):
         raise BadScenario(f"{scenario.name}: connects is always, sometimes or never")
 

@@ -12,11 +12,14 @@ from .clock import BEGINNING, SECOND, Clock, nanoseconds
 from .log import Log
 from .network import Datagram, Gateway, Interface, Network
 from .guarantees import Broken, SideGuarantees, judge_roles
+from .media import Media
+from .relaying import RelayedEndpoint, TurnNode
 from .scenario import SIDES, ScenarioEvent, Scenario
 from .servers import Server
 from .signaling import Channel, Signal
 
 SERVERS = ("198.51.100.10", "2001:db8:ffff::10")
+STRICT_SERVERS = ("198.51.100.20", "2001:db8:ffff::20")  # of sides with `turn`
 
 
 @dataclass
@@ -95,6 +98,8 @@ class Session:
         self.endpoints = {side: self._endpoint(side) for side in SIDES}
         self._guarantees = {side: self._guarantee(side) for side in SIDES}
         self._waiting: list[Signal] = []
+        relayed = {side: e for side, e in self.endpoints.items() if isinstance(e, RelayedEndpoint)}
+        self.media = Media(scenario, self.clock, relayed, lambda side: self.outcome.sides[side].path) if scenario.media_s else None
 
     # ---- building
 
@@ -109,6 +114,8 @@ class Session:
         for gateway in scenario.nat:
             Gateway(gateway.name, gateway.nat, self._network(gateway.inner), self._network(gateway.outer), self._random)
         self._servers = [Server(ip, internet).address for ip in SERVERS]
+        strict = STRICT_SERVERS if scenario.a.turn or scenario.b.turn else ()
+        self.turn_servers = [TurnNode(ip, internet, Random(f"{scenario.name} {self.seed} {ip}")).server for ip in strict]
         for side in SIDES:
             for i in scenario.side(side).interface:
                 interface = Interface(i.name, i.ip, self._network(i.network), scenario.link[i.up], scenario.link[i.down], self._random)
@@ -117,8 +124,10 @@ class Session:
 
     def _endpoint(self, side: str) -> Endpoint:
         own = [interface for (of, _), interface in self._interfaces.items() if of == side]
-        return Endpoint(side, self.scenario.side(side), own, self._servers, self.clock, self._channels[side],
-                        Random(self._random.getrandbits(64)), self, self.log)
+        settings = self.scenario.side(side)
+        kind: type[Endpoint] = RelayedEndpoint if settings.turn else Endpoint
+        servers = [server.address for server in self.turn_servers] if settings.turn else self._servers
+        return kind(side, settings, own, servers, self.clock, self._channels[side], Random(self._random.getrandbits(64)), self, self.log)
 
     def _guarantee(self, side: str) -> SideGuarantees:
         settings, endpoint = self.scenario.side(side), self.endpoints[side]
@@ -157,6 +166,8 @@ class Session:
             self._calm = self.clock.now
             if self.outcome.first is not None and self.outcome.first_packets is None:
                 self.outcome.first_packets = sum(packets for packets, _ in self._sent.values())
+            if self.media:
+                self.media.begin()
         elif isinstance(event, IceConnectionStateChange):
             own.lost_at = since if event.state is IceConnectionState.DISCONNECTED else own.lost_at
             own.left_at = since if own.is_connected and not event.state.is_connected() else own.left_at
@@ -222,6 +233,8 @@ class Session:
             return False
         if any(BEGINNING + nanoseconds(event.at_s * 1000) > now for event in self.scenario.event):
             return False
+        if self.media and not self.media.is_over:
+            return False
         return all(side.path for side in self.outcome.sides.values()) and self._is_symmetric()
 
     # ---- judging
@@ -250,6 +263,8 @@ class Session:
             raise Broken("the paths of the sides are not the reverse of each other")
         if scenario.connects == "always" and not outcome.connected:
             raise Broken("the scenario requires that both connect")
+        if self.media and outcome.connected:
+            self.media.judge()
         if scenario.connects == "never" and outcome.connected:
             raise Broken("the scenario requires that they never connect")
 
