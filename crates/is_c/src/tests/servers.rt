@@ -358,7 +358,7 @@ fn an_event_of_a_client_has_a_line(rt: HostRuntime) {
     assert!(rt; written == codes::OK);
     let line =
         b"server 10.0.0.9:3478 udp 10.0.0.1:1000: allocated 10.0.0.9:50000, mapped 10.0.0.77:7";
-    assert!(rt; text[..length] == line[..]);
+    assert!(rt; text.get(..length).is_some_and(|it| it == line.as_slice()));
 }
 
 /// The line of an event of this kind, after the addresses of the client.
