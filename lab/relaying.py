@@ -98,7 +98,7 @@ class TurnNode:
 
 
 class RelayedEndpoint(Endpoint):
-    """One side of a session. What stands between its sockets and its agent is `Servers` of the library."""
+    """One side of a session. Between its sockets and its agent is `Servers` of the library."""
 
     def __init__(self, *given: Any) -> None:
         super().__init__(*given)

@@ -1,6 +1,6 @@
 """A TURN server: bytes in, bytes out, with the time as an argument. It is strict by RFC 8656, and has no code of the library.
 
-Nothing lasts a nanosecond longer than was granted, and a permission is required of all data, also on a channel (sections 9 and 12).
+Nothing lasts a nanosecond longer than the server says, and a permission is required of all data, also on a channel (sections 9 and 12).
 """
 
 from __future__ import annotations
@@ -29,7 +29,7 @@ KNOWN = {b.USERNAME, b.MESSAGE_INTEGRITY, b.CHANNEL_NUMBER, b.LIFETIME, b.XOR_PE
 
 @dataclass(frozen=True)
 class Lifetimes:
-    """How long what the server grants lasts, in nanoseconds: by default as RFC 8656 says (sections 3.2, 9 and 12)."""
+    """How long allocations, permissions and channels last, in nanoseconds: by default as RFC 8656 says (sections 3.2, 9 and 12)."""
 
     allocation: int = 600 * SECOND
     permission: int = 300 * SECOND

@@ -1,7 +1,7 @@
 """A client of aioice.
 
 usage: aioice_client.py PORT lasting SECONDS    media to a peer that sends it back: prints how much came, and the longest time without any
-       aioice_client.py PORT refused PEER       sends to a peer that the server refuses, twice: prints what becomes of each
+       aioice_client.py PORT barred PEER        sends to a peer that the server bars, twice: prints what becomes of each
 """
 import asyncio
 import logging
@@ -49,7 +49,7 @@ async def lasting(client, taken, seconds):
     print(f"sent {sent}, {echo.count} at the peer, {taken.count} back, none from {longest[0]:.0f} s to {longest[1]:.0f} s", flush=True)
 
 
-async def refused(client, _, peer):
+async def barred(client, _, peer):
     for name in ("first", "second"):
         try:
             await asyncio.wait_for(client.send_data(b"x", (peer, 9)), PATIENCE)
@@ -64,7 +64,7 @@ async def main():
     port, play, word = sys.argv[1:]
     taken = Taken()
     transport, _ = await turn.create_turn_endpoint(lambda: taken, (HOST, int(port)), "user", "secret")
-    call = lasting if play == "lasting" else refused
+    call = lasting if play == "lasting" else barred
     await call(transport._TurnTransport__inner_protocol, taken, word)
 
 
