@@ -1,5 +1,6 @@
 -- A client with an allocation that is closed sends two requests at most, and then it ends.
-use Rattle.std.proofs.Common.{◌≡◌, ◌⊎◌, ℕ, ◌+◌, ◌*◌, ◌≤◌, ◌==◌, max, Bool, true, false, cond, List, [], ◌∷◌, Option, None, nat_lt, nat_le, arith, refl, sym, ap, subst, ◌∙◌, inl, inr}
+use Rattle.std.proofs.Common.{◌≡◌, ◌⊎◌, ℕ, ◌+◌, ◌*◌, ◌≤◌, ◌==◌, max, min, Bool, true, false, cond, List, [], ◌∷◌, Option, None, nat_lt, nat_le, arith, refl, sym, ap, subst, ◌∙◌, inl, inr}
+use Rattle.std.proofs.lemmas.Bool.Decides.{nat_tests}
 use Rattle.rand_core.specs.Stream.{Stream, fill_bytes}
 use Rattle.is_proto.specs.declared.proto.Instant.{Instant}
 use Rattle.is_turn.specs.declared.operation.Operation.{Operation}
@@ -25,7 +26,7 @@ frees b o = held phases.Closing b o
 
 -- while it closes a request is sent twice at most
 abbrev twice : ClientTiming → ClientTiming
-twice t = record t { requests = 2 }
+twice t = record t { requests = min t.requests 2 }
 
 abbrev sent_after : Instant → Session → Session
 sent_after now b = record b { paced = time_after now PACE; quiet = time_after now b.timing.keep_alive.0 }
@@ -103,12 +104,12 @@ timed now key stream stream_new b o new =
 
 -- ---- how far it is
 
--- what is left after the time at which something is due: of both requests, of one, of none
+-- what is left after the time at which something is due: of both requests, of the second one, of none
 abbrev Stage : ℕ → ℕ → ClientTiming → Operation → ℕ → Type 0
 Stage d by t o time =
     ((o.is_fresh ≡ true) × (time + d + t.rto.0 + PACE + d + t.last_wait.0 + PACE + d ≤ by))
     ⊎ (((o.is_fresh ≡ false) × (o.sent ≡ 1) × (time + d + t.last_wait.0 + PACE + d ≤ by))
-    ⊎ ((o.is_fresh ≡ false) × (o.sent ≡ 2) × (time + d ≤ by)))
+    ⊎ ((o.is_fresh ≡ false) × (is_exhausted (twice t) o ≡ true) × (time + d ≤ by)))
 
 record Frees (d by : ℕ) (s : Session) : Type 0 where
   pub base : Session
@@ -142,25 +143,54 @@ frees_held d by s new h k = record {
   stage = stage_held d by h.base.timing k.base.timing h.operation k.operation h.time k.timing k.fresh k.sent h.stage;
 }
 
--- the first request
-frees_first_by : (d by : ℕ) (b : Session) (o : Operation) (new : Session) (time now : ℕ) (key : Option (List ℕ)) (id : List ℕ) → now ≤ time + d
-    → Stage d by b.timing o time → First (at_time now) key id b o new → Frees d by new
-frees_first_by d by b o new time now key id le (inl h) step =
-    let left = h.1 in record {
+-- the first request, after which another one may be sent or none
+first_waits : (t : ClientTiming) (e : Bool) → nat_le (min t.requests 2) 1 ≡ e → wait_after (twice t) 1 t.rto.0 ≡ cond e t.last_wait.0 (min t.rto.0 t.longest_wait.0)
+first_waits t e h = rw h refl
+
+abbrev First_of : ℕ → ℕ → Session → Operation → Session → ℕ → Option (List ℕ) → List ℕ → Type 0
+First_of d by b o new now key id =
+    new ≡ frees (sent_after (at_time now) b) (attempted (record { id = record { 0 = id }; key = key; since = at_time now }) (twice b.timing) o)
+
+first_sent : (d by : ℕ) (b : Session) (o : Operation) (new : Session) (time now : ℕ) (key : Option (List ℕ)) (id : List ℕ) (e : Bool)
+    → nat_le (min b.timing.requests 2) 1 ≡ e → now ≤ time + d → time + d + b.timing.rto.0 + PACE + d + b.timing.last_wait.0 + PACE + d ≤ by
+    → First_of d by b o new now key id → Frees d by new
+first_sent d by b o new time now key id true h le left is =
+    let wait = first_waits b.timing true h in record {
       base = sent_after (at_time now) b;
       operation = attempted (record { id = record { 0 = id }; key = key; since = at_time now }) (twice b.timing) o;
-      is = step.1;
+      is = is;
+      time = now + b.timing.last_wait.0 + PACE;
+      due = rw wait (omega arith);
+      paced = omega arith;
+      stage = inr (inr (refl, h, omega (arith, left, le)));
+    }
+first_sent d by b o new time now key id false h le left is =
+    let wait = first_waits b.timing false h in record {
+      base = sent_after (at_time now) b;
+      operation = attempted (record { id = record { 0 = id }; key = key; since = at_time now }) (twice b.timing) o;
+      is = is;
       time = now + b.timing.rto.0 + PACE;
-      due = omega arith;
+      due = rw wait (omega arith);
       paced = omega arith;
       stage = inr (inl (refl, refl, omega (arith, left, le)));
     }
+
+frees_first_by : (d by : ℕ) (b : Session) (o : Operation) (new : Session) (time now : ℕ) (key : Option (List ℕ)) (id : List ℕ) → now ≤ time + d
+    → Stage d by b.timing o time → First (at_time now) key id b o new → Frees d by new
+frees_first_by d by b o new time now key id le (inl h) step =
+    first_sent d by b o new time now key id (nat_le (min b.timing.requests 2) 1) refl le h.1 step.1
 frees_first_by d by b o new time now key id le (inr (inl h)) step = let f = h.0 in let g = step.0 in absurd (cc (f, g))
 frees_first_by d by b o new time now key id le (inr (inr h)) step = let f = h.0 in let g = step.0 in absurd (cc (f, g))
 
+two_exhaust : (r : ℕ) → nat_le (min r 2) 2 ≡ true
+two_exhaust r = grind (arith, nat_tests)
+
 last_repeat : (t : ClientTiming) (sent wait : ℕ) → sent ≡ 1
     → cond (sent == 0) (wait_after (twice t) 1 t.rto.0) (wait_after (twice t) (sent + 1) (wait * 2)) ≡ t.last_wait.0
-last_repeat t sent wait h = rw h refl
+last_repeat t sent wait h = let exhausted = two_exhaust t.requests in rw h (rw exhausted refl)
+
+second_exhausts : (t : ClientTiming) (sent : ℕ) → sent ≡ 1 → nat_le (min t.requests 2) (sent + 1) ≡ true
+second_exhausts t sent h = rw h (two_exhaust t.requests)
 
 -- the second one
 frees_again_by : (d by : ℕ) (b : Session) (o : Operation) (new : Session) (time now : ℕ) → now ≤ time + d → Stage d by b.timing o time
@@ -176,11 +206,11 @@ frees_again_by d by b o new time now le (inr (inl h)) step =
       time = now + b.timing.last_wait.0 + PACE;
       due = rw wait (omega arith);
       paced = omega arith;
-      stage = inr (inr (h.0, omega (arith, one), omega (arith, left, le)));
+      stage = inr (inr (h.0, second_exhausts b.timing o.sent one, omega (arith, left, le)));
     }
 frees_again_by d by b o new time now le (inr (inr h)) step =
-    let all : nat_le 2 o.sent ≡ true = ap (nat_le 2) h.1 in
-    let more : nat_le 2 o.sent ≡ false = step.1 in
+    let all = h.1 in
+    let more = step.1 in
     absurd (cc (all, more))
 
 abbrev Next : ℕ → ℕ → State → Type 0
