@@ -100,7 +100,7 @@ impl<H: Sha1HmacProvider> TurnClient<H> {
 
     /// Writes data for a peer to the front of the buffer, as it goes to the server, and returns its length. `None`: the peer is not
     /// permitted, as `permit` says. The transaction ID is that of a Send indication; take a new one for each call. What is no STUN
-    /// message requests a channel, which adds 4 bytes to the data; a Send indication takes 36 more, for IPv6 48, and padding.
+    /// message requests a channel, which adds 4 bytes to the data; a Send indication takes 44 more, for IPv6 56, and padding.
     /// `BufferTooShort`, `ValueTooLong` or `MessageTooLong`: the buffer is unchanged; the peer is permitted all the same.
     pub fn send(
         &mut self,
