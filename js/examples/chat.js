@@ -12,6 +12,7 @@ import { addressText, IceAgent, init, newCreds, serverEventLine } from "is-ice";
 import { hostAddresses, IceLoop } from "is-ice/node";
 
 const SILENCE = 2; // seconds without a packet of the peer after which it says so
+const PATIENCE = 5000; // how long servers are waited for, in milliseconds
 const [role, ...options] = process.argv.slice(2);
 if (!["controlling", "controlled"].includes(role)) {
   console.error("usage: node chat.js controlling|controlled [-l] [-s URL].. [-t URL].. [-u USER] [-w PASSWORD]");
@@ -26,18 +27,28 @@ agent.setSettings({ consentTimeout: 5000, strictConsent: true }); // notice a lo
 agent.setMaxStunRto(1000); // the path is checked each second
 agent.setSilence(SILENCE * 1000);
 let hosts = []; // the IP addresses of sockets
+let waiting = null; // the timer after which servers are waited for no longer
 
 /** Prints credentials and candidates, for the peer: of the sockets, and what servers brought. */
 function announce() {
+  clearTimeout(waiting);
+  waiting = null;
   const { ufrag, pass } = agent.localCredentials;
   const lines = agent.localFields().filter(({ kind }) => kind !== "prflx").map(({ text }) => text);
   console.log("signal", ufrag, pass, lines.join(","));
 }
 
-/** Begins a session with new credentials. Relayed addresses stay. If servers are waited for, "gatheringComplete" announces it. */
+/** Announces the session once the servers have answered, or after PATIENCE. */
+function announceSoon() {
+  clearTimeout(waiting);
+  waiting = setTimeout(announce, PATIENCE);
+}
+
+/** Begins a session with new credentials. Relayed addresses stay. */
 function restart() {
   agent.iceRestart(newCreds(), true);
-  if (!loop.gatherer.isGathering) announce();
+  if (loop.gatherer.isGathering) announceSoon();
+  else announce();
 }
 
 /** Takes the peer's signal, /restart or chat. */
@@ -63,7 +74,7 @@ loop.on("media", (data, source) => {
 loop.on("nominatedSend", ({ source, destination }) => console.log("path", addressText(source), "->", addressText(destination)));
 loop.on("silent", () => console.log(`silent no packet for ${SILENCE} s`));
 loop.on("heard", () => console.log("again a packet came"));
-loop.on("gatheringComplete", announce);
+loop.on("gatheringComplete", () => waiting && announce());
 for (const name of ["serverMapped", "serverAllocated", "serverNotPermitted", "serverEnded"]) {
   loop.on(name, (event) => console.log(serverEventLine(event)));
 }
@@ -88,6 +99,7 @@ async function watch() {
   agent.iceRestart(newCreds(), true); // without the sockets that go, the old session would be lost
   for (const ip of hosts) loop.unbind(ip);
   hosts = ips;
+  announceSoon();
   for (const local of await Promise.all(ips.map((ip) => loop.open(ip)))) loop.addSocket(local); // "gatheringComplete" follows
   loop.begin();
 }
@@ -103,6 +115,7 @@ for await (const line of readline.createInterface({ input: process.stdin })) {
   }
 }
 clearInterval(watching);
+clearTimeout(waiting);
 await loop.leave();
 agent.close();
 process.stdin.destroy();
