@@ -191,9 +191,10 @@ impl IceGatherer {
     /// [`CallError::OutOfMemory`].
     pub fn lose_connection(&mut self, now: Instant, local: SocketAddr) -> Result<(), CallError> {
         self.clients.lose(Transport::Tcp, local);
-        let (gone, kept): (Vec<_>, Vec<_>) = self.connections.drain(..).partition(|(of, _)| *of == local);
-        self.connections = kept;
-        self.to_reach.extend(gone.into_iter().map(|(_, server)| server));
+        let is_gone = |(of, _): &(SocketAddr, Server)| *of == local;
+        let gone = self.connections.iter().filter(|it| is_gone(it)).map(|(_, server)| server.clone());
+        self.to_reach.extend(gone);
+        self.connections.retain(|it| !is_gone(it));
         self.has_told = false;
         self.take_events(now)
     }
@@ -324,7 +325,10 @@ impl IceGatherer {
 
     /// Invalidates what a client found, unless another one found it too.
     fn discard(&mut self, client: Client) -> Result<(), CallError> {
-        let (gone, kept): (Vec<Found>, Vec<Found>) = self.found.drain(..).partition(|found| found.of == client);
+        let (mut gone, mut kept) = (Vec::new(), Vec::new());
+        for found in self.found.drain(..) {
+            if found.of == client { &mut gone } else { &mut kept }.push(found);
+        }
         self.found = kept;
         for found in gone {
             if !self.found.iter().any(|other| other.is_alike(&found)) {
