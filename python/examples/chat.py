@@ -99,7 +99,7 @@ class Chat:
         ips = ["127.0.0.1"] if self.is_local else host_addresses()
         if not ips or set(ips) == set(self.hosts):
             return
-        gone = set(self.hosts) - set(ips)
+        gone, self.has_signaled = set(self.hosts) - set(ips), False
         for ip in set(ips) - set(self.hosts):
             self.hosts[ip] = await self.loop.open(ip)
             self.agent.add_local_candidate(Candidate.host(self.hosts[ip]))
