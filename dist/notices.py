@@ -36,6 +36,7 @@ class Port(NamedTuple):
 PORTS = (
     Port("fast_float", "fast-float2", "0.2.4", EITHER, ("LICENSE",)),
     Port("itoa", "itoa", "1.0.18", EITHER, ("LICENSE",)),
+    Port("md5", "md-5", "0.10.6", EITHER, ("LICENSE-MIT",)),
     Port("rand_core", "rand_core", "0.10.1", EITHER, ("LICENSE-MIT",)),
     Port("ryu", "ryu", "1.0.23", "(Apache-2.0 OR BSL-1.0) AND MIT", ("LICENSE", "LICENSE-ZMIJ")),
     Port("serde", "serde", "1.0.229", EITHER, ("LICENSE-MIT",)),
