@@ -24,7 +24,9 @@ def now():
 
 
 def kind_of(message):
-    """The method of a message, with the code of an error response; of ChannelData its name."""
+    """The method of a message, with the code of an error response; of ChannelData its name. Of what is too short for either: "other"."""
+    if len(message) < 2:
+        return "other"
     if message[0] >= 0x40:
         return "ChannelData"
     kind = struct.unpack("!H", message[:2])[0]
