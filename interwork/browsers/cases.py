@@ -32,11 +32,13 @@ class Case:
     both: bool = False  # the machine needs an IPv4 and an IPv6 address
     capture: bool = False  # the page captures sound
     aiortc: bool = False
+    relays: bool = False  # through a TURN server
     only: str = ""  # the browser for which this is expected; empty: both
 
 
 def _case(name: str, setup: Setup, play: Callable[..., Awaitable[Outcome]] = plays.connect, *expected: str) -> Case:
-    return Case(name, lambda browser, _: play(browser, setup), expected or ("connected",), mdns=setup.mdns, ipv6=setup.ipv6)
+    return Case(name, lambda browser, _: play(browser, setup), expected or ("connected",), mdns=setup.mdns, ipv6=setup.ipv6,
+                relays=setup.relays_only)
 
 
 def _cut(name: str, seconds: float, setup: Setup, *expected: str, play: Callable[..., Awaitable[Outcome]] = plays.cut,
@@ -91,6 +93,18 @@ RESTARTS = [
     _case("restart by the agent, which offered", Setup(False), _restart_by_agent, "connected again"),
     _case("restart by the agent, which answered", Setup(True), _restart_by_agent, "connected again"),
     _case("restart by the agent, agent lite", Setup(True, lite=True), _restart_by_agent, "connected again"),
+]
+
+# Neither side has anything but relayed candidates: iceTransportPolicy "relay", and `relay_only` of the agent's loop.
+RELAYS = [
+    _case("relays only, browser offers", Setup(True, relays_only=True)),
+    _case("relays only, agent offers", Setup(False, relays_only=True)),
+    _case("relays only, browser offers, candidates 300 ms late", Setup(True, relays_only=True, late=True)),
+    _case("relays only, agent offers, candidates 300 ms late", Setup(False, relays_only=True, late=True)),
+    _case("relays only, restart by the browser", Setup(True, relays_only=True), _restart_by_browser, "connected again"),
+    _case("relays only, restart by the agent", Setup(False, relays_only=True), _restart_by_agent, "connected again"),
+    Case("relays only, nothing happens for 60 s", lambda browser, _: plays.peace(browser, Setup(True, relays_only=True), 60), ("kept",),
+         sessions=5, quick=0, waits=True, relays=True),
 ]
 
 # Both descriptions have a=ice-options:renomination, so nominations have numbers. Then Chromium nominates without USE-CANDIDATE, and an
@@ -172,4 +186,4 @@ AIORTC_WITH_ITSELF = [
     Case("aiortc offers to aiortc over aioice", _with_itself(True, False), ("works",), 12, aiortc=True),
     Case("aiortc over aioice offers to aiortc", _with_itself(False, True), ("works",), 12, aiortc=True),
 ]
-WITH_BROWSER = CONNECTING + RESTARTS + NUMBERS + MOVES + CUTS + AIORTC_WITH_BROWSER
+WITH_BROWSER = CONNECTING + RELAYS + RESTARTS + NUMBERS + MOVES + CUTS + AIORTC_WITH_BROWSER

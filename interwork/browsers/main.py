@@ -108,9 +108,12 @@ class Run:
         return row
 
     def _why_not(self, case: Any) -> str:
+        import relays
         import session
         if case.aiortc and not _has(_AIORTC):
             return "python3-aiortc is not installed"
+        if case.relays and (why := relays.why_not()):
+            return why
         if not self._count(case):
             return "too long for --quick"
         versions = (False, True) if case.both else (case.ipv6,)
@@ -213,8 +216,12 @@ async def main() -> int:
     run = Run(options)
     subjects = options.subjects or [_AIORTC, *BROWSERS]
     print(" | ".join(HEAD), flush=True)
-    for subject in subjects:
-        await (run.aiortc() if subject == _AIORTC else run.browser(subject))
+    try:
+        for subject in subjects:
+            await (run.aiortc() if subject == _AIORTC else run.browser(subject))
+    finally:
+        import relays
+        relays.stop()
     if options.table:
         run.write(options.table)
     return run.end()

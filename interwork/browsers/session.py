@@ -9,12 +9,14 @@ from collections.abc import Callable
 from dataclasses import dataclass, field
 from typing import Any
 
+import relays
 from browser import Browser
 from is_ice.interfaces import host_addresses
 from side import Setup, Side
 
 CONNECTED = ("connected", "completed")
 _LATE = 0.3  # seconds
+_GATHERING = 10.0  # seconds
 _numbers = itertools.count(1)
 
 
@@ -39,8 +41,8 @@ class Session:
         """Binds a socket, exchanges descriptions and candidates, and starts both sides."""
         session = cls(browser, Side(setup), setup)
         for ipv6 in (setup.ipv6, not setup.ipv6)[:1 + setup.both]:
-            await session.bind(ipv6)
-        await session.call("create", False, None, setup.option)
+            await (session.gather() if setup.relays_only else session.bind(ipv6))
+        await session.call("create", False, None, setup.option, relays.entry() if setup.relays_only else None)
         await session._signal()
         return session
 
@@ -51,6 +53,14 @@ class Session:
         line = await self.side.loop.bind(address)
         assert line, "the candidate is redundant"
         return line
+
+    async def gather(self) -> None:
+        """Opens a socket of the agent, and waits for the relayed candidate."""
+        address = local_address(False)
+        assert address, "the machine has no such address"
+        await self.side.loop.open(address)
+        await asyncio.wait_for(self.side.loop.gather(), _GATHERING)
+        assert [fields.kind.name for fields in self.side.agent.local_fields()] == ["RELAYED"], "no relayed candidate, or another one"
 
     async def call(self, function: str, *arguments: object) -> Any:
         """Runs a function of the page for this session."""

@@ -4,10 +4,13 @@ from __future__ import annotations
 
 import asyncio
 import time
+from collections.abc import Sequence
 from dataclasses import dataclass
 
+import relays
 from is_ice import (
     IceAgent, IceAgentEvent, IceConnectionStateChange, IceCreds, IceError, NominatedSend, SocketAddress, has_mdns_name, new_creds)
+from is_ice.gatherer import ServerLike
 from is_ice.lines import line_fields
 from is_ice.loop import EventHandler, IceLoop, StunHandler
 from nominations import Nomination, nominations
@@ -32,6 +35,7 @@ class Setup:
     only_ipv4: bool = False  # the agent gets no IPv6 candidate of the browser by signaling
     checks: int | None = None  # unanswered checks before the agent removes a pair; None: the default
     lite_timeout: int | None = None  # seconds without a check until a lite agent removes a pair; None: the default
+    relays_only: bool = False  # both sides have relayed candidates only
 
     @property
     def controlling(self) -> bool:
@@ -47,8 +51,8 @@ class CutLoop(IceLoop):
 
     cut = False
 
-    def __init__(self, agent: IceAgent, on_event: EventHandler, on_stun: StunHandler) -> None:
-        super().__init__(agent, on_event, lambda *_: None, on_stun)
+    def __init__(self, agent: IceAgent, on_event: EventHandler, on_stun: StunHandler, servers: Sequence[ServerLike] = ()) -> None:
+        super().__init__(agent, on_event, lambda *_: None, on_stun, servers=servers, relay_only=bool(servers))
         self.lost: set[SocketAddress] = set()
         self.sent: list[Nomination] = []
         self.received: list[Nomination] = []
@@ -82,7 +86,7 @@ class Side:
             self.agent.set_max_stun_retransmits(setup.checks)
         if setup.lite_timeout:
             self.agent.set_lite_timeout(setup.lite_timeout * 1_000_000_000)
-        self.loop = CutLoop(self.agent, self._on_event, self._on_stun)
+        self.loop = CutLoop(self.agent, self._on_event, self._on_stun, [relays.entry()] if setup.relays_only else [])
         self.states: list[tuple[float, str]] = []
         self.paths: list[tuple[float, NominatedSend]] = []
         self.dropped = 0  # STUN messages that the agent did not accept
@@ -124,10 +128,9 @@ class Side:
         if has_mdns_name(line) or self.setup.only_ipv4 and line_fields(line).address.version == 6:
             return
         try:
-            self.agent.add_remote_candidate(line)
+            self.loop.add_remote_candidate(line)
         except IceError as error:
             raise AssertionError(f"{error}: {line}") from error
-        self.loop.wake()
 
     def restart(self) -> None:
         """Makes an ICE restart."""
@@ -146,4 +149,5 @@ class Side:
         """Ends the agent and its sockets."""
         self.loop.close()
         self.agent.close()
+        await self.loop.wait_closed()
         await asyncio.sleep(0)
