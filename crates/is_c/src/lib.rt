@@ -21,6 +21,7 @@ mod home;
 mod infos;
 mod lines;
 mod log_lines;
+mod log_texts;
 mod making;
 mod mdns;
 mod monitoring;
