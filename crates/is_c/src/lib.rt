@@ -65,6 +65,3 @@ pub use slot::Slot;
 pub use stun_client::{Response, Transaction};
 pub use stun_message::{Message, Number};
 pub use stun_texts::{Span, Texts};
-
-#[cfg(test)]
-mod tests;
