@@ -23,6 +23,7 @@ class Case:
     restarts: str | None = None  # "a" or "b": who restarts
     trickles: str | None = None  # "a" or "b": whose candidates are passed on one by one after its signal
     relay: tuple = (False, False)  # who uses the TURN server
+    relays_only: bool = False  # only relayed candidates are passed on to the other side
     sessions: int = 4
     quick: int = 1  # sessions in a quick run; 0: left out
     at_least: float = 1.0  # the part of the sessions that has to connect
@@ -42,8 +43,9 @@ class Case:
 
     def relay_options(self):
         """The options for the TURN server, of both."""
-        server = ("-u", f"{servers.ADDRESS}:{servers.PORT}", "-U", servers.USER)
-        return [server if uses else () for uses in self.relay]
+        at, (user, password) = f"{servers.ADDRESS}:{servers.PORT}", servers.USER.split(":")
+        of_peer, of_others = ("-s", f"turn:{at}", "-u", user, "-k", password), ("-u", at, "-U", servers.USER)
+        return [(of_peer if name == "peer" else of_others) if uses else () for name, uses in zip(self.stacks, self.relay)]
 
     def network_name(self):
         """The network for people."""
@@ -213,6 +215,14 @@ def over_browsers():
             for ours in ("Connection", "peer"):
                 for title, words, quick in (("addresses", (), 0), ("mDNS names", ("-M",), int(ours == "Connection"))):
                     yield Case(nat("port", "port"), (ours, name), f"{title}, {who}", ((), words), roles, quick=quick, seconds=60)
+                yield between_relays(ours, name, who, roles)
+
+
+def between_relays(ours, name, who, roles):
+    """Both have relayed candidates only. Browsers and `Connection` have a policy for it; `peer` has none, so no others are passed on."""
+    words = ("-R",) if ours == "Connection" else ()
+    return Case(nat("symmetric", "symmetric"), (ours, name), f"relays only, {who}", (words, ()), roles, relay=(True, True),
+                relays_only=True, quick=int(ours == "peer"), seconds=60)
 
 
 def with_relay(kinds):
@@ -220,6 +230,8 @@ def with_relay(kinds):
     quick = int(kinds in QUICK_NATS)
     for other in ("Connection", "pion", "aioice", "libnice"):
         yield Case(nat(*kinds), ("Connection", other), "TURN for both", relay=(True, True), quick=quick)
+    for other in ("peer", "pion", "aioice", "libnice"):
+        yield Case(nat(*kinds), ("peer", other), "TURN for both", relay=(True, True), quick=int(other == "peer") * quick)
     for other in ("peer", "pion"):  # behind a symmetric NAT its packets reach the relayed address from a port that was not signaled
         yield Case(nat(*kinds), ("Connection", other), "TURN for ours", relay=(True, False), quick=0)
     yield Case(nat(*kinds), ("peer", "pion"), "TURN for theirs", relay=(False, True), quick=quick)

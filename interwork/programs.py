@@ -25,6 +25,7 @@ class Program:
         self.state, self.path, self.connected_at, self.signal_at, self.ufrag = None, None, None, None, None
         self.other, self.tasks, self.changed = None, [], asyncio.Event()
         self.trickles = False  # whether its candidates are passed on one by one after its signal
+        self.relays_only = False  # whether its other candidates are not passed on
 
     async def start(self):
         """Starts the process. Its signaling waits until `introduce`."""
@@ -35,6 +36,7 @@ class Program:
     async def read_signaling(self):
         """Passes each line of standard output to the other program."""
         while line := (await self.process.stdout.readline()).decode(errors="replace").rstrip("\n"):
+            line = self.passed_on(line)
             self.events.append((time.monotonic(), "> " + line))
             if line.startswith("signal"):
                 self.signal_at, self.ufrag = time.monotonic(), line.split(" ", 2)[1]
@@ -42,6 +44,14 @@ class Program:
                 self.tasks.append(asyncio.ensure_future(self.trickle(line)))
             else:
                 self.other.tell(line)
+
+    def passed_on(self, line):
+        """What the other program gets of a line."""
+        if not self.relays_only or not line.startswith(("signal ", "candidate:")):
+            return line
+        first = line.split(" ", 3)[:3] if line.startswith("signal ") else []
+        candidates = line.removeprefix(" ".join(first)).split(",")
+        return " ".join([*first, ",".join(candidate.strip() for candidate in candidates if " typ relay" in candidate)]).strip()
 
     async def trickle(self, line):
         """Passes a signal without its candidates to the other program, and the candidates later."""

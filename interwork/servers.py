@@ -1,4 +1,7 @@
-"""The STUN servers of the networks with NATs. coturn is a TURN server too. As a program: waits until the server responds."""
+"""The STUN servers of the networks with NATs. coturn is a TURN server too.
+
+As a program: waits until the server responds; with HOST PORT: until that one accepts connections.
+"""
 import glob
 import os
 import shutil
@@ -64,5 +67,18 @@ def responds(seconds, server=(ADDRESS, PORT)):
     return False
 
 
+def accepts(seconds, address):
+    """Whether a server accepts connections in time."""
+    end = time.monotonic() + seconds
+    while time.monotonic() < end:
+        try:
+            socket.create_connection(address).close()
+            return True
+        except ConnectionRefusedError:
+            time.sleep(0.1)
+    return False
+
+
 if __name__ == "__main__":
-    sys.exit(0 if responds(30) else 1)
+    is_there = accepts(30, (sys.argv[1], int(sys.argv[2]))) if sys.argv[1:] else responds(30)
+    sys.exit(0 if is_there else 1)

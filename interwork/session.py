@@ -3,6 +3,7 @@ import asyncio
 from dataclasses import dataclass
 
 import programs
+import servers
 from programs import Program, are_connected, introduce, settle, talk, until
 
 
@@ -22,6 +23,7 @@ async def play(case, network, stacks, roles):
              in zip(case.words, network.options, case.relay_options(), roles)]
     a, b = (Program(stacks[name], each, namespace) for name, each, namespace in zip(case.stacks, words, network.namespaces))
     a.trickles, b.trickles = case.trickles == "a", case.trickles == "b"
+    a.relays_only = b.relays_only = case.relays_only
     try:
         await introduce(a, b)
         fault, seconds = await connect(a, b, case, network)
@@ -53,12 +55,20 @@ async def connect(a, b, case, network):
 
 async def after_path(a, b, case, network, word):
     """What both do on a path. Returns a fault or None."""
+    if case.relays_only and not is_between_relays(a, b):
+        return "a path without two relays"
     if not case.chat:
         return None
     if network.same_path and case.same_path and not await settle(a, b):
         return "different paths"
     heard = await talk(a, b, word)
     return None if all(heard) else "not heard"
+
+
+def is_between_relays(a, b):
+    """Whether the path of both is one between two relayed addresses. Of its path a browser reports the ports only."""
+    ports = [[address.rsplit(":", 1)[1] for address in program.path] for program in (a, b)]
+    return all(address.startswith(f"{servers.ADDRESS}:") for address in a.path) and ports[0] == ports[1][::-1]
 
 
 async def restart(a, b, case, network):

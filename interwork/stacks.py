@@ -104,6 +104,16 @@ def ours_in_c():
     return Stack("peer", [str(out / "peer")], our_version(), sends_early=True)  # is_ice_valid_path
 
 
+def link_for_python():
+    """Links the shared library that is_ice loads, unless IS_ICE_LIB names one. Returns why it fails, or None."""
+    if os.environ.get("IS_ICE_LIB", ".a").endswith(".a"):
+        try:
+            run(top / "python" / "build", archive())
+        except Missing as error:
+            return str(error)
+    return None
+
+
 def ours_in_python():
     run(top / "python" / "build", archive())
     library = top / "python" / "out" / "libis_ice.so"

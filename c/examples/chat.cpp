@@ -6,7 +6,8 @@
 // usage: chat controlling|controlled [-l] [-s URL].. [-t URL].. [-u USER] [-w PASSWORD]
 //   -l   at 127.0.0.1 only
 //   -s   a STUN server, as stun:stun.example.org
-//   -t   a TURN server, as turn:turn.example.org or turn:192.0.2.1:3478?transport=tcp, with this user name and password
+//   -t   a TURN server, as turn:turn.example.org or turn:192.0.2.1:3478?transport=tcp, with this user name and password,
+//        or turns:turn.example.org, over TLS, if it is built with -DPEER_TLS -lssl -lcrypto
 #include "is_ice.hpp"
 #include "peer.h"
 #include <algorithm>

@@ -29,13 +29,15 @@ bool pcap_close(struct pcap *pcap);
 
 enum { NET_SOCKETS = 16, NET_STREAMS = 16, NET_ALL = NET_SOCKETS + NET_STREAMS };
 
-/* A TCP connection to a TURN server. All zero: there is none. */
+/* A TCP connection to a TURN server, maybe with TLS over it. All zero: there is none. */
 struct stream {
     intptr_t socket;
     is_ice_address local, server;
     uint8_t *in, *out;         /* what came and what is to be sent, of STREAM_ROOM bytes each */
     size_t in_start, in_end, out_end;
     bool is_open, is_broken;
+    void *tls;            /* that of tls.h; null: none */
+    bool waits_for_input; /* what waits to be sent goes out only after something has come */
 };
 
 enum { STREAM_ROOM = 2 * IS_ICE_FRAME_LENGTH };
@@ -95,8 +97,12 @@ bool net_send(struct net *net, const is_ice_address *from, const is_ice_address 
 /* Sends a packet: over UDP by that, over TCP by the connection that it names, in its turn. */
 bool net_send_packet(struct net *net, const is_ice_packet *packet, const void *bytes);
 
-/* Opens a connection from this local IP address to a server. Returns it before it is connected, or null, with an error. */
-struct stream *net_connect(struct net *net, const is_ice_address *local, const is_ice_address *server);
+/* Whether connections may have TLS: -DPEER_TLS brings it. */
+bool net_has_tls(void);
+
+/* Opens a connection from this local IP address to a server, with TLS if `tls_host` is not null: whom the certificate has to name. Returns
+ * it before it is connected, or null, with an error. */
+struct stream *net_connect(struct net *net, const is_ice_address *local, const is_ice_address *server, const char *tls_host);
 void net_disconnect(struct stream *stream);
 
 /* Reads from a connection. Returns the next frame, which is there until the next call, and its length; or null: none is whole yet. If the
@@ -109,7 +115,7 @@ ssize_t net_receive(struct net *net, size_t index, void *bytes, size_t size, is_
 /* Replaces control characters, for a terminal, and returns the bytes. */
 const char *net_printable(uint8_t *bytes, size_t length);
 
-/* ---- peer_servers.c: STUN and TURN servers, for each socket, and over TCP */
+/* ---- peer_servers.c: STUN and TURN servers, for each socket, and over TCP and TLS */
 
 enum { SERVERS = 32 };
 
@@ -118,6 +124,7 @@ struct servers {
     struct is_ice_gather gather;
     is_ice_servers clients;
     is_ice_server list[SERVERS];
+    char hosts[SERVERS][256]; /* of their URLs */
     size_t count;
     const char *username, *password; /* those of all TURN servers; null: none */
     is_ice_address sockets[NET_SOCKETS]; /* those that have clients */

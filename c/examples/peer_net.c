@@ -2,6 +2,7 @@
 #define _DEFAULT_SOURCE
 #include "peer.h"
 #include "sockets.h"
+#include "tls.h"
 #include <limits.h>
 #include <stdio.h>
 #include <stdlib.h>
@@ -163,7 +164,7 @@ bool net_wait(const struct net *net, bool input, uint64_t until, bool ready[NET_
     memcpy(all, net->sockets, sizeof net->sockets);
     for (size_t i = 0; net->streams && i < NET_STREAMS; i++) {
         if (!net->streams[i].is_open) continue;
-        writes[count] = net->streams[i].out_end > 0;
+        writes[count] = net->streams[i].out_end > 0 && !net->streams[i].waits_for_input;
         all[count++] = net->streams[i].socket;
     }
     if (!system_wait(all, writes, count, input, left < INT_MAX ? (int)left : INT_MAX, some)) return false;
@@ -213,7 +214,12 @@ ssize_t net_receive(struct net *net, size_t index, void *bytes, size_t size, is_
 
 /* ---- connections */
 
-struct stream *net_connect(struct net *net, const is_ice_address *local, const is_ice_address *server)
+bool net_has_tls(void)
+{
+    return tls_is_there();
+}
+
+struct stream *net_connect(struct net *net, const is_ice_address *local, const is_ice_address *server, const char *tls_host)
 {
     struct stream *stream = net->streams;
     struct sockaddr_storage name;
@@ -228,13 +234,15 @@ struct stream *net_connect(struct net *net, const is_ice_address *local, const i
     stream->is_open = true;
     stream->server = *server;
     stream->in = (uint8_t *)malloc(STREAM_ROOM), stream->out = (uint8_t *)malloc(STREAM_ROOM);
-    if (stream->in && stream->out && (connect(stream->socket, (struct sockaddr *)&name, size) == 0 || socket_waits())) return stream;
+    bool ok = stream->in && stream->out && (connect(stream->socket, (struct sockaddr *)&name, size) == 0 || socket_waits());
+    if (ok && (!tls_host || tls_begin(stream, tls_host))) return stream;
     net_disconnect(stream);
     return NULL;
 }
 
 void net_disconnect(struct stream *stream)
 {
+    if (stream->tls) tls_end(stream);
     if (stream->is_open) socket_close(stream->socket);
     free(stream->in), free(stream->out);
     memset(stream, 0, sizeof *stream);
@@ -244,8 +252,9 @@ void net_disconnect(struct stream *stream)
 static void flush(struct stream *stream)
 {
     if (stream->out_end == 0) return;
-    ssize_t sent = send(stream->socket, (const char *)stream->out, stream->out_end, NO_SIGNAL);
-    if (sent < 0 && !socket_waits()) stream->is_broken = true;
+    ssize_t sent = stream->tls ? tls_send(stream, stream->out, stream->out_end)
+                               : send(stream->socket, (const char *)stream->out, stream->out_end, NO_SIGNAL);
+    if (sent < 0 && (stream->tls || !socket_waits())) stream->is_broken = true;
     if (sent <= 0) return;
     stream->out_end -= (size_t)sent;
     memmove(stream->out, stream->out + sent, stream->out_end);
@@ -264,6 +273,15 @@ bool net_send_packet(struct net *net, const is_ice_packet *packet, const void *b
     return true;
 }
 
+/* Reads what has come. Returns its length, or 0 if nothing has. */
+static size_t read_more(struct stream *stream, uint8_t *bytes, size_t size)
+{
+    ssize_t got = stream->tls ? tls_receive(stream, bytes, size) : recv(stream->socket, (char *)bytes, size, 0);
+    bool has_ended = stream->tls ? got < 0 : got == 0 || (got < 0 && !socket_waits());
+    if (has_ended) stream->is_broken = true;
+    return got > 0 ? (size_t)got : 0;
+}
+
 uint8_t *net_frame(struct stream *stream, size_t *length)
 {
     flush(stream);
@@ -276,9 +294,8 @@ uint8_t *net_frame(struct stream *stream, size_t *length)
         if (code == IS_ICE_OK && *length <= there) return stream->in_start += *length, start;
         memmove(stream->in, start, there);
         stream->in_start = 0, stream->in_end = there;
-        ssize_t got = recv(stream->socket, (char *)stream->in + there, STREAM_ROOM - there, 0);
-        if (got == 0 || (got < 0 && !socket_waits())) stream->is_broken = true;
-        if (got <= 0) return NULL;
-        stream->in_end += (size_t)got;
+        size_t got = read_more(stream, stream->in + there, STREAM_ROOM - there);
+        if (got == 0) return NULL;
+        stream->in_end += got;
     }
 }

@@ -7,12 +7,14 @@ bool servers_add(struct servers *servers, const char *url, const char **why)
 {
     is_ice_server_url read;
     is_ice_address found[2];
-    char host[256];
+    char host[sizeof servers->hosts[0]];
     int32_t code = is_ice_server_url_of((const uint8_t *)url, strlen(url), &read);
     *why = is_ice_code_text(code);
     if (code != IS_ICE_OK) return false;
     *why = "this program has no TLS";
-    if (read.protocol == IS_ICE_TLS) return false;
+    if (read.protocol == IS_ICE_TLS && !net_has_tls()) return false;
+    *why = "there is no STUN over TLS; it maps a connection";
+    if (read.protocol == IS_ICE_TLS && read.scheme == IS_ICE_STUN) return false;
     *why = "the name is too long";
     if (read.host_length >= sizeof host) return false;
     memcpy(host, url + read.host_start, read.host_length);
@@ -20,6 +22,7 @@ bool servers_add(struct servers *servers, const char *url, const char **why)
     size_t count = net_resolve(host, read.port, found, why);
     for (size_t i = 0; i < count && servers->count < SERVERS; i++) {
         const is_ice_server one = {found[i], read.scheme, read.protocol, "", ""};
+        memcpy(servers->hosts[servers->count], host, read.host_length + 1);
         servers->list[servers->count++] = one;
     }
     return count > 0;
@@ -50,9 +53,10 @@ static int32_t connect_from(struct servers *servers, struct net *net, const is_i
     int32_t code = IS_ICE_OK;
     for (size_t i = 0; i < servers->count && code >= 0; i++) {
         const is_ice_server *server = &servers->list[i];
-        bool is_needed = server->protocol == IS_ICE_TCP && server->address.family == local->family;
+        bool is_needed = server->protocol != IS_ICE_UDP && server->address.family == local->family;
         if (!is_needed || is_ice_gather_is_covered(servers->list, servers->count, i)) continue;
-        struct stream *stream = net_connect(net, local, &server->address);
+        const char *tls_host = server->protocol == IS_ICE_TLS ? servers->hosts[i] : NULL;
+        struct stream *stream = net_connect(net, local, &server->address, tls_host);
         if (stream) code = is_ice_gather_add(&servers->gather, net_now(), &stream->local, server);
         else fprintf(stderr, "peer: no connection to a TURN server: %s\n", net_error_text(net_error()));
     }

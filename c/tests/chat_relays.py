@@ -14,10 +14,18 @@ coturn, and nothing else leads from one to the other. It needs root, iproute2, n
   moved     one machine gets another address: with new signals they find a path again
   lost      the server is started again: both find out, and with a new signal they find a path again
 
+These are played only if they are named, for a program with TLS, from networks that let no UDP out. They need openssl, which makes the
+certificate of the server:
+
+  tls       both over TLS; SSL_CERT_FILE names the certificate
+  untrusted who does not trust the certificate says so, and has no relayed candidate
+  misnamed  who trusts the certificate of another address says so, and has none
+
 Prints a line for each. The status is 0 if none failed, or if they cannot be played here, as it says.
 """
 import pathlib
 import shutil
+import subprocess
 import sys
 import time
 
@@ -41,22 +49,22 @@ NO_UDP = """
     }"""
 
 
-def chats(network, *urls):
-    """Two of them, each behind its NAT, with these URLs of servers, or the list of each."""
+def chats(network, *urls, before=()):
+    """Two of them, each behind its NAT, with these URLs of servers, or the list of each. `before`: words before those of the command."""
     connect.PEER = "ip"
     lists = urls if isinstance(urls[0], tuple) else (urls, urls)
     sides = []
     for namespace, role, each in zip(network.namespaces, ROLES, lists):
         options = [word for url in each for word in ("-t" if url.startswith("turn") else "-s", url)]
-        words = [sys.argv[1], *sys.argv[2:], role, *options, "-u", USER, "-w", PASSWORD]
+        words = [*before, sys.argv[1], *sys.argv[2:], role, *options, "-u", USER, "-w", PASSWORD]
         sides.append(Peer("netns", "exec", namespace, *words))
     return sides
 
 
-def through_the_server(a, b):
+def through_the_server(a, b, ip=servers.ADDRESS):
     """Both find a path that begins or ends at the server, and hear each other."""
     paths = [side.says("path ").split(" -> ") for side in (a, b)]
-    if not all(any(address.startswith(servers.ADDRESS + ":") for address in path) for path in paths):
+    if not all(any(address.startswith(ip + ":") for address in path) for path in paths):
         raise Failed(f"{paths}")
     talk(a, b)
 
@@ -156,8 +164,66 @@ def case_lost(network):
 CASES = {name.removeprefix("case_"): case for name, case in list(globals().items()) if name.startswith("case_")}
 
 
+# ---- cases of programs that have TLS
+
+def over_tls(network, named=servers.SECOND_ADDRESS, is_trusted=True):
+    """Two of them in networks that let no UDP out, with a server over TLS whose certificate names this address."""
+    for nat in network.nats:
+        network.spaces.rules(nat, NO_UDP)
+    url = f"turns:{network.tls_server(named)}"
+    return chats(network, url, before=("env", f"SSL_CERT_FILE={network.certificate}") if is_trusted else ())
+
+
+def refuses(side, why):
+    if why not in (said := side.says("peer: TLS: ")) or " typ relay" in (said := side.says("signal ")):
+        raise Failed(said)
+
+
+def with_tls_tls(network):
+    a, b = over_tls(network)
+    introduce(a, b)
+    through_the_server(a, b, servers.SECOND_ADDRESS)
+    end(a, b)
+
+
+def with_tls_untrusted(network):
+    for side in over_tls(network, is_trusted=False):
+        refuses(side, "self-signed certificate")
+
+
+def with_tls_misnamed(network):
+    for side in over_tls(network, named=servers.ADDRESS):
+        refuses(side, "IP address mismatch")
+
+
+WITH_TLS = {name.removeprefix("with_tls_"): case for name, case in list(globals().items()) if name.startswith("with_tls_")}
+
+
 class Nats(networks.Nats):
-    """The network, which knows the namespaces of its NATs."""
+    """The network, which knows the namespaces of its NATs. It may have another server, over TLS."""
+
+    at_tls = None
+
+    def tls_server(self, named):
+        """Starts coturn at the second address with a certificate that names this one, and returns where it is."""
+        folder = pathlib.Path(self.folder.name)
+        self.certificate, key, address = folder / "certificate", folder / "key", servers.SECOND_ADDRESS
+        made = ["openssl", "req", "-x509", "-newkey", "rsa:2048", "-nodes", "-subj", "/CN=test", "-addext", f"subjectAltName=IP:{named}",
+                "-keyout", key, "-out", self.certificate]
+        subprocess.run(made, check=True, capture_output=True)
+        options = f"-n -L {address} -E {address} --lt-cred-mech -u {servers.USER} -r realm --no-dtls --no-cli --log-file /dev/null" \
+                  f" --simple-log --pidfile {folder}/pid2 --db {folder}/db2 --allow-loopback-peers --cert {self.certificate} --pkey {key}"
+        quiet = subprocess.DEVNULL
+        self.at_tls = subprocess.Popen(["ip", "netns", "exec", self.public, "unshare", "--pid", "--fork", "--kill-child", "turnserver",
+                                        *options.split()], stdin=quiet, stdout=quiet, stderr=quiet)
+        namespaces.run("ip", "netns", "exec", self.public, sys.executable, servers.__file__, address, "5349")
+        return f"{address}:5349"
+
+    def close(self):
+        if self.at_tls:
+            self.at_tls.kill()
+            self.at_tls.wait()
+        super().close()
 
     def add_host(self, index, kind):
         host = super().add_host(index, kind)
@@ -177,7 +243,7 @@ def played(name):
     try:
         with Nats("symmetric", "symmetric") as network:
             try:
-                CASES[name](network)
+                {**CASES, **WITH_TLS}[name](network)
             finally:
                 for process in Peer.runs:
                     process.kill()

@@ -1,10 +1,11 @@
 """A browser that reads and prints the lines of c/examples/peer.c (Debian: chromium or firefox-esr, and python3-aiohttp).
 
-usage: browser_peer.py chromium|firefox [-a ADDRESS].. [-s HOST:PORT] [-M] [-A] controlling|controlled
+usage: browser_peer.py chromium|firefox [-a ADDRESS].. [-s HOST:PORT] [-u HOST:PORT -U USER:PASSWORD] [-M] [-A] controlling|controlled
 
 Each session has a headless browser of its own, which makes the offer if it is to be controlling. It finds its addresses itself, so -a is
 not used. There is no chat: once it has a path it begins with DTLS, which the other peer does not speak. -s names a STUN server.
 Each line has the seconds since the page noted the change, since it is asked only now and then.
+-u: it has only relayed candidates, of this TURN server (iceTransportPolicy "relay").
 -M: its host candidates have mDNS names in place of addresses.
 -A: Chromium gathers at all addresses, and not at that of the default route only: the page captures sound. Its signal has what it gathered
 in half a second, since from an address that leads nowhere no STUN server is reached. When it answers, it gets the other peer's candidates
@@ -32,6 +33,8 @@ def arguments():
     parser.add_argument("browser", choices=("chromium", "firefox"))
     parser.add_argument("-a", action="append")
     parser.add_argument("-s")
+    parser.add_argument("-u")
+    parser.add_argument("-U", default=":")
     parser.add_argument("-M", action="store_true")
     parser.add_argument("-A", action="store_true")
     parser.add_argument("role", choices=("controlling", "controlled"))
@@ -47,9 +50,14 @@ class Peer:
 
     async def begin(self):
         """Creates the session, and prints the signal of the browser's offer."""
-        await self.browser.call("create", NUMBER, False, self.options.s)
+        await self.browser.call("create", NUMBER, False, self.options.s, False, self.relay())
         if self.options.role == "controlling":
             Signal.of_description(await self.browser.call("offer", NUMBER, self.whole)).print()
+
+    def relay(self):
+        """The TURN server as an entry of the page's iceServers, or None."""
+        username, credential = self.options.U.split(":", 1)
+        return self.options.u and {"urls": f"turn:{self.options.u}", "username": username, "credential": credential}
 
     def description(self, signal):
         """The other peer's description."""

@@ -1,8 +1,10 @@
 """A Connection of aioice, or the one of is_ice, which reads and prints the lines of c/examples/peer.c.
 
-usage: connection_peer.py MODULE [-a ADDRESS].. [-s HOST:PORT] [-u HOST:PORT -U USER:PASSWORD] [-L] [-l] [-t NUMBER] controlling|controlled
+usage: connection_peer.py MODULE [-a ADDRESS].. [-s HOST:PORT] [-u HOST:PORT -U USER:PASSWORD] [-R] [-L] [-l] [-t NUMBER]
+                          controlling|controlled
 
-MODULE is aioice, or is_ice.connection, which has the same calls. -s names a STUN server, -u a TURN server. -l: the other peer is lite.
+MODULE is aioice, or is_ice.connection, which has the same calls. -s names a STUN server, -u a TURN server. -R: it has only relayed
+candidates. -l: the other peer is lite.
 -L and -t are only for is_ice: it is lite, and its tie-breaker is NUMBER. There is no restart.
 """
 import argparse
@@ -24,6 +26,7 @@ def arguments():
     parser.add_argument("-s")
     parser.add_argument("-u")
     parser.add_argument("-U", default=":")
+    parser.add_argument("-R", action="store_true")
     parser.add_argument("-L", action="store_true")
     parser.add_argument("-l", action="store_true")
     parser.add_argument("-t", type=int)
@@ -85,6 +88,8 @@ class Peer:
         if options.u:
             username, password = options.U.split(":", 1)
             servers.update(turn_server=address(options.u), turn_username=username, turn_password=password)
+        if options.R:
+            servers.update(transport_policy=module.TransportPolicy.RELAY)
         self.connection = self.stack.make(ice_controlling=options.role == "controlling", **servers)
         self.connection.remote_is_lite = options.l
         if options.L:

@@ -8,7 +8,6 @@ import socket
 import subprocess
 import sys
 import tempfile
-import time
 from pathlib import Path
 
 import servers
@@ -38,18 +37,6 @@ def free_port(host):
             return datagrams.getsockname()[1]
 
 
-def accepts(seconds, address):
-    """Whether a server accepts connections in time."""
-    end = time.monotonic() + seconds
-    while time.monotonic() < end:
-        try:
-            socket.create_connection(address).close()
-            return True
-        except ConnectionRefusedError:
-            time.sleep(0.1)
-    return False
-
-
 class Server:
     """A server that runs within a `with` statement. `options` are words of its command line."""
 
@@ -68,7 +55,7 @@ class Server:
         quiet = subprocess.DEVNULL
         environment = {**os.environ, "HOME": self.folder.name, "ERL_CRASH_DUMP": "/dev/null"}
         self.process = subprocess.Popen(self.command(), stdin=quiet, stdout=quiet, stderr=quiet, env=environment)
-        if not servers.responds(30, self.address) or self.has_streams and not accepts(30, self.address):
+        if not servers.responds(30, self.address) or self.has_streams and not servers.accepts(30, self.address):
             raise RuntimeError(f"{self.command()[0]} does not respond")
 
     def stop(self):
