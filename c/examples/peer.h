@@ -29,7 +29,7 @@ bool pcap_close(struct pcap *pcap);
 
 enum { NET_SOCKETS = 16, NET_STREAMS = 16, NET_ALL = NET_SOCKETS + NET_STREAMS };
 
-/* A TCP connection to a TURN server. All zero: there is none. */
+/* A TCP connection to a TURN server. All zero: there is none. Its client knows it by the address `local`, also after a redirection. */
 struct stream {
     intptr_t socket;
     is_ice_address local, server;
