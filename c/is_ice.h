@@ -1562,7 +1562,10 @@ IS_ICE_CALL int32_t is_ice_servers_poll_timeout(is_ice_servers *servers, uint64_
 
 /* is_ice_servers_poll_transmit - returns the next packet of a client and removes it. Its bytes are at the start of the buffer,
  * whose rest is unchanged. *packet has their length and the protocol, the client's socket or connection as source, and its
- * server as destination. Over IS_ICE_UDP the packet is a datagram, over IS_ICE_TCP put it into the stream.
+ * server as destination. Over IS_ICE_UDP the packet is a datagram, over IS_ICE_TCP put it into the stream. If *packet is for
+ * another server than the one that the connection leads to, the client was redirected (RFC 8489, section 10): open a connection
+ * to that one and close the other. For all calls it has the address of the first one. If it cannot be opened, call
+ * is_ice_servers_lose.
  *
  * IS_ICE_OK: a packet. IS_ICE_NOTHING: there is none. IS_ICE_BUFFER_TOO_SHORT: the packet stays the next one;
  * IS_ICE_SERVERS_PACKET_LENGTH bytes are long enough for any. After these two the buffer and *packet are unchanged. */

@@ -289,7 +289,8 @@ enum { IS_ICE_GATHER_PACKET = 596, IS_ICE_GATHER_BUFFER = IS_ICE_SERVERS_PACKET_
 /* is_ice_gather_transmit - returns the next packet to send: of a client, or of the agent as it goes out. A packet of the agent whose
  * relayed address is gone is left out. The buffer has IS_ICE_GATHER_BUFFER bytes. `random` is drawn for each call.
  *
- * IS_ICE_OK: send buffer[0 .. packet->length] as *packet says; over IS_ICE_TCP put it into the stream of the connection packet->source.
+ * IS_ICE_OK: send buffer[0 .. packet->length] as *packet says; over IS_ICE_TCP put it into the stream of the connection packet->source, or
+ * after a redirection into one to packet->destination, as is_ice_servers_poll_transmit says.
  * IS_ICE_NOTHING: there is none. Else an error of is_ice_servers_poll_transmit, is_ice_poll_transmit or is_ice_servers_outgoing. */
 static inline int32_t is_ice_gather_transmit(
     struct is_ice_gather *gather, uint64_t now, const uint8_t random[IS_ICE_SERVERS_RANDOM], uint8_t *buffer, size_t size,

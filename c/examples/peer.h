@@ -29,7 +29,8 @@ bool pcap_close(struct pcap *pcap);
 
 enum { NET_SOCKETS = 16, NET_STREAMS = 16, NET_ALL = NET_SOCKETS + NET_STREAMS };
 
-/* A TCP connection to a TURN server, maybe with TLS over it. All zero: there is none. */
+/* A TCP connection to a TURN server, maybe with TLS over it. All zero: there is none. Its client knows it by the address `local`, also after
+ * a redirection. */
 struct stream {
     intptr_t socket;
     is_ice_address local, server;
@@ -37,6 +38,7 @@ struct stream {
     size_t in_start, in_end, out_end;
     bool is_open, is_broken;
     void *tls;            /* that of tls.h; null: none */
+    const char *tls_host; /* whom the server's certificate has to name */
     bool waits_for_input; /* what waits to be sent goes out only after something has come */
 };
 

@@ -219,23 +219,32 @@ bool net_has_tls(void)
     return tls_is_there();
 }
 
+/* Begins to connect to a server, from an IP address. Returns the socket and its address, or a negative number, with an error. */
+static intptr_t connect_at(const is_ice_address *ip, const is_ice_address *server, is_ice_address *local)
+{
+    struct sockaddr_storage name;
+    socklen_t size = is_ice_to_sockaddr(server, &name);
+    is_ice_address own = *ip;
+    own.port = 0;
+    intptr_t socket = open_at(&own, SOCK_STREAM, local);
+    if (socket < 0 || connect(socket, (struct sockaddr *)&name, size) == 0 || socket_waits()) return socket;
+    socket_close(socket);
+    return -1;
+}
+
 struct stream *net_connect(struct net *net, const is_ice_address *local, const is_ice_address *server, const char *tls_host)
 {
     struct stream *stream = net->streams;
-    struct sockaddr_storage name;
-    socklen_t size = is_ice_to_sockaddr(server, &name);
-    is_ice_address own = *local;
     while (stream < net->streams + NET_STREAMS && stream->is_open) stream++;
     if (stream == net->streams + NET_STREAMS) return NULL;
-    own.port = 0;
     memset(stream, 0, sizeof *stream);
-    stream->socket = open_at(&own, SOCK_STREAM, &stream->local);
+    stream->socket = connect_at(local, server, &stream->local);
     if (stream->socket < 0) return NULL;
     stream->is_open = true;
     stream->server = *server;
     stream->in = (uint8_t *)malloc(STREAM_ROOM), stream->out = (uint8_t *)malloc(STREAM_ROOM);
-    bool ok = stream->in && stream->out && (connect(stream->socket, (struct sockaddr *)&name, size) == 0 || socket_waits());
-    if (ok && (!tls_host || tls_begin(stream, tls_host))) return stream;
+    stream->tls_host = tls_host;
+    if (stream->in && stream->out && (!tls_host || tls_begin(stream, tls_host))) return stream;
     net_disconnect(stream);
     return NULL;
 }
@@ -260,13 +269,33 @@ static void flush(struct stream *stream)
     memmove(stream->out, stream->out + sent, stream->out_end);
 }
 
+/* After a redirection (RFC 8489, section 10) the client goes on at another server: over a connection to that one, which it knows by the
+ * address of the one before. */
+static void follow(struct stream *stream, const is_ice_address *server)
+{
+    is_ice_address local;
+    intptr_t socket = connect_at(&stream->local, server, &local);
+    if (socket < 0) {
+        stream->is_broken = true;
+        return;
+    }
+    if (stream->tls) tls_end(stream);
+    socket_close(stream->socket);
+    stream->socket = socket;
+    stream->server = *server;
+    stream->in_start = stream->in_end = stream->out_end = 0;
+    stream->waits_for_input = false;
+    if (stream->tls_host && !tls_begin(stream, stream->tls_host)) stream->is_broken = true;
+}
+
 bool net_send_packet(struct net *net, const is_ice_packet *packet, const void *bytes)
 {
     if (packet->protocol == IS_ICE_UDP) return net_send(net, &packet->source, &packet->destination, bytes, packet->length);
     struct stream *stream = net->streams, *end = net->streams ? net->streams + NET_STREAMS : NULL;
     while (stream < end && !(stream->is_open && is_ice_same_address(&stream->local, &packet->source))) stream++;
     if (stream == end || stream->out_end + packet->length > STREAM_ROOM) return net->lost++, false; /* as a full buffer over UDP */
-    if (!is_ice_same_address(&stream->server, &packet->destination)) return stream->is_broken = true, false; /* another server */
+    if (!is_ice_same_address(&stream->server, &packet->destination)) follow(stream, &packet->destination);
+    if (stream->is_broken) return net->lost++, false;
     memcpy(stream->out + stream->out_end, bytes, packet->length);
     stream->out_end += packet->length;
     flush(stream);

@@ -5,7 +5,7 @@ import os from "node:os";
 import { addressText } from "./address.js";
 import { IceError } from "./errors.js";
 import { IceGatherer } from "./gatherer.js";
-import { addressesOf, connected, localOf, remoteOf } from "./reaching.js";
+import { addressesOf, connected, localOf, remoteOf, serverName } from "./reaching.js";
 import { Frames } from "./servers.js";
 import { isStun } from "./stun.js";
 import { isHostAddress } from "./timing.js";
@@ -48,7 +48,7 @@ export class IceLoop extends EventEmitter {
   #gatherer;
   #tls; // options of tls.connect
   #sockets = new Map();
-  #streams = new Map(); // the connections to servers
+  #streams = new Map(); // the connections to servers, with the addresses that their clients know them by
   #reaching = new Set();
   #start = performance.now();
   #timer = null;
@@ -112,8 +112,8 @@ export class IceLoop extends EventEmitter {
       this.#sockets.delete(name);
       socket.close();
     }
-    for (const stream of [...this.#streams.values()].filter(({ localAddress }) => localAddress === address)) {
-      this.#lose(localOf(stream));
+    for (const { stream, local } of [...this.#streams.values()].filter((it) => it.local.address === address)) {
+      this.#lose(local);
       stream.destroy();
     }
     this.#turn();
@@ -152,10 +152,22 @@ export class IceLoop extends EventEmitter {
 
   /** Sends a packet as it goes out: a datagram, or into the connection that it comes from. */
   #transmit({ protocol, source, destination, contents }) {
-    const socket = (protocol === "udp" ? this.#sockets : this.#streams).get(addressText(source));
-    if (protocol !== "udp") socket?.write(contents);
-    else socket?.send(contents, destination.port, destination.address, (error) => error && this.#failed(error, source, destination));
+    if (protocol !== "udp") return this.#write(source, destination, contents);
+    const socket = this.#sockets.get(addressText(source));
+    socket?.send(contents, destination.port, destination.address, (error) => error && this.#failed(error, source, destination));
     return socket !== undefined;
+  }
+
+  /**
+   * Puts a packet into its connection. If it is for another server, the client was redirected (RFC 8489, section 10), and goes on over a
+   * connection to that one.
+   */
+  #write(local, destination, contents) {
+    const one = this.#streams.get(addressText(local));
+    if (!one) return false;
+    if (addressText(remoteOf(one.stream)) === addressText(destination)) one.stream.write(contents);
+    else this.#follow(one, destination, contents);
+    return true;
   }
 
   /** The system did not send a datagram: it is lost, as in the network, and the agent lists it. */
@@ -198,28 +210,48 @@ export class IceLoop extends EventEmitter {
   }
 
   async #reached(server) {
-    if (server.protocol !== "udp") return this.#connected(server, await connected(server, this.#tls));
+    if (server.protocol !== "udp") {
+      const stream = await connected(server, this.#tls), local = localOf(stream);
+      if (this.#connected(server, stream, local)) this.#gatherer.addConnection(this.now(), server, local, remoteOf(stream));
+      return;
+    }
     const all = await addressesOf(server.host);
     for (const ip of this.#closed ? [] : all) this.#gatherer.addServer(this.now(), server, ip);
   }
 
-  #connected(server, stream) {
-    const local = localOf(stream), remote = remoteOf(stream), frames = new Frames();
+  /** Reads from a connection, which its client knows by the address `local`. Returns false if the loop was closed meanwhile. */
+  #connected(server, stream, local) {
+    const remote = remoteOf(stream), frames = new Frames();
     stream.on("error", () => {}); // "close" follows
-    if (this.#closed) return void stream.destroy();
-    this.#streams.set(addressText(local), stream);
+    if (this.#closed) return stream.destroy(), false;
+    this.#streams.set(addressText(local), { stream, server, local });
     stream.on("data", (chunk) => {
       const found = this.#made(() => frames.take(chunk));
       if (found === false) stream.destroy(); // these are no frames
       else for (const frame of found) this.#receive(remote, local, Buffer.from(frame.buffer), "tcp");
     });
     stream.on("close", () => {
-      if (this.#closed || !this.#streams.has(addressText(local))) return;
+      if (this.#closed || this.#streams.get(addressText(local))?.stream !== stream) return;
       this.#lose(local);
       this.#turn();
       setTimeout(() => !this.#closed && this.#reach(), RECONNECT).unref();
     });
-    this.#gatherer.addConnection(this.now(), server, local, remote);
+    return true;
+  }
+
+  /** Connects to the server that another one named, over TLS with the certificate of the first one's host. Without it the client ends. */
+  #follow({ stream: before, server, local }, { address: host, port }, contents) {
+    this.#streams.delete(addressText(local));
+    before.destroy();
+    connected({ ...server, host, port }, { ...serverName(server.host), ...this.#tls }).then(
+      (stream) => this.#connected(server, stream, local) && stream.write(contents),
+      (error) => {
+        if (this.#closed) return;
+        this.emit("serverUnreached", error, server);
+        this.#lose(local);
+        this.#turn();
+      },
+    );
   }
 
   #lose(local) {
@@ -246,7 +278,7 @@ export class IceLoop extends EventEmitter {
     clearTimeout(this.#timer);
     clearTimeout(this.#clientsTimer);
     for (const socket of this.#sockets.values()) socket.close();
-    for (const stream of this.#streams.values()) stream.end();
+    for (const { stream } of this.#streams.values()) stream.end();
     this.#sockets.clear();
     this.#streams.clear();
     this.#gatherer.clients?.free();

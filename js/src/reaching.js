@@ -11,10 +11,13 @@ export async function addressesOf(host) {
   return [4, 6].flatMap((family) => all.find((it) => it.family === family)?.address ?? []);
 }
 
+/** Whom the certificate of a server is for, as an option of tls.connect. */
+export const serverName = (host) => ({ servername: net.isIP(host) ? "" : host });
+
 /** Opens a connection over TCP or TLS: with TLS the certificate is one for the host. `options` are those of tls.connect. */
 export function connected({ protocol, host, port }, options) {
-  const isSecure = protocol === "tls", servername = net.isIP(host) ? "" : host;
-  const stream = isSecure ? tls.connect({ servername, ...options, host, port }) : net.connect({ host, port });
+  const isSecure = protocol === "tls";
+  const stream = isSecure ? tls.connect({ ...serverName(host), ...options, host, port }) : net.connect({ host, port });
   stream.setNoDelay(true);
   return new Promise((resolve, reject) => {
     const timer = setTimeout(() => stream.destroy(new Error("the server does not answer")), PATIENCE);

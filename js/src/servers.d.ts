@@ -98,7 +98,11 @@ export class Servers {
   handleTimeout(now: number, seed?: Bytes): void;
   /** Returns when to call `handleTimeout` next, or null. It changes nothing. */
   pollTimeout(): number | null;
-  /** Returns the next packet for a server, or null. One over `tcp` goes into the stream of the connection that is its source. */
+  /**
+   * Returns the next packet for a server, or null. One over `tcp` goes into the stream of the connection that is its source. If its
+   * destination is another server, the client was redirected (RFC 8489, section 10): open a connection to that one for it, and close the
+   * other. In all calls and events the address of the first one stands for it.
+   */
   pollTransmit(): Transmit | null;
   /** Returns the next event, or null. */
   pollEvent(): ServerEvent | null;

@@ -13,6 +13,7 @@ from typing import Any, TypeVar, Union
 
 from .address import Protocol, SocketAddress
 from .errors import IceError, MessageTooLong, Unparsed
+from .events import Transmit
 from .gatherer import GatheringComplete, GatheringEvent, IceGatherer, LocalCandidate, Server
 from .servers import Datagram, EndedWhy, Scheme, ServerEnded, ServerNotPermitted, ServerUrl, frame_length
 
@@ -68,10 +69,12 @@ LoopEvent = Union[GatheringEvent, ServerUnreachable]
 
 
 class _Stream(asyncio.Protocol):
-    """A connection to a TURN server: cuts what arrives into frames."""
+    """A connection to the TURN server of a URL: cuts what arrives into frames. Its client knows it as `local`: by its own address, or after
+    a redirection by that of the connection before."""
 
-    def __init__(self, take: Callable[[_Stream, bytes], None], lost: Callable[[_Stream], None]) -> None:
-        self._take, self._lost = take, lost
+    def __init__(self, url: ServerUrl, local: SocketAddress | None, take: Callable[[_Stream, bytes], None],
+                 lost: Callable[[_Stream], None]) -> None:
+        self.url, self._known_as, self._take, self._lost = url, local, take, lost
         self._kept = bytearray()
         self.local = self.remote = SocketAddress("", 0)
         self.transport: Any = None
@@ -79,7 +82,7 @@ class _Stream(asyncio.Protocol):
     def connection_made(self, transport: Any) -> None:
         """Keeps the addresses of both ends."""
         self.transport = transport
-        self.local = SocketAddress(*transport.get_extra_info("sockname"))
+        self.local = self._known_as or SocketAddress(*transport.get_extra_info("sockname"))
         self.remote = SocketAddress(*transport.get_extra_info("peername"))
 
     def data_received(self, data: bytes) -> None:
@@ -116,6 +119,7 @@ class ServerLoop:
         self._gatherer, self._now, self._send, self._take = gatherer, now, send, take
         self._report, self._changed, self._tls = report, changed, tls
         self._streams: dict[SocketAddress, _Stream] = {}
+        self._following: set[asyncio.Task[None]] = set()  # connections to servers that others named
         self._reaching: asyncio.Task[None] | None = None
         self._complete: asyncio.Future[None] | None = None
         self._timer: asyncio.TimerHandle | None = None
@@ -154,7 +158,7 @@ class ServerLoop:
         try:
             ips = await asyncio.wait_for(_resolved(server.url), _RESOLVING)
         except (OSError, UnicodeError, asyncio.TimeoutError) as error:
-            self._cannot_reach(server, f"the name is not resolved: {error or type(error).__name__}")
+            self._cannot_reach(server.url, f"the name is not resolved: {error or type(error).__name__}")
             ips = []
         try:
             if server.url.protocol is Protocol.UDP:
@@ -163,7 +167,7 @@ class ServerLoop:
             else:
                 await all_of(*(self._connect(server, base, ip) for base in self._bases() for ip in ips if (":" in base) == (":" in ip)))
         except IceError as error:  # as a username that is too long
-            self._cannot_reach(server, str(error))
+            self._cannot_reach(server.url, str(error))
         self._gatherer.reached(server)
         self.turn()
 
@@ -173,19 +177,24 @@ class ServerLoop:
     async def _connect(self, server: Server, base: str, ip: str) -> None:
         if any(stream.local.ip == base and stream.remote[:2] == (ip, server.url.port) for stream in self._streams.values()):
             return
+        if stream := await self._opened(server.url, base, (ip, server.url.port), None):
+            self._gatherer.add_connection(self._now(), server, stream.local, stream.remote)
+            self.turn()
+
+    async def _opened(self, url: ServerUrl, base: str, remote: ServerAddress, known_as: SocketAddress | None) -> _Stream | None:
+        """Opens a connection from a socket's address. None: there is none, or nobody needs it any more."""
         try:
             connecting = asyncio.get_running_loop().create_connection(
-                lambda: _Stream(self._framed, self._lost), ip, server.url.port, local_addr=(base, 0), **self._security(server.url))
+                lambda: _Stream(url, known_as, self._framed, self._lost), *remote, local_addr=(base, 0), **self._security(url))
             _, stream = await asyncio.wait_for(connecting, _RESOLVING)
         except (OSError, asyncio.TimeoutError, ssl.CertificateError) as error:
-            self._cannot_reach(server, f"no connection from {base}: {error or type(error).__name__}")
-            return
-        if self._over or stream.transport.is_closing():
+            self._cannot_reach(url, f"no connection from {base} to {remote[0]}: {error or type(error).__name__}")
+            return None
+        if self._over or stream.transport.is_closing() or base not in self._bases():
             stream.transport.abort()
-            return
+            return None
         self._streams[stream.local] = stream
-        self._gatherer.add_connection(self._now(), server, stream.local, stream.remote)
-        self.turn()
+        return stream
 
     def _security(self, url: ServerUrl) -> dict[str, Any]:
         if url.protocol is not Protocol.TLS:
@@ -193,8 +202,8 @@ class ServerLoop:
         self._tls = self._tls or ssl.create_default_context()
         return {"ssl": self._tls, "server_hostname": url.host}
 
-    def _cannot_reach(self, server: Server, why: str) -> None:
-        self._tell(ServerUnreachable(server.url, why))
+    def _cannot_reach(self, url: ServerUrl, why: str) -> None:
+        self._tell(ServerUnreachable(url, why))
 
     # ---- packets
 
@@ -243,8 +252,7 @@ class ServerLoop:
         gatherer.handle_servers_timeout(self._now())
         while packet := gatherer.clients.poll_transmit():
             if packet.protocol is not Protocol.UDP:
-                if stream := self._streams.get(packet.source):
-                    stream.send(packet.contents, is_media=False)
+                self._send_over(packet)
                 continue
             with contextlib.suppress(OSError):  # lost, as on the network: the client repeats it
                 self._send(packet.source, packet.destination, packet.contents)
@@ -256,6 +264,27 @@ class ServerLoop:
             self._changed()
         self._set_timer()
         self._end_if_over()
+
+    def _send_over(self, packet: Transmit) -> None:
+        """Puts a packet of a client into its connection. If it is for another server, the client was redirected (RFC 8489, section 10), and
+        goes on over a connection to that one."""
+        stream = self._streams.get(packet.source)
+        if stream and stream.remote[:2] == packet.destination[:2]:
+            stream.send(packet.contents, is_media=False)
+        elif stream:
+            del self._streams[stream.local]
+            stream.transport.close()
+            task = asyncio.ensure_future(self._follow(stream.url, packet))
+            self._following.add(task)
+            task.add_done_callback(self._following.discard)
+
+    async def _follow(self, url: ServerUrl, packet: Transmit) -> None:
+        """Connects to the server that a packet is for, over TLS with the certificate of the URL's host. Without it the client ends."""
+        if stream := await self._opened(url, packet.source.ip, packet.destination[:2], packet.source):
+            stream.send(packet.contents, is_media=False)
+        else:
+            self._gatherer.lose_connection(self._now(), packet.source)
+            self.turn()
 
     def _tell(self, event: LoopEvent) -> None:
         has_ended = isinstance(event, ServerEnded) and event.why is not EndedWhy.CLOSED
@@ -297,8 +326,8 @@ class ServerLoop:
         if self._over:
             return
         self._when_over = when_over
-        if self._reaching:
-            self._reaching.cancel()
+        for task in {task for task in (self._reaching, *self._following) if task}:
+            task.cancel()
         if self._complete and not self._complete.done():
             self._complete.set_result(None)
         try:
@@ -314,7 +343,7 @@ class ServerLoop:
 
     async def wait_closed(self) -> None:
         """Waits, after `close`, until the servers have freed the allocations, for a second at most."""
-        tasks = {task for task in (self._over, self._reaching) if task}
+        tasks = {task for task in (self._over, self._reaching, *self._following) if task}
         if tasks:
             await asyncio.wait(tasks)
 

@@ -264,7 +264,11 @@ class Servers(Unique):
         return self._calls.poll_timeout()
 
     def poll_transmit(self) -> Transmit | None:
-        """Returns the next packet of a client, or None. One over TCP goes into the stream of the connection that is its source."""
+        """Returns the next packet of a client, or None. One over TCP goes into the stream of the connection that is its source.
+
+        If its destination is another server, the client was redirected (RFC 8489, section 10): open a connection to that one for it, and
+        close the other. In all calls and events the address of the first one stands for it.
+        """
         packet = _abi.Packet()
         if not done(self._c.is_ice_servers_poll_transmit(self._at, self._buffer, self._size, byref(packet))):
             return None

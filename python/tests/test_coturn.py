@@ -20,7 +20,7 @@ from is_ice import SocketAddress
 from is_ice.connection import Connection, TransportPolicy
 from is_ice.gather import LoopEvent
 from is_ice.stun import StunClass, StunMessage, StunMethod, StunText, write_message
-from pairs import NOBODY, PATIENCE, close, join, talk, until, within
+from pairs import NOBODY, PATIENCE, add_candidates, close, gather, join, talk, until, within
 
 UDP = 17
 KEY = hashlib.md5(b"user:example.org:secret").digest()  # RFC 8489, section 9.2.2
@@ -205,8 +205,21 @@ class Connections(unittest.IsolatedAsyncioTestCase):
             a, b = await self.joined(*servers)
             await close(a, b)
 
-    @unittest.skipUnless(shutil.which("openssl"), "openssl is not installed")
-    async def test_over_tls(self) -> None:
+    async def test_a_redirection(self) -> None:
+        """The server that a 300 names has the allocation: the one before may end."""
+        for transport in ("udp", "tcp"):
+            other = await self.server()
+            first = await self.server("127.0.0.1", "--alternate-server", f"127.0.0.1:{other.address[1]}")
+            a, b = self.side(True, first.url("turn", transport)), self.side(False, other.url("turn", transport))
+            await gather(a, b)
+            first.stop()
+            await add_candidates(a, b)
+            await within(asyncio.gather(a.connect(), b.connect()), 10)
+            await talk(a, b)
+            await close(a, b)
+
+    def certificate(self) -> tuple[str, str]:
+        """The files of a new certificate, and of it with its key."""
         folder = self.enterContext(tempfile.TemporaryDirectory())
         subprocess.run(["openssl", "req", "-x509", "-newkey", "rsa:2048", "-nodes", "-subj", "/CN=test", "-addext",
                         "subjectAltName=IP:127.0.0.1", "-keyout", f"{folder}/key", "-out", f"{folder}/certificate"],
@@ -215,8 +228,27 @@ class Connections(unittest.IsolatedAsyncioTestCase):
             for name in ("certificate", "key"):
                 with open(f"{folder}/{name}") as part:
                     both.write(part.read())
-        server = await self.server(certificate=f"{folder}/both")
-        a, b = await self.joined(server.url("turns", "tcp"), tls=ssl.create_default_context(cafile=f"{folder}/certificate"))
+        return f"{folder}/certificate", f"{folder}/both"
+
+    @unittest.skipUnless(shutil.which("openssl"), "openssl is not installed")
+    async def test_a_redirection_over_tls(self) -> None:
+        certificate, both = self.certificate()
+        other = await self.server(certificate=both)
+        first = await self.server("127.0.0.1", "--tls-alternate-server", f"127.0.0.1:{other.tls_port}", certificate=both)
+        tls = ssl.create_default_context(cafile=certificate)
+        a, b = self.side(True, first.url("turns", "tcp"), tls=tls), self.side(False, other.url("turns", "tcp"), tls=tls)
+        await gather(a, b)
+        first.stop()
+        await add_candidates(a, b)
+        await within(asyncio.gather(a.connect(), b.connect()), 10)
+        await talk(a, b)
+        await close(a, b)
+
+    @unittest.skipUnless(shutil.which("openssl"), "openssl is not installed")
+    async def test_over_tls(self) -> None:
+        certificate, both = self.certificate()
+        server = await self.server(certificate=both)
+        a, b = await self.joined(server.url("turns", "tcp"), tls=ssl.create_default_context(cafile=certificate))
         await close(a, b)
         c = self.side(True, server.url("turns", "tcp"))  # who does not trust the certificate
         with self.assertLogs("is_ice", "WARNING") as lines:

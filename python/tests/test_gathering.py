@@ -19,7 +19,7 @@ from is_ice.loop import IceLoop
 from pairs import NOBODY, PATIENCE, agent, close, gather, join, other_tasks, talk, until, within
 from simulated import run
 from test_stun import SEEN, StunServer
-from turn_server import PASSWORD, USER, TurnServer
+from turn_server import PASSWORD, USER, TcpTurnServer, TurnServer
 
 RELAY = TransportPolicy.RELAY
 
@@ -197,6 +197,35 @@ class FromTurnServers(unittest.IsolatedAsyncioTestCase):
             loop.close()
             await loop.wait_closed()
             listening.close()
+
+    async def test_a_redirection_over_tcp(self) -> None:
+        """A 300 names another server: the client goes on there, over another connection (RFC 8489, section 10)."""
+        other = TcpTurnServer()
+        first = TcpTurnServer(alternate=await other.start())
+        host, port = await first.start()
+        server = {"urls": f"turn:{host}:{port}?transport=tcp", "username": USER, "credential": PASSWORD}
+        a, b = agent(True, servers=[server], transport_policy=RELAY), agent(False)
+        await join(a, b)
+        await talk(a, b)
+        self.assertEqual((first.frames, len(other.strict.allocations), len(first.strict.allocations)), (1, 1, 0))
+        await close(a, b)
+        self.assertEqual((other.strict.freed, other.strict.dropped), (1, []))
+        first.close()
+        other.close()
+
+    async def test_a_redirection_over_tcp_to_nobody(self) -> None:
+        """The client fails as soon as there is no connection."""
+        first = TcpTurnServer(alternate=("127.0.0.1", 9))
+        host, port = await first.start()
+        told: list[Any] = []
+        loop = IceLoop(IceAgent(), print, print, servers=[{"urls": f"turn:{host}:{port}?transport=tcp", "username": "u"}],
+                       on_gathering=told.append)
+        await loop.bind("127.0.0.1")
+        await within(loop.gather(), 2)
+        self.assertEqual([type(event) for event in told], [ServerUnreachable, ServerEnded, GatheringComplete])
+        loop.close()
+        await loop.wait_closed()
+        first.close()
 
 
 class ForLong(unittest.TestCase):

@@ -7,6 +7,7 @@ credentials of `USER`.
 from __future__ import annotations
 
 import asyncio
+import contextlib
 import hashlib
 import hmac
 import os
@@ -27,7 +28,7 @@ _MAGIC = b"\x21\x12\xa4\x42"
 BINDING, ALLOCATE, REFRESH, SEND, DATA, PERMIT, BIND = 1, 3, 4, 6, 7, 8, 9
 _REQUEST, _INDICATION, _SUCCESS, _FAILURE = 0x000, 0x010, 0x100, 0x110
 _INTEGRITY, _ERROR, _NUMBER, _LIFETIME, _PEER, _DATA, _REALM, _NONCE = 0x8, 0x9, 0xC, 0xD, 0x12, 0x13, 0x14, 0x15
-_RELAYED, _FAMILY, _TRANSPORT, _MAPPED, _FINGERPRINT = 0x16, 0x17, 0x19, 0x20, 0x8028
+_RELAYED, _FAMILY, _TRANSPORT, _MAPPED, _ALTERNATE, _FINGERPRINT = 0x16, 0x17, 0x19, 0x20, 0x8023, 0x8028
 
 
 def _xored(ip: bytes, transaction: bytes) -> bytes:
@@ -269,3 +270,55 @@ class TurnServer(asyncio.DatagramProtocol):
         for relay in self._relays.values():
             relay.transport.close()
         self.transport.close()
+
+
+class TcpTurnServer(TurnServer):
+    """The server over TCP on loopback. With `alternate` it redirects each client to that address, by a 300 that nobody signed."""
+
+    def __init__(self, alternate: Address | None = None, **more: Any) -> None:
+        super().__init__(**more)
+        self.frames = 0
+        self._alternate = alternate
+        self._clients: dict[Address, asyncio.StreamWriter] = {}
+        self._listening: Any = None
+
+    async def start(self) -> Address:
+        """Listens, and returns its address."""
+        self.transport = self
+        self._listening = await asyncio.start_server(self._serve, "127.0.0.1", 0)
+        host, port = self._listening.sockets[0].getsockname()
+        return host, port
+
+    async def _serve(self, reader: asyncio.StreamReader, writer: asyncio.StreamWriter) -> None:
+        client = writer.get_extra_info("peername")[:2]
+        self._clients[client] = writer
+        with contextlib.suppress(asyncio.IncompleteReadError, ConnectionError):
+            while True:
+                head = await reader.readexactly(4)
+                length = int.from_bytes(head[2:], "big")
+                rest = await reader.readexactly(16 + length if head[0] < 4 else (length + 3) // 4 * 4)
+                self.frames += 1
+                self.datagram_received(head + rest, client)
+        self._clients.pop(client).close()
+
+    def datagram_received(self, data: bytes, addr: tuple[str, int]) -> None:
+        """Takes a frame."""
+        if self._alternate:
+            host, port = self._alternate
+            value = struct.pack("!BBH", 0, 1, port) + ip_address(host).packed
+            self.sendto(_written(ALLOCATE | _FAILURE, data[8:20], [(_ERROR, bytes([0, 0, 3, 0])), (_ALTERNATE, value)], None), addr)
+        else:
+            super().datagram_received(data, addr)
+
+    def sendto(self, data: bytes, client: Address) -> None:
+        """Writes a frame, with padding."""
+        if writer := self._clients.get(client):
+            writer.write(data + bytes(-len(data) % 4))
+
+    def close(self) -> None:
+        """Ends the connections too."""
+        for relay in self._relays.values():
+            relay.transport.close()
+        for writer in self._clients.values():
+            writer.close()
+        self._listening.close()

@@ -26,6 +26,7 @@ pub mod Grammar
 pub mod Retransmits
 pub mod FromFields
 pub mod Roles
+pub mod LogTexts
 pub mod LogLines
 pub mod Unserved
 pub mod ServersHandles

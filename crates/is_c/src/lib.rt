@@ -21,6 +21,7 @@ mod home;
 mod infos;
 mod lines;
 mod log_lines;
+mod log_texts;
 mod making;
 mod mdns;
 mod monitoring;
@@ -64,6 +65,3 @@ pub use slot::Slot;
 pub use stun_client::{Response, Transaction};
 pub use stun_message::{Message, Number};
 pub use stun_texts::{Span, Texts};
-
-#[cfg(test)]
-mod tests;

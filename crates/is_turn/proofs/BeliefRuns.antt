@@ -33,11 +33,11 @@ use Rattle.is_turn.specs.Relaying.{kept_leases, routed, step_at, lease_due, adva
 use Rattle.is_turn.specs.Session.{new_session, is_ready, is_redirected, has_failed, lease_failed, step_of, with_renewal, lifetime_of}
 use Rattle.is_turn.specs.Turn.{OutcomeApplies, Follows, challenge_taken, with_doubt, with_hint, with_another, after_step, after_event, key_now}
 use Rattle.is_turn.specs.Verdict.{code_of}
-use Rattle.is_turn.specs.Worlds.{Sent, Acceptance, World, Call, start, close, permit, send, probe, handle_timeout, poll_transmit, poll_event, receive, IsHonest, IsNew, id_of, and_sent, sent_after, Becomes, Does, Happens, IsFresh, IsRun, IsHeld, IsForAllocation, IsForLease, BeliefIsTrue, BeliefIsAlwaysTrue}
+use Rattle.is_turn.specs.Worlds.{Sent, Acceptance, World, Call, start, close, lose, permit, send, probe, handle_timeout, poll_transmit, poll_event, receive, IsHonest, IsNew, id_of, and_sent, sent_after, Becomes, Does, Happens, IsFresh, IsRun, IsHeld, IsForAllocation, IsForLease, BeliefIsTrue, BeliefIsAlwaysTrue}
 use Rattle.is_turn.proofs.Beliefs.{Log, RequestGood, LeaseGood, LeasesGood, SessionGood, session_later, leases_later, session_sent, leases_sent}
 use Rattle.is_turn.proofs.BeliefAnswers.{IsBacked, IsBackedFor, backed_with}
 use Rattle.is_turn.proofs.BeliefLeases.{good_set, good_list_cond, good_failed, good_doubted, good_hinted, good_another, good_polled, good_lasts, good_permits, good_routed, good_heard, good_advanced_in, good_kept, good_driven, good_reported}
-use Rattle.is_turn.proofs.BeliefSessions.{session_cond, session_started, session_closed, session_failed, session_probed, session_lease_failed, session_allocated, session_refreshed, session_redirected, session_doubt, session_hint, session_another, session_renewal, session_step, session_sending, session_polled, session_routed, session_reported}
+use Rattle.is_turn.proofs.BeliefSessions.{session_cond, session_started, session_closed, session_lost, session_failed, session_probed, session_lease_failed, session_allocated, session_refreshed, session_redirected, session_doubt, session_hint, session_another, session_renewal, session_step, session_sending, session_polled, session_routed, session_reported}
 
 abbrev Good : Log → Session → List Lease → Type 0
 Good log s l = SessionGood log s × LeasesGood log l
@@ -318,6 +318,9 @@ does_good (close has) mac accepted w new h does =
     let log = log_at accepted w.sent new.clock in
     becomes accepted _ _ w.sent new
     (session_closed log w.session.phase (at_time new.clock) has w.session h.0, good_kept log new.session.phase w.leases h.1) does
+does_good lose mac accepted w new h does =
+    let log = log_at accepted w.sent new.clock in
+    becomes accepted _ _ w.sent new (session_lost log w.session.phase w.session h.0, good_kept log new.session.phase w.leases h.1) does
 does_good (permit peer) mac accepted w new h does =
     let log = log_at accepted w.sent new.clock in
     becomes accepted w.session _ w.sent new (h.0, good_permits log (at_time new.clock) peer w.session w.leases h.1) does

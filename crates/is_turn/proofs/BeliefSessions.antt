@@ -20,7 +20,7 @@ use Rattle.is_turn.specs.declared.turn.Packet.TheVariants as packets
 use Rattle.is_turn.specs.Client.{at_time, time_after}
 use Rattle.is_turn.specs.Operations.{is_exhausted, sent_once_more, polled, doubted, hinted, another}
 use Rattle.is_turn.specs.Relaying.{after_route, sending_for}
-use Rattle.is_turn.specs.Session.{lifetime_of, is_new, is_ready, with_request, changed_by, request_timing, asking, turn_started, closed, lost, freed, may_be_made, unsent, left, closed_early, closed_in, extended, allocated_in, refreshed_in, renewed, is_redirected, is_gone, retried, not_renewed, failed_in, probed, lease_failed, is_renewal_due, with_renewal, sending, tried_by, repeated_by}
+use Rattle.is_turn.specs.Session.{lifetime_of, is_new, is_ready, with_request, changed_by, request_timing, without_pace, asking, turn_started, closed, lost, freed, may_be_made, unsent, left, closed_early, closed_in, lost_in, extended, allocated_in, refreshed_in, renewed, is_redirected, is_gone, retried, not_renewed, failed_in, probed, lease_failed, is_renewal_due, with_renewal, sending, tried_by, repeated_by}
 use Rattle.is_turn.specs.Turn.{after_step, packet_polled, reported_by, with_doubt, with_hint, with_another}
 use Rattle.is_turn.specs.Worlds.{Acceptance, IsNew, IsHeld, IsForAllocation, AllocationIsHeld}
 use Rattle.is_turn.proofs.Beliefs.{Log, AttemptsGood, OperationGood, SessionGood, attempts_with}
@@ -70,6 +70,14 @@ session_closed log phases.Leaving now has s h = h
 session_closed log phases.Closing now has s h = h
 session_closed log phases.Ended now has s h = h
 
+pub session_lost : (log : Log) (phase : Phase) (s : Session) → SessionGood log s → SessionGood log (lost_in phase s)
+session_lost log phases.New s h = (tt, tt)
+session_lost log phases.Asking s h = (tt, tt)
+session_lost log phases.Ready s h = (tt, tt)
+session_lost log phases.Leaving s h = (tt, tt)
+session_lost log phases.Closing s h = (tt, tt)
+session_lost log phases.Ended s h = h
+
 session_not_renewed : (log : Log) (now : Instant) (code : Option ℕ) (s : Session) → SessionGood log s → SessionGood log (not_renewed now code s)
 session_not_renewed log now code s h = session_cond log (is_gone code) (lost code None s) (retried now s) (tt, tt) (tt, h.1)
 
@@ -96,7 +104,7 @@ session_lease_failed log now code s h =
 pub session_allocated : (log : Log) (phase : Phase) (now since : Instant) (seconds : ℕ) (allocation : Allocation) (s : Session)
     → IsHeld IsForAllocation log.clock (time_after since (lifetime_of seconds)).0 log.accepted
     → SessionGood log (allocated_in phase now allocation (extended since seconds s))
-session_allocated log phases.Leaving now since seconds allocation s h = session_freed log now (extended since seconds s)
+session_allocated log phases.Leaving now since seconds allocation s h = session_freed log now (without_pace now (extended since seconds s))
 session_allocated log phases.Ready now since seconds allocation s h = (tt, h)
 session_allocated log phases.New now since seconds allocation s h = (tt, h)
 session_allocated log phases.Asking now since seconds allocation s h = (tt, h)
@@ -131,7 +139,7 @@ pub session_hint : (log : Log) (now : Instant) (code : ℕ) (s : Session) → Se
 session_hint log now code s h = session_changed log (hinted now code (request_timing s)) s.operation s (λ x k. k) h h.0
 
 pub session_another : (log : Log) (now : Instant) (b : Bool) (code : ℕ) (s : Session) → SessionGood log s → SessionGood log (with_another now b code s)
-session_another log now b code s h = session_changed log (another now b code) s.operation s (λ x k. k) h h.0
+session_another log now b code s h = session_changed log (another now b code) s.operation (without_pace now s) (λ x k. k) h h.0
 
 -- ---- the clock, packets and events
 

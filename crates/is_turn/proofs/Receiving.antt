@@ -27,7 +27,7 @@ use Rattle.is_turn.specs.LeaseResponses.{LeaseApplies, IsLeaseAnswered}
 use Rattle.is_turn.specs.Leases.{is_answered_by}
 use Rattle.is_turn.specs.Places.{at_place}
 use Rattle.is_turn.specs.Turn.{with_doubt, with_hint, with_another, challenge_taken, kept_in, OutcomeApplies}
-use Rattle.is_turn.specs.Session.{changed_by, request_timing, is_refreshed, has_failed, is_ready, with_request, probed, lease_failed}
+use Rattle.is_turn.specs.Session.{changed_by, request_timing, without_pace, is_refreshed, has_failed, is_ready, with_request, probed, lease_failed}
 use Rattle.is_turn.specs.Verdict.{code_of, is_code, is_challenge, is_malformed, verdict_with, verdict_of}
 
 -- ---- no response to an attempt
@@ -93,7 +93,7 @@ harmless now (Hinted code) realm _ s c result new c_new h step =
     believes s (with_hint now code s) new (same_changed (hinted now code (request_timing s)) s.operation s) step.1
 harmless now (Challenged b code) realm nonce s c result new c_new h step =
     either (challenge_taken realm nonce c).1 s (with_another now b code s) (with_doubt code s) new
-    (same_changed (another now b code) s.operation s) (same_changed (doubted code) s.operation s) step.1
+    (same_changed (another now b code) s.operation (without_pace now s)) (same_changed (doubted code) s.operation s) step.1
 harmless now (Allocated since seconds allocation) realm _ s c result new c_new h step = absurd h
 harmless now (Refreshed since seconds) realm _ s c result new c_new h step = absurd h
 harmless now (Lasting since) realm _ s c result new c_new h step = absurd h

@@ -34,6 +34,7 @@ renewal_of lifetime = lifetime - min (120 * SECOND) (lifetime / 2)
 abbrev pub RETRY : ℕ
 RETRY = 10 * SECOND
 
+-- between two packets, unless a response came since the first one
 abbrev pub PACE : ℕ
 PACE = 5 * MILLISECOND
 
@@ -71,7 +72,16 @@ new_session server family timing lifetime = record {
   ending = None;
 }
 
+abbrev pub earlier : Instant → Instant → Instant
+earlier a b = at_time (min a.0 b.0)
+
 -- ---- requests
+
+-- The next packet may go at once. This is for a request that a response makes due: that response has ended the request before, so no more
+-- requests are pending than before, and the server sets the pace. The limits of RFC 8489, section 6.2, are for requests that a client
+-- begins by itself.
+abbrev pub without_pace : Instant → Session → Session
+without_pace now s = record s { paced = earlier now s.paced }
 
 abbrev pub with_request : Instant → Request → Session → Session
 with_request now request s = record s { operation = Some (new_operation request now) }
@@ -184,7 +194,7 @@ with_allocation now allocation s = record s {
 }
 
 abbrev pub allocated_in : Phase → Instant → Allocation → Session → Session
-allocated_in Leaving now allocation s = freed now s
+allocated_in Leaving now allocation s = freed now (without_pace now s)
 allocated_in _ now allocation s = with_allocation now allocation s
 
 -- a success response to Allocate
@@ -202,9 +212,9 @@ refreshed_in _ since seconds s = if seconds == 0 then lost None None s else rene
 abbrev pub is_refreshed : Instant → ℕ → Session → Session
 is_refreshed since seconds s = refreshed_in s.phase since seconds s
 
--- another server is asked
+-- another server is asked, at once
 abbrev pub is_redirected : Instant → SocketAddr → Session → Session
-is_redirected now server s = with_request now (allocate s) (record s { server = server; tried = and_tried server s.tried })
+is_redirected now server s = with_request now (allocate s) (record (without_pace now s) { server = server; tried = and_tried server s.tried })
 
 -- 437 and 441 say that there is no allocation of ours (RFC 8656, section 5)
 abbrev pub is_gone : Option ℕ → Bool
@@ -326,9 +336,6 @@ abbrev pub lapsed : Session → Session
 lapsed s = lost None s.doubt s
 
 -- ---- when something is due
-
-abbrev pub earlier : Instant → Instant → Instant
-earlier a b = at_time (min a.0 b.0)
 
 abbrev pub paced_at : Instant → Instant → Instant
 paced_at due paced = at_time (max due.0 paced.0)

@@ -32,7 +32,7 @@ use Rattle.is_turn.specs.Credentials.{Credentials, credentials_of, challenged, f
 use Rattle.is_turn.specs.Operations.{polled, hinted, doubted, another}
 use Rattle.is_turn.specs.Receipts.{Receipt, own, dropped}
 use Rattle.is_turn.specs.Requests.{type_of, signer_of, key_of, request_rows}
-use Rattle.is_turn.specs.Session.{changed_by, is_allocated, is_refreshed, is_redirected, has_failed, request_timing, tried_with, repeated_at, kept_alive, lapsed}
+use Rattle.is_turn.specs.Session.{changed_by, is_allocated, is_refreshed, is_redirected, has_failed, request_timing, without_pace, tried_with, repeated_at, kept_alive, lapsed}
 use Rattle.is_turn.specs.Tried.{HasTried, is_full}
 
 -- ---- credentials
@@ -156,8 +156,9 @@ with_doubt code s = changed_by (doubted code) s.operation s
 abbrev pub with_hint : Instant → ℕ → Session → Session
 with_hint now code s = changed_by (hinted now code (request_timing s)) s.operation s
 
+-- another attempt goes at once
 abbrev pub with_another : Instant → Bool → ℕ → Session → Session
-with_another now is_signed code s = changed_by (another now is_signed code) s.operation s
+with_another now is_signed code s = changed_by (another now is_signed code) s.operation (without_pace now s)
 
 -- a server that was asked before, or a fourth redirection, is an error 300
 abbrev pub IsFollowed : SocketAddr → Session → Type 0

@@ -30,7 +30,7 @@ use Rattle.is_turn.specs.Places.{at_place}
 use Rattle.is_turn.specs.Receipts.{Receipt}
 use Rattle.is_turn.specs.Receiving.{IsReceived}
 use Rattle.is_turn.specs.Relaying.{kept_leases, permits_peer, routed, after_route, TimesOut, client_packet, after_poll, leases_after_poll, session_after_event, leases_after_event}
-use Rattle.is_turn.specs.Session.{new_session, turn_started, turn_closed, probed}
+use Rattle.is_turn.specs.Session.{new_session, turn_started, turn_closed, turn_lost, probed}
 use Rattle.is_turn.specs.Turn.{key_now}
 use Rattle.is_turn.specs.Verdict.{IsSignedFor, code_of}
 
@@ -130,6 +130,7 @@ sent_after (Err e) packet now sent = sent
 pub data Call : Type 0 where
   start : Call
   close : Bool → Call
+  lose : Call
   permit : SocketAddr → Call
   send : SocketAddr → Bool → Call
   probe : Call
@@ -146,6 +147,7 @@ abbrev pub Does : Call → (List ℕ → List ℕ → List ℕ) → List Accepta
 Does start mac accepted now w new = Becomes (turn_started (at_time now) w.session) w.leases w.sent new
 Does (close has_credentials) mac accepted now w new =
     Becomes (turn_closed (at_time now) has_credentials w.session) (kept_leases new.session w.leases) w.sent new
+Does lose mac accepted now w new = Becomes (turn_lost w.session) (kept_leases new.session w.leases) w.sent new
 Does (permit peer) mac accepted now w new = Becomes w.session (permits_peer (at_time now) peer w.session w.leases).0 w.sent new
 Does (send peer media) mac accepted now w new =
     Becomes (after_route (routed (at_time now) peer media w.session w.leases).1 (at_time now) w.session)

@@ -39,6 +39,7 @@ impl Session {
     {
         self.extend(since, seconds);
         if self.phase == Phase::Leaving {
+            self.end_pace(now);
             self.free(now);
         } else {
             self.phase = Phase::Ready;
@@ -77,6 +78,7 @@ impl Session {
     {
         self.server = server;
         self.tried = self.tried.and(server);
+        self.end_pace(now);
         self.ask(now);
     }
 

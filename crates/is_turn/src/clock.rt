@@ -2,7 +2,7 @@
 
 ghost use Rattle.std.specs.Prelude.{◌≡◌};
 ghost use Rattle.is_turn.specs.Session.{with_renewal, due_of, keep_alive_due, step_of, tried_with, repeated_at, sending, kept_alive, lapsed};
-ghost use Rattle.is_turn.specs.Session.{next_turn_time, with_end, paced_at, earlier};
+ghost use Rattle.is_turn.specs.Session.{next_turn_time, with_end, paced_at, earlier, without_pace};
 
 use crate::attempts::Attempt;
 use crate::operation::Operation;
@@ -11,7 +11,7 @@ use crate::session::{Ending, Phase, Session, Step, Why};
 use is_proto::{Duration, Instant};
 use is_stun::stun::TransId;
 
-/// Between two packets of a client (RFC 8445, section 14.2).
+/// Between two packets of a client (RFC 8445, section 14.2), unless a response came since the first one.
 const PACE: Duration = Duration(5_000_000);
 
 impl Session {
@@ -103,12 +103,19 @@ impl Session {
         }
     }
 
-    /// A packet is to be polled: the next one follows 5 ms later at the earliest, and a keep-alive after the usual time.
+    /// A packet is to be polled: the next one follows 5 ms later at the earliest, or after a response, and a keep-alive after the usual time.
     pub(crate) fn is_sending(&mut self, now: Instant)
         ensures { self.new ≡ sending now self.old }
     {
         self.paced = now + PACE;
         self.quiet = now + self.timing.keep_alive;
+    }
+
+    /// A response makes another request due: its packet may go at once.
+    pub(crate) fn end_pace(&mut self, now: Instant)
+        ensures { self.new ≡ without_pace now self.old }
+    {
+        self.paced = earlier(now, self.paced);
     }
 
     /// A keep-alive with this ID.

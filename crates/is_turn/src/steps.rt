@@ -55,10 +55,11 @@ impl Session {
         }
     }
 
-    /// Another attempt: a challenge was taken.
+    /// Another attempt, at once: a challenge was taken.
     pub(crate) fn try_again(&mut self, now: Instant, is_signed: bool, code: u16)
         ensures { self.new ≡ with_another now is_signed code self.old }
     {
+        self.end_pace(now);
         if let Some(operation) = self.operation {
             self.operation = Some(operation.another(now, is_signed, code));
         }

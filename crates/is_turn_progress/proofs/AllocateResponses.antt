@@ -22,6 +22,7 @@ use Rattle.is_turn.specs.Operations.{another, takes_challenge}
 use Rattle.is_turn.specs.Outcome.{answered_in, key_in, is_last_sent, is_unknown, code_or_success, on_challenge, on_code, on_success, relays, lasts, outcome_by, outcome_or}
 use Rattle.is_turn.specs.Receipts.{Receipt}
 use Rattle.is_turn.specs.Receiving.{IsAnswered}
+use Rattle.is_turn.specs.Session.{without_pace}
 use Rattle.is_turn.specs.Turn.{challenge_taken, IsChallengedBy, OutcomeApplies}
 use Rattle.is_turn.specs.Verdict.{IsSignedFor, code_of, verdict_of}
 use Rattle.is_turn_progress.specs.Reaching.{IsFirstChallenge, IsAllocateSuccess}
@@ -71,7 +72,7 @@ taken k realm nonce password short also knows =
 pub challenge_applies : (mac : List ℕ → List ℕ → List ℕ) (now : Instant) (m : Message) (alternate : Option SocketAddr) (b : Session) (o : Operation)
     (a : Attempt) (k : Credentials) (password : List ℕ) (result : Receipt) (new : Session) (c_new : Option Credentials) → IsLast o a
     → k.password ≡ Some password → a.key ≡ None → (h : IsFirstChallenge m a.id.0) → IsAnswered mac now m alternate (asks b o) (Some k) result new c_new
-    → (new ≡ asks b (another now false 401 o)) × (c_new ≡ Some (with_key k h.realm h.nonce password))
+    → (new ≡ asks (without_pace now b) (another now false 401 o)) × (c_new ≡ Some (with_key k h.realm h.nonce password))
 challenge_applies mac now m alternate b o a k password result new c_new is knows unsigned h step =
     let s = asks b o in
     let found = subst (λ (x : Option Attempt). OutcomeApplies now (outcome_or step.0 phases.Asking (Some k) m alternate o x) m.attributes.realm

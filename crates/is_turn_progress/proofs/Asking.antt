@@ -78,7 +78,7 @@ waiting_timed now key stream stream_new b o new h never =
 -- ---- the two stages
 
 abbrev pub more_by : Option Challenge → ℕ → ℕ → ℕ
-more_by None r d = r + d + PACE
+more_by None r d = r + d
 more_by (Some challenge) r d = 0
 
 -- how much later, if a challenge is still to come

@@ -12,10 +12,10 @@ use Rattle.is_turn.specs.declared.timing.ClientTiming.{ClientTiming}
 use Rattle.is_turn.specs.Client.{at_time, time_after}
 use Rattle.is_turn.specs.Operations.{new_operation, attempted, sent_once_more, is_exhausted}
 use Rattle.is_turn.specs.Relaying.{TimesOut, next_client_time, client_packet, after_poll, routed, after_route, session_after_event}
-use Rattle.is_turn.specs.Session.{PACE, turn_started, turn_closed, closed_in, probed, step_of, sending}
+use Rattle.is_turn.specs.Session.{PACE, turn_started, turn_closed, turn_lost, closed_in, probed, step_of, sending}
 use Rattle.is_turn.specs.Timing.{wait_after}
 use Rattle.is_turn.specs.Turn.{key_now, after_step}
-use Rattle.is_turn.specs.Worlds.{Call, start, close, permit, send, probe, handle_timeout, poll_transmit, poll_event, receive}
+use Rattle.is_turn.specs.Worlds.{Call, start, close, lose, permit, send, probe, handle_timeout, poll_transmit, poll_event, receive}
 use Rattle.is_turn_progress.specs.States.{State, Effect}
 use Rattle.is_turn_progress.specs.Closing.{CLOSING, IsClosed, IsFinal, IsUnchallenged, Passes, IsPunctualCourse, HasEnded, IsEndedBy}
 use Rattle.is_turn_progress.proofs.HeldRequests.{held, Held, held_as, held_poll, held_event}
@@ -55,6 +55,7 @@ called start mac x b o new is effect ordinary =
     quiet x b o new (turn_started (at_time new.clock)) is effect.0 (held_as phases.Closing b o (frees b o) refl)
 called (close has) mac x b o new is effect ordinary =
     quiet x b o new (turn_closed (at_time new.clock) has) is effect.1.0 (held_as phases.Closing b o (frees b o) refl)
+called lose mac x b o new is effect ordinary = inr (inr (ap (λ (s : Session). s.phase) (effect.0 ∙ ap turn_lost is)))
 called (permit peer) mac x b o new is effect ordinary = quiet x b o new (λ s. s) is effect.0 (held_as phases.Closing b o (frees b o) refl)
 called (send peer media) mac x b o new is effect ordinary =
     quiet x b o new (λ s. after_route (routed (at_time new.clock) peer media s x.leases).1 (at_time new.clock) s) is effect.0

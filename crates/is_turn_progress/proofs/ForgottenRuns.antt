@@ -23,9 +23,9 @@ use Rattle.is_turn.specs.Leases.{is_reported, lease_polled, plain, step_for, wit
 use Rattle.is_turn.specs.Operations.{polled, attempted, sent_once_more, is_exhausted}
 use Rattle.is_turn.specs.Places.{at_place, bound_channel, due_place}
 use Rattle.is_turn.specs.Relaying.{kept_in as leases_in, kept_leases, permits_peer, with_media, route_of, routed_if, routed, after_route, advanced_in, lease_due, sending_for, step_at, driven, TimesOut, TimesOutBy, client_packet, after_poll, leases_after_poll, lease_polled_in, reported_at, reported, session_after_event, leases_after_event}
-use Rattle.is_turn.specs.Session.{is_new, is_ready, asking, turn_started, closed, may_be_made, unsent, left, closed_early, closed_in, failed_in, probed, takes_permissions, with_request, with_renewal, sending, changed_by, request_timing, tried_by, repeated_by, step_of, due_or, keep_alive_due}
+use Rattle.is_turn.specs.Session.{is_new, is_ready, asking, turn_started, closed, may_be_made, unsent, left, closed_early, closed_in, lost_in, failed_in, probed, takes_permissions, with_request, with_renewal, sending, changed_by, request_timing, tried_by, repeated_by, step_of, due_or, keep_alive_due}
 use Rattle.is_turn.specs.Turn.{kept_in, kept_credentials, key_now, alive_or_nothing, after_step, packet_polled, reported_by, after_event}
-use Rattle.is_turn.specs.Worlds.{Call, start, close, permit, send, probe, handle_timeout, poll_transmit, poll_event, receive}
+use Rattle.is_turn.specs.Worlds.{Call, start, close, lose, permit, send, probe, handle_timeout, poll_transmit, poll_event, receive}
 use Rattle.is_turn_progress.specs.States.{State, HasBecome, Effect, IsCourse}
 use Rattle.is_turn_progress.specs.Secrets.{password_of, IsForgotten, Forgets, IsNewClient, AlwaysForgets}
 use Rattle.is_turn_progress.proofs.ForgottenSecrets.{Safe, Kept, kept_cond, safe_cond, kept_safe, safe_changed, received_after}
@@ -109,6 +109,14 @@ closed_kept phases.Asking now has s c l e h = early_kept has s c l
 closed_kept phases.Leaving now has s c l e h = kept_safe s c l h
 closed_kept phases.Closing now has s c l e h = kept_safe s c l h
 closed_kept phases.Ended now has s c l e h = kept_safe s c l h
+
+lost_kept : (p : Phase) (s : Session) (c : Option Credentials) (l : List Lease) → Safe s c l → Kept (lost_in p s) c l
+lost_kept phases.Ready s c l h = (refl, refl, refl)
+lost_kept phases.New s c l h = (refl, refl, refl)
+lost_kept phases.Asking s c l h = (refl, refl, refl)
+lost_kept phases.Leaving s c l h = (refl, refl, refl)
+lost_kept phases.Closing s c l h = (refl, refl, refl)
+lost_kept phases.Ended s c l h = kept_safe s c l h
 
 -- ---- the clock
 
@@ -309,6 +317,9 @@ call_forgets start mac x new h does =
 call_forgets (close has) mac x new h does =
     kept_new (closed_in x.session.phase (at_time new.clock) has x.session) new.session x.credentials new.credentials x.leases new.leases does.1.0 (search (does.1.2)) (search (does.1.1))
     (closed_kept x.session.phase (at_time new.clock) has x.session x.credentials x.leases refl h)
+call_forgets lose mac x new h does =
+    kept_new (lost_in x.session.phase x.session) new.session x.credentials new.credentials x.leases new.leases does.0 (search (does.2)) (search (does.1))
+    (lost_kept x.session.phase x.session x.credentials x.leases h)
 call_forgets (permit peer) mac x new h does =
     becomes x.session (permits_peer (at_time new.clock) peer x.session x.leases).0 x.credentials new
     (phase_permits x.session.phase _ _ false x.session.operation x.credentials x.leases h) does

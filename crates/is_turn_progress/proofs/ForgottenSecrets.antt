@@ -26,7 +26,7 @@ use Rattle.is_turn.specs.Places.{at_place, channel_peer}
 use Rattle.is_turn.specs.Receipts.{Receipt, dropped}
 use Rattle.is_turn.specs.Receiving.{IsAnswered, IsReceivedAs, IsRespondedBy}
 use Rattle.is_turn.specs.Relaying.{kept_in as leases_in, kept_leases}
-use Rattle.is_turn.specs.Session.{changed_by, request_timing, is_ready, lost, extended, allocated_in, refreshed_in, renewed, is_gone, retried, failed_in, has_failed, is_allocated, is_refreshed, probed, lease_failed, with_request}
+use Rattle.is_turn.specs.Session.{changed_by, request_timing, without_pace, is_ready, lost, extended, allocated_in, refreshed_in, renewed, is_gone, retried, failed_in, has_failed, is_allocated, is_refreshed, probed, lease_failed, with_request}
 use Rattle.is_turn.specs.Turn.{kept_in, kept_credentials, challenge_taken, with_doubt, with_hint, with_another, OutcomeApplies, Follows}
 use Rattle.is_turn.specs.Verdict.{code_of}
 use Rattle.is_turn_progress.specs.Secrets.{password_of, IsForgotten}
@@ -324,7 +324,7 @@ code_after (Some code) r a m alternate now realm given_nonce s c l result new c_
 challenged_after : (t : Bool) (now : Instant) (signed : Bool) (code : ℕ) (s new : Session) (c d c_new : Option Credentials) (l : List Lease) (o : Operation)
     → Facts s c l o → password_of d ≡ password_of c → new ≡ cond t (with_another now signed code s) (with_doubt code s) → c_new ≡ d → After new c_new l
 challenged_after true now signed code s new c d c_new l o f e h k =
-    after_is (with_another now signed code s) new d c_new l h k (changed_after (another now signed code) o s c d l f.is e f.live)
+    after_is (with_another now signed code s) new d c_new l h k (changed_after (another now signed code) o (without_pace now s) c d l f.is e f.live)
 challenged_after false now signed code s new c d c_new l o f e h k =
     after_is (with_doubt code s) new d c_new l h k (changed_after (doubted code) o s c d l f.is e f.live)
 

@@ -18,9 +18,9 @@ use Rattle.is_turn.specs.Operations.{new_operation, attempted, sent_once_more, a
 use Rattle.is_turn.specs.Receipts.{Receipt}
 use Rattle.is_turn.specs.Receiving.{IsAnswered, IsReceived, IsReceivedAs, IsRespondedBy}
 use Rattle.is_turn.specs.Relaying.{TimesOut, client_packet, after_poll, routed, after_route, session_after_event}
-use Rattle.is_turn.specs.Session.{PACE, new_session, turn_started, probed, step_of}
+use Rattle.is_turn.specs.Session.{new_session, without_pace, turn_started, probed, step_of}
 use Rattle.is_turn.specs.Turn.{key_now, kept_credentials, after_step}
-use Rattle.is_turn.specs.Worlds.{Call, start, close, permit, send, probe, handle_timeout, poll_transmit, poll_event, receive}
+use Rattle.is_turn.specs.Worlds.{Call, start, close, lose, permit, send, probe, handle_timeout, poll_transmit, poll_event, receive}
 use Rattle.is_turn_progress.specs.States.{State, Effect}
 use Rattle.is_turn_progress.specs.Reaching.{ALLOCATING, IsRightTo, IsRight, IsExpected, IsOrdinary, IsNewUser, Passes, IsAnswered as IsAnsweredRun, IsStarted, IsAllocated, IsReachedBy, waiting}
 use Rattle.is_turn_progress.proofs.Asking.{asks, sent_base, Like, like, fresh_timed, waiting_timed, more, more_by, KnowsPassword, Begins, Waits, Stage, begins_like, waits_like, begins_attempted, waits_repeated, never_exhausted, waits_for, begins_next}
@@ -62,6 +62,7 @@ called : (call : Call) (mac : List ℕ → List ℕ → List ℕ) (x : State) (b
 called start mac x b o new is effect ordinary =
     quiet mac x b o new (turn_started (at_time new.clock)) is effect.0 (like b o (asks b o) refl) effect.2
 called (close has) mac x b o new is effect ordinary = let never : ⊥ = search ordinary in absurd never
+called lose mac x b o new is effect ordinary = let never : ⊥ = search ordinary in absurd never
 called (permit peer) mac x b o new is effect ordinary = quiet mac x b o new (λ s. s) is effect.0 (like b o (asks b o) refl) effect.2
 called (send peer media) mac x b o new is effect ordinary =
     quiet mac x b o new (λ s. after_route (routed (at_time new.clock) peer media s x.leases).1 (at_time new.clock) s) is effect.0 (like b o (asks b o) refl) effect.2
@@ -136,21 +137,20 @@ last_of r d by s c now h = record { lifetime = h.lifetime; family = h.family; re
 
 challenged_begins : (r d by : ℕ) (s new : Session) (k : Credentials) (c_new : Option Credentials) (realm nonce password : List ℕ) (now after : ℕ)
     → (h : Waits r d by s (Some k) now) → now ≤ after → after ≤ h.attempt.since.0 + r → k.challenge ≡ None → k.password ≡ Some password
-    → new ≡ asks h.base (another (at_time after) false 401 h.operation) → c_new ≡ Some (with_key k realm nonce password) → Begins r d by new c_new
+    → new ≡ asks (without_pace (at_time after) h.base) (another (at_time after) false 401 h.operation) → c_new ≡ Some (with_key k realm nonce password) → Begins r d by new c_new
 challenged_begins r d by s new k c_new realm nonce password now after h le served first knows is e =
-    let most : h.attempt.since.0 + r + (r + d + PACE) ≤ by = subst (λ (c : Option Challenge). h.attempt.since.0 + r + more_by c r d ≤ by) first h.enough in
-    let gone = h.paced in
+    let most : h.attempt.since.0 + r + (r + d) ≤ by = subst (λ (c : Option Challenge). h.attempt.since.0 + r + more_by c r d ≤ by) first h.enough in
     subst (λ (c : Option Credentials). Begins r d by new c) (sym e) (record {
-      base = h.base;
+      base = without_pace (at_time after) h.base;
       operation = another (at_time after) false 401 h.operation;
       is = is;
       lifetime = h.lifetime;
       family = h.family;
       request = h.request;
       fresh = refl;
-      time = after + PACE;
+      time = after;
       due = omega arith;
-      paced = omega (arith, gone, le);
+      paced = omega arith;
       enough = omega (arith, most, served);
       soon = h.soon;
       knows = (password, knows);
@@ -249,9 +249,9 @@ reached_from mac r d by x (next ∷ rest) before h steps =
 
 -- ---- the beginning
 
-new_more : (r d : ℕ) (c : Option Credentials) → IsNewUser c → more c r d ≤ r + d + PACE
+new_more : (r d : ℕ) (c : Option Credentials) → IsNewUser c → more c r d ≤ r + d
 new_more r d None h = omega arith
-new_more r d (Some k) h = let e : more_by k.challenge r d ≡ r + d + PACE = ap (λ (x : Credentials). more_by x.challenge r d) h.2 in omega (arith, e)
+new_more r d (Some k) h = let e : more_by k.challenge r d ≡ r + d = ap (λ (x : Credentials). more_by x.challenge r d) h.2 in omega (arith, e)
 
 new_knows : (c : Option Credentials) → IsNewUser c → KnowsPassword c
 new_knows None h = tt

@@ -5,7 +5,7 @@ use Rattle.is_turn.specs.declared.session.Session.{Session}
 use Rattle.is_turn.specs.declared.timing.ClientTiming.{ClientTiming}
 use Rattle.is_turn.specs.Client.{at_time}
 use Rattle.is_turn.specs.Session.{PACE, turn_closed}
-use Rattle.is_turn.specs.Worlds.{Call, start, close, permit, send, probe, handle_timeout, poll_transmit, poll_event, receive}
+use Rattle.is_turn.specs.Worlds.{Call, start, close, lose, permit, send, probe, handle_timeout, poll_transmit, poll_event, receive}
 use Rattle.is_turn_progress.specs.States.{State, Advances}
 use Rattle.is_turn_progress.specs.Reaching.{IsPunctual}
 
@@ -28,6 +28,7 @@ IsFinal x new = (new.session ≡ x.session) ⊎ (new.session.phase ≡ phases.En
 abbrev pub IsUnchallenged : Call → State → State → Type 0
 IsUnchallenged start x new = Unit {0}
 IsUnchallenged (close has_credentials) x new = Unit {0}
+IsUnchallenged lose x new = Unit {0}
 IsUnchallenged (permit peer) x new = Unit {0}
 IsUnchallenged (send peer media) x new = Unit {0}
 IsUnchallenged probe x new = Unit {0}

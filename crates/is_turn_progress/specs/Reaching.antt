@@ -19,8 +19,8 @@ use Rattle.is_turn.specs.Credentials.{Credentials, new_credentials}
 use Rattle.is_turn.specs.Incoming.{datagram_of, response}
 use Rattle.is_turn.specs.Leases.{is_answered_by}
 use Rattle.is_turn.specs.Relaying.{next_client_time, client_event}
-use Rattle.is_turn.specs.Session.{PACE, new_session, turn_started}
-use Rattle.is_turn.specs.Worlds.{Call, start, close, permit, send, probe, handle_timeout, poll_transmit, poll_event, receive}
+use Rattle.is_turn.specs.Session.{new_session, turn_started}
+use Rattle.is_turn.specs.Worlds.{Call, start, close, lose, permit, send, probe, handle_timeout, poll_transmit, poll_event, receive}
 use Rattle.is_turn_progress.specs.States.{State, Advances}
 
 -- ---- what the server sends
@@ -84,10 +84,11 @@ pub record IsExpected (mac : List ℕ → List ℕ → List ℕ) (bytes : List �
 abbrev pub IsIdle : State → State → Type 0
 IsIdle x new = (new.session ≡ x.session) × (new.credentials ≡ x.credentials)
 
--- the user does not close the client; what comes is the right response, or changes nothing
+-- the client is not closed, and its socket is not lost; what comes is the right response, or changes nothing
 abbrev pub IsOrdinary : Call → (List ℕ → List ℕ → List ℕ) → State → State → Type 0
 IsOrdinary start mac x new = Unit {0}
 IsOrdinary (close has_credentials) mac x new = ⊥
+IsOrdinary lose mac x new = ⊥
 IsOrdinary (permit peer) mac x new = Unit {0}
 IsOrdinary (send peer media) mac x new = Unit {0}
 IsOrdinary probe mac x new = Unit {0}
@@ -123,9 +124,9 @@ abbrev pub IsNewUser : Option Credentials → Type 0
 IsNewUser None = Unit {0}
 IsNewUser (Some c) = (username : List ℕ) × (password : List ℕ) × (c ≡ new_credentials username password)
 
--- as long as it may take: two round trips, twice late, and the pace once
+-- as long as it may take: two round trips, twice late
 abbrev pub ALLOCATING : ℕ → ℕ → ℕ
-ALLOCATING r d = 2 * (r + d) + PACE
+ALLOCATING r d = 2 * (r + d)
 
 -- a new client, just started; responses come within the last wait; the clock is not at its end
 pub record IsStarted (time r d : ℕ) (x : State) : Type 0 where

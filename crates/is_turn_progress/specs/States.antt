@@ -6,9 +6,9 @@ use Rattle.is_turn.specs.Client.{at_time}
 use Rattle.is_turn.specs.Credentials.{Credentials}
 use Rattle.is_turn.specs.Receiving.{IsReceived}
 use Rattle.is_turn.specs.Relaying.{kept_leases, permits_peer, routed, after_route, TimesOut, client_packet, after_poll, leases_after_poll, session_after_event, leases_after_event}
-use Rattle.is_turn.specs.Session.{turn_started, turn_closed, probed}
+use Rattle.is_turn.specs.Session.{turn_started, turn_closed, turn_lost, probed}
 use Rattle.is_turn.specs.Turn.{key_now, kept_credentials}
-use Rattle.is_turn.specs.Worlds.{Call, start, close, permit, send, probe, handle_timeout, poll_transmit, poll_event, receive}
+use Rattle.is_turn.specs.Worlds.{Call, start, close, lose, permit, send, probe, handle_timeout, poll_transmit, poll_event, receive}
 
 -- a client after a call, and the time of that call
 pub record State : Type 0 where
@@ -26,6 +26,8 @@ Effect start mac now x new = HasBecome (turn_started (at_time now) x.session) x.
 Effect (close has_credentials) mac now x new =
     (has_credentials ≡ is_some x.credentials)
     × HasBecome (turn_closed (at_time now) has_credentials x.session) (kept_leases new.session x.leases) (kept_credentials new.session x.credentials) new
+Effect lose mac now x new =
+    HasBecome (turn_lost x.session) (kept_leases new.session x.leases) (kept_credentials new.session x.credentials) new
 Effect (permit peer) mac now x new = HasBecome x.session (permits_peer (at_time now) peer x.session x.leases).0 x.credentials new
 Effect (send peer media) mac now x new =
     HasBecome (after_route (routed (at_time now) peer media x.session x.leases).1 (at_time now) x.session)

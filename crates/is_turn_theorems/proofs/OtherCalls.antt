@@ -18,7 +18,7 @@ use Rattle.is_turn.specs.declared.timing.ClientTiming.{ClientTiming}
 use Rattle.is_turn.specs.Leases.{plain, is_to_be_sent}
 use Rattle.is_turn.specs.Places.{at_place, bound_channel}
 use Rattle.is_turn.specs.Relaying.{after_route, route_of, routed, routed_if, permits_peer, with_media, after_poll, client_packet, packet_after, lease_packet_at, lease_packet_of, lease_request, session_after_event, reported}
-use Rattle.is_turn.specs.Session.{PACE, is_new, is_ready, is_gone, request_timing, asking, turn_started, with_request, changed_by, unsent, left, closed, closed_early, closed_in, may_be_made, quiet_after, lost, probed, lease_failed}
+use Rattle.is_turn.specs.Session.{PACE, is_new, is_ready, is_gone, request_timing, asking, turn_started, with_request, changed_by, unsent, left, closed, closed_early, closed_in, lost_in, may_be_made, quiet_after, lost, probed, lease_failed}
 use Rattle.is_turn.specs.Turn.{packet_due, packet_or, request_or, alive_or_nothing, packet_polled, reported_by, after_event}
 use Rattle.is_turn_theorems.specs.Limits.{Limits}
 use Rattle.is_turn_theorems.proofs.Standing.{Holds, Soon, Stage, SentLast, DueIn}
@@ -88,6 +88,14 @@ holds_closed k now d phases.New has s h = holds_early k now d has s h
 holds_closed k now d phases.Leaving has s h = h
 holds_closed k now d phases.Closing has s h = h
 holds_closed k now d phases.Ended has s h = h
+
+pub holds_lost : (k : Limits) (now d : ℕ) (phase : Phase) (s : Session) → Holds k now d s → Holds k now d (lost_in phase s)
+holds_lost k now d phases.Ready s h = unready k now d _ h.paced refl
+holds_lost k now d phases.Asking s h = unready k now d _ h.paced refl
+holds_lost k now d phases.New s h = unready k now d _ h.paced refl
+holds_lost k now d phases.Leaving s h = unready k now d _ h.paced refl
+holds_lost k now d phases.Closing s h = unready k now d _ h.paced refl
+holds_lost k now d phases.Ended s h = h
 
 quiet_holds : (k : Limits) (now d : ℕ) (s : Session) → Holds k now d s → Holds k now d (quiet_after (at_time now) s)
 quiet_holds k now d s h =

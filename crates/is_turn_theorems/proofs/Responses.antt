@@ -13,7 +13,7 @@ use Rattle.is_turn.specs.declared.timing.ClientTiming.{ClientTiming}
 use Rattle.is_turn.specs.Client.{at_time}
 use Rattle.is_turn.specs.Operations.{stale_count, doubted, hinted, another}
 use Rattle.is_turn.specs.Outcome.{lasts}
-use Rattle.is_turn.specs.Session.{PACE, is_ready, lifetime_of, renewal_of, request_timing, changed_by, extended, allocated_in, refreshed_in, renewed, lost, failed_in, has_failed, is_redirected}
+use Rattle.is_turn.specs.Session.{PACE, is_ready, lifetime_of, renewal_of, request_timing, without_pace, changed_by, extended, allocated_in, refreshed_in, renewed, lost, failed_in, has_failed, is_redirected}
 use Rattle.is_turn.specs.Turn.{Follows}
 use Rattle.is_turn_theorems.specs.Limits.{Limits, lead, attempt_time, Leave}
 use Rattle.is_turn_theorems.proofs.Standing.{Holds, Soon, Stage, SentLast, DueIn, times_more}
@@ -65,7 +65,7 @@ extends k now since seconds leave shown lasts after within =
 
 pub allocated_holds : (k : Limits) (now d : ℕ) (phase : Phase) (since : Instant) (seconds : ℕ) (allocation : Allocation) (s : Session) → d ≤ now
     → s.paced.0 ≤ now + PACE → Extends k now since.0 seconds → Holds k now d (allocated_in phase (at_time now) allocation (extended since seconds s))
-allocated_holds k now d phases.Leaving since seconds allocation s le p x = unready k now d _ p refl
+allocated_holds k now d phases.Leaving since seconds allocation s le p x = unready k now d _ (omega (arith, p)) refl
 allocated_holds k now d phases.New since seconds allocation s le p x =
     record { paced = p; ready = λ r. record { reach = x.reach; pending = tt; due = let a = x.ahead in omega (arith, le, a) } }
 allocated_holds k now d phases.Asking since seconds allocation s le p x =
@@ -106,7 +106,7 @@ failed_unready k now d phases.Ended code s p not_ready = unready k now d _ p ref
 pub follows_unready : (k : Limits) (now d : ℕ) (server : SocketAddr) (s new : Session) → s.paced.0 ≤ now + PACE → (is_ready s.phase ≡ true → ⊥)
     → Follows (at_time now) server s new → Holds k now d new
 follows_unready k now d server s new p not_ready (inl step) =
-    holds_is k now d (is_redirected (at_time now) server s) new step.1 (unready_if k now d _ p not_ready)
+    holds_is k now d (is_redirected (at_time now) server s) new step.1 (unready_if k now d _ (omega (arith, p)) not_ready)
 follows_unready k now d server s new p not_ready (inr step) =
     holds_is k now d (has_failed (at_time now) (Some 300) s) new step.1 (failed_unready k now d s.phase (Some 300) s p not_ready)
 
@@ -148,10 +148,13 @@ Counts code (Some o) = stale_count code o.stale ≡ o.stale + 1
 
 pub another_holds : (k : Limits) (now d : ℕ) (b : Bool) (code : ℕ) (s : Session) (o : Option Operation) → d ≤ now → Holds k now d (record s { operation = o })
     → (is_ready s.phase ≡ true → Soon k now s.renew.0 o) → (is_ready s.phase ≡ true → Counts code o)
-    → Holds k now d (changed_by (another (at_time now) b code) o (record s { operation = o }))
-another_holds k now d b code s None le h soon counts = h
+    → Holds k now d (changed_by (another (at_time now) b code) o (without_pace (at_time now) (record s { operation = o })))
+another_holds k now d b code s None le h soon counts = record {
+  paced = omega arith;
+  ready = λ r. record { reach = (h.ready r).reach; pending = tt; due = (h.ready r).due };
+}
 another_holds k now d b code s (Some o) le h soon counts = record {
-  paced = h.paced;
+  paced = omega arith;
   ready = λ r. record {
     reach = (h.ready r).reach;
     pending = record {
@@ -160,7 +163,7 @@ another_holds k now d b code s (Some o) le h soon counts = record {
           let e : stale_count code o.stale * attempt_time k ≡ o.stale * attempt_time k + attempt_time k =
           ap (λ (n : ℕ). n * attempt_time k) (counts r) ∙ times_more o.stale (attempt_time k) in
           let p = (soon r).bound in omega (arith, e, p);
-      paced = h.paced;
+      paced = omega arith;
     };
     due = omega (arith, le);
   };

@@ -21,11 +21,11 @@ use Rattle.is_turn.specs.Relaying.{advanced_in, lease_due}
 use Rattle.is_turn.specs.Session.{is_ready, is_renewal_due, new_session, request_timing, step_of, with_renewal}
 use Rattle.is_turn.specs.Turn.{key_now}
 use Rattle.is_turn.specs.Verdict.{code_of, IsSignedFor}
-use Rattle.is_turn.specs.Worlds.{Acceptance, World, Call, start, close, permit, send, probe, handle_timeout, poll_transmit, poll_event, receive, IsBelievable, Does, IsFresh}
+use Rattle.is_turn.specs.Worlds.{Acceptance, World, Call, start, close, lose, permit, send, probe, handle_timeout, poll_transmit, poll_event, receive, IsBelievable, Does, IsFresh}
 use Rattle.is_turn_theorems.specs.Limits.{Limits, Leave, margin}
 use Rattle.is_turn_theorems.specs.Timely.{Entry, is_timeout, timeout_of, due_since, IsStale, IsServed, Serves, IsKept, IsInTime, IsTimelyFrom, IsTimely, IsAhead, NothingLapses}
 use Rattle.is_turn_theorems.proofs.Standing.{Holds, Soon, soon, ahead, holds_later, holds_rings}
-use Rattle.is_turn_theorems.proofs.OtherCalls.{through, holds_is, unready, holds_started, holds_closed, holds_routed, holds_probed, holds_polled, holds_event}
+use Rattle.is_turn_theorems.proofs.OtherCalls.{through, holds_is, unready, holds_started, holds_closed, holds_lost, holds_routed, holds_probed, holds_polled, holds_event}
 use Rattle.is_turn_theorems.proofs.Responses.{Called}
 use Rattle.is_turn_theorems.proofs.Verdicts.{IsServers, response_holds}
 use Rattle.is_turn_theorems.proofs.LeaseAnswers.{lease_answer_holds}
@@ -107,6 +107,10 @@ called_follows k start mac accepted due w new called meets serves does = record 
 }
 called_follows k (close has) mac accepted due w new called meets serves does = record {
   holds = rung k (min due new.clock) _ _ new (omega arith) does.0 (holds_closed k new.clock (min due new.clock) w.session.phase has w.session called.holds);
+  stays = λ e. absurd (cc e);
+}
+called_follows k lose mac accepted due w new called meets serves does = record {
+  holds = rung k (min due new.clock) _ _ new (omega arith) does.0 (holds_lost k new.clock (min due new.clock) w.session.phase w.session called.holds);
   stays = λ e. absurd (cc e);
 }
 called_follows k (permit peer) mac accepted due w new called meets serves does = record {

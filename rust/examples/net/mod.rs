@@ -12,11 +12,19 @@ type Result<T> = std::result::Result<T, Box<dyn Error>>;
 /// How long the opening of a connection may take, and the sending of one packet.
 const PATIENCE: Duration = Duration::from_secs(3);
 
+/// A connection to a TURN server. Its client knows it by the address `local`, also after a redirection.
 struct Connection {
     stream: TcpStream,
     frames: Frames,
     local: SocketAddr,
     server: SocketAddr,
+}
+
+fn opened(server: SocketAddr) -> io::Result<TcpStream> {
+    let stream = TcpStream::connect_timeout(&server, PATIENCE)?;
+    stream.set_nodelay(true)?;
+    stream.set_write_timeout(Some(PATIENCE))?;
+    Ok(stream)
 }
 
 pub struct Net {
@@ -47,9 +55,7 @@ impl Net {
         if server.is_secure {
             return Err("std has no TLS: use a crate that has".into());
         }
-        let stream = TcpStream::connect_timeout(&address, PATIENCE)?;
-        stream.set_nodelay(true)?;
-        stream.set_write_timeout(Some(PATIENCE))?;
+        let stream = opened(address)?;
         let local = stream.local_addr()?;
         gatherer.add_connection(Instant::now(), server, local, address)?;
         self.connections.push(Connection { stream, frames: Frames::new(), local, server: address });
@@ -72,7 +78,7 @@ impl Net {
     pub fn send(&mut self, gatherer: &mut IceGatherer, packet: &Transmit) -> Result<()> {
         let connection = self.connections.iter_mut().find(|it| packet.proto == Protocol::Tcp && it.local == packet.source);
         let sent = match connection {
-            Some(connection) => connection.stream.write_all(&packet.contents),
+            Some(connection) => connection.write(packet),
             None => self.socket.send_to(&packet.contents, packet.destination).map(drop),
         };
         let Err(why) = sent else { return Ok(()) };
@@ -117,6 +123,17 @@ fn heard(gatherer: &IceGatherer, now: Instant, received: Received<'_>, hear: imp
 }
 
 impl Connection {
+    /// Writes a packet of its client. If it is for another server, the client was redirected (RFC 8489, section 10), and goes on over a
+    /// connection to that one.
+    fn write(&mut self, packet: &Transmit) -> io::Result<()> {
+        if self.server != packet.destination {
+            self.stream = opened(packet.destination)?;
+            self.frames = Frames::new();
+            self.server = packet.destination;
+        }
+        self.stream.write_all(&packet.contents)
+    }
+
     /// Passes on what has arrived.
     fn read(&mut self, gatherer: &mut IceGatherer, hear: impl Fn(&[u8])) -> Result<()> {
         let mut buffer = [0; 16384];

@@ -275,7 +275,10 @@ impl Servers {
         found(ffi::is_ice_servers_handle_timeout(&mut self.held, now, &id)).map(drop)
     }
 
-    /// The next packet for a server: a datagram, or bytes for a stream.
+    /// The next packet for a server: a datagram, or bytes for the stream of the connection that is its source.
+    ///
+    /// If its destination is another server, the client was redirected (RFC 8489, section 10): open a connection to that one for it, and
+    /// close the other. In all calls and events the address of the first one stands for it.
     pub fn poll_transmit(&mut self) -> Option<Transmit> {
         let (mut room, mut packet) = ([0; ffi::SERVERS_PACKET_LENGTH], ffi::Packet::default());
         let code = ffi::is_ice_servers_poll_transmit(&mut self.held, &mut room, &mut packet);

@@ -132,21 +132,21 @@ fn a_closed_client_frees_its_allocation(rt: HostRuntime) -> Result<(), AllocErro
     Ok(())
 }
 
-/// What is closed while it asks frees what may have been made.
+/// What is closed while it asks frees what may have been made, as soon as it is there.
 #[test]
 fn a_client_that_leaves_frees_its_allocation(rt: HostRuntime) -> Result<(), AllocError> {
     let mut side = Side::new(rt.alloc(), Credentials::new("user", "pass"))?;
     assert!(rt; side.sends_at(0));
     assert!(rt; side.challenge(10, 401, "nonce") == TurnReceived::Own);
     assert!(rt; side.sends_at(10));
-    side.client.close(at(15));
-    assert!(rt; side.allocate(20, true) == TurnReceived::Own);
+    side.client.close(at(11));
+    assert!(rt; side.allocate(12, true) == TurnReceived::Own);
     assert!(rt; side.reports(None) && side.client.allocation().is_none());
-    assert!(rt; side.sends_at(20) && side.sent(4, true));
+    assert!(rt; side.sends_at(12) && side.sent(4, true));
     Ok(())
 }
 
-/// RFC 8489, section 10: 192.0.2.2 is named by a 300, which nobody signed.
+/// RFC 8489, section 10: 192.0.2.2 is named by a 300, which nobody signed. It is asked at once, after 2 ms.
 #[test]
 fn a_redirection_is_followed(rt: HostRuntime) -> Result<(), AllocError> {
     let mut side = Side::new(rt.alloc(), Credentials::new("user", "pass"))?;
@@ -156,10 +156,10 @@ fn a_redirection_is_followed(rt: HostRuntime) -> Result<(), AllocError> {
         0x09, 0x00, 0x04, 0, 0, 3, 0, 0x80, 0x23, 0x00, 0x08, 0, 1, 0x0d, 0x96, 192, 0, 2, 2,
     ];
     buf[8..20].copy_from_slice(&side.packet[8..20]);
-    assert!(rt; side.client.receive(at(10), address(3), &buf) == TurnReceived::Other);
-    assert!(rt; side.client.receive(at(10), address(1), &buf) == TurnReceived::Own);
+    assert!(rt; side.client.receive(at(2), address(3), &buf) == TurnReceived::Other);
+    assert!(rt; side.client.receive(at(2), address(1), &buf) == TurnReceived::Own);
     assert!(rt; side.client.server() == address(2));
-    assert!(rt; side.sends_at(10) && side.sent(3, false));
+    assert!(rt; side.sends_at(2) && side.sent(3, false));
     Ok(())
 }
 

@@ -1,8 +1,8 @@
 //! When a TURN client has its allocation, and when it ends: sessions that meet the preconditions of the theorems of `is_turn_progress`, and
 //! the times that these state.
 
-use super::side::{Side, allocated, allocation, at};
-use is_turn::{Credentials, TurnEvent, TurnReceived, Why};
+use super::side::{Side, address, allocated, allocation, at};
+use is_turn::{Credentials, Reason, TurnEvent, TurnReceived, Why};
 use std::alloc::AllocError;
 use std::test::*;
 
@@ -21,7 +21,7 @@ fn sends_late(side: &mut Side, due: u64, now: u64) -> bool {
     }
 }
 
-/// Responses after 80 ms, calls 30 ms late: `Allocated` is there after 220 ms, and 2 (80 + 30) + 5 ms are stated.
+/// Responses after 80 ms, calls 30 ms late: `Allocated` is there after 220 ms, and 2 (80 + 30) ms are stated.
 #[test]
 fn an_allocation_is_there_in_time(rt: HostRuntime) -> Result<(), AllocError> {
     let mut side = Side::new(rt.alloc(), Credentials::new("user", "pass"))?;
@@ -33,15 +33,42 @@ fn an_allocation_is_there_in_time(rt: HostRuntime) -> Result<(), AllocError> {
     Ok(())
 }
 
-/// A challenge after 1 ms is taken up 5 ms after the first packet: this is the pace, which the theorem counts once.
+/// Responses after 1 ms: `Allocated` is there after 2 ms. A challenge ends the pace, so the second request does not wait for 5 ms.
 #[test]
-fn the_pace_counts_once(rt: HostRuntime) -> Result<(), AllocError> {
+fn a_challenge_ends_the_pace(rt: HostRuntime) -> Result<(), AllocError> {
     let mut side = Side::new(rt.alloc(), Credentials::new("user", "pass"))?;
     assert!(rt; sends_late(&mut side, 0, 0));
     assert!(rt; side.challenge(1, 401, "nonce") == TurnReceived::Own);
-    assert!(rt; sends_late(&mut side, 5, 5));
-    assert!(rt; side.allocate(6, true) == TurnReceived::Own);
+    assert!(rt; sends_late(&mut side, 1, 1));
+    assert!(rt; side.allocate(2, true) == TurnReceived::Own);
     assert!(rt; side.reports(Some(TurnEvent::Allocated(allocation()))));
+    Ok(())
+}
+
+/// A challenge is for one packet: the next one, here the permission of a peer, waits for 5 ms.
+#[test]
+fn another_packet_is_paced_again(rt: HostRuntime) -> Result<(), AllocError> {
+    let mut side = Side::new(rt.alloc(), Credentials::new("user", "pass"))?;
+    assert!(rt; side.client.permit(at(0), address(9)));
+    assert!(rt; sends_late(&mut side, 0, 0));
+    assert!(rt; side.challenge(1, 401, "nonce") == TurnReceived::Own);
+    assert!(rt; sends_late(&mut side, 1, 1) && side.sent(3, true));
+    assert!(rt; side.allocate(2, true) == TurnReceived::Own);
+    assert!(rt; !sends_late(&mut side, 0, 2));
+    assert!(rt; sends_late(&mut side, 6, 6) && side.sent(8, true));
+    Ok(())
+}
+
+/// A challenge that is dropped, since it has no NONCE, ends no pace: the permission of a peer waits for 5 ms after the Refresh.
+#[test]
+fn a_dropped_challenge_ends_no_pace(rt: HostRuntime) -> Result<(), AllocError> {
+    let mut side = allocated(rt.alloc())?;
+    side.client.probe(at(30));
+    assert!(rt; sends_late(&mut side, 30, 30) && side.sent(4, true));
+    assert!(rt; side.client.permit(at(31), address(9)));
+    assert!(rt; !sends_late(&mut side, 31, 31));
+    assert!(rt; side.fail(32, false, 438) == TurnReceived::Dropped(Reason::Challenge));
+    assert!(rt; sends_late(&mut side, 35, 35) && side.sent(8, true));
     Ok(())
 }
 
