@@ -11,6 +11,7 @@ mod checks;
 mod entries;
 mod evicting;
 mod expired;
+mod giving_back;
 mod index;
 mod listed;
 mod pair_change;
