@@ -5,21 +5,23 @@ usage: chat_relays.py [--case CASE].. PROGRAM [WORD ..]      runs `PROGRAM WORD 
 Each machine is a network namespace behind a NAT of Linux (nftables) that takes another port for each destination. Both reach the server,
 coturn, and nothing else leads from one to the other. It needs root, iproute2, nftables and coturn (Debian: `coturn`, `nftables`).
 
-  without   with a STUN server only, they find no path: so the other cases are of use
-  udp       both over UDP: they find a path through the server, and hear each other
-  tcp       both over TCP to the server
-  mixed     one over UDP, the other one over TCP
-  blocked   the network of one lets no UDP out: it takes the server over TCP of two that it is given
-  restarts  ICE restarts of both, with lines under way: all arrive
-  moved     one machine gets another address: with new signals they find a path again
-  lost      the server is started again: both find out, and with a new signal they find a path again
+  without     with a STUN server only, they find no path: so the other cases are of use
+  udp         both over UDP: they find a path through the server, and hear each other
+  tcp         both over TCP to the server
+  mixed       one over UDP, the other one over TCP
+  blocked     the network of one lets no UDP out: it takes the server over TCP of two that it is given
+  restarts    ICE restarts of both, with lines under way: all arrive
+  moved       one machine gets another address: with new signals they find a path again
+  lost        the server is started again: both find out, and with a new signal they find a path again
+  redirected  the server that they are given, over UDP and TCP, names another one: both go on at that one
 
 These are played only if they are named, for a program with TLS, from networks that let no UDP out. They need openssl, which makes the
 certificate of the server:
 
-  tls       both over TLS; SSL_CERT_FILE names the certificate
-  untrusted who does not trust the certificate says so, and has no relayed candidate
-  misnamed  who trusts the certificate of another address says so, and has none
+  tls             both over TLS; SSL_CERT_FILE names the certificate
+  untrusted       who does not trust the certificate says so, and has no relayed candidate
+  misnamed        who trusts the certificate of another address says so, and has none
+  tls_redirected  the server names another one, whose certificate names the first one: both go on at that one
 
 Prints a line for each. The status is 0 if none failed, or if they cannot be played here, as it says.
 """
@@ -40,7 +42,7 @@ import namespaces
 import networks
 import servers
 
-SERVER = f"{servers.ADDRESS}:{servers.PORT}"
+SERVER, TLS_PORT = f"{servers.ADDRESS}:{servers.PORT}", 5349
 UDP, TCP = f"turn:{SERVER}", f"turn:{SERVER}?transport=tcp"
 USER, PASSWORD = servers.USER.split(":")
 NO_UDP = """
@@ -161,16 +163,22 @@ def case_lost(network):
     end(a, b)
 
 
+def case_redirected(network):
+    at = network.coturn(servers.SECOND_ADDRESS, servers.PORT, "--no-tls", "--alternate-server", SERVER)
+    a, b = met(network, (f"turn:{at}",), (f"turn:{at}?transport=tcp",))
+    end(a, b)
+
+
 CASES = {name.removeprefix("case_"): case for name, case in list(globals().items()) if name.startswith("case_")}
 
 
 # ---- cases of programs that have TLS
 
-def over_tls(network, named=servers.SECOND_ADDRESS, is_trusted=True):
-    """Two of them in networks that let no UDP out, with a server over TLS whose certificate names this address."""
+def over_tls(network, *options, is_trusted=True):
+    """Two of them in networks that let no UDP out, with a server over TLS that has these options and the certificate."""
     for nat in network.nats:
         network.spaces.rules(nat, NO_UDP)
-    url = f"turns:{network.tls_server(named)}"
+    url = f"turns:{network.coturn(servers.SECOND_ADDRESS, TLS_PORT, *network.identity, *options)}"
     return chats(network, url, before=("env", f"SSL_CERT_FILE={network.certificate}") if is_trusted else ())
 
 
@@ -180,19 +188,31 @@ def refuses(side, why):
 
 
 def with_tls_tls(network):
+    network.certify(servers.SECOND_ADDRESS)
     a, b = over_tls(network)
     introduce(a, b)
     through_the_server(a, b, servers.SECOND_ADDRESS)
     end(a, b)
 
 
+def with_tls_tls_redirected(network):
+    network.certify(servers.SECOND_ADDRESS)
+    other = network.coturn(servers.ADDRESS, TLS_PORT, "-p", "3479", *network.identity)
+    a, b = over_tls(network, "--tls-alternate-server", other)
+    introduce(a, b)
+    through_the_server(a, b)
+    end(a, b)
+
+
 def with_tls_untrusted(network):
+    network.certify(servers.SECOND_ADDRESS)
     for side in over_tls(network, is_trusted=False):
         refuses(side, "self-signed certificate")
 
 
 def with_tls_misnamed(network):
-    for side in over_tls(network, named=servers.ADDRESS):
+    network.certify(servers.ADDRESS)
+    for side in over_tls(network):
         refuses(side, "IP address mismatch")
 
 
@@ -200,34 +220,40 @@ WITH_TLS = {name.removeprefix("with_tls_"): case for name, case in list(globals(
 
 
 class Nats(networks.Nats):
-    """The network, which knows the namespaces of its NATs. It may have another server, over TLS."""
+    """The network, which knows the namespaces of its NATs, and may have more servers."""
 
-    at_tls = None
+    def __init__(self, *kinds):
+        super().__init__(*kinds)
+        self.more, self.nats = [], []
 
-    def tls_server(self, named):
-        """Starts coturn at the second address with a certificate that names this one, and returns where it is."""
-        folder = pathlib.Path(self.folder.name)
-        self.certificate, key, address = folder / "certificate", folder / "key", servers.SECOND_ADDRESS
+    def certify(self, named):
+        """Makes a certificate that names this address. `identity`: the options of coturn for it."""
+        self.certificate, key = f"{self.folder.name}/certificate", f"{self.folder.name}/key"
         made = ["openssl", "req", "-x509", "-newkey", "rsa:2048", "-nodes", "-subj", "/CN=test", "-addext", f"subjectAltName=IP:{named}",
                 "-keyout", key, "-out", self.certificate]
         subprocess.run(made, check=True, capture_output=True)
-        options = f"-n -L {address} -E {address} --lt-cred-mech -u {servers.USER} -r realm --no-dtls --no-cli --log-file /dev/null" \
-                  f" --simple-log --pidfile {folder}/pid2 --db {folder}/db2 --allow-loopback-peers --cert {self.certificate} --pkey {key}"
-        quiet = subprocess.DEVNULL
-        self.at_tls = subprocess.Popen(["ip", "netns", "exec", self.public, "unshare", "--pid", "--fork", "--kill-child", "turnserver",
-                                        *options.split()], stdin=quiet, stdout=quiet, stderr=quiet)
-        namespaces.run("ip", "netns", "exec", self.public, sys.executable, servers.__file__, address, "5349")
-        return f"{address}:5349"
+        self.identity = ["--cert", self.certificate, "--pkey", key]
+
+    def coturn(self, address, port, *options):
+        """Starts one more coturn, waits until it takes connections at this port, and returns where it is."""
+        place, quiet = f"{self.folder.name}/{len(self.more)}", subprocess.DEVNULL
+        usual = f"-n -L {address} -E {address} --lt-cred-mech -u {servers.USER} -r realm --no-dtls --no-cli --log-file /dev/null" \
+                f" --simple-log --pidfile {place}.pid --db {place}.db --allow-loopback-peers"
+        inside = ["ip", "netns", "exec", self.public]
+        self.more.append(subprocess.Popen([*inside, "unshare", "--pid", "--fork", "--kill-child", "turnserver", *usual.split(), *options],
+                                          stdin=quiet, stdout=quiet, stderr=quiet))
+        namespaces.run(*inside, sys.executable, servers.__file__, address, str(port))
+        return f"{address}:{port}"
 
     def close(self):
-        if self.at_tls:
-            self.at_tls.kill()
-            self.at_tls.wait()
+        for process in self.more:
+            process.kill()
+            process.wait()
         super().close()
 
     def add_host(self, index, kind):
         host = super().add_host(index, kind)
-        self.nats = [*getattr(self, "nats", []), self.spaces.names[-1]]
+        self.nats.append(self.spaces.names[-1])
         return host
 
 
