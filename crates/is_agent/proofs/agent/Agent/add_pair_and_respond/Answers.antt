@@ -6,7 +6,7 @@ use Rattle.is_rules.specs.RequestView.{request_view}
 use Rattle.is_rules.specs.Serving.{RecordsAndResponds}
 use Rattle.is_agent.proofs.agent.Agent.add_pair_and_respond.Goals as goal
 
--- apart from the goal, whose many preconditions `grind` need not read
+-- apart from the goal, of which `grind` would read too much
 less-is-other : (n most : ℕ) → n < most → n == most ≡ false
 less-is-other n most less = grind (arith, common_steps)
 
