@@ -121,7 +121,8 @@ def make_holes(crate, edits, folder):
 
 
 def check(crate, edits, folder, only_these, has_holes):
-    """The output of a check of a copy with these edits. only_these: of their functions only. has_holes: what these call is taken by its contract."""
+    """The output of a check of a copy with these edits. only_these: of their functions only. has_holes: what these call is taken by its
+    contract."""
     copy_crate(crate, folder, "rlib")
     changes = collections.defaultdict(list)
     for edit in edits:
@@ -185,15 +186,12 @@ def judged(edit, crate, told, answers):
     return None, line
 
 
-def pass_over(number, crate, edits, folder, only_these):
+def pass_over(number, crate, edits, folder, only_these, has_holes):
     """A pass: the verdict on each edit of which something was reported."""
     start = time.monotonic()
-    said = check(crate, edits, folder, only_these, only_these)
+    said = check(crate, edits, folder, only_these, has_holes)
     told, answers = verdicts(said)
-    if only_these and not told:  # a hole may be where the kit wants none
-        said = check(crate, edits, folder, only_these, False)
-        told, answers = verdicts(said)
-    if not told:
+    if not told and not has_holes:
         print("\n".join(line for line in said.split("\n") if "error" in line)[:3000] or said[-3000:])
         raise Unjudged(f"{crate}, pass {number}: the copy did not reach the prover")
     found = {}
@@ -208,7 +206,7 @@ def pass_over(number, crate, edits, folder, only_these):
 
 def passes(crate, left, only_these):
     """The verdict on each edit, and how many passes it took."""
-    verdict, number = {}, 0
+    verdict, number, tried = {}, 0, set()
     with tempfile.TemporaryDirectory(prefix="mutants-") as folder:
         copy_lower(crate, pathlib.Path(folder))
         while left:
@@ -216,9 +214,12 @@ def passes(crate, left, only_these):
             taken = {}
             for edit in left:
                 taken.setdefault((edit.file, edit.lines), edit)
-            verdict.update(pass_over(number, crate, list(taken.values()), pathlib.Path(folder), only_these))
+            # What is not judged over holes is tried again without them.
+            has_holes = only_these and not any(edit.name in tried for edit in taken.values())
+            tried |= {edit.name for edit in taken.values()}
+            verdict.update(pass_over(number, crate, list(taken.values()), pathlib.Path(folder), only_these, has_holes))
             rest = [edit for edit in left if edit.name not in verdict]
-            if len(rest) == len(left):
+            if len(rest) == len(left) and not has_holes:
                 verdict.update((edit.name, "NOT CHECKED") for edit in rest)
                 break
             left = rest
