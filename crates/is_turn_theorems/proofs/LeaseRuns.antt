@@ -21,7 +21,7 @@ use Rattle.is_turn.specs.Receiving.{IsRespondedBy, IsReceivedAs}
 use Rattle.is_turn.specs.Relaying.{advanced_in, lease_due, step_at, driven_by, TimesOutBy}
 use Rattle.is_turn.specs.Session.{is_ready, is_renewal_due, step_of, with_renewal}
 use Rattle.is_turn.specs.Turn.{key_now}
-use Rattle.is_turn.specs.Worlds.{Acceptance, World, Call, start, close, permit, send, probe, handle_timeout, poll_transmit, poll_event, receive, Does, IsFresh}
+use Rattle.is_turn.specs.Worlds.{Acceptance, World, Call, start, close, lose, permit, send, probe, handle_timeout, poll_transmit, poll_event, receive, Does, IsFresh}
 use Rattle.is_turn_theorems.specs.Limits.{Limits, Leave}
 use Rattle.is_turn_theorems.specs.LeaseLimits.{LEAD, lease_margin, lease_renewal_time, LeaveForLeases}
 use Rattle.is_turn_theorems.specs.Leasing.{is_given, is_in_line, goes_first, turns_after, IsLeaseKept, LeaseServes, IsLeaseInTime, IsLeaseTimelyFrom, IsLeaseTimely, IsLeaseAhead, LeaseNeverLapses}
@@ -127,6 +127,7 @@ module _ (k : Limits) (mac : List ℕ → List ℕ → List ℕ) (accepted : Lis
   call_follows start serves does = follows start w.leases refl does.1 h.met
   call_follows (close has) serves does =
       follows (close has) w.leases refl (does.1 ∙ kept_ready new.session.phase w.leases ready) h.met
+  call_follows lose serves does = follows lose w.leases refl (does.1 ∙ kept_ready new.session.phase w.leases ready) h.met
   call_follows (permit peer) serves does =
       follows (permit peer) _ refl does.1 (permits_keep (MetAt k new.clock (min due new.clock) place was) (at_time new.clock) closed peer w.session w.leases h.met)
   call_follows (send peer media) serves does =
@@ -193,6 +194,7 @@ module _ (k : Limits) (mac : List ℕ → List ℕ → List ℕ) (accepted : Lis
   pub call_bare : (call : Call) → LeaseServes call k mac new.clock place w → Does call mac accepted new.clock w new → BareAt place new.leases
   call_bare start serves does = bare_is w.leases does.1 h
   call_bare (close has) serves does = bare_is _ does.1 (bare_kept place new.session.phase w.leases h)
+  call_bare lose serves does = bare_is _ does.1 (bare_kept place new.session.phase w.leases h)
   call_bare (permit peer) serves does =
       bare_is _ does.1 (permits_keep (BareAt place) (at_time new.clock) (bare_closed place (at_time new.clock)) peer w.session w.leases h)
   call_bare (send peer media) serves does =

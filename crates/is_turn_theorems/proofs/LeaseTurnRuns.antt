@@ -19,7 +19,7 @@ use Rattle.is_turn.specs.Receiving.{IsRespondedBy, IsReceivedAs}
 use Rattle.is_turn.specs.Relaying.{advanced_in, is_idle_step, lease_due}
 use Rattle.is_turn.specs.Session.{PACE, is_ready, is_renewal_due, step_of, with_renewal}
 use Rattle.is_turn.specs.Turn.{key_now}
-use Rattle.is_turn.specs.Worlds.{Acceptance, World, Call, start, close, permit, send, probe, handle_timeout, poll_transmit, poll_event, receive, Does}
+use Rattle.is_turn.specs.Worlds.{Acceptance, World, Call, start, close, lose, permit, send, probe, handle_timeout, poll_transmit, poll_event, receive, Does}
 use Rattle.is_turn_theorems.specs.Limits.{Limits}
 use Rattle.is_turn_theorems.specs.Leasing.{is_given, is_in_line, goes_first, LeaseServes}
 use Rattle.is_turn_theorems.specs.Timely.{timeout_of, due_since}
@@ -140,6 +140,7 @@ module _ (k : Limits) (mac : List ℕ → List ℕ → List ℕ) (accepted : Lis
       → Lined k (more (goes_first call new.clock w.session new.session)) (due_since call due new) new.session.paced.0 new.clock place new.leases
   call_lined start serves does = other w.leases does.1 start_waits
   call_lined (close has) serves does = other w.leases (does.1 ∙ kept_ready new.session.phase w.leases h.ready) start_waits
+  call_lined lose serves does = other w.leases (does.1 ∙ kept_ready new.session.phase w.leases h.ready) start_waits
   call_lined (permit peer) serves does =
       other _ does.1 (permits_keep (WaitsAt k taken soon w.session.paced.0 new.clock was place) (at_time new.clock) closed peer w.session w.leases start_waits)
   call_lined (send peer media) serves does =
