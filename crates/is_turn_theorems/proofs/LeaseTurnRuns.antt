@@ -166,7 +166,9 @@ module _ (k : Limits) (mac : List ℕ → List ℕ → List ℕ) (accepted : Lis
       (timeout_waits k taken (more first) soon new.clock place was (key_now w.credentials) stream s l (lease_due at (step_of at s) s l) new.session new.leases
       stream_new refl (renewal_ready at w.session h.was_ready) h.ready
       (record { punctual = in_time; pace = h.pace; count = λ yes. more_than was first taken yes; shown = h.shown })
-      (λ e yes. let f = not_true (is_idle_step (step_of at s)) e in one_more was first taken (cc f) yes) begun does.2)
+      (λ e yes.
+      let t = one_more was (not (is_idle_step (step_of at s))) taken (not_true (is_idle_step (step_of at s)) e) yes in
+      omega (arith, t)) begun does.2)
 
 -- ---- without an allocation nothing waits
 
